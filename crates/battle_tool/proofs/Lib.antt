@@ -1,0 +1,4 @@
+pub mod Reading
+pub mod JsonLemmas
+pub mod Standing
+pub mod Outcomes

@@ -1,0 +1,148 @@
+use crate::fault::ToolFault;
+use crate::logs::play_print;
+use crate::playing::play;
+use clap::error::ErrorKind;
+use clap::{Arg, ArgAction, ArgMatches, Command, Error};
+use gen1_machine::{Device, Sink, Source, send};
+use std::alloc::{AllocError, Global};
+use std::convert::AsStr;
+use std::fs;
+use std::io::{Read, Write};
+use std::rt::Files;
+
+/// The status where the command line asks for nothing that can be run.
+pub const COMMAND_LINE_REFUSED: u8 = 2;
+
+const ABOUT: &str = "Runs link battles of the first generation";
+
+const STATUSES: &str =
+    "Status: 0 all was printed, 1 the input is refused, 2 the command line is refused, 3 a read or a write failed, 4 memory was refused. Standard error says why.";
+
+const RUN_ABOUT: &str = "Runs a battle and prints its lines";
+
+const RUN_INPUT: &str =
+    "Reads {\"seed\":[10 bytes],\"one\":[member],\"two\":[member],\"choices\":[[byte,byte],..]}, and the keys \"rules\" and \"limit\" where they are there. A member is {\"species\":name,\"level\":n,\"dvs\":[4],\"exp\":[5],\"moves\":[[name,ups],..]}. Prints a line for each event, pair by pair.";
+
+const PRINT_ABOUT: &str = "Prints the lines of a log";
+
+const PRINT_INPUT: &str =
+    "Reads the log bytes of updates, one after the other. Prints a line for each event; of bytes that are no log it prints nothing.";
+
+const FILE_HELP: &str = "The input; without FILE it is standard input";
+
+/// A subcommand that reads a FILE, or standard input where none is named.
+fn reading<'a>(
+    alloc: Global,
+    name: &'a str,
+    about: &'a str,
+    input: &'a str,
+) -> Result<Command<'a>, AllocError> {
+    let file = Arg::new(alloc, "FILE")
+        .help(FILE_HELP)
+        .action(ArgAction::Set);
+    Command::new(alloc, name)
+        .about(about)
+        .after_help(input)
+        .arg(file)
+}
+
+/// The command line.
+fn command<'a>(alloc: Global) -> Result<Command<'a>, AllocError> {
+    Command::new(alloc, "battle_tool")
+        .about(ABOUT)
+        .after_help(STATUSES)
+        .subcommand_required(true)
+        .subcommand(reading(alloc, "run", RUN_ABOUT, RUN_INPUT)?)?
+        .subcommand(reading(alloc, "print", PRINT_ABOUT, PRINT_INPUT)?)
+}
+
+/// Tells a fault on standard error, and answers its status. A fault of that stream changes nothing.
+pub fn report<E: Sink>(alloc: Global, fault: ToolFault, err: &mut E) -> u8 {
+    if fault != ToolFault::Memory {
+        if let Ok(text) = format!(in alloc; "error: {fault}\n") {
+            let _ = send(err, text.as_bytes());
+            return fault.status();
+        }
+    }
+    let _ = send(err, b"error: memory\n");
+    ToolFault::Memory.status()
+}
+
+/// Writes what clap answers to words that ask for nothing to run: help that was asked for to
+/// standard output, and what is wrong with the words to standard error.
+fn answer_words<O: Sink, E: Sink>(alloc: Global, error: &Error, out: &mut O, err: &mut E) -> u8 {
+    if error.kind() == ErrorKind::OutOfMemory {
+        return report(alloc, ToolFault::Memory, err);
+    }
+    let Ok(text) = error.to_string(alloc) else {
+        return report(alloc, ToolFault::Memory, err);
+    };
+    if error.use_stderr() {
+        let _ = send(err, text.as_bytes());
+        return COMMAND_LINE_REFUSED;
+    }
+    match send(out, text.as_bytes()) {
+        Ok(()) => 0,
+        Err(_) => report(alloc, ToolFault::Write, err),
+    }
+}
+
+/// Runs a subcommand on its input.
+fn run_named<A: AllocGlobal, I: Source, O: Sink>(
+    rt: &A,
+    name: &str,
+    input: &mut I,
+    out: &mut O,
+) -> Result<(), ToolFault> {
+    match name {
+        "print" => play_print(rt, input, out),
+        _ => play(rt, input, out),
+    }
+}
+
+/// Runs a subcommand on its FILE, or on `input`.
+fn run<A: AllocGlobal + Files, I: Read + Drop, O: Sink>(
+    rt: &A,
+    name: &str,
+    matches: &ArgMatches,
+    input: I,
+    out: &mut O,
+) -> Result<(), ToolFault> {
+    match matches.get_str("FILE") {
+        None => run_named(rt, name, &mut Device::new(input), out),
+        Some(path) => match fs::open(rt, path) {
+            Ok(file) => run_named(rt, name, &mut Device::new(file), out),
+            Err(_) => Err(ToolFault::Read),
+        },
+    }
+}
+
+/// Runs the words of a command line, the program's name first, and answers the exit status
+/// (docs/PROGRAM.md). It reads `input` where no FILE is named, prints to `out`, and tells what is
+/// wrong on `err`.
+pub fn tool<A, S, I, O, E>(rt: &A, words: &[S], input: I, out: O, err: E) -> u8
+where
+    A: AllocGlobal + Files,
+    S: AsStr,
+    I: Read + Drop,
+    O: Write + Drop,
+    E: Write + Drop,
+{
+    let mut out = Device::new(out);
+    let mut err = Device::new(err);
+    let alloc = rt.alloc();
+    let Ok(command) = command(alloc) else {
+        return report(alloc, ToolFault::Memory, &mut err);
+    };
+    let matches = match command.try_get_matches_from(words) {
+        Ok(matches) => matches,
+        Err(error) => return answer_words(alloc, &error, &mut out, &mut err),
+    };
+    let Some((name, inner)) = matches.subcommand() else {
+        return COMMAND_LINE_REFUSED;
+    };
+    match run(rt, name, inner, input, &mut out) {
+        Ok(()) => 0,
+        Err(fault) => report(alloc, fault, &mut err),
+    }
+}

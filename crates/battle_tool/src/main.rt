@@ -1,0 +1,33 @@
+//! Runs link battles of the first generation: reads a battle as JSON and prints its lines
+//! (docs/PROGRAM.md).
+#![tactic(auto)]
+
+mod battle;
+mod commands;
+mod fault;
+mod logs;
+mod playing;
+mod sheet;
+#[cfg(test)]
+mod tests;
+
+use crate::commands::{COMMAND_LINE_REFUSED, report, tool};
+use crate::fault::ToolFault;
+use gen1_machine::Device;
+use std::alloc::AllocError;
+use std::process::ExitCode;
+use std::{env, io};
+
+fn main(rt: HostRuntime) -> ExitCode {
+    let words = match env::args(&rt) {
+        Ok(words) => words.collect::<Vec<String>>(rt.alloc()),
+        Err(error) if error.kind() == io::ErrorKind::OutOfMemory => Err(AllocError),
+        // A word is no text.
+        Err(_) => return ExitCode::from(COMMAND_LINE_REFUSED),
+    };
+    let status = match words {
+        Ok(words) => tool(&rt, words.as_slice(), rt.stdin(), rt.stdout(), rt.stderr()),
+        Err(_) => report(rt.alloc(), ToolFault::Memory, &mut Device::new(rt.stderr())),
+    };
+    ExitCode::from(status)
+}

@@ -1,0 +1,223 @@
+-- What can be on for a member that is out (docs/MECHANICS.md, "Conditions"): each condition with its own numbers, and each
+-- way in which one changes.
+use Rattle.std.specs.Prelude.{Bool, None, Option, Some, false, min, true, ℕ, ◌%◌, ◌+◌, ◌-◌}
+use Rattle.gen1_machine.specs.declared.picks.DisabledSlot.{DisabledSlot}
+
+-- Bide: for how many turns more it stores, and what it has stored
+pub record Storing : Type 0 where
+  pub turns : ℕ
+  pub energy : ℕ
+
+-- what belongs to the current move, of which one at most is on
+pub record Underway : Type 0 where
+  pub bide : Option Storing
+  pub thrash : Option ℕ  -- turns left
+  pub trapping : Option ℕ  -- turns left
+  pub charging : Bool
+  pub recharge : Bool
+  pub rage : Bool
+
+pub record Conditions : Type 0 where
+  pub underway : Underway
+  pub flinch : Bool
+  pub invulnerable : Bool
+  pub confused : Option ℕ  -- turns left
+  pub mist : Bool
+  pub focus_energy : Bool
+  pub substitute : Option ℕ  -- its HP
+  pub seeded : Bool
+  pub bad_poison : Option ℕ  -- the counter that Toxic begins
+  pub light_screen : Bool
+  pub reflect : Bool
+  pub disabled : Option DisabledSlot
+
+abbrev pub nothing_underway : Underway
+nothing_underway = record { bide = None; thrash = None; trapping = None; charging = false; recharge = false; rage = false }
+
+abbrev pub no_conditions : Conditions
+no_conditions = record {
+  underway = nothing_underway;
+  flinch = false;
+  invulnerable = false;
+  confused = None;
+  mist = false;
+  focus_energy = false;
+  substitute = None;
+  seeded = false;
+  bad_poison = None;
+  light_screen = false;
+  reflect = false;
+  disabled = None;
+}
+
+-- the changes: each is a function of the conditions that it overwrites
+
+-- a count goes down by one, to 0 at least
+abbrev pub one_less : Option ℕ → Option ℕ
+one_less None = None
+one_less (Some n) = Some (n - 1)
+
+-- Bide
+
+unfoldable pub with_bide : ℕ → Conditions → Conditions
+with_bide turns c = record c { underway = record c.underway { bide = Some (record { turns = turns; energy = 0 }) } }
+
+-- what is stored is a number of 16 bits, which starts again from 0
+abbrev pub energy_with : ℕ → Storing → ℕ
+energy_with damage b = (b.energy + damage) % 65536
+
+abbrev pub stored : ℕ → Option Storing → Option Storing
+stored damage None = None
+stored damage (Some b) = Some (record { turns = b.turns - 1; energy = energy_with damage b })
+
+unfoldable pub with_bide_storing : ℕ → Conditions → Conditions
+with_bide_storing damage c = record c { underway = record c.underway { bide = stored damage c.underway.bide } }
+
+unfoldable pub without_bide : Conditions → Conditions
+without_bide c = record c { underway = record c.underway { bide = None } }
+
+-- thrashing
+
+unfoldable pub with_thrash : ℕ → Conditions → Conditions
+with_thrash turns c = record c { underway = record c.underway { thrash = Some turns } }
+
+unfoldable pub with_thrash_one_less : Conditions → Conditions
+with_thrash_one_less c = record c { underway = record c.underway { thrash = one_less c.underway.thrash } }
+
+unfoldable pub without_thrash : Conditions → Conditions
+without_thrash c = record c { underway = record c.underway { thrash = None } }
+
+-- trapping
+
+unfoldable pub with_trapping : ℕ → Conditions → Conditions
+with_trapping turns c = record c { underway = record c.underway { trapping = Some turns } }
+
+unfoldable pub with_trapping_one_less : Conditions → Conditions
+with_trapping_one_less c = record c { underway = record c.underway { trapping = one_less c.underway.trapping } }
+
+unfoldable pub without_trapping : Conditions → Conditions
+without_trapping c = record c { underway = record c.underway { trapping = None } }
+
+-- charging, and the flight or the hole that hides its user meanwhile
+
+unfoldable pub with_charging : Conditions → Conditions
+with_charging c = record c { underway = record c.underway { charging = true } }
+
+unfoldable pub without_charging : Conditions → Conditions
+without_charging c = record c { underway = record c.underway { charging = false } }
+
+unfoldable pub with_invulnerability : Conditions → Conditions
+with_invulnerability c = record c { invulnerable = true }
+
+unfoldable pub without_invulnerability : Conditions → Conditions
+without_invulnerability c = record c { invulnerable = false }
+
+-- recharging and rage
+
+unfoldable pub with_recharge : Conditions → Conditions
+with_recharge c = record c { underway = record c.underway { recharge = true } }
+
+unfoldable pub without_recharge : Conditions → Conditions
+without_recharge c = record c { underway = record c.underway { recharge = false } }
+
+unfoldable pub with_rage : Conditions → Conditions
+with_rage c = record c { underway = record c.underway { rage = true } }
+
+-- what full paralysis and a hit on itself break off: all that goes on by itself but recharging and rage
+unfoldable pub broken_off : Conditions → Conditions
+broken_off c = record c { underway = record c.underway { bide = None; thrash = None; trapping = None; charging = false } }
+
+-- flinching
+
+unfoldable pub with_flinch : Conditions → Conditions
+with_flinch c = record c { flinch = true }
+
+unfoldable pub without_flinch : Conditions → Conditions
+without_flinch c = record c { flinch = false }
+
+-- confusion
+
+unfoldable pub with_confusion : ℕ → Conditions → Conditions
+with_confusion turns c = record c { confused = Some turns }
+
+unfoldable pub with_confusion_one_less : Conditions → Conditions
+with_confusion_one_less c = record c { confused = one_less c.confused }
+
+unfoldable pub without_confusion : Conditions → Conditions
+without_confusion c = record c { confused = None }
+
+-- what stays up
+
+unfoldable pub with_mist : Conditions → Conditions
+with_mist c = record c { mist = true }
+
+unfoldable pub with_focus_energy : Conditions → Conditions
+with_focus_energy c = record c { focus_energy = true }
+
+unfoldable pub with_light_screen : Conditions → Conditions
+with_light_screen c = record c { light_screen = true }
+
+unfoldable pub with_reflect : Conditions → Conditions
+with_reflect c = record c { reflect = true }
+
+-- a substitute
+
+unfoldable pub with_substitute : ℕ → Conditions → Conditions
+with_substitute hp c = record c { substitute = Some hp }
+
+abbrev pub less_by : ℕ → Option ℕ → Option ℕ
+less_by damage None = None
+less_by damage (Some hp) = Some (hp - damage)
+
+unfoldable pub with_substitute_hurt : ℕ → Conditions → Conditions
+with_substitute_hurt damage c = record c { substitute = less_by damage c.substitute }
+
+unfoldable pub without_substitute : Conditions → Conditions
+without_substitute c = record c { substitute = None }
+
+-- Leech Seed and bad poison
+
+unfoldable pub with_seed : Conditions → Conditions
+with_seed c = record c { seeded = true }
+
+unfoldable pub without_seed : Conditions → Conditions
+without_seed c = record c { seeded = false }
+
+unfoldable pub with_bad_poison : Conditions → Conditions
+with_bad_poison c = record c { bad_poison = Some 0 }
+
+abbrev pub one_more : Option ℕ → Option ℕ
+one_more None = None
+one_more (Some n) = Some (min 64 (n + 1))
+
+unfoldable pub with_worse_poison : Conditions → Conditions
+with_worse_poison c = record c { bad_poison = one_more c.bad_poison }
+
+-- Disable
+
+unfoldable pub with_disabled : ℕ → ℕ → Conditions → Conditions
+with_disabled slot turns c = record c { disabled = Some (record { slot = slot; turns = turns }) }
+
+abbrev pub one_turn_less : Option DisabledSlot → Option DisabledSlot
+one_turn_less None = None
+one_turn_less (Some d) = Some (record { slot = d.slot; turns = d.turns - 1 })
+
+unfoldable pub with_disable_one_less : Conditions → Conditions
+with_disable_one_less c = record c { disabled = one_turn_less c.disabled }
+
+unfoldable pub without_disable : Conditions → Conditions
+without_disable c = record c { disabled = None }
+
+-- Haze
+
+unfoldable pub after_haze : Conditions → Conditions
+after_haze c = record c {
+  confused = None;
+  mist = false;
+  focus_energy = false;
+  seeded = false;
+  bad_poison = None;
+  light_screen = false;
+  reflect = false;
+  disabled = None;
+}

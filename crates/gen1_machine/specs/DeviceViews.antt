@@ -1,0 +1,9 @@
+-- What a device holds.
+use Rattle.std.specs.Prelude.{Bool}
+use Rattle.gen1_machine.specs.declared.wrapping.Device.{Device}
+
+abbrev pub device_inner : {T : Type 0} → Device T → T
+device_inner d = d.inner
+
+abbrev pub device_failed : {T : Type 0} → Device T → Bool
+device_failed d = d.has_failed

@@ -1,0 +1,77 @@
+-- Moves that go on over turns by themselves (docs/MECHANICS.md, "Going on"): trapping, thrashing and Bide.
+use Rattle.std.specs.Prelude.{None, Option, Some, nat_le, true, ℕ, ◌%◌, ◌*◌, ◌+◌, ◌==◌}
+use Rattle.gen1_machine.specs.declared.side.Side.{Side}
+use Rattle.gen1_machine.specs.declared.event.Volatile.TheVariants as volatiles
+use Rattle.gen1_rolls.specs.Streams.{low_bits}
+use Rattle.gen1_machine.specs.Sides.{other}
+use Rattle.gen1_machine.specs.Conditions.{energy_with, with_bide_storing, without_bide, with_thrash, with_thrash_one_less, without_thrash, with_trapping, with_trapping_one_less, without_recharge, Storing}
+use Rattle.gen1_machine.specs.State.{with_kept_accuracy}
+use Rattle.gen1_machine.specs.Moves.{accuracy_byte, Move}
+use Rattle.gen1_machine.specs.Progress.{Phase, stay, ◌▸◌, choose, given, stop, draw, on_active, on_conditions, set_last_damage, goes_on, ends, on_action, set_missed, goes_on_now, last_damage, underway}
+use Rattle.gen1_machine.specs.EarlyEffects.{confuse}
+
+-- how often a move hits or holds: of two to five, few are the most
+
+unfoldable pub count_again : (ℕ → Phase) → ℕ → Phase
+count_again f c = f (low_bits 2 c)
+
+unfoldable pub count_by_draw : (ℕ → Phase) → ℕ → Phase
+count_by_draw f b = choose (λ _. nat_le (low_bits 2 b) 1) (f (low_bits 2 b)) (draw (count_again f))
+
+-- two less than the count, from 0 to 3
+unfoldable pub draw_count : (ℕ → Phase) → Phase
+draw_count f = draw (count_by_draw f)
+
+-- trapping: for two to five turns the foe can do nothing
+
+unfoldable pub trap_for : Side → ℕ → Phase
+trap_for s n = on_conditions s (with_trapping (n + 1))
+
+unfoldable pub trap : Side → Phase
+trap s = choose goes_on_now
+    (on_conditions s with_trapping_one_less)
+    (on_conditions (other s) without_recharge ▸ draw_count (trap_for s))
+
+-- thrashing: for two or three turns more; who is done is confused
+
+unfoldable pub thrash_less : Side → Option ℕ → Phase
+thrash_less s None = stay
+thrash_less s (Some turns) =
+    choose (λ _. nat_le turns 1)
+    (on_conditions s without_thrash ▸ confuse s)
+    (on_conditions s with_thrash_one_less)
+
+-- the first turn's accuracy is kept for the others
+unfoldable pub thrash_for : Side → Move → ℕ → Phase
+thrash_for s move b =
+    on_conditions s (with_thrash (low_bits 1 b + 2)) ▸ on_active s (with_kept_accuracy (accuracy_byte move))
+
+unfoldable pub thrash_about : Side → Move → Phase
+thrash_about s move = choose goes_on_now
+    (given (λ p. (underway s p).thrash) (thrash_less s))
+    (draw (thrash_for s move))
+
+-- Bide: stores the last damage turn by turn, and in the end lets it out twice over
+
+abbrev pub let_out : ℕ → ℕ
+let_out energy = 2 * energy % 65536
+
+unfoldable pub set_letting_go : Phase
+set_letting_go = on_action λ a. record a { letting_go = true }
+
+-- an energy of 0 is a miss
+unfoldable pub let_energy_go : Side → ℕ → Phase
+let_energy_go s energy =
+    ends s volatiles.Bide without_bide ▸ set_last_damage (let_out energy)
+    ▸ set_letting_go ▸ set_missed (let_out energy == 0)
+
+unfoldable pub store_energy : Side → ℕ → Phase
+store_energy s damage = goes_on s volatiles.Bide (with_bide_storing damage) ▸ stop
+
+unfoldable pub bide_on : Side → Option Storing → ℕ → Phase
+bide_on s None damage = stay
+bide_on s (Some b) damage =
+    choose (λ _. nat_le b.turns 1) (let_energy_go s (energy_with damage b)) (store_energy s damage)
+
+unfoldable pub bide_goes_on : Side → Phase
+bide_goes_on s = given (λ p. (underway s p).bide) λ b. given last_damage (bide_on s b)

@@ -1,0 +1,57 @@
+-- Laws of steps, of runs and of draws (docs/PROOFS.md, "Laws"). Each is the contract of a function in src/laws.rt.
+use Rattle.std.specs.Prelude.{Bool, IsTrue, List, Some, [], map, true, ℕ, ◌++◌, ◌+◌, ◌<◌, ◌≡◌}
+use Rattle.gen1_machine.specs.declared.choice.Choice.{Choice}
+use Rattle.gen1_rolls.specs.Streams.{span, IsStream, first, IsFirst, Stream}
+use Rattle.gen1_machine.specs.State.{is_over, usual_terms, State}
+use Rattle.gen1_machine.specs.Step.{events_of, step, step_before, step_two, run_by, run, Refusal, Over, Refused}
+use Rattle.gen1_machine.specs.Room.{accepted_pairs, course_of, Submission, Course}
+
+-- once a battle is over, every pair of choices is refused as that, and nothing changes
+abbrev pub OverStaysOver : Type 0
+OverStaysOver = (s : State) (pairs : List (Choice × Choice))
+    → is_over s.field.outcome ≡ true
+    → run s pairs ≡ record { answers = map (λ pair. Refused Over) pairs; state = s }
+
+-- a refused pair leaves the state, and has no events
+abbrev pub RefusalChangesNothing : Type 0
+RefusalChangesNothing = (s : State) (one two : Choice) (why : Refusal)
+    → (step s one two).answer ≡ Refused why
+    → (events_of (step s one two).answer ≡ []) × ((step s one two).state ≡ s)
+
+-- no pair changes the terms of a battle, nor its seed
+abbrev pub TermsStay : Type 0
+TermsStay = (s : State) (one two : Choice)
+    → ((step s one two).state.terms ≡ s.terms) × ((step s one two).state.seed ≡ s.seed)
+
+-- a run over two lists, one after the other, is the run over the first, and then over the second
+abbrev pub RunsAppend : Type 0
+RunsAppend = (s : State) (pairs more : List (Choice × Choice))
+    → run s (pairs ++ more) ≡ record {
+      answers = (run s pairs).answers ++ (run (run s pairs).state more).answers;
+      state = (run (run s pairs).state more).state;
+    }
+
+-- without rules, and with the usual limit, every run is the run by the step that knew neither
+abbrev pub SameAsBeforeRules : Type 0
+SameAsBeforeRules = (s : State) (pairs : List (Choice × Choice))
+    → s.terms ≡ usual_terms → run s pairs ≡ run_by step_before s pairs
+
+-- with the usual limit every run is the run by the step that knew no other
+abbrev pub SameAsFixedLimit : Type 0
+SameAsFixedLimit = (s : State) (pairs : List (Choice × Choice))
+    → s.terms.limit ≡ 1000 → run s pairs ≡ run_by step_two s pairs
+
+-- a room's battle is the run over the pairs that its submissions ended
+abbrev pub RoomRuns : Type 0
+RoomRuns = (c : Course) (submissions : List Submission)
+    → (course_of c submissions).state ≡ (run c.state (accepted_pairs c submissions)).state
+
+-- what `first` finds is the least place whose byte meets the test, and stands within a span
+abbrev pub FirstIsLeast : Type 0
+FirstIsLeast = (s : Stream) (n : ℕ) (test : ℕ → Bool) (m : ℕ)
+    → first s n test ≡ Some m → IsFirst s n test m × (m < n + span s)
+
+-- it finds a place wherever some byte meets the test
+abbrev pub FirstExists : Type 0
+FirstExists = (s : Stream) → IsStream s → (n : ℕ) (test : ℕ → Bool) (b : ℕ)
+    → b < 256 → IsTrue (test b) → (m : ℕ) × (first s n test ≡ Some m)

@@ -1,0 +1,73 @@
+-- What a side's choice of a move comes to as the turn begins (docs/MECHANICS.md, "Picks").
+use Rattle.std.specs.Prelude.{Bool, List, None, Option, Some, false, if◌then◌else◌, is_some, suc, true, zero, ℕ, ◌==◌, ◌||◌}
+use Rattle.gen1_stats.specs.declared.known_move.KnownMove.{KnownMove}
+use Rattle.gen1_stats.specs.declared.status.Status.{Status}
+use Rattle.gen1_machine.specs.declared.side.Side.{Side}
+use Rattle.gen1_machine.specs.declared.picks.Used.{Used}
+use Rattle.gen1_machine.specs.declared.picks.Used.TheVariants.{Unused, Slot, Struggle}
+use Rattle.gen1_machine.specs.declared.picks.Pick.{Pick}
+use Rattle.gen1_machine.specs.declared.picks.Pick.TheVariants.{Use, Continue, Idle, Held}
+use Rattle.gen1_machine.specs.declared.picks.DisabledSlot.{DisabledSlot}
+use Rattle.gen1_stats.specs.Members.{struggle, is_asleep, is_frozen}
+use Rattle.gen1_machine.specs.Sides.{other}
+use Rattle.gen1_machine.specs.Conditions.{Underway}
+use Rattle.gen1_machine.specs.State.{active_in, conditions_in, underway_in, member_in, status_in, known_in, Field}
+
+-- what keeps a member at its current move
+abbrev pub must_continue : Underway → Bool
+must_continue u = u.recharge || u.rage || is_some u.thrash || u.charging || is_some u.bide || is_some u.trapping
+
+abbrev pub sleeps_or_freezes : Status → Bool
+sleeps_or_freezes status = is_asleep status || is_frozen status
+
+-- slot 0 is no slot: what it means depends on what there is
+abbrev pub pick_in : ℕ → Side → Field → Pick
+pick_in (suc k) s f = Use (Slot (suc k))
+pick_in zero s f =
+    if must_continue (underway_in s f) then Continue
+    else if sleeps_or_freezes (status_in s f) then Idle
+    else if is_some (underway_in (other s) f).trapping then Held
+    else Use Struggle
+
+-- the picked move after a pick: who is held has none, who continues or is idle keeps the older one
+abbrev pub picked_after : Pick → Used → Used
+picked_after (Use used) old = used
+picked_after Held old = Unused
+picked_after _ old = old
+
+-- what a pick uses, beside the current move
+abbrev pub used_by : Pick → Used → Used
+used_by (Use used) current = used
+used_by _ current = current
+
+-- the number of a move that is used, 0 for none
+abbrev pub number_in : Used → List KnownMove → ℕ
+number_in Unused moves = 0
+number_in Struggle moves = struggle
+number_in (Slot k) moves = (known_in k moves).id
+
+-- the move of a side's pick
+abbrev pub picked_move_in : Side → Field → ℕ
+picked_move_in s f = number_in (active_in s f).picked (member_in s f).moves
+
+abbrev pub is_slot : ℕ → Used → Bool
+is_slot k (Slot j) = j == k
+is_slot k _ = false
+
+-- whether a disabled slot bars a move
+abbrev pub bars : Option DisabledSlot → Used → Bool
+bars None used = false
+bars (Some d) used = is_slot d.slot used
+
+-- Struggle is in no slot, and who is idle uses none
+abbrev pub is_disabled_in : Side → Pick → Field → Bool
+is_disabled_in s Idle f = false
+is_disabled_in s pick f = bars (conditions_in s f).disabled (used_by pick (active_in s f).current)
+
+abbrev pub is_idle : Pick → Bool
+is_idle Idle = true
+is_idle _ = false
+
+abbrev pub is_use : Pick → Bool
+is_use (Use used) = true
+is_use _ = false

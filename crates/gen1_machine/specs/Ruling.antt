@@ -1,0 +1,83 @@
+-- What a battle's terms settle (docs/MECHANICS.md, "Rules (sleep clause, freeze clause)", "Turn limit"): falling asleep,
+-- freezing, and the last turn.
+use Rattle.std.specs.Prelude.{Bool, false, nat_lt, true, ℕ}
+use Rattle.gen1_stats.specs.declared.status.Status.TheVariants.{Asleep, Frozen}
+use Rattle.gen1_machine.specs.declared.side.Side.{Side}
+use Rattle.gen1_machine.specs.declared.health.Kind.TheVariants as kinds
+use Rattle.gen1_rolls.specs.Streams.{low_bits}
+use Rattle.gen1_stats.specs.Members.{is_marked, is_frozen}
+use Rattle.gen1_machine.specs.Sides.{other}
+use Rattle.gen1_machine.specs.Rules.{Rules}
+use Rattle.gen1_machine.specs.Conditions.{without_recharge}
+use Rattle.gen1_machine.specs.State.{party, any_living, Terms}
+use Rattle.gen1_machine.specs.Progress.{Phase, ◌▸◌, unless, draw_until, on_conditions, fails_if, inflict, Progress}
+
+-- how a battle is fought
+pub record Ruling : Type 0 where
+  pub lulls : Side → Phase  -- what a sleep move of this side does once it has hit
+  pub freezes : Side → Phase  -- what a freezing move of this side does once its draw was low enough
+  pub last_turn : ℕ
+
+-- sleep for one to seven turns; under the sleep clause it is marked as the foe's work
+
+abbrev pub is_sleep_count : ℕ → Bool
+is_sleep_count b = nat_lt 0 (low_bits 3 b)
+
+unfoldable pub sleep_for : Bool → Side → ℕ → Phase
+sleep_for marked s b = inflict s (Asleep (low_bits 3 b) marked) kinds.Sleep
+
+unfoldable pub fall_asleep : Bool → Side → Phase
+fall_asleep marked s = draw_until is_sleep_count (sleep_for marked s)
+
+-- without clauses
+
+unfoldable pub lull_freely : Side → Phase
+lull_freely user = fall_asleep false (other user)
+
+unfoldable pub freeze_freely : Side → Phase
+freeze_freely user = on_conditions (other user) without_recharge ▸ inflict (other user) Frozen kinds.Freeze
+
+-- the sleep clause: of a party one living member at a time sleeps by the foe's moves
+
+abbrev pub has_marked_sleeper : Side → Progress → Bool
+has_marked_sleeper s p = any_living (λ m. is_marked m.status) (party s p.field)
+
+unfoldable pub lull_only_one : Side → Phase
+lull_only_one user = fails_if user (has_marked_sleeper (other user)) ▸ fall_asleep true (other user)
+
+-- the freeze clause: of a party one living member at a time is frozen
+
+abbrev pub has_frozen_member : Side → Progress → Bool
+has_frozen_member s p = any_living (λ m. is_frozen m.status) (party s p.field)
+
+unfoldable pub freeze_only_one : Side → Phase
+freeze_only_one user = unless (has_frozen_member (other user)) (freeze_freely user)
+
+-- by whether the clause holds
+
+unfoldable pub lulls_under : Bool → Side → Phase
+lulls_under true user = lull_only_one user
+lulls_under false user = lull_freely user
+
+unfoldable pub freezes_under : Bool → Side → Phase
+freezes_under true user = freeze_only_one user
+freezes_under false user = freeze_freely user
+
+abbrev pub ruling_of : Terms → Ruling
+ruling_of t = record {
+  lulls = lulls_under t.rules.sleep_clause;
+  freezes = freezes_under t.rules.freeze_clause;
+  last_turn = t.limit;
+}
+
+-- the older rulings: before there were clauses, and before the last turn could be chosen
+
+abbrev pub ruling_without_clauses : Ruling
+ruling_without_clauses = record { lulls = lull_freely; freezes = freeze_freely; last_turn = 1000 }
+
+abbrev pub ruling_with_clauses : Rules → Ruling
+ruling_with_clauses rules = record {
+  lulls = lulls_under rules.sleep_clause;
+  freezes = freezes_under rules.freeze_clause;
+  last_turn = 1000;
+}

@@ -1,0 +1,8 @@
+-- The two sides of a battle.
+use Rattle.gen1_machine.specs.declared.side.Side.{Side}
+use Rattle.gen1_machine.specs.declared.side.Side.TheVariants.{One, Two}
+
+-- the side that a side battles
+abbrev pub other : Side → Side
+other One = Two
+other Two = One

@@ -1,0 +1,32 @@
+//! What a side uses in a turn, and what is disabled.
+
+/// A move of a member, by where it comes from (docs/MECHANICS.md, "Picks").
+#[derive(Debug, Clone, Copy, PartialEq, Eq)]
+pub enum Used {
+    /// No move yet since the member was sent out.
+    Unused,
+    /// The move in this slot, from 1 to 4.
+    Slot(u8),
+    /// Struggle, which is in no slot.
+    Struggle,
+}
+
+/// What a side's choice of a move comes to as the turn begins (docs/MECHANICS.md, "Picks").
+#[derive(Debug, Clone, Copy, PartialEq, Eq)]
+pub enum Pick {
+    /// A move that is picked anew.
+    Use(Used),
+    /// The current move, which the member is in the middle of.
+    Continue,
+    /// Nothing, since the member is asleep or frozen.
+    Idle,
+    /// Nothing, since the foe is trapping the member.
+    Held,
+}
+
+/// The slot that Disable bars, from 1 to 4, and for how many turns more, from 1 to 8.
+#[derive(Debug, Clone, Copy, PartialEq, Eq)]
+pub struct DisabledSlot {
+    pub slot: u8,
+    pub turns: u8,
+}

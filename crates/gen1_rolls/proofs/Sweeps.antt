@@ -1,0 +1,20 @@
+-- The draws of a sweep.
+use Rattle.std.proofs.Common.{◌≡◌, ℕ, zero, suc, ◌+◌, ◌%◌, ◌<◌, refl, ap, ◌∙◌, arith}
+use Rattle.gen1_rolls.specs.Draws.{draws_of, StandsAt}
+use Rattle.gen1_rolls.specs.Streams.{iterate, byte_at, HoldsEveryByte, Sweep}
+use Rattle.gen1_rolls.specs.Sweep.{one_up}
+use Rattle.gen1_rolls.proofs.Standing.{draws_of-full}
+
+pub iterate-one_up : (k n : ℕ) → n < 256 → iterate k one_up n ≡ (n + k) % 256
+iterate-one_up zero n lt = omega arith
+iterate-one_up (suc k) n lt =
+    let e : ((n + k) % 256 + 1) % 256 ≡ (n + suc k) % 256 = omega arith in ap one_up (iterate-one_up k n lt) ∙ e
+
+-- a sweep begins its stream
+pub sweep_stands : (n : ℕ) → n < 256 → StandsAt (λ x. x) one_up 256 n (Sweep n) 0 n
+unfolding byte_at
+sweep_stands n lt = record { reached = refl; bytes = λ k. iterate-one_up k n lt; spans = refl }
+
+-- so its draws hold every byte
+pub sweep_is_full : (n : ℕ) → n < 256 → HoldsEveryByte (draws_of (λ x. x) one_up n) 256
+sweep_is_full n lt = draws_of-full (sweep_stands n lt) lt

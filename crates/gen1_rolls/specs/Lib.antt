@@ -1,0 +1,4 @@
+pub mod Draws
+pub mod Link
+pub mod Streams
+pub mod Sweep

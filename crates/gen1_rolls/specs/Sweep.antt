@@ -1,0 +1,6 @@
+-- A sweep, which is known by the byte that it draws next.
+use Rattle.std.specs.Prelude.{ℕ, ◌+◌, ◌%◌}
+
+-- what a draw leaves of it
+abbrev pub one_up : ℕ → ℕ
+one_up x = (x + 1) % 256

@@ -1,0 +1,15 @@
+//! Draws of a battle: streams of bytes, the generator of a link battle, a generator that counts
+//! up, and the first draw that meets a test.
+#![tactic(auto)]
+
+mod link;
+mod rolls;
+mod searching;
+mod sweep;
+#[cfg(test)]
+mod tests;
+
+pub use link::{LinkRandom, renew};
+pub use rolls::Rolls;
+pub use searching::until;
+pub use sweep::Sweep;

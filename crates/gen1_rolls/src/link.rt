@@ -1,0 +1,124 @@
+ghost use Rattle.std.specs.Prelude.{◌≡◌, ◌<◌, nat_lt, if◌then◌else◌, slice_index, length, IfSome};
+ghost use Rattle.gen1_rolls.specs.Draws.{draws_of, StandsAt};
+ghost use Rattle.gen1_rolls.specs.Link.{Ring, ring_of, byte_of, after_draw, turned};
+ghost use Rattle.gen1_rolls.specs.Streams.{HoldsEveryByte, renewed, Link};
+
+use crate::rolls::Rolls;
+use std::marker::Model;
+
+/// The generator of a link battle: nine numbers that are drawn in turn, a tenth that is only kept,
+/// and the index of the number that is drawn next (docs/MECHANICS.md, "Link numbers").
+#[derive(Clone, Copy, PartialEq, Eq, Debug, Drop)]
+pub struct LinkRandom {
+    index: u8,
+    numbers: [u8; 10],
+}
+
+impl Model for LinkRandom {
+    ghost use Rattle.std.specs.Prelude.{◌<◌};
+    ghost use Rattle.gen1_rolls.specs.Link.{Ring};
+
+    ghost Value = { Ring };
+
+    ghost view = { λ r. record { index = r.index; numbers = r.numbers } };
+
+    ghost invariant = { λ r. r.index < 9 };
+
+    ghost inverse = { λ ring. record { index = ring.index; numbers = ring.numbers } };
+}
+
+impl LinkRandom {
+    /// The generator as a battle begins: its first nine draws are the first nine numbers.
+    pub fn new(seed: [u8; 10]) -> Self
+        ensures start { result ≡ ring_of seed }
+        ensures stands { StandsAt byte_of after_draw 2304 (ring_of seed) (Link seed) 0 result }
+    {
+        LinkRandom {
+            index: 0,
+            numbers: seed,
+        }
+    }
+
+    /// The generator with these parts, as `index` and `numbers` tell them. `None` if the index is
+    /// above 8.
+    pub fn from_parts(index: u8, numbers: [u8; 10]) -> Option<Self>
+        ensures value { result ≡ (if nat_lt index 9
+            then Some (record { index = index; numbers = numbers })
+            else None) }
+        ensures stands { IfSome result (λ r.
+            StandsAt byte_of after_draw 2304 (ring_of numbers) (Link numbers) index r) }
+    {
+        if index < 9 {
+            Some(LinkRandom { index, numbers })
+        } else {
+            None
+        }
+    }
+
+    /// The index of the number that is drawn next, from 0 to 8.
+    pub fn index(&self) -> u8
+        ensures value { result ≡ self.now.index }
+        ensures below { result < 9 }
+    {
+        self.index
+    }
+
+    /// The nine numbers as they are now, and the tenth.
+    pub fn numbers(&self) -> [u8; 10]
+        ensures { result ≡ self.now.numbers }
+    {
+        self.numbers
+    }
+}
+
+impl Rolls for LinkRandom {
+    const SPAN: usize = 2304;
+
+    ghost SPAN = { 2304 };
+
+    ghost byte = { byte_of };
+
+    ghost next = { after_draw };
+
+    fn draw(&mut self) -> u8 {
+        let drawn = number_at(&self.numbers, self.index);
+        if self.index < 8 {
+            self.index += 1;
+        } else {
+            self.index = 0;
+            turn(&mut self.numbers);
+        }
+        drawn
+    }
+
+    ghost use Rattle.std.proofs.Common.{lit<};
+
+    ghost positive = { lit< tt };
+}
+
+/// What becomes of one of the nine numbers each time that all nine were drawn: five times the
+/// number and one more, modulo 256 (docs/MECHANICS.md, "Link numbers").
+pub fn renew(number: u8) -> u8
+    ensures { result ≡ renewed number }
+{
+    number.wrapping_mul(5).wrapping_add(1)
+}
+
+/// Renews the nine numbers together.
+fn turn(numbers: &mut [u8; 10])
+    ensures { numbers.new ≡ turned 1 numbers.old }
+{
+    for place in 0..9 {
+        numbers[place] = renew(numbers[place]);
+    }
+}
+
+/// The number at an index, and that the draws from there on hold every number.
+fn number_at(numbers: &[u8], index: u8) -> u8
+    requires below { index < 9 }
+    requires ten { length numbers.now ≡ 10 }
+    ensures value { result ≡ slice_index numbers.now index }
+    ensures full { HoldsEveryByte (draws_of byte_of after_draw (record { index = index; numbers = numbers.now })) 2304 }
+{
+    numbers[index as usize]
+}

@@ -1,0 +1,25 @@
+ghost use Rattle.std.specs.Prelude.{◌≡◌, ℕ, ◌<◌};
+ghost use Rattle.gen1_rolls.specs.Draws.{draws_of};
+ghost use Rattle.gen1_rolls.specs.Streams.{HoldsEveryByte};
+
+/// A generator of bytes: what it draws next, and what a draw leaves, depend on its value alone.
+pub trait Rolls {
+    /// Any this many draws in a row hold every number from 0 to 255. So a loop that draws until a
+    /// test is met needs no more.
+    const SPAN: usize;
+
+    ghost SPAN: { ℕ };
+
+    // The byte that is drawn next, and what a draw leaves.
+    ghost byte: { Self → ℕ };
+
+    ghost next: { Self → Self };
+
+    /// Draws the next byte.
+    fn draw(&mut self) -> u8
+        ensures drawn { result ≡ byte self.old }
+        ensures left { self.new ≡ next self.old }
+        ensures full { HoldsEveryByte (draws_of byte next self.old) SPAN };
+
+    ghost positive: { 0 < SPAN };
+}

@@ -1,0 +1,60 @@
+ghost use Rattle.std.specs.Prelude.{◌≡◌, ℕ};
+ghost use Rattle.gen1_rolls.specs.Draws.{draws_of, StandsAt};
+ghost use Rattle.gen1_rolls.specs.Streams.{HoldsEveryByte, Sweep as SweepFrom};
+ghost use Rattle.gen1_rolls.specs.Sweep.{one_up};
+
+use crate::rolls::Rolls;
+use std::marker::Model;
+
+/// A generator for tests (docs/MECHANICS.md, "Link numbers"): each draw is the last plus 1, and 0
+/// after 255. A search that begins just behind its byte takes all 256 draws.
+#[derive(Clone, Copy, PartialEq, Eq, Debug, Drop)]
+pub struct Sweep {
+    number: u8,
+}
+
+impl Model for Sweep {
+    ghost Value = { ℕ };
+
+    ghost view = { λ s. s.number };
+
+    ghost inverse = { λ n. record { number = n } };
+}
+
+impl Sweep {
+    /// A sweep whose first draw is the number.
+    pub fn new(number: u8) -> Self
+        ensures start { result ≡ number }
+        ensures stands { StandsAt (λ x. x) one_up 256 result (SweepFrom number) 0 result }
+    {
+        Sweep { number }
+    }
+}
+
+impl Rolls for Sweep {
+    const SPAN: usize = 256;
+
+    ghost SPAN = { 256 };
+
+    ghost byte = { λ n. n };
+
+    ghost next = { one_up };
+
+    fn draw(&mut self) -> u8 {
+        let drawn = self.number;
+        self.number = step(drawn);
+        drawn
+    }
+
+    ghost use Rattle.std.proofs.Common.{lit<};
+
+    ghost positive = { lit< tt };
+}
+
+/// The number after a number.
+fn step(number: u8) -> u8
+    ensures value { result ≡ one_up number }
+    ensures full { HoldsEveryByte (draws_of (λ x. x) one_up number) 256 }
+{
+    number.wrapping_add(1)
+}

@@ -1,0 +1,75 @@
+ghost use Rattle.std.specs.Prelude.{◌≡◌, ℕ, ◌+◌, ◌%◌, Some, MatchOption, nat_lt};
+ghost use Rattle.gen1_rolls.specs.Draws.{StandsAt};
+ghost use Rattle.gen1_rolls.specs.Streams.{Stream, byte_at, span, first, low_bits, Link as LinkStream};
+
+use crate::{LinkRandom, Rolls, Sweep, renew, until};
+use std::cell::Cell;
+
+#[test]
+fn nine_numbers_are_drawn_and_then_renewed(rt: HostRuntime) {
+    let mut random = LinkRandom::new([1, 2, 3, 4, 5, 6, 7, 8, 9, 10]);
+    for want in [1, 2, 3, 4, 5, 6, 7, 8, 9, 6, 11, 16] {
+        assert_eq!(rt; random.draw(), want);
+    }
+    assert_eq!(rt; [renew(1), renew(2), renew(3)], [6, 11, 16]);
+    assert_eq!(rt; random.index(), 3);
+    assert_eq!(rt; random.numbers(), [6, 11, 16, 21, 26, 31, 36, 41, 46, 10]);
+    let same = LinkRandom::from_parts(3, random.numbers());
+    assert_eq!(rt; same, Some(random));
+    assert_eq!(rt; LinkRandom::from_parts(9, [0; 10]), None);
+}
+
+/// What `until` answers for a number, and after how many draws. No byte is 256.
+fn found<R: Rolls>(r: &mut R, wanted: u16) -> (Option<u8>, u32) {
+    let draws = Cell::new(0_u32);
+    let byte = until(r, |x| {
+        draws.set(draws.get().wrapping_add(1));
+        u16::from(x) == wanted
+    });
+    (byte, draws.get())
+}
+
+#[test]
+fn the_first_draw_that_meets_a_test(rt: HostRuntime) {
+    let mut sweep = Sweep::new(7);
+    assert_eq!(rt; found(&mut sweep, 6), (Some(6), 256));
+    assert_eq!(rt; sweep, Sweep::new(7));
+    assert_eq!(rt; found(&mut sweep, 256), (None, 256));
+    let mut random = LinkRandom::new([0; 10]);
+    assert_eq!(rt; found(&mut random, 51), (Some(51), 2296));
+    assert_eq!(rt; random.index(), 1);
+    assert_eq!(rt; random.numbers(), [51, 51, 51, 51, 51, 51, 51, 51, 51, 0]);
+    assert_eq!(rt; found(&mut random, 256), (None, 2304));
+    assert_eq!(rt; random.index(), 1);
+}
+
+/// Draws a count from 1 to 7: the lowest three bits of the first draw where they are not 0.
+/// A caller for any generator, as those of the engine are.
+fn count<R: Rolls>(r: &mut R) -> u8
+    ensures { (origin : R) (s : Stream) (n : ℕ) → StandsAt R.byte R.next R.SPAN origin s n r.old
+        → MatchOption (first s n (λ b. nat_lt 0 (low_bits 3 b)))
+        ((result ≡ 0) × StandsAt R.byte R.next R.SPAN origin s (n + span s) r.new)
+        (λ m. (result ≡ low_bits 3 (byte_at s m)) × StandsAt R.byte R.next R.SPAN origin s (m + 1) r.new) }
+{
+    match until(r, |b| b % 8 != 0) {
+        Some(b) => b % 8,
+        None => 0,
+    }
+}
+
+/// A draw and a count, of which index and numbers tell how many draws they took.
+fn index_behind(seed: [u8; 10]) -> u8
+    ensures { (m : ℕ) → first (LinkStream seed) 1 (λ b. nat_lt 0 (low_bits 3 b)) ≡ Some m
+        → result ≡ (m + 1) % 9 }
+{
+    let mut random = LinkRandom::new(seed);
+    random.draw();
+    count(&mut random);
+    random.index()
+}
+
+#[test]
+fn callers_of_any_generator(rt: HostRuntime) {
+    assert_eq!(rt; count(&mut Sweep::new(248)), 1);
+    assert_eq!(rt; index_behind([8, 8, 8, 3, 0, 0, 0, 0, 0, 0]), 4);
+}

@@ -1,0 +1,126 @@
+-- A member that is not refused keeps to the ranges of a member.
+use Rattle.std.proofs.Common.{All, AllPairs, Bool, List, None, Some, if◌then◌else◌, [], arith, false, length, map, min, nat_le, nat_lt, refl, slice_index_or, suc, true, zero, ℕ, ◌*◌, ◌-◌, ◌/◌, ◌≡◌, ◌≢◌, ◌≤◌, ◌∷◌, ◌||◌, ◌==◌, sym}
+use Rattle.std.proofs.lemmas.Bool.Decides.{nat_tests}
+use Rattle.std.proofs.lemmas.Bool.{and_parts, eqb-false, leb-true, ltb-false, or_parts}
+use Rattle.std.proofs.lemmas.List.Elements.{All-map}
+use Rattle.std.proofs.lemmas.List.{length-map}
+use Rattle.std.proofs.lemmas.Nat.{mul-le}
+use Rattle.std.specs.List.{list_all, list_any}
+use Rattle.gen1_tables.specs.Moves.{move_row, move_rows}
+use Rattle.gen1_stats.proofs.Lists.{none_passes, only}
+use Rattle.gen1_stats.specs.declared.known_move.KnownMove.{KnownMove}
+use Rattle.gen1_stats.specs.declared.refusal.TeamRefusal.{TeamRefusal}
+use Rattle.gen1_stats.specs.declared.refusal.TeamRefusal.TheVariants.{Empty}
+use Rattle.gen1_stats.specs.Members.{IsBetween, IsKnown, IsMember, is_left_out, least_member, struggle}
+use Rattle.gen1_stats.specs.Sheets.{Sheet}
+use Rattle.gen1_stats.specs.Stats.{full_pp}
+use Rattle.gen1_stats.specs.Teams.{first_failed, known_of, member_of, member_refusal, repeats, tests}
+
+-- no test of a member fails
+pub record IsAllowed (s : Sheet) : Type 0 where
+  pub level : (s.level == 0 || nat_lt 100 s.level) ≡ false
+  pub no_move : (length s.moves == 0) ≡ false
+  pub left_out : list_any (λ chosen. is_left_out chosen.0) s.moves ≡ false
+  pub struggle : list_any (λ chosen. chosen.0 == struggle) s.moves ≡ false
+  pub repeated : repeats s.moves ≡ false
+  pub ups : list_any (λ chosen. nat_lt 3 chosen.1) s.moves ≡ false
+
+-- where no test has failed, the first has not, nor any of the others
+passed : (test : Bool × TeamRefusal) (more : List (Bool × TeamRefusal)) → first_failed (test ∷ more) ≡ None
+    → (test.0 ≡ false) × (first_failed more ≡ None)
+passed test more none = by test.0 refl none
+  where
+    by : (b : Bool) → test.0 ≡ b → (if b then Some test.1 else first_failed more) ≡ None
+        → (test.0 ≡ false) × (first_failed more ≡ None)
+    by true is none = cc
+    by false is none = (is, none)
+
+none_failed : (tests : List (Bool × TeamRefusal)) → first_failed tests ≡ None → All (λ test. test.0 ≡ false) tests
+none_failed [] none k d low = absurd (omega arith)
+none_failed (test ∷ more) none zero d low = (passed test more none).0
+none_failed (test ∷ more) none (suc k) d low = none_failed more (passed test more none).1 k d (omega arith)
+
+pub allowed : (place : ℕ) (s : Sheet) → member_refusal place s ≡ None → IsAllowed s
+allowed place s none = let all = none_failed (tests place s) none in let d : Bool × TeamRefusal = (true, Empty) in record {
+  level = all 0 d (omega arith);
+  no_move = all 2 d (omega arith);
+  left_out = all 3 d (omega arith);
+  struggle = all 4 d (omega arith);
+  repeated = all 5 d (omega arith);
+  ups = all 6 d (omega arith);
+}
+
+-- the PP ups that are allowed
+pub ups_allowed : (s : Sheet) → IsAllowed s → All (λ move. move.1 ≤ 3) s.moves
+ups_allowed s is k d low = ltb-false _ _ (none_passes (λ chosen. nat_lt 3 chosen.1) s.moves is.ups k d low)
+
+-- what passes a test at each element of a list passes it wherever one looks, if the default does
+passes_at : {X : Type 0} (p : X → Bool) (xs : List X) (i : ℕ) (d : X) → list_all p xs ≡ true → p d ≡ true
+    → p (slice_index_or xs i d) ≡ true
+passes_at p [] i d all default = default
+passes_at p (x ∷ xs) zero d all default = (and_parts _ _ all).0
+passes_at p (x ∷ xs) (suc i) d all default = passes_at p xs i d (and_parts _ _ all).1 default
+
+-- no move has more than 40 PP, by one test over the table
+pub pp_at_most_40 : (move : ℕ) → (move_row move).pp ≤ 40
+unfolding move_row
+pp_at_most_40 move =
+    let test : list_all (λ row. nat_le row.pp 40) move_rows ≡ true = unfold move_rows in refl in
+    leb-true (move_row move).pp 40 (unfold move_row in passes_at (λ row. nat_le row.pp 40) move_rows (move - 1) _ test refl)
+
+full_pp-le : (base ups : ℕ) → base ≤ 40 → ups ≤ 3 → full_pp base ups ≤ 63
+full_pp-le base ups low few = let most : ups * min 7 (base / 5) ≤ 3 * 7 = mul-le ups (min 7 (base / 5)) 3 7 few (omega arith) in omega arith
+
+-- moves that don't repeat differ in pairs
+differ : (moves : List (ℕ × ℕ)) → repeats moves ≡ false → AllPairs (λ a b. a.id ≢ b.id) (map known_of moves)
+differ [] none i j d before low = absurd (omega arith)
+differ (move ∷ moves) none zero zero d before low = absurd (omega arith)
+differ (move ∷ moves) none (suc i) zero d before low = absurd (omega arith)
+differ (move ∷ moves) none zero (suc j) d before low = λ same.
+    eqb-false _ _ (All-map (λ known. (known.id == move.0) ≡ false) known_of moves
+    (none_passes (λ later. later.0 == move.0) moves (or_parts _ _ none).0) j d (omega arith)) (sym same)
+differ (move ∷ moves) none (suc i) (suc j) d before low =
+    differ moves (or_parts _ _ none).1 i j d (omega arith) (omega arith)
+
+-- a sum of at least low, capped at 999
+capped : (low sum : ℕ) → low ≤ sum → low ≤ 999 → IsBetween low 999 (min 999 sum)
+capped low sum enough small = (omega arith, omega arith)
+
+pub member_of-ranges : (s : Sheet) → IsAllowed s → length s.moves ≤ 4 → IsMember (member_of s)
+member_of-ranges s is few = record {
+  level = grind (arith, nat_tests, is.level);
+  max = capped 11 _ (grind (arith, nat_tests, is.level)) (omega arith);
+  hp = omega arith;
+  attack = capped 5 _ (omega arith) (omega arith);
+  defense = capped 5 _ (omega arith) (omega arith);
+  speed = capped 5 _ (omega arith) (omega arith);
+  special = capped 5 _ (omega arith) (omega arith);
+  slots = rw length-map (grind (arith, nat_tests, is.no_move));
+  known = All-map IsKnown known_of s.moves (λ k d low. record {
+    in_engine = none_passes (λ chosen. is_left_out chosen.0) s.moves is.left_out k d low;
+    not_struggle = eqb-false _ _ (none_passes (λ chosen. chosen.0 == struggle) s.moves is.struggle k d low);
+    pp = full_pp-le _ _ (pp_at_most_40 _) (ups_allowed s is k d low);
+  });
+  distinct = differ s.moves is.repeated;
+}
+
+-- Pound is a move that a member may know
+known_pound : IsKnown record { id = 1; pp = 35 }
+unfolding move_row move_rows
+known_pound = record { in_engine = refl; not_struggle = λ same. absurd (omega arith); pp = omega arith }
+
+-- the least member keeps to the ranges, whatever its species
+pub least_member-ranges : (species : ℕ) (moves : List KnownMove) → moves ≡ least_member.moves
+    → IsMember (record least_member { species = species; moves = moves })
+least_member-ranges species moves is = rw is record {
+  level = (omega arith, omega arith);
+  max = (omega arith, omega arith);
+  hp = omega arith;
+  attack = (omega arith, omega arith);
+  defense = (omega arith, omega arith);
+  speed = (omega arith, omega arith);
+  special = (omega arith, omega arith);
+  slots = (omega arith, omega arith);
+  known = only IsKnown _ known_pound;
+  distinct = λ i j d before low same. absurd (omega arith);
+}

@@ -1,0 +1,6 @@
+pub mod Begun
+pub mod Members
+pub mod Refusals
+pub mod Sheets
+pub mod Stats
+pub mod Teams

@@ -1,0 +1,183 @@
+//! A member of a team as a battle begins (docs/MECHANICS.md, "Stats").
+ghost use Rattle.std.specs.Prelude.{◌≡◌, ◌≢◌, ◌≤◌, All, AllPairs, IfErr, IfOk, None, OnOk, Some, length, map};
+ghost use Rattle.gen1_stats.specs.Members.{IsKnown, IsMember, least_member};
+ghost use Rattle.gen1_stats.specs.Teams.{known_of, member_of, member_refusal};
+
+use crate::known_move::KnownMove;
+use crate::member_spec::MemberSpec;
+use crate::refusal::TeamRefusal;
+use crate::stats::{full_pp, hp_dv, hp_stat, stat};
+use arrayvec::ArrayVec;
+use gen1_tables::{MoveId, Species};
+use std::marker::Model;
+
+/// A member of a team as a battle begins: unhurt, healthy, and with full PP.
+#[derive(Debug, Clone, PartialEq, Eq, Drop)]
+pub struct Member {
+    species: Species,
+    level: u8,
+    max_hp: u16,
+    attack: u16,
+    defense: u16,
+    speed: u16,
+    special: u16,
+    moves: ArrayVec<KnownMove, 4>,
+}
+
+impl Model for Member {
+    ghost use Rattle.gen1_stats.specs.Members.{Member as Begun};
+
+    ghost Value = { Begun };
+
+    ghost use Rattle.gen1_stats.specs.Begun.{IsBegun, begun};
+
+    ghost view = { begun };
+
+    ghost invariant = { IsBegun };
+
+    ghost inverse = { λ m. record {
+      species = m.species;
+      level = m.level;
+      max_hp = m.max;
+      attack = m.attack;
+      defense = m.defense;
+      speed = m.speed;
+      special = m.special;
+      moves = record { items = m.moves };
+    } };
+}
+
+impl Default for Member {
+    ghost is_default = { λ member. member ≡ least_member };
+
+    /// The least that a member can be, at level 1 with Pound: it fills the unused places of a list.
+    fn default() -> Self {
+        let mut moves = ArrayVec::new();
+        moves.push(KnownMove {
+            id: MoveId::default(),
+            pp: 35,
+        });
+        Member {
+            species: Species::default(),
+            level: 1,
+            max_hp: 11,
+            attack: 5,
+            defense: 5,
+            speed: 5,
+            special: 5,
+            moves,
+        }
+    }
+}
+
+impl Member {
+    // The member that is asked for, or why it is refused at this place of its team, from 1.
+    pub(crate) fn new(spec: &MemberSpec, place: u8) -> Result<Self, TeamRefusal>
+        ensures made { IfOk result (λ member. member ≡ member_of spec.now) }
+        ensures allowed { OnOk result (member_refusal place spec.now ≡ None) }
+        ensures refused { IfErr result (λ refusal. member_refusal place spec.now ≡ Some refusal) }
+        ensures ranges { IfOk result (λ member. IsMember member) }
+    {
+        if let Some(refusal) = spec.refusal(place) {
+            return Err(refusal);
+        }
+        let level = spec.level;
+        let base = spec.species.base();
+        Ok(Member {
+            species: spec.species,
+            level,
+            max_hp: hp_stat(base[0], hp_dv(spec.dvs), spec.exp[0], level),
+            attack: stat(base[1], spec.dvs[0], spec.exp[1], level),
+            defense: stat(base[2], spec.dvs[1], spec.exp[2], level),
+            speed: stat(base[3], spec.dvs[2], spec.exp[3], level),
+            special: stat(base[4], spec.dvs[3], spec.exp[4], level),
+            moves: known_moves(spec.moves.as_slice()),
+        })
+    }
+
+    /// The member's species.
+    pub fn species(&self) -> Species
+        ensures { result ≡ self.now.species }
+    {
+        self.species
+    }
+
+    /// The level, from 1 to 100.
+    pub fn level(&self) -> u8
+        ensures value { result ≡ self.now.level }
+        ensures low { 1 ≤ result }
+        ensures high { result ≤ 100 }
+    {
+        self.level
+    }
+
+    /// The HP of the unhurt member, from 11 to 999.
+    pub fn max_hp(&self) -> u16
+        ensures value { result ≡ self.now.max }
+        ensures low { 11 ≤ result }
+        ensures high { result ≤ 999 }
+    {
+        self.max_hp
+    }
+
+    /// The Attack stat, from 5 to 999.
+    pub fn attack(&self) -> u16
+        ensures value { result ≡ self.now.attack }
+        ensures low { 5 ≤ result }
+        ensures high { result ≤ 999 }
+    {
+        self.attack
+    }
+
+    /// The Defense stat, from 5 to 999.
+    pub fn defense(&self) -> u16
+        ensures value { result ≡ self.now.defense }
+        ensures low { 5 ≤ result }
+        ensures high { result ≤ 999 }
+    {
+        self.defense
+    }
+
+    /// The Speed stat, from 5 to 999.
+    pub fn speed(&self) -> u16
+        ensures value { result ≡ self.now.speed }
+        ensures low { 5 ≤ result }
+        ensures high { result ≤ 999 }
+    {
+        self.speed
+    }
+
+    /// The Special stat, from 5 to 999.
+    pub fn special(&self) -> u16
+        ensures value { result ≡ self.now.special }
+        ensures low { 5 ≤ result }
+        ensures high { result ≤ 999 }
+    {
+        self.special
+    }
+
+    /// One to four moves that differ, with their full PP.
+    pub fn moves(&self) -> &[KnownMove]
+        ensures value { result.now ≡ self.now.moves }
+        ensures some { 1 ≤ length result.now }
+        ensures few { length result.now ≤ 4 }
+        ensures known { All IsKnown result.now }
+        ensures distinct { AllPairs (λ a b. a.id ≢ b.id) result.now }
+    {
+        self.moves.as_slice()
+    }
+}
+
+// Chosen moves with their full PP.
+fn known_moves(chosen: &[(MoveId, u8)]) -> ArrayVec<KnownMove, 4>
+    requires room { length chosen.now ≤ 4 }
+    requires ups { All (λ move. move.1 ≤ 3) chosen.now }
+    ensures { result.items ≡ map known_of chosen.now }
+{
+    let mut moves = ArrayVec::new();
+    for &(id, ups) in chosen {
+        let pp = full_pp(id.pp(), ups);
+        moves.push(KnownMove { id, pp });
+    }
+    moves
+}

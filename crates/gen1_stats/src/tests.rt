@@ -1,0 +1,153 @@
+//! Worked stats, the order of the refusals, and their texts.
+use crate::{KnownMove, Member, MemberSpec, Status, Team, TeamRefusal, hp_stat, stat};
+use arrayvec::ArrayVec;
+use gen1_tables::{MoveId, Species};
+use std::test::Fail;
+
+// A Tauros at level 100, with full DVs and experience, and these moves with their PP ups.
+fn tauros(moves: &[(&str, u8)]) -> Result<MemberSpec, &'static str> {
+    let mut chosen = ArrayVec::new();
+    for &(name, ups) in moves {
+        let id = MoveId::from_name(name).ok_or("no such move")?;
+        if chosen.try_push((id, ups)).is_err() {
+            return Err("too many moves");
+        }
+    }
+    Ok(MemberSpec {
+        species: Species::from_name("Tauros").ok_or("no such species")?,
+        level: 100,
+        dvs: [15; 4],
+        exp: [65535; 5],
+        moves: chosen,
+    })
+}
+
+fn refusal_of(moves: &[(&str, u8)]) -> Result<Option<TeamRefusal>, &'static str> {
+    Ok(Team::new(&[tauros(moves)?]).err())
+}
+
+#[test]
+fn a_team_of_one(rt: HostRuntime) -> Result<(), Fail> {
+    let team = Team::new(&[tauros(&[("Strength", 3), ("Wrap", 0)])?])?;
+    let [member] = team.members() else {
+        return Err("one member")?;
+    };
+    assert_eq!(rt; member.species().name(), "Tauros");
+    assert_eq!(rt; member.level(), 100);
+    assert_eq!(rt; member.max_hp(), 353);
+    assert_eq!(rt; member.attack(), 298);
+    assert_eq!(rt; member.defense(), 288);
+    assert_eq!(rt; member.speed(), 318);
+    assert_eq!(rt; member.special(), stat(70, 15, 65535, 100));
+    let pp = |known: &KnownMove| known.pp;
+    assert_eq!(rt; member.moves().first().map(pp), Some(24));
+    assert_eq!(rt; member.moves().last().map(pp), Some(20));
+    Ok(())
+}
+
+#[test]
+fn the_most_hp(rt: HostRuntime) {
+    let chansey = 250;
+    assert_eq!(rt; hp_stat(chansey, 15, 65535, 100), 703);
+}
+
+#[test]
+fn the_least_member(rt: HostRuntime) {
+    assert_eq!(rt; Member::default().max_hp(), 11);
+    assert_eq!(rt; Status::default(), Status::Healthy);
+}
+
+#[test]
+fn refusals_come_in_order(rt: HostRuntime) -> Result<(), Fail> {
+    assert_eq!(rt; refusal_of(&[("Strength", 3)])?, None);
+    assert_eq!(rt; refusal_of(&[])?, Some(TeamRefusal::NoMove(1)));
+    let wrong = [
+        ("Strength", 4),
+        ("Strength", 0),
+        ("Struggle", 0),
+        ("Metronome", 0),
+    ];
+    assert_eq!(rt; refusal_of(&wrong)?, Some(TeamRefusal::MoveLeftOut(1)));
+    assert_eq!(rt;
+        refusal_of(&wrong[..3])?,
+        Some(TeamRefusal::StruggleChosen(1))
+    );
+    assert_eq!(rt;
+        refusal_of(&wrong[..2])?,
+        Some(TeamRefusal::RepeatedMove(1))
+    );
+    assert_eq!(rt; refusal_of(&wrong[..1])?, Some(TeamRefusal::PpUps(1)));
+    Ok(())
+}
+
+#[test]
+fn refusals_of_members(rt: HostRuntime) -> Result<(), Fail> {
+    assert_eq!(rt; Team::new(&[]).err(), Some(TeamRefusal::Empty));
+    let mut members = Vec::new(rt.alloc());
+    for _ in 0..7 {
+        members.push(tauros(&[("Strength", 0)])?)?;
+    }
+    assert_eq!(rt;
+        Team::new(members.as_slice()).err(),
+        Some(TeamRefusal::TooMany)
+    );
+    let mut second = tauros(&[("Strength", 0)])?;
+    second.level = 0;
+    second.dvs = [16; 4];
+    let mut third = tauros(&[])?;
+    third.dvs = [0, 0, 0, 16];
+    let refusal = Team::new(&[tauros(&[("Strength", 0)])?, second, third]).err();
+    assert_eq!(rt; refusal, Some(TeamRefusal::Level(2)));
+    Ok(())
+}
+
+#[test]
+fn refusals_in_numbers_and_words(rt: HostRuntime) -> Result<(), Fail> {
+    for (refusal, number, place, text) in [
+        (TeamRefusal::Empty, 1, 0, "the team has no member"),
+        (
+            TeamRefusal::TooMany,
+            2,
+            0,
+            "the team has more than six members",
+        ),
+        (
+            TeamRefusal::Level(1),
+            3,
+            1,
+            "member 1: the level is not 1 to 100",
+        ),
+        (TeamRefusal::Dv(2), 4, 2, "member 2: a DV is above 15"),
+        (TeamRefusal::NoMove(3), 5, 3, "member 3: there is no move"),
+        (
+            TeamRefusal::MoveLeftOut(4),
+            6,
+            4,
+            "member 4: a move is left out of the engine",
+        ),
+        (
+            TeamRefusal::StruggleChosen(5),
+            7,
+            5,
+            "member 5: Struggle can't be chosen",
+        ),
+        (
+            TeamRefusal::RepeatedMove(6),
+            8,
+            6,
+            "member 6: a move stands twice",
+        ),
+        (
+            TeamRefusal::PpUps(1),
+            9,
+            1,
+            "member 1: a move has more than three PP ups",
+        ),
+    ] {
+        assert_eq!(rt; refusal.number(), number);
+        assert_eq!(rt; refusal.place(), place);
+        let printed = format!(in rt.alloc(); "{refusal}")?;
+        assert_eq!(rt; printed.as_str(), text);
+    }
+    Ok(())
+}

@@ -1,0 +1,122 @@
+use crate::Effect::{
+    ChargeInvulnerable, DamageOnly, FixedDamage, OneHitKnockOut, ParalysisChance, PoisonChance,
+    Recoil, StatDown, StatDownChance, StatUp,
+};
+use crate::Element::{
+    Bug, Dragon, Electric, Fighting, Fire, Flying, Ghost, Grass, Ground, Normal, Poison, Psychic,
+    Water,
+};
+use crate::Stat::{Attack, Defense};
+use crate::{Element, MoveId, Species, type_rows};
+use std::process::Abort;
+
+#[test]
+fn ten_species(rt: HostRuntime) {
+    for (number, name, types, base) in [
+        (1, "Bulbasaur", [Grass, Poison], [45, 49, 49, 45, 65]),
+        (6, "Charizard", [Fire, Flying], [78, 84, 78, 100, 85]),
+        (25, "Pikachu", [Electric, Electric], [35, 55, 30, 90, 50]),
+        (29, "Nidoran-F", [Poison, Poison], [55, 47, 52, 41, 40]),
+        (62, "Poliwrath", [Water, Fighting], [90, 85, 95, 70, 70]),
+        (83, "Farfetchd", [Normal, Flying], [52, 65, 55, 60, 58]),
+        (113, "Chansey", [Normal, Normal], [250, 5, 5, 50, 105]),
+        (122, "Mr. Mime", [Psychic, Psychic], [40, 45, 65, 90, 100]),
+        (128, "Tauros", [Normal, Normal], [75, 100, 95, 110, 70]),
+        (151, "Mew", [Psychic, Psychic], [100, 100, 100, 100, 100]),
+    ] {
+        check_species(&rt, number, name, types, base);
+    }
+    assert_eq!(rt; Species::default().name(), "Bulbasaur");
+}
+
+fn check_species(rt: &impl Abort, number: u8, name: &str, types: [Element; 2], base: [u8; 5]) {
+    let species = Species::new(number).expect(rt, "no species has the number");
+    assert_eq!(rt; species.number(), number);
+    assert_eq!(rt; species.name(), name);
+    assert_eq!(rt; Species::from_name(name), Some(species), "{name}");
+    assert_eq!(rt; species.types(), types, "{name}");
+    assert_eq!(rt; species.base(), base, "{name}");
+}
+
+#[test]
+fn ten_moves(rt: HostRuntime) {
+    for (number, name, kind, power, accuracy, pp, effect) in [
+        (1, "Pound", Normal, 40, 255, 35, DamageOnly),
+        (12, "Guillotine", Normal, 1, 76, 5, OneHitKnockOut),
+        (14, "Swords Dance", Normal, 0, 255, 30, StatUp(Attack, 2)),
+        (19, "Fly", Flying, 70, 242, 15, ChargeInvulnerable),
+        (51, "Acid", Poison, 40, 255, 30, StatDownChance(Defense)),
+        (101, "Night Shade", Ghost, 0, 255, 15, FixedDamage),
+        (103, "Screech", Normal, 0, 216, 40, StatDown(Defense, 2)),
+        (122, "Lick", Ghost, 20, 255, 30, ParalysisChance(77)),
+        (124, "Sludge", Poison, 65, 255, 20, PoisonChance(103)),
+        (165, "Struggle", Normal, 50, 255, 10, Recoil),
+    ] {
+        check_name(&rt, number, name);
+        let id = MoveId::new(number).expect(&rt, "no move has the number");
+        assert_eq!(rt;
+            (id.kind(), id.power(), id.accuracy_byte(), id.pp()),
+            (kind, power, accuracy, pp),
+            "{number}"
+        );
+        assert_eq!(rt; id.effect(), effect, "{number}");
+    }
+    assert_eq!(rt; MoveId::default().name(), "Pound");
+}
+
+fn check_name(rt: &impl Abort, number: u8, name: &str) {
+    let id = MoveId::new(number).expect(rt, "no move has the number");
+    assert_eq!(rt; id.number(), number);
+    assert_eq!(rt; id.name(), name);
+    assert_eq!(rt; MoveId::from_name(name), Some(id), "{name}");
+}
+
+#[test]
+fn ten_type_rows(rt: HostRuntime) {
+    for (place, row) in [
+        (0, (Water, Fire, 20)),
+        (6, (Ground, Flying, 0)),
+        (12, (Psychic, Psychic, 5)),
+        (18, (Normal, Ghost, 0)),
+        (23, (Electric, Ground, 0)),
+        (41, (Fighting, Ghost, 0)),
+        (45, (Poison, Bug, 20)),
+        (67, (Bug, Poison, 20)),
+        (75, (Ghost, Psychic, 0)),
+        (81, (Dragon, Dragon, 20)),
+    ] {
+        assert_eq!(rt; type_rows().get(place), Some(&row), "{place}");
+    }
+}
+
+#[test]
+fn types(rt: HostRuntime) {
+    for (kind, number, special) in [
+        (Normal, 0, false),
+        (Ghost, 7, false),
+        (Fire, 8, true),
+        (Dragon, 14, true),
+    ] {
+        assert_eq!(rt; kind.number(), number);
+        assert_eq!(rt; kind.is_special(), special);
+    }
+}
+
+#[test]
+fn refused_names_and_numbers(rt: HostRuntime) {
+    for text in ["", "Poun", "Pound ", "pound", "Tauro", "Tauros ", "tauros"] {
+        assert_eq!(rt; MoveId::from_name(text), None, "{text}");
+        assert_eq!(rt; Species::from_name(text), None, "{text}");
+    }
+    for (number, species, id) in [
+        (0, false, false),
+        (151, true, true),
+        (152, false, true),
+        (165, false, true),
+        (166, false, false),
+        (255, false, false),
+    ] {
+        assert_eq!(rt; Species::new(number).is_some(), species, "{number}");
+        assert_eq!(rt; MoveId::new(number).is_some(), id, "{number}");
+    }
+}

@@ -1,0 +1,102 @@
+#!/usr/bin/env python3
+"""Writes the lists of crates/gen1_tables from the tables of docs/TABLES.md.
+
+    tools/tables.py           writes the lists into src/ and specs/, and names each file that changed
+    tools/tables.py --check   writes nothing; names each file that differs, and fails if one does
+
+A list stands between its first line and its last one in a file. All other lines of the file are
+written by hand, and stay as they are.
+"""
+
+import argparse
+import re
+import sys
+from pathlib import Path
+
+ROOT = Path(__file__).resolve().parent.parent
+CRATE = ROOT / "crates" / "gen1_tables"
+
+
+def table(document, heading):
+    """The rows of the table under a heading, each a list of its cells."""
+    section = re.search(rf"^#+ {heading}\n(.*?)(?=^#|\Z)", document, re.M | re.S)[1]
+    lines = [line for line in section.splitlines() if line.startswith("|")]
+    return [[cell.strip() for cell in line.strip("|").split("|")] for line in lines[2:]]
+
+
+def numbered(rows):
+    """The rows without their numbers, which must count from 1."""
+    for place, (number, name, *_) in enumerate(rows, 1):
+        if int(number) != place:
+            sys.exit(f"docs/TABLES.md: {name} has the number {number} at place {place}")
+    return [row[1:] for row in rows]
+
+
+def applied(effect):
+    """An effect as the specification writes it: `StatUp(Attack, 2)` is `(StatUp Attack 2)`."""
+    return f"({re.sub('[(),]+ *', ' ', effect).strip()})" if "(" in effect else effect
+
+
+def code_list(file, name, rows):
+    """A static of the code: its file, a pattern of its first line, its last line, and its rows."""
+    return CRATE / "src" / file, rf"static {name}: [^\n]* = \[", "];", rows
+
+
+def spec_list(file, name, rows):
+    """A list of the specification, in the same form."""
+    return CRATE / "specs" / file, f"{name} =", "    []", rows
+
+
+def all_lists(document):
+    """Every list that is written, each with its rows."""
+    types = table(document, "Type rows")
+    yield code_list("types.rt", "TYPE_ROWS", [f"({', '.join(row)})," for row in types])
+    yield spec_list("Types.antt", "type_rows", [f"row {' '.join(row)} ∷" for row in types])
+
+    species = numbered(table(document, "Species"))
+    yield code_list("species.rt", "SPECIES_ROWS", [
+        f"({first}, {second}, [{', '.join(base)}]), // {name}"
+        for name, first, second, *base in species])
+    yield spec_list("Species.antt", "species_rows", [
+        f"row {' '.join(row)} ∷  -- {name}" for name, *row in species])
+
+    moves = numbered(table(document, "Moves"))
+    yield code_list("moves.rt", "MOVE_ROWS", [
+        f"({', '.join(row)}), // {name}" for name, *row in moves])
+    yield spec_list("Moves.antt", "move_rows", [
+        f"row {' '.join(row)} {applied(effect)} ∷  -- {name}" for name, *row, effect in moves])
+
+    for what, rows in ("species", species), ("move", moves):
+        yield code_list("names.rt", f"{what.upper()}_NAMES", [f'"{name}",' for name, *_ in rows])
+        yield spec_list("Names.antt", f"{what}_names", [f'codes "{name}" ∷' for name, *_ in rows])
+
+
+def with_lists(document):
+    """The text of each file with its lists as the document has them."""
+    texts = {}
+    for file, first, last, rows in all_lists(document):
+        body = "".join(f"    {row}\n" for row in rows)
+        pattern = rf"(?P<first>^{first}\n).*?(?=^{re.escape(last)}$)"
+        text = texts.get(file) or file.read_text()
+        texts[file], found = re.subn(pattern, lambda old: old["first"] + body, text, flags=re.M | re.S)
+        if found != 1:
+            sys.exit(f"{file.relative_to(ROOT)}: {found} lists begin with {first}")
+    return texts
+
+
+def main():
+    parser = argparse.ArgumentParser(description=__doc__.splitlines()[0])
+    parser.add_argument("--check", action="store_true", help="write nothing; fail where a file differs")
+    check = parser.parse_args().check
+    texts = with_lists((ROOT / "docs" / "TABLES.md").read_text())
+    differing = [file for file, text in texts.items() if file.read_text() != text]
+    for file in differing:
+        print(file.relative_to(ROOT))
+        if not check:
+            file.write_text(texts[file])
+    if check and differing:
+        sys.exit("these files are not what docs/TABLES.md says; run tools/tables.py")
+
+
+if __name__ == "__main__":
+    main()
