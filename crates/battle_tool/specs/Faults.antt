@@ -1,5 +1,8 @@
--- The exit status of each fault.
+-- The exit status of each fault, and the number of each refused pair.
 use Rattle.std.specs.Prelude.{ℕ}
+use Rattle.gen1_machine.specs.declared.side.Side.TheVariants.{One, Two}
+use Rattle.battle_tool.specs.declared.battle.PairRefusal.{PairRefusal}
+use Rattle.battle_tool.specs.declared.battle.PairRefusal.TheVariants.{Over, NotOffered}
 use Rattle.battle_tool.specs.declared.fault.ToolFault.{ToolFault}
 use Rattle.battle_tool.specs.declared.fault.ToolFault.TheVariants.{Json, TooLong, Team, Pair, Log, Read, Write, Memory}
 
@@ -12,3 +15,8 @@ status_of (Log number) = 1
 status_of Read = 3
 status_of Write = 3
 status_of Memory = 4
+
+abbrev pub refusal_number : PairRefusal → ℕ
+refusal_number Over = 1
+refusal_number (NotOffered One) = 2
+refusal_number (NotOffered Two) = 3

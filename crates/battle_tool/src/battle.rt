@@ -8,9 +8,10 @@ mod acting;
 mod fighter;
 mod striking;
 
-ghost use Rattle.std.specs.Prelude.{◌+◌, ◌≤◌};
+ghost use Rattle.std.specs.Prelude.{◌+◌, ◌≡◌, ◌≤◌};
 ghost use Rattle.arrayvec.specs.ArrayVec.{array_vec_len};
 ghost use Rattle.gen1_stats.specs.Members.{IsMember};
+ghost use Rattle.battle_tool.specs.Faults.{refusal_number};
 
 use self::acting::act;
 use self::fighter::{Fighter, Pick};
@@ -31,6 +32,7 @@ pub enum PairRefusal {
 impl PairRefusal {
     /// The number of the refusal, from 1 to 3.
     pub fn number(self) -> u8
+        ensures value { result ≡ refusal_number self }
         ensures low { 1 ≤ result }
         ensures high { result ≤ 3 }
     {
