@@ -4,6 +4,25 @@ mod Rows
 pub mod Draws
 pub mod Runs
 pub mod Rooms
+-- What an update costs at most.
+pub mod Costs
+pub mod GateCosts
+pub mod EffectCosts
+mod QuietMoves
+pub mod ActionCosts
+pub mod TurnCosts
+pub mod Bounds
+-- What a watcher knows.
+pub mod Showing
+pub mod Watching
+pub mod WatchedGate
+pub mod WatchedEffects
+mod ShiftingMoves
+pub mod WatchedActions
+pub mod WatchedSwitches
+pub mod WatchedTurns
+pub mod WatchedEnds
+pub mod Spectators
 -- Worked examples of single rules, computed.
 pub mod Computing
 pub mod WorkedRules

@@ -54,4 +54,7 @@ pub mod Step
 pub mod View
 pub mod Room
 pub mod Layout
+-- Laws over steps and whole runs.
 pub mod Laws
+pub mod Bounds
+pub mod Spectator

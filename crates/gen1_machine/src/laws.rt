@@ -1,6 +1,8 @@
 //! Laws of the battle machine (docs/PROOFS.md, "Laws"). Each function does nothing: its contract
 //! is the law.
+ghost use Rattle.gen1_machine.specs.Bounds.{ActIsBounded, EndIsBounded, OrderIsBounded, ResidualIsBounded, StepIsBounded, SwitchIsBounded, TurnIsBounded, UpdateIsBounded};
 ghost use Rattle.gen1_machine.specs.Laws.{OverStaysOver, RefusalChangesNothing, TermsStay, RunsAppend, SameAsBeforeRules, SameAsFixedLimit, RoomRuns, FirstIsLeast, FirstExists};
+ghost use Rattle.gen1_machine.specs.Spectator.{TeamsAreUnhurt, WatcherKnows};
 
 /// Once a battle is over, every pair of choices is refused and nothing changes.
 pub fn over_stays_over()
@@ -47,6 +49,58 @@ pub fn first_exists()
     ensures { FirstExists }
 {}
 
+/// An action of one side makes at most 2,323 draws, and writes at most 19 events of 107 bytes.
+pub fn act_is_bounded()
+    ensures { ActIsBounded }
+{}
+
+/// A switch makes no draw, and writes at most one event of 10 bytes.
+pub fn switch_is_bounded()
+    ensures { SwitchIsBounded }
+{}
+
+/// What a side suffers after an action takes no draw, and at most 3 events of 26 bytes.
+pub fn residual_is_bounded()
+    ensures { ResidualIsBounded }
+{}
+
+/// The order of a turn is settled by at most one draw, and without an event.
+pub fn order_is_bounded()
+    ensures { OrderIsBounded }
+{}
+
+/// The end of an update makes no draw, and writes at most 3 events of 9 bytes.
+pub fn end_is_bounded()
+    ensures { EndIsBounded }
+{}
+
+/// A turn makes at most 4,647 draws, and writes at most 44 events of 266 bytes.
+pub fn turn_is_bounded()
+    ensures { TurnIsBounded }
+{}
+
+/// An update makes at most 4,647 draws, and writes at most 47 events of 275 bytes.
+pub fn update_is_bounded()
+    ensures { UpdateIsBounded }
+{}
+
+/// An accepted pair of choices moves the draw number by at most 4,700, and has at most 64 events,
+/// whose codes have at most 512 bytes.
+pub fn step_is_bounded()
+    ensures { StepIsBounded }
+{}
+
+/// A team has somebody in it, and nobody is hurt as its battle begins.
+pub fn teams_are_unhurt()
+    ensures { TeamsAreUnhurt }
+{}
+
+/// Who has seen all events of a battle knows the active places, the HP, the kinds of status, the
+/// stages, substitutes, confusion, screens, the turn and the outcome.
+pub fn watcher_knows()
+    ensures { WatcherKnows }
+{}
+
 #[test]
 fn each_law_can_be_called() {
     over_stays_over();
@@ -58,4 +112,14 @@ fn each_law_can_be_called() {
     room_runs();
     first_is_least();
     first_exists();
+    act_is_bounded();
+    switch_is_bounded();
+    residual_is_bounded();
+    order_is_bounded();
+    end_is_bounded();
+    turn_is_bounded();
+    update_is_bounded();
+    step_is_bounded();
+    teams_are_unhurt();
+    watcher_knows();
 }

@@ -1,0 +1,442 @@
+-- Phases that a watcher can follow: where the view made of the events was what the field shows, it is so afterwards.
+use Rattle.std.proofs.Common.{[], Bool, List, None, Option, Some, ap, false, is_some, refl, subst, sym, true, ℕ, ◌+◌, ◌++◌, ◌∙◌, ◌∷◌, ◌≡◌}
+use Rattle.gen1_rolls.specs.Streams.{byte_at, span, first}
+use Rattle.gen1_tables.specs.declared.effect.Stat.{Stat}
+use Rattle.gen1_stats.specs.declared.status.Status.{Status}
+use Rattle.gen1_stats.specs.declared.status.Status.TheVariants.{Healthy}
+use Rattle.gen1_stats.specs.Members.{Member}
+use Rattle.gen1_machine.specs.declared.side.Side.{Side}
+use Rattle.gen1_machine.specs.declared.terms.Request.{Request}
+use Rattle.gen1_machine.specs.declared.terms.Outcome.TheVariants as outcomes
+use Rattle.gen1_machine.specs.declared.health.Kind.{Kind}
+use Rattle.gen1_machine.specs.declared.health.Who.{Who}
+use Rattle.gen1_machine.specs.Health.{Health}
+use Rattle.gen1_machine.specs.declared.event.DamageSource.{DamageSource}
+use Rattle.gen1_machine.specs.declared.event.Volatile.{Volatile}
+use Rattle.gen1_machine.specs.declared.event.Event.{Event}
+use Rattle.gen1_machine.specs.declared.event.Event.TheVariants as events
+use Rattle.gen1_machine.specs.Conditions.{with_bide, with_bide_storing, without_bide, with_thrash, with_thrash_one_less, without_thrash, with_trapping, with_trapping_one_less, without_trapping, with_charging, without_charging, with_invulnerability, without_invulnerability, with_recharge, without_recharge, with_rage, broken_off, with_flinch, without_flinch, with_confusion, one_less, with_confusion_one_less, without_confusion, with_mist, with_focus_energy, with_light_screen, with_reflect, with_substitute, less_by, with_substitute_hurt, without_substitute, with_seed, without_seed, with_bad_poison, with_worse_poison, with_disabled, with_disable_one_less, without_disable, Conditions}
+use Rattle.gen1_machine.specs.State.{party, member_in, who_in, health_in, kind_of, changed_active, changed_conditions, changed_member, with_last_damage, with_outcome, with_requests, with_status, hurt_by, healed_by, fallen, with_pp_spent, with_types_of, with_current, with_picked, with_kept_accuracy, Active, Party, Field}
+use Rattle.gen1_machine.specs.CurrentStats.{with_penalty_of}
+use Rattle.gen1_machine.specs.Progress.{Action, Phase, stay, unless_stopped, ◌▸◌, choose, given, stop, draw, draw_until, on_field, note, told, on_active, on_conditions, on_member, set_last_damage, starts, goes_on, ends, on_action, fault, lose_hp, gain_hp, inflict, cure, Progress}
+use Rattle.gen1_machine.specs.View.{on_side_view, not_shown, if_out, on_named, on_shown, on_active_shown, sees_volatile, sees_rise, sees_drop, sees, sees_all, shown, side_shows, shows, View}
+use Rattle.gen1_machine.proofs.Showing.{BothOut, AllOut, visible, active_view, Keeps, kept, keeps-conditions, keeps-member, Silent, silent-active, silent-conditions, silent-member, silent-penalty, told-member, told-active}
+
+-- what leads from one fact to another where it goes on, and to a third where it stops
+
+pub data Lands (Q S : Progress → Type 0) (q : Progress) : Type 0 where
+  Runs : q.stopped ≡ false → Q q → Lands Q S q
+  Rests : q.stopped ≡ true → S q → Lands Q S q
+
+pub record Leads (P Q S : Progress → Type 0) (f : Phase) : Type 0 where
+  pub leads : (p : Progress) → p.stopped ≡ false → P p → Lands Q S (f p)
+
+after-first : (Q R S : Progress → Type 0) (q : Progress) (g : Phase) → Leads Q R S g → Lands Q S q → Lands R S (unless_stopped g q)
+unfolding unless_stopped
+after-first Q R S q g hg (Rests r m) = subst (λ (t : Bool). Lands R S (elim t as (λ _. Progress) [ true ↦ q | false ↦ g q ])) (sym r) (Rests r m)
+after-first Q R S q g hg (Runs r m) = subst (λ (t : Bool). Lands R S (elim t as (λ _. Progress) [ true ↦ q | false ↦ g q ])) (sym r) (hg.leads q r m)
+
+lands-after : (Q R S : Progress → Type 0) (q : Progress) → ((p : Progress) → Q p → R p) → Lands Q S q → Lands R S q
+lands-after Q R S q h (Runs r m) = Runs r (h q m)
+lands-after Q R S q h (Rests r m) = Rests r m
+
+pub after-leads : {P Q R S : Progress → Type 0} {f : Phase} → ((p : Progress) → Q p → R p) → Leads P Q S f → Leads P R S f
+after-leads {P} {Q} {R} {S} {f} h k = record { leads = λ p r m. lands-after Q R S (f p) h (k.leads p r m) }
+
+pub before-leads : {P O Q S : Progress → Type 0} {f : Phase} → ((p : Progress) → O p → P p) → Leads P Q S f → Leads O Q S f
+before-leads h k = record { leads = λ p r m. k.leads p r (h p m) }
+
+infixr 20 ◌⊳◌
+pub ◌⊳◌ : {P Q R S : Progress → Type 0} {f g : Phase} → Leads P Q S f → Leads Q R S g → Leads P R S (f ▸ g)
+unfolding ◌▸◌
+◌⊳◌ {P} {Q} {R} {S} {f} {g} hf hg = record { leads = λ p r m. after-first Q R S (f p) g hg (hf.leads p r m) }
+
+pub choose-sees : {P Q S : Progress → Type 0} (test : Progress → Bool) {f g : Phase}
+    → Leads (λ p. P p × (test p ≡ true)) Q S f → Leads (λ p. P p × (test p ≡ false)) Q S g → Leads P Q S (choose test f g)
+unfolding choose
+choose-sees {P} {Q} {S} test {f} {g} hf hg = record { leads = λ p r m. by p (test p) refl r m }
+  where
+    by : (p : Progress) (b : Bool) → test p ≡ b → p.stopped ≡ false → P p → Lands Q S (choose test f g p)
+    by p true e r m = subst (λ (t : Bool). Lands Q S (elim t as (λ _. Progress) [ true ↦ f p | false ↦ g p ])) (sym e) (hf.leads p r (m, e))
+    by p false e r m = subst (λ (t : Bool). Lands Q S (elim t as (λ _. Progress) [ true ↦ f p | false ↦ g p ])) (sym e) (hg.leads p r (m, e))
+
+pub choose-tells : {P Q S : Progress → Type 0} (test : Progress → Bool) {f g : Phase} → Leads P Q S f → Leads P Q S g → Leads P Q S (choose test f g)
+choose-tells test hf hg = choose-sees test (before-leads (λ p m. m.0) hf) (before-leads (λ p m. m.0) hg)
+
+-- a test that is settled before
+pub if-sees : {P Q S : Progress → Type 0} (b : Bool) {f g : Phase} → (b ≡ true → Leads P Q S f) → (b ≡ false → Leads P Q S g) → Leads P Q S (choose (λ _. b) f g)
+unfolding choose
+if-sees true hf hg = record { leads = λ p r m. (hf refl).leads p r m }
+if-sees false hf hg = record { leads = λ p r m. (hg refl).leads p r m }
+
+pub given-tells : {P Q S : Progress → Type 0} {A : Type 0} (read : Progress → A) {f : A → Phase} → ((x : A) → Leads P Q S (f x)) → Leads P Q S (given read f)
+unfolding given
+given-tells read h = record { leads = λ p r m. (h (read p)).leads p r m }
+
+pub given-sees : {P Q S : Progress → Type 0} {A : Type 0} (read : Progress → A) {f : A → Phase}
+    → ((x : A) → Leads (λ p. P p × (read p ≡ x)) Q S (f x)) → Leads P Q S (given read f)
+unfolding given
+given-sees read h = record { leads = λ p r m. (h (read p)).leads p r (m, refl) }
+
+pub stay-tells : {P S : Progress → Type 0} → Leads P P S stay
+unfolding stay
+stay-tells = record { leads = λ p r m. Runs r m }
+
+-- a phase that stops for sure leads wherever one likes
+pub stop-leads : {P Q S : Progress → Type 0} → ((p : Progress) → P p → S (record p { stopped = true })) → Leads P Q S stop
+unfolding stop
+stop-leads h = record { leads = λ p r m. Rests refl (h p m) }
+
+-- what a watcher knows
+
+-- all that shows
+pub record Agrees (v : View) (f : Field) (events : List Event) : Type 0 where
+  pub out : AllOut f
+  pub agrees : sees_all events v ≡ shows f
+
+abbrev pub Seen : View → Progress → Type 0
+Seen v p = Agrees v p.field p.events
+
+pub sees_all-last : (events : List Event) (event : Event) (v : View) → sees_all (events ++ event ∷ []) v ≡ sees event (sees_all events v)
+unfolding sees_all
+sees_all-last [] event v = refl
+sees_all-last (e ∷ events) event v = sees_all-last events event (sees e v)
+
+-- all that showed before a change, which is yet to be told
+pub record Behind (v : View) (Fact : Field → Type 0) (g : View → View) (f : Field) (events : List Event) : Type 0 where
+  pub before : Field
+  pub was : AllOut before
+  pub fact : Fact before
+  pub agrees : sees_all events v ≡ shows before
+  pub out : AllOut f
+  pub ahead : shows f ≡ g (shows before)
+
+abbrev pub Ahead : View → (Field → Type 0) → (View → View) → Progress → Type 0
+Ahead v Fact g p = Behind v Fact g p.field p.events
+
+module _ {v : View} {S : Progress → Type 0} where
+  pub draw-tells : {Q : Progress → Type 0} {f : ℕ → Phase} → ((b : ℕ) → Leads (Seen v) Q S (f b)) → Leads (Seen v) Q S (draw f)
+  unfolding draw
+  draw-tells h = record { leads = λ p r m. (h (byte_at p.stream p.drawn)).leads (record p { drawn = p.drawn + 1 }) r m }
+
+  until-lands : {f : ℕ → Phase} (p : Progress) (o : Option ℕ) → ((b : ℕ) → Leads (Seen v) (Seen v) S (f b)) → p.stopped ≡ false → Seen v p
+      → Lands (Seen v) S (elim o as (λ _. Progress) [ Some m ↦ f (byte_at p.stream m) (record p { drawn = m + 1 }) | None ↦ record p { drawn = p.drawn + span p.stream } ])
+  until-lands p None h r m = Runs r m
+  until-lands p (Some n) h r m = (h (byte_at p.stream n)).leads (record p { drawn = n + 1 }) r m
+
+  pub until-tells : (test : ℕ → Bool) {f : ℕ → Phase} → ((b : ℕ) → Leads (Seen v) (Seen v) S (f b)) → Leads (Seen v) (Seen v) S (draw_until test f)
+  unfolding draw_until
+  until-tells test h = record { leads = λ p r m. until-lands p (first p.stream p.drawn test) h r m }
+
+  pub action-tells : (change : Action → Action) → Leads (Seen v) (Seen v) S (on_action change)
+  unfolding on_action
+  action-tells change = record { leads = λ p r m. Runs r m }
+
+  pub field-tells : (change : Field → Field) → Silent change → Leads (Seen v) (Seen v) S (on_field change)
+  unfolding on_field
+  field-tells change h = record {
+    leads = λ p r m.
+        Runs r (record { out = kept h.keeps p.field m.out; agrees = m.agrees ∙ sym (h.unseen p.field) });
+  }
+
+  -- a change that doesn't show where something holds
+  pub field-sees : (change : Field → Field) (Fact : Field → Type 0) → Keeps change → ((f : Field) → Fact f → shows (change f) ≡ shows f)
+      → Leads (λ p. Seen v p × Fact p.field) (Seen v) S (on_field change)
+  unfolding on_field
+  field-sees change Fact k h = record {
+    leads = λ p r m.
+        Runs r (record { out = kept k p.field m.0.out; agrees = m.0.agrees ∙ sym (h p.field m.1) });
+  }
+
+  -- a change that shows, where the event of it is yet to come
+  pub field-ahead : (change : Field → Field) (Fact : Field → Type 0) (g : View → View) → Keeps change
+      → ((f : Field) → AllOut f → Fact f → shows (change f) ≡ g (shows f))
+      → Leads (λ p. Seen v p × Fact p.field) (Ahead v Fact g) S (on_field change)
+  unfolding on_field
+  field-ahead change Fact g k h = record {
+    leads = λ p r m.
+        Runs r (record { before = p.field; was = m.0.out; fact = m.1; agrees = m.0.agrees; out = kept k p.field m.0.out; ahead = h p.field m.0.out m.1 });
+  }
+
+  pub more-ahead : (change : Field → Field) (Fact : Field → Type 0) (g k : View → View) → Keeps change
+      → ((f : Field) → shows (change f) ≡ k (shows f))
+      → Leads (Ahead v Fact g) (Ahead v Fact (λ w. k (g w))) S (on_field change)
+  unfolding on_field
+  more-ahead change Fact g k keeps h = record {
+    leads = λ p r m.
+        Runs r (record { before = m.before; was = m.was; fact = m.fact; agrees = m.agrees; out = kept keeps p.field m.out; ahead = h p.field ∙ ap k m.ahead });
+  }
+
+  pub still-ahead : (change : Field → Field) (Fact : Field → Type 0) (g : View → View) → Silent change → Leads (Ahead v Fact g) (Ahead v Fact g) S (on_field change)
+  unfolding on_field
+  still-ahead change Fact g h = record {
+    leads = λ p r m.
+        Runs r (record { before = m.before; was = m.was; fact = m.fact; agrees = m.agrees; out = kept h.keeps p.field m.out; ahead = h.unseen p.field ∙ m.ahead });
+  }
+
+  -- the event that was due
+  pub note-told : (event : Field → Event) (Fact : Field → Type 0) (g : View → View)
+      → ((before f : Field) → AllOut before → AllOut f → Fact before → shows f ≡ g (shows before) → sees (event f) (shows before) ≡ g (shows before))
+      → Leads (Ahead v Fact g) (Seen v) S (note event)
+  unfolding note
+  note-told event Fact g h = record {
+    leads = λ p r m.
+        Runs r (record {
+          out = m.out;
+          agrees = sees_all-last p.events (event p.field) v ∙ ap (λ w. sees (event p.field) w) m.agrees
+              ∙ h m.before p.field m.was m.out m.fact m.ahead ∙ sym m.ahead;
+        });
+  }
+
+  pub told-told : (change : Field → Field) (event : Field → Event) (Fact : Field → Type 0) (g : View → View) → Silent change
+      → ((before f : Field) → AllOut before → AllOut f → Fact before → shows f ≡ g (shows before) → sees (event f) (shows before) ≡ g (shows before))
+      → Leads (Ahead v Fact g) (Seen v) S (told change event)
+  unfolding told
+  told-told change event Fact g s h = record {
+    leads = λ p r m.
+        let f = change p.field in
+        let o = kept s.keeps p.field m.out in
+        let a = s.unseen p.field ∙ m.ahead in
+        Runs r (record { out = o; agrees = sees_all-last p.events (event f) v ∙ ap (λ w. sees (event f) w) m.agrees ∙ h m.before f m.was o m.fact a ∙ sym a });
+  }
+
+  -- no event was due
+  pub stay-told : (Fact : Field → Type 0) (g : View → View) → ((before : Field) → AllOut before → Fact before → g (shows before) ≡ shows before)
+      → Leads (Ahead v Fact g) (Seen v) S stay
+  unfolding stay
+  stay-told Fact g h = record {
+    leads = λ p r m.
+        Runs r (record { out = m.out; agrees = m.agrees ∙ sym (h m.before m.was m.fact) ∙ sym m.ahead });
+  }
+
+  -- an event that shows nothing
+  pub note-tells : (event : Field → Event) → ((f : Field) (w : View) → sees (event f) w ≡ w) → Leads (Seen v) (Seen v) S (note event)
+  unfolding note
+  note-tells event h = record {
+    leads = λ p r m.
+        Runs r (record { out = m.out; agrees = sees_all-last p.events (event p.field) v ∙ h p.field (sees_all p.events v) ∙ m.agrees });
+  }
+
+  -- a change and its event, at once
+  pub told-sees : {P : Progress → Type 0} (change : Field → Field) (event : Field → Event) → Keeps change → ((p : Progress) → P p → Seen v p)
+      → ((p : Progress) → P p → sees (event (change p.field)) (shows p.field) ≡ shows (change p.field))
+      → Leads P (Seen v) S (told change event)
+  unfolding told
+  told-sees change event k seen h = record {
+    leads = λ p r m.
+        let s = seen p m in
+        let f = change p.field in
+        Runs r (record { out = kept k p.field s.out; agrees = sees_all-last p.events (event f) v ∙ ap (λ w. sees (event f) w) s.agrees ∙ h p m });
+  }
+
+  pub told-tells : (change : Field → Field) (event : Field → Event) → Keeps change
+      → ((f : Field) → AllOut f → sees (event (change f)) (shows f) ≡ shows (change f))
+      → Leads (Seen v) (Seen v) S (told change event)
+  told-tells change event k h = told-sees change event k (λ p m. m) (λ p m. h p.field m.out)
+
+-- a member that fell unseen, and a fault
+
+abbrev pub fallen_view : Side → View → View
+fallen_view s = on_side_view s (on_shown (λ _. not_shown))
+
+abbrev pub Anything : Field → Type 0
+Anything f = Unit {0}
+
+-- all that shows, but perhaps for a fall
+pub data Fell (v : View) (f : Field) (events : List Event) : Type 0 where
+  Stands : Agrees v f events → Fell v f events
+  Fallen : (s : Side) → Behind v Anything (fallen_view s) f events → Fell v f events
+
+abbrev pub MayFall : View → Progress → Type 0
+MayFall v p = Fell v p.field p.events
+
+pub record Faulted (v : View) (f : Field) (events : List Event) : Type 0 where
+  pub before : Field
+  pub was : AllOut before
+  pub agrees : sees_all events v ≡ shows before
+  pub both : BothOut f
+  pub number : ℕ
+  pub outcome : f.outcome ≡ outcomes.Fault number
+  pub ahead : shows f ≡ record (shows before) { outcome = outcomes.Fault number }
+
+pub data Halting (v : View) (f : Field) (events : List Event) : Type 0 where
+  Still : Fell v f events → Halting v f events
+  Broken : Faulted v f events → Halting v f events
+
+abbrev pub Halted : View → Progress → Type 0
+Halted v p = Halting v p.field p.events
+
+-- a phase that a watcher can follow
+abbrev pub Tells : View → Phase → Type 0
+Tells v f = Leads (Seen v) (Seen v) (Halted v) f
+
+unfoldable pub seeing : Bool
+unfolding with_bide with_bide_storing without_bide with_thrash with_thrash_one_less without_thrash with_trapping with_trapping_one_less without_trapping with_charging without_charging with_invulnerability without_invulnerability with_recharge without_recharge with_rage broken_off with_flinch without_flinch with_confusion without_confusion with_mist with_focus_energy with_light_screen with_reflect with_substitute without_substitute with_seed without_seed with_bad_poison with_worse_poison with_disabled with_disable_one_less without_disable with_status hurt_by healed_by fallen with_pp_spent with_types_of with_current with_picked with_kept_accuracy sees on_named on_active_shown
+seeing = true
+
+-- what each event does to a view
+
+pub start-seen : (w : Who) (what : Volatile) (x : View) → sees (events.Start w what) x ≡ on_side_view w.side (if_out (sees_volatile what true)) x
+unfolding sees on_named
+start-seen w what x = refl
+
+end-seen : (w : Who) (what : Volatile) (x : View) → sees (events.End w what) x ≡ on_side_view w.side (if_out (sees_volatile what false)) x
+unfolding sees on_named
+end-seen w what x = refl
+
+activate-seen : (w : Who) (what : Volatile) (x : View) → sees (events.Activate w what) x ≡ x
+unfolding sees
+activate-seen w what x = refl
+
+damage-seen : (w : Who) (h : Health) (source : DamageSource) (x : View)
+    → sees (events.Damage w h source) x ≡ on_side_view w.side (if_out (on_shown (λ m. record m { hp = h.hp }))) x
+unfolding sees on_named on_active_shown
+damage-seen w h source x = refl
+
+heal-seen : (w : Who) (h : Health) (x : View) → sees (events.Heal w h) x ≡ on_side_view w.side (if_out (on_shown (λ m. record m { hp = h.hp }))) x
+unfolding sees on_named on_active_shown
+heal-seen w h x = refl
+
+pub status-seen : (w : Who) (kind : Kind) (x : View) → sees (events.Status w kind) x ≡ on_side_view w.side (if_out (on_shown (λ m. record m { kind = Some kind }))) x
+unfolding sees on_named on_active_shown
+status-seen w kind x = refl
+
+pub cure-seen : (w : Who) (kind : Kind) (x : View) → sees (events.Cure w kind) x ≡ on_side_view w.side (if_out (on_shown (λ m. record m { kind = None }))) x
+unfolding sees on_named on_active_shown
+cure-seen w kind x = refl
+
+pub faint-seen : (w : Who) (x : View) → sees (events.Faint w) x ≡ on_side_view w.side (if_out (on_shown (λ m. not_shown))) x
+unfolding sees on_named on_active_shown
+faint-seen w x = refl
+
+pub boost-seen : (w : Who) (stat : Stat) (n : ℕ) (x : View) → sees (events.Boost w stat n) x ≡ on_side_view w.side (if_out (sees_rise stat n)) x
+unfolding sees on_named
+boost-seen w stat n x = refl
+
+pub unboost-seen : (w : Who) (stat : Stat) (n : ℕ) (x : View) → sees (events.Unboost w stat n) x ≡ on_side_view w.side (if_out (sees_drop stat n)) x
+unfolding sees on_named
+unboost-seen w stat n x = refl
+
+silent-damage : (damage : ℕ) → Silent (with_last_damage damage)
+unfolding with_last_damage
+silent-damage damage = record { unseen = λ f. refl; keeps = record { both = λ f o. record { one = o.one; two = o.two }; outcome = λ f. refl } }
+
+pub silent-requests : (one two : Request) → Silent (with_requests one two)
+unfolding with_requests
+silent-requests one two = record { unseen = λ f. refl; keeps = record { both = λ f o. record { one = o.one; two = o.two }; outcome = λ f. refl } }
+
+pub confusion-unseen : (c : Conditions) → visible (with_confusion_one_less c) ≡ visible c
+unfolding with_confusion_one_less
+confusion-unseen c = by c.confused
+  where
+    by : (o : Option ℕ) → record (visible c) { confused = is_some (one_less o) } ≡ record (visible c) { confused = is_some o }
+    by None = refl
+    by (Some n) = refl
+
+pub substitute-unseen : (damage : ℕ) (c : Conditions) → visible (with_substitute_hurt damage c) ≡ visible c
+unfolding with_substitute_hurt
+substitute-unseen damage c = by c.substitute
+  where
+    by : (o : Option ℕ) → record (visible c) { substitute = is_some (less_by damage o) } ≡ record (visible c) { substitute = is_some o }
+    by None = refl
+    by (Some n) = refl
+
+module _ {v : View} {S : Progress → Type 0} where
+  pub active-tells : (s : Side) (change : Active → Active) → ((a : Active) → active_view (change a) ≡ active_view a) → Leads (Seen v) (Seen v) S (on_active s change)
+  unfolding on_active
+  active-tells s change h = field-tells _ (silent-active s change h)
+
+  pub conditions-tells : (s : Side) (change : Conditions → Conditions) → ((c : Conditions) → visible (change c) ≡ visible c) → Leads (Seen v) (Seen v) S (on_conditions s change)
+  unfolding on_conditions
+  conditions-tells s change h = field-tells _ (silent-conditions s change h)
+
+  pub member-tells : (s : Side) (change : Member → Member) → ((m : Member) → shown (change m) ≡ shown m) → Leads (Seen v) (Seen v) S (on_member s change)
+  unfolding on_member
+  member-tells s change h = field-tells _ (silent-member s change h)
+
+  pub damage-tells : (damage : ℕ) → Leads (Seen v) (Seen v) S (set_last_damage damage)
+  unfolding set_last_damage
+  damage-tells damage = field-tells _ (silent-damage damage)
+
+  pub starts-tells : (s : Side) (what : Volatile) (change : Conditions → Conditions)
+      → ((t : Party) → sees_volatile what true (side_shows t) ≡ side_shows (record t { active = record t.active { conditions = change t.active.conditions } }))
+      → Leads (Seen v) (Seen v) S (starts s what change)
+  unfolding starts changed_conditions
+  starts-tells s what change h = told-tells (changed_conditions s change) (λ f. events.Start (who_in s f) what) (keeps-conditions s change)
+      (λ f o. start-seen (who_in s (changed_conditions s change f)) what (shows f)
+      ∙ told-active s (λ a. record a { conditions = change a.conditions }) (sees_volatile what true) f o.both (h (party s f)))
+
+  pub ends-tells : (s : Side) (what : Volatile) (change : Conditions → Conditions)
+      → ((t : Party) → sees_volatile what false (side_shows t) ≡ side_shows (record t { active = record t.active { conditions = change t.active.conditions } }))
+      → Leads (Seen v) (Seen v) S (ends s what change)
+  unfolding ends changed_conditions
+  ends-tells s what change h = told-tells (changed_conditions s change) (λ f. events.End (who_in s f) what) (keeps-conditions s change)
+      (λ f o. end-seen (who_in s (changed_conditions s change f)) what (shows f)
+      ∙ told-active s (λ a. record a { conditions = change a.conditions }) (sees_volatile what false) f o.both (h (party s f)))
+
+  pub goes_on-tells : (s : Side) (what : Volatile) (change : Conditions → Conditions) → ((c : Conditions) → visible (change c) ≡ visible c)
+      → Leads (Seen v) (Seen v) S (goes_on s what change)
+  unfolding goes_on
+  goes_on-tells s what change h = told-tells (changed_conditions s change) (λ f. events.Activate (who_in s f) what) (keeps-conditions s change)
+      (λ f o. activate-seen (who_in s (changed_conditions s change f)) what (shows f) ∙ sym ((silent-conditions s change h).unseen f))
+
+  pub lose-tells : (s : Side) (source : DamageSource) (amount : ℕ) → Leads (Seen v) (Seen v) S (lose_hp s source amount)
+  unfolding lose_hp hurt_by
+  lose-tells s source amount = choose-tells _
+      (told-tells (changed_member s (hurt_by amount)) (λ f. events.Damage (who_in s f) (health_in s f) source) (keeps-member s (hurt_by amount))
+      (λ f o. let q : Field = changed_member s (hurt_by amount) f in
+      damage-seen (who_in s q) (health_in s q) source (shows f) ∙ told-member s (hurt_by amount) (λ n x. record x { hp = n.hp }) f o.both refl)) stay-tells
+
+  pub gain-tells : (s : Side) (amount : ℕ) → Leads (Seen v) (Seen v) S (gain_hp s amount)
+  unfolding gain_hp healed_by
+  gain-tells s amount = choose-tells _
+      (told-tells (changed_member s (healed_by amount)) (λ f. events.Heal (who_in s f) (health_in s f)) (keeps-member s (healed_by amount))
+      (λ f o. let q : Field = changed_member s (healed_by amount) f in
+      heal-seen (who_in s q) (health_in s q) (shows f) ∙ told-member s (healed_by amount) (λ n x. record x { hp = n.hp }) f o.both refl)) stay-tells
+
+  -- a status is set with the event of it
+  pub status-tells : (s : Side) (status : Status) (kind : Kind) → kind_of status ≡ Some kind
+      → Leads (Seen v) (Seen v) S (told (changed_member s (with_status status)) (λ f. events.Status (who_in s f) kind))
+  unfolding with_status
+  status-tells s status kind e = told-tells (changed_member s (with_status status)) (λ f. events.Status (who_in s f) kind) (keeps-member s (with_status status))
+      (λ f o. status-seen (who_in s (changed_member s (with_status status) f)) kind (shows f) ∙ told-member s (with_status status) (λ n x. record x { kind = Some kind }) f o.both
+      (ap (λ k. record (shown (member_in s f)) { kind = k }) (sym e)))
+
+  pub inflict-tells : (s : Side) (status : Status) (kind : Kind) → kind_of status ≡ Some kind → Leads (Seen v) (Seen v) S (inflict s status kind)
+  unfolding inflict on_member with_status
+  inflict-tells s status kind e =
+      let g : View → View = on_side_view s (if_out (on_shown (λ x. record x { kind = Some kind }))) in
+      before-leads (λ p m. (m, tt)) (field-ahead (changed_member s (with_status status)) Anything g (keeps-member s _)
+      (λ f o fact. sym (told-member s (with_status status) (λ n x. record x { kind = Some kind }) f o.both
+      (ap (λ k. record (shown (member_in s f)) { kind = k }) (sym e)))))
+      ⊳ told-told (changed_active s (with_penalty_of status)) (λ f. events.Status (who_in s f) kind) Anything g (silent-penalty s status)
+      (λ b f o q fact a. status-seen (who_in s f) kind (shows b))
+
+  pub cure-tells : (s : Side) (kind : Kind) → Leads (Seen v) (Seen v) S (cure s kind)
+  unfolding cure with_status
+  cure-tells s kind = told-tells (changed_member s (with_status Healthy)) (λ f. events.Cure (who_in s f) kind) (keeps-member s (with_status Healthy))
+      (λ f o. cure-seen (who_in s (changed_member s (with_status Healthy) f)) kind (shows f)
+      ∙ told-member s (with_status Healthy) (λ n x. record x { kind = None }) f o.both refl)
+
+  pub fault-step : (n : ℕ) → Leads (Seen v) (λ p. Faulted v p.field p.events) S (on_field (with_outcome (outcomes.Fault n)))
+  unfolding on_field with_outcome
+  fault-step n = record {
+    leads = λ p r m.
+        Runs r (record {
+          before = p.field;
+          was = m.out;
+          agrees = m.agrees;
+          both = record { one = m.out.both.one; two = m.out.both.two };
+          number = n;
+          outcome = refl;
+          ahead = refl;
+        });
+  }
+
+module _ {v : View} where
+  pub stop-tells : Tells v stop
+  stop-tells = stop-leads (λ p m. Still (Stands m))
+
+  pub fault-tells : (n : ℕ) → Tells v (fault n)
+  unfolding fault
+  fault-tells n = fault-step n ⊳ stop-leads (λ p m. Broken m)

@@ -1,0 +1,5 @@
+use Rattle.gen1_machine.proofs.Bounds.{end_is_bounded}
+use Rattle.gen1_machine.proofs.laws.end_is_bounded.Goals as goal
+
+pub returns : goal.returns
+returns c = end_is_bounded

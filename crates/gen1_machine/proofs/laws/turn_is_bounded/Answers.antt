@@ -1,0 +1,5 @@
+use Rattle.gen1_machine.proofs.Bounds.{turn_is_bounded}
+use Rattle.gen1_machine.proofs.laws.turn_is_bounded.Goals as goal
+
+pub returns : goal.returns
+returns c = turn_is_bounded

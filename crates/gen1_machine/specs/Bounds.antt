@@ -1,0 +1,74 @@
+-- What an update, and each of its parts, costs at most (docs/PROOFS.md, "Laws"): draws, events, and the bytes of their codes.
+use Rattle.std.specs.Prelude.{List, false, length, ℕ, ◌++◌, ◌+◌, ◌≡◌, ◌≤◌}
+use Rattle.gen1_machine.specs.declared.side.Side.{Side}
+use Rattle.gen1_machine.specs.declared.event.Event.{Event}
+use Rattle.gen1_machine.specs.declared.picks.Pick.{Pick}
+use Rattle.gen1_machine.specs.declared.choice.Choice.{Choice}
+use Rattle.gen1_machine.specs.Code.{codes_of}
+use Rattle.gen1_machine.specs.State.{Terms, State}
+use Rattle.gen1_machine.specs.Progress.{Phase, Progress}
+use Rattle.gen1_machine.specs.Residual.{residual}
+use Rattle.gen1_machine.specs.Ruling.{ruling_of, Ruling}
+use Rattle.gen1_machine.specs.Action.{act}
+use Rattle.gen1_machine.specs.SwitchingIn.{send_out}
+use Rattle.gen1_machine.specs.TurnOrder.{in_order}
+use Rattle.gen1_machine.specs.Turn.{turn}
+use Rattle.gen1_machine.specs.Step.{update, close_update, step, Accepted}
+
+-- from p to q there are so many draws, new events, and bytes of their codes, at most; events are only ever added at the end
+pub record Spends (draws events bytes : ℕ) (p q : Progress) : Type 0 where
+  pub forward : p.drawn ≤ q.drawn
+  pub drawn : q.drawn ≤ p.drawn + draws
+  pub new : List Event
+  pub appended : q.events ≡ p.events ++ new
+  pub counted : length new ≤ events
+  pub coded : length (codes_of new) ≤ bytes
+
+-- so much a phase costs at most, wherever it begins
+abbrev pub CostsAtMost : ℕ → ℕ → ℕ → Phase → Type 0
+CostsAtMost draws events bytes f = (p : Progress) → p.stopped ≡ false → Spends draws events bytes p (f p)
+
+-- the parts
+
+-- one side's action: one loop of 2,304 draws, and 19 others
+abbrev pub ActIsBounded : Type 0
+ActIsBounded = (t : Terms) (s : Side) (pick : Pick) → CostsAtMost 2323 19 107 (act (ruling_of t) s pick)
+
+-- a switch
+abbrev pub SwitchIsBounded : Type 0
+SwitchIsBounded = (s : Side) (place : ℕ) → CostsAtMost 0 1 10 (send_out s place)
+
+-- what a side suffers after an action
+abbrev pub ResidualIsBounded : Type 0
+ResidualIsBounded = (s : Side) → CostsAtMost 0 3 26 (residual s)
+
+-- the order is settled by one draw
+abbrev pub OrderIsBounded : Type 0
+OrderIsBounded = (draws events bytes : ℕ) (begins : Side → Phase)
+    → ((s : Side) → CostsAtMost draws events bytes (begins s))
+    → CostsAtMost (draws + 1) events bytes (in_order begins)
+
+-- the end of an update: two falls, and what is next
+abbrev pub EndIsBounded : Type 0
+EndIsBounded = (r : Ruling) → CostsAtMost 0 3 9 (close_update r)
+
+-- the sums
+
+-- two actions, two residuals and the order
+abbrev pub TurnIsBounded : Type 0
+TurnIsBounded = (t : Terms) (one two : Choice) → CostsAtMost 4647 44 266 (turn (ruling_of t) one two)
+
+-- a turn, or switches, and the end
+abbrev pub UpdateIsBounded : Type 0
+UpdateIsBounded = (t : Terms) (one two : Choice) → CostsAtMost 4647 47 275 (update (ruling_of t) one two)
+
+-- what an accepted update keeps to
+pub record Bounded (s : State) (events : List Event) (after : State) : Type 0 where
+  pub forward : s.drawn ≤ after.drawn
+  pub draws : after.drawn ≤ s.drawn + 4700
+  pub few : length events ≤ 64
+  pub short : length (codes_of events) ≤ 512
+
+abbrev pub StepIsBounded : Type 0
+StepIsBounded = (s : State) (one two : Choice) (events : List Event)
+    → (step s one two).answer ≡ Accepted events → Bounded s events (step s one two).state
