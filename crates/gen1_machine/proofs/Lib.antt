@@ -23,6 +23,28 @@ pub mod WatchedSwitches
 pub mod WatchedTurns
 pub mod WatchedEnds
 pub mod Spectators
+-- Which states are valid.
+pub mod FirstStates
+-- Runs end.
+pub mod Keeps
+pub mod Free
+pub mod Leads
+pub mod Bench
+pub mod Turns
+pub mod Promised
+pub mod Settled
+pub mod RunsEnd
+-- Valid states stay valid.
+pub mod Tame
+pub mod Sound
+pub mod SoundFacts
+pub mod SoundWalk
+pub mod Explained
+pub mod Acts
+pub mod Fitting
+pub mod ValidTurns
+pub mod ValidSteps
+pub mod Fits
 -- Worked examples of single rules, computed.
 pub mod Computing
 pub mod WorkedRules

@@ -1,10 +1,13 @@
 -- Laws of steps, of runs and of draws (docs/PROOFS.md, "Laws"). Each is the contract of a function in src/laws.rt.
-use Rattle.std.specs.Prelude.{Bool, IsTrue, List, Some, [], map, true, ℕ, ◌++◌, ◌+◌, ◌<◌, ◌≡◌}
+use Rattle.std.specs.Prelude.{All, Bool, IsTrue, List, Some, [], count_by, false, map, true, ℕ, ◌++◌, ◌+◌, ◌<◌, ◌≡◌, ◌≤◌, ◌⊎◌}
 use Rattle.gen1_machine.specs.declared.choice.Choice.{Choice}
-use Rattle.gen1_rolls.specs.Streams.{span, IsStream, first, IsFirst, Stream}
-use Rattle.gen1_machine.specs.State.{is_over, usual_terms, State}
-use Rattle.gen1_machine.specs.Step.{events_of, step, step_before, step_two, run_by, run, Refusal, Over, Refused}
+use Rattle.gen1_rolls.specs.Streams.{span, IsStream, first, IsFirst, Link, Stream}
+use Rattle.gen1_stats.specs.Members.{IsTeam, Member}
+use Rattle.gen1_machine.specs.State.{first_state, is_over, usual_terms, State, Terms}
+use Rattle.gen1_machine.specs.Step.{events_of, step, step_before, step_two, run_by, run, Accepted, Answer, Refusal, Over, Refused}
 use Rattle.gen1_machine.specs.Room.{accepted_pairs, course_of, Submission, Course}
+use Rattle.gen1_machine.specs.Layout.{bytes_of}
+use Rattle.gen1_machine.specs.Valid.{IsField, IsFresh, IsState, IsTerms, IsUnstarted}
 
 -- once a battle is over, every pair of choices is refused as that, and nothing changes
 abbrev pub OverStaysOver : Type 0
@@ -55,3 +58,35 @@ FirstIsLeast = (s : Stream) (n : ℕ) (test : ℕ → Bool) (m : ℕ)
 abbrev pub FirstExists : Type 0
 FirstExists = (s : Stream) → IsStream s → (n : ℕ) (test : ℕ → Bool) (b : ℕ)
     → b < 256 → IsTrue (test b) → (m : ℕ) × (first s n test ≡ Some m)
+
+-- a battle of two teams is a valid one before its first update
+abbrev pub FirstStatesAreValid : Type 0
+FirstStatesAreValid = (terms : Terms) (one two : List Member) (seed : List ℕ)
+    → IsTerms terms → IsTeam one → IsTeam two → All IsFresh one → All IsFresh two → IsStream (Link seed)
+    → IsState (first_state terms one two seed)
+
+abbrev pub is_accepted : Answer → Bool
+is_accepted (Refused why) = false
+is_accepted (Accepted events) = true
+
+-- how many pairs of choices a run accepts
+abbrev pub accepted_in : State → List (Choice × Choice) → ℕ
+accepted_in s pairs = count_by is_accepted (run s pairs).answers
+
+-- from any valid state no more pairs are accepted than turns may come, and eleven: the start, and a replacement for each member
+-- but one of each side. Where so many were, the battle is over
+abbrev pub RunsEnd : Type 0
+RunsEnd = (s : State) (pairs : List (Choice × Choice))
+    → IsState s
+    → (accepted_in s pairs ≤ s.terms.limit + 11)
+    × (accepted_in s pairs ≡ s.terms.limit + 11 → is_over (run s pairs).state.field.outcome ≡ true)
+
+-- after any run from a valid state the battle has not begun, or every number of its field is in its range, and what is underway
+-- belongs to the current move
+abbrev pub FieldsStayValid : Type 0
+FieldsStayValid = (s : State) (pairs : List (Choice × Choice))
+    → IsState s → IsUnstarted s.terms (run s pairs).state.field ⊎ IsField s.terms (run s pairs).state.field
+
+-- every number of a valid state fits its bytes
+abbrev pub StatesFit : Type 0
+StatesFit = (s : State) → IsState s → All (λ b. b < 256) (bytes_of s)

@@ -54,6 +54,8 @@ pub mod Step
 pub mod View
 pub mod Room
 pub mod Layout
+-- Which states are valid.
+pub mod Valid
 -- Laws over steps and whole runs.
 pub mod Laws
 pub mod Bounds

@@ -1,7 +1,7 @@
 //! Laws of the battle machine (docs/PROOFS.md, "Laws"). Each function does nothing: its contract
 //! is the law.
 ghost use Rattle.gen1_machine.specs.Bounds.{ActIsBounded, EndIsBounded, OrderIsBounded, ResidualIsBounded, StepIsBounded, SwitchIsBounded, TurnIsBounded, UpdateIsBounded};
-ghost use Rattle.gen1_machine.specs.Laws.{OverStaysOver, RefusalChangesNothing, TermsStay, RunsAppend, SameAsBeforeRules, SameAsFixedLimit, RoomRuns, FirstIsLeast, FirstExists};
+ghost use Rattle.gen1_machine.specs.Laws.{OverStaysOver, RefusalChangesNothing, TermsStay, RunsAppend, SameAsBeforeRules, SameAsFixedLimit, RoomRuns, FirstIsLeast, FirstExists, FirstStatesAreValid, RunsEnd, FieldsStayValid, StatesFit};
 ghost use Rattle.gen1_machine.specs.Spectator.{TeamsAreUnhurt, WatcherKnows};
 
 /// Once a battle is over, every pair of choices is refused and nothing changes.
@@ -47,6 +47,26 @@ pub fn first_is_least()
 /// Wherever some byte meets a test, a stream has a first that does.
 pub fn first_exists()
     ensures { FirstExists }
+{}
+
+/// A battle of two teams is a valid one before its first update.
+pub fn first_states_are_valid()
+    ensures { FirstStatesAreValid }
+{}
+
+/// From any valid state a battle is over after at most as many accepted pairs as it may have turns, and eleven.
+pub fn runs_end()
+    ensures { RunsEnd }
+{}
+
+/// No run from a valid state leaves a number out of its range, or anything underway that the current move does not explain.
+pub fn fields_stay_valid()
+    ensures { FieldsStayValid }
+{}
+
+/// Every number of a valid state fits its bytes (docs/LAYOUT.md).
+pub fn states_fit()
+    ensures { StatesFit }
 {}
 
 /// An action of one side makes at most 2,323 draws, and writes at most 19 events of 107 bytes.
@@ -112,6 +132,10 @@ fn each_law_can_be_called() {
     room_runs();
     first_is_least();
     first_exists();
+    first_states_are_valid();
+    runs_end();
+    fields_stay_valid();
+    states_fit();
     act_is_bounded();
     switch_is_bounded();
     residual_is_bounded();

@@ -1,0 +1,377 @@
+#!/usr/bin/env python3
+"""Writes a walk over the phases of the battle machine (docs/PROOFS.md, "Walks").
+
+For each phase of the specifications that a walk names it writes one lemma, which says that the phase keeps a fact if its
+parts do. The lemma is proved by `search` over the rules for the combinators, the rules for the changes, and the lemmas of
+the phases that its clauses name.
+
+    tools/walk.py free      writes crates/gen1_machine/proofs/Free.antt
+    tools/walk.py sound     writes crates/gen1_machine/proofs/SoundWalk.antt, with the lemmas of tools/sound.antt
+"""
+import os
+import re
+import sys
+
+CRATE = os.path.join(os.path.dirname(os.path.abspath(__file__)), '..', 'crates', 'gen1_machine')
+WORD = r"[A-Za-z_][\w]*"
+
+
+def lines_of(name):
+    with open(os.path.join(CRATE, 'specs', name + '.antt'), encoding='utf-8') as file:
+        return [line for line in file.read().split('\n') if not line.strip().startswith('--')]
+
+
+def imports_of(name):
+    """Each imported word of a specification, with the module that it comes from; and its aliases of modules."""
+    words, aliases = {}, {}
+    for line in lines_of(name):
+        found = re.match(r'use ([\w.+]+)\.\{(.*)\}$', line)
+        if found:
+            for word in found.group(2).split(','):
+                words[word.strip()] = found.group(1)
+        found = re.match(r'use ([\w.+]+) as (\w+)$', line)
+        if found:
+            aliases[found.group(2)] = found.group(1)
+    return words, aliases
+
+
+def phases_of(name):
+    """The phases of a specification: word, argument types, and clauses as (patterns, body)."""
+    text = '\n'.join(line for line in lines_of(name) if not line.startswith('use ')) + '\n'
+    result = []
+    for found in re.finditer(r'^unfoldable pub (%s) : (.*)\n((?:(?!unfoldable|abbrev|pub|infix).*\n)*)' % WORD, text, re.M):
+        word, kind, body = found.groups()
+        arguments = split_arrows(kind)
+        if arguments.pop() != 'Phase':
+            continue
+        heads = list(re.finditer(r'^%s\b((?: [^=\n]*?)?) =(?= |$)' % word, body, re.M))
+        clauses = []
+        for at, head in enumerate(heads):
+            end = heads[at + 1].start() if at + 1 < len(heads) else len(body)
+            clauses.append((split_words(head.group(1)), body[head.end():end]))
+        result.append((word, arguments, clauses))
+    return result
+
+
+def split_arrows(kind):
+    parts, depth, part = [], 0, ''
+    for letter in kind:
+        depth += (letter in '({') - (letter in ')}')
+        if letter == '→' and depth == 0:
+            parts.append(part.strip())
+            part = ''
+        else:
+            part += letter
+    return parts + [part.strip()]
+
+
+def split_words(text):
+    words, depth, word = [], 0, ''
+    for letter in text + ' ':
+        depth += (letter == '(') - (letter == ')')
+        if letter == ' ' and depth == 0:
+            if word:
+                words.append(word)
+            word = ''
+        else:
+            word += letter
+    return words
+
+
+def names_for(arguments, clauses):
+    names = []
+    for place, kind in enumerate(arguments):
+        known = [patterns[place] for patterns, _ in clauses if place < len(patterns) and re.fullmatch(r'[a-z]\w*', patterns[place])]
+        known = [word for word in known if word not in ('zero', 'true', 'false')]
+        default = {'Side': 's', 'Move': 'move', 'Effect': 'effect', 'Pick': 'pick', 'ℕ': 'n', 'Ruling': 'r'}
+        name = known[0] if known else default.get(kind, 'x')
+        while name in names:
+            name += '2'
+        names.append(name)
+    return names
+
+
+def premises_for(word, arguments, names, fact, extra):
+    premises = [('fits', premise) for premise in extra.get(word, [])]
+    for name, kind in zip(names, arguments):
+        if kind == 'Phase':
+            premises.append((name + '-%s' % fact, 'Keeps P %s' % name))
+        of = re.fullmatch(r'\((\S+) → Phase\)', kind)
+        if of:
+            premises.append((name + '-%s' % fact, '((x : %s) → Keeps P (%s x))' % (of.group(1), name)))
+        if kind == 'Ruling':
+            premises.append(('ruling', 'KeepsRuling P %s' % name))
+        if kind == 'Move' and 'Move' in extra:
+            premises.append(('is', 'IsMove %s' % name))
+    return premises
+
+
+def lemma(word, arguments, clauses, fact, known, rules, depth, extra):
+    names = names_for(arguments, clauses)
+    premises = premises_for(word, arguments, names, fact, extra)
+    binders = ['(%s : %s)' % (name, kind.strip('()') if '→' not in kind else kind[1:-1]) for name, kind in zip(names, arguments)]
+    whole = word if not names else '(%s %s)' % (word, ' '.join(names))
+    kind = ''.join(' '.join(binders) + ' → ' if binders else '') + ''.join(p + ' → ' for _, p in premises) + 'Keeps P ' + whole
+    result = ['  pub %s-%s : %s' % (word, fact, kind), '  unfolding %s' % word]
+    for patterns, body in clauses:
+        used = [w for w in dict.fromkeys(re.findall(WORD, body)) if w in known and w != word]
+        listed = rules + ['%s-%s' % (w, fact) for w in used]
+        for premise, fact_of in premises:
+            if premise == 'ruling':
+                listed += [premise + field for field in ('.lulls', '.freezes') if field in body]
+            elif '→' in fact_of:
+                listed.append(premise)
+        left = list(patterns) + names[len(patterns):] + [p for p, _ in premises]
+        result.append('  %s = search (%s) depth %d' % (' '.join(['%s-%s' % (word, fact)] + left), ', '.join(listed), depth))
+    return result
+
+
+def walk(files, fact, rules, left_out, by_hand, extra={}, depth=14):
+    known, result, needed, places = set(), [], set(), {}
+    aliases = {}
+    for name in files:
+        words, named = imports_of(name)
+        aliases.update(named)
+        for word, arguments, clauses in phases_of(name):
+            if word in left_out:
+                continue
+            known.add(word)
+            places[word] = 'Rattle.gen1_machine.specs.' + name
+            if word in by_hand:
+                lines = by_hand[word]
+            else:
+                lines = lemma(word, arguments, clauses, fact, known, rules, depth, extra)
+            result += lines
+            for token in re.findall(r'%s|\[\]|∷' % WORD, '\n'.join(lines)):
+                if token in words:
+                    places.setdefault(token, words[token])
+                needed.add(token)
+    return result, needed, places, aliases
+
+
+FILES = '''Progress CriticalHits Damage HitTest Landing HitOnItself Gate Residual StageShift Ruling EarlyEffects LateEffects
+SideEffects GoingOn Charging FixedDamage Counter HitEffects ManyHits Action'''.split()
+
+COMBINATORS = '''stay unless_stopped choose given stop draw draw_until on_field note told on_active on_conditions on_member
+set_last_damage starts goes_on ends on_action set_missed'''.split()
+
+FREE_HEAD = '''-- What no phase of an action touches: turn number, places, members that are not out, and the length of a party. A fact of
+-- these alone is free, and every phase of an action keeps it. Below its head this file is written by tools/walk.py.
+%s
+use Rattle.gen1_machine.proofs.Keeps.{choose-keeps, keeps_rules, stay-keeps, then-keeps, Keeps, KeepsRuling, Spares, SparesAction}
+
+-- a change of a member that is out, but not of who is out
+pub record LeavesPlace (change : Active → Active) : Type 0 where
+  pub left : (a : Active) → (change a).place ≡ a.place
+
+types-leave : (foe : Active) → LeavesPlace (with_types_of foe)
+unfolding with_types_of
+types-leave foe = record { left = λ a. refl }
+
+current-leaves : (used : Used) → LeavesPlace (with_current used)
+unfolding with_current
+current-leaves used = record { left = λ a. refl }
+
+pub picked-leaves : (used : Used) → LeavesPlace (with_picked used)
+unfolding with_picked
+picked-leaves used = record { left = λ a. refl }
+
+accuracy-leaves : (byte : ℕ) → LeavesPlace (with_kept_accuracy byte)
+unfolding with_kept_accuracy
+accuracy-leaves byte = record { left = λ a. refl }
+
+stage-leaves : (stat : Stat) (n : ℕ) → LeavesPlace (at_new_stage stat n)
+unfolding at_new_stage
+stage-leaves stat n = record { left = λ a. refl }
+
+recomputed-leaves : (stat : Stat) (n : ℕ) → LeavesPlace (recomputed_at stat n)
+unfolding recomputed_at
+recomputed-leaves Attack n = record { left = λ a. refl }
+recomputed-leaves Defense n = record { left = λ a. refl }
+recomputed-leaves Speed n = record { left = λ a. refl }
+recomputed-leaves Special n = record { left = λ a. refl }
+recomputed-leaves Accuracy n = record { left = λ a. refl }
+recomputed-leaves Evasion n = record { left = λ a. refl }
+
+pub penalty-leaves : (status : Status) → LeavesPlace (with_penalty_of status)
+unfolding with_penalty_of
+penalty-leaves Healthy = record { left = λ a. refl }
+penalty-leaves (Asleep turns marked) = record { left = λ a. refl }
+penalty-leaves Poisoned = record { left = λ a. refl }
+penalty-leaves Burned = record { left = λ a. refl }
+penalty-leaves Frozen = record { left = λ a. refl }
+penalty-leaves Paralysed = record { left = λ a. refl }
+
+levelled-leaves : LeavesPlace with_levelled_stats
+unfolding with_levelled_stats
+levelled-leaves = record { left = λ a. refl }
+
+ruleset place_rules = (types-leave, current-leaves, picked-leaves, accuracy-leaves, stage-leaves, recomputed-leaves, penalty-leaves, levelled-leaves)
+
+pub record Free (P : Field → Action → Stream → Type 0) : Type 0 where
+  pub member : (s : Side) (change : Member → Member) → Spares P (changed_member s change)
+  pub active : (s : Side) (change : Active → Active) → LeavesPlace change → Spares P (changed_active s change)
+  pub damage : (n : ℕ) → Spares P (with_last_damage n)
+  pub outcome : (n : ℕ) → Spares P (with_outcome (outcomes.Fault n))
+  pub action : (change : Action → Action) → SparesAction P change
+
+module _ {P : Field → Action → Stream → Type 0} (free : Free P) where
+  pub conditions-spared : (s : Side) (change : Conditions → Conditions) → Spares P (changed_conditions s change)
+  unfolding changed_conditions
+  conditions-spared s change = free.active s _ (record { left = λ a. refl })
+
+  member-spared : (s : Side) (change : Member → Member) → Spares P (changed_member s change)
+  member-spared = free.member
+
+  active-spared : (s : Side) (change : Active → Active) → LeavesPlace change → Spares P (changed_active s change)
+  active-spared = free.active
+
+  damage-spared : (n : ℕ) → Spares P (with_last_damage n)
+  damage-spared = free.damage
+
+  outcome-spared : (n : ℕ) → Spares P (with_outcome (outcomes.Fault n))
+  outcome-spared = free.outcome
+
+  action-spared : (change : Action → Action) → SparesAction P change
+  action-spared = free.action
+
+  ruleset free_rules = (keeps_rules, action-spared, place_rules, conditions-spared, member-spared, active-spared, damage-spared, outcome-spared)
+
+'''
+
+FREE_WORDS = '''changed_member changed_active changed_conditions with_last_damage with_outcome with_types_of with_current with_picked
+with_kept_accuracy at_new_stage recomputed_at with_penalty_of with_levelled_stats'''.split()
+
+FREE_BY_HAND = {
+    'hit_again': ['  pub hit_again-free : (n : ℕ) (s : Side) (move : Move) → Keeps P (hit_again n s move)', '  unfolding hit_again',
+                  '  hit_again-free zero s move = stay-keeps',
+                  '  hit_again-free (suc k) s move = choose-keeps _ stay-keeps (then-keeps (hit_once-free s move) (hit_again-free k s move))'],
+    'set_skips': ['  pub set_skips-free : (skips : Bool) → Keeps P (set_skips skips)', '  unfolding set_skips',
+                  '  set_skips-free skips = record { kept = λ p h. h }'],
+    'resume': ['  pub resume-free : Keeps P resume', '  unfolding resume', '  resume-free = record { kept = λ p h. h }'],
+    'act': ['  pub act-free : (r : Ruling) (s : Side) (pick : Pick) → KeepsRuling P r → Keeps P (act r s pick)', '  unfolding act',
+            '  act-free r s pick ruling = record {',
+            '      kept = λ p h. resume-free.kept _ ((keep_accuracy-free s).kept _ ((action_parts-free r s pick ruling).kept _ ((begin-free s).kept p h)));',
+            '    }'],
+}
+
+FREE_TAIL = '''  pub ruling-free : (terms : Terms) → KeepsRuling P (ruling_of terms)
+  ruling-free terms = record { lulls = lulls_under-free terms.rules.sleep_clause; freezes = freezes_under-free terms.rules.freeze_clause }
+'''
+
+
+def written_imports(text, places, aliases, extra):
+    """The `use` lines for the words of a text, by where they come from."""
+    places = dict(places, **extra)
+    by_module = {}
+    code = '\n'.join(line.split('--')[0] for line in text.split('\n'))
+    tokens = set(re.findall(r'%s|\[\]|∷|≡|≤|<|\+|ℕ|ltb-true' % WORD, code))
+    marks = {'∷': '◌∷◌', '≡': '◌≡◌', '≤': '◌≤◌', '<': '◌<◌', '+': '◌+◌'}
+    for token in tokens:
+        token = marks.get(token, token)
+        if token in places and places[token]:
+            by_module.setdefault(places[token], set()).add(token)
+    lines = []
+    for module in sorted(by_module):
+        lines.append('use %s.{%s}' % (module, ', '.join(sorted(by_module[module], key=lambda w: (w[0].isupper(), w)))))
+    for alias, module in sorted(aliases.items()):
+        if re.search(r'\b%s\.' % alias, code):
+            lines.append('use %s as %s' % (module, alias))
+    return lines
+
+
+def vocabulary(places, aliases):
+    """Where each word of a walk comes from."""
+    words = {}
+    names = FILES + ['Conditions', 'State', 'CurrentStats', 'Picks', 'Moves', 'Valid', 'SwitchingIn', 'Turn']
+    for name in names:
+        found, named = imports_of(name)
+        aliases.update(named)
+        for word, module in found.items():
+            words.setdefault(word, module)
+    for name in names:
+        for line in lines_of(name):
+            found = re.match(r'(?:unfoldable pub|abbrev pub|pub record|pub data) (%s)' % WORD, line)
+            if found:
+                words[found.group(1)] = 'Rattle.gen1_machine.specs.' + name
+    for word, module in places.items():
+        words.setdefault(word, module)
+    common = 'Rattle.std.proofs.Common'
+    words.update({'◌≡◌': common, 'refl': common, '◌∷◌': common, '◌≤◌': common, '◌<◌': common, '◌+◌': common, 'arith': common,
+                  'absurd': None, 'sym': common, 'ltb-true': common, 'subst': common})
+    for word in ('stat', 'active', 'conditions', 'member', 'free'):
+        words.pop(word, None)
+    return words
+
+
+def written(name, body, uses):
+    with open(os.path.join(CRATE, 'proofs', name + '.antt'), 'w', encoding='utf-8') as file:
+        file.write(body.replace('%s', '\n'.join(uses), 1))
+
+
+def free():
+    lines, _, places, aliases = walk(FILES, 'free', ['free_rules'], COMBINATORS, FREE_BY_HAND)
+    words = vocabulary(places, aliases)
+    for word in ('Free', 'LeavesPlace'):
+        words.pop(word, None)
+    body = FREE_HEAD + '\n'.join(lines) + '\n' + FREE_TAIL
+    written('Free', body, written_imports(body, words, aliases, {}))
+
+
+SOUND_LEFT_OUT = COMBINATORS + '''start_bide bide_for late_effect trap_for trap thrash_less thrash_for thrash_about prelude
+must_recharge side_effect start_rage hit_effect hit_once hit_again other_hits hits strike begin_charge charge make_current use_move
+lead_up carry_out action_parts act let_energy_go store_energy bide_on bide_goes_on set_letting_go spend_pp keep_accuracy begin
+resume'''.split()
+
+SOUND_HEAD = '''-- Phases of an action keep a valid field: those that touch nothing which the current move explains. Below its head this file
+-- is written by tools/walk.py; the lemmas that it takes over as they are stand in tools/sound.antt.
+%s
+use Rattle.std.proofs.lemmas.Bool.{false≢true, ltb-true}
+use Rattle.gen1_machine.proofs.Keeps.{choose-keeps, draw-keeps, ends-keeps, given-keeps, keeps_rules, note-keeps, on_action-keeps, on_active-keeps, on_conditions-keeps, on_field-keeps, set_last_damage-keeps, set_missed-keeps, starts-keeps, stay-keeps, stop-keeps, then-keeps, told-keeps, Keeps, KeepsRuling, Spares, SparesAction}
+use Rattle.gen1_machine.proofs.Leads.{keeps-leads, stay-leads, then-leads, Leads}
+use Rattle.gen1_machine.proofs.Tame.{broken_off-tame, penalty-tame, recomputed-tame, stage-tame, status-tame, tame_rules, with_confusion-tame, with_substitute-tame, without_confusion-tame, without_disable-tame, without_flinch-tame, without_invulnerability-tame, TameActive, TameConditions, TameMember}
+use Rattle.gen1_machine.proofs.Sound.{choose-leads_sees, choose-sees, draw-sees, draw_until-sees, given-sees, party-valid, told-leads, Sound}
+use Rattle.gen1_machine.proofs.SoundFacts.{base-small, before_types-small, confusion-less, disable-less, disabled-valid, draw-leads, draw_until-leads, fails_if-plain, leads-from, named, on_conditions-leads, out-valid, risen-small, stage-small, typed-small, varied-small, IsMove}
+
+one-least : 1 ≤ 1
+one-least = omega arith
+
+module _ {terms : Terms} {P : Field → Action → Stream → Type 0} (sound : Sound terms P) where
+  pub conditions-spared : (s : Side) (change : Conditions → Conditions) → TameConditions change → Spares P (changed_conditions s change)
+  conditions-spared s change tame = record { spared = λ f a w h. sound.conditions s change f a w h (λ e k. tame.valid e _ _ k) }
+
+  member-spared : (s : Side) (change : Member → Member) → TameMember terms.rules change → Spares P (changed_member s change)
+  member-spared = sound.member
+
+  active-spared : (s : Side) (change : Active → Active) → TameActive change → Spares P (changed_active s change)
+  active-spared = sound.active
+
+  zero-spared : Spares P (with_last_damage 0)
+  zero-spared = sound.damage 0 (omega arith)
+
+  pub missed-spared : (missed : Bool) → SparesAction P (λ a. record a { missed = missed })
+  missed-spared missed = sound.action _ (record { tested = λ a h. h; letting_go = λ a. refl })
+
+  ruleset sound_rules = (keeps_rules, tame_rules, member-spared, active-spared, conditions-spared, zero-spared, missed-spared, one-least)
+
+'''
+
+SOUND_TAIL = '''  pub ruling-sound : KeepsRuling P (ruling_of terms)
+  ruling-sound = record { lulls = λ user. lulls_under-sound terms.rules.sleep_clause user (λ e. e); freezes = λ user. freezes_under-sound terms.rules.freeze_clause user }
+'''
+
+
+def sound():
+    by_hand = {}
+    with open(os.path.join(os.path.dirname(os.path.abspath(__file__)), 'sound.antt'), encoding='utf-8') as file:
+        for block in file.read().strip('\n').split('\n\n'):
+            by_hand[re.match(r'  pub (%s)-sound :' % WORD, block).group(1)] = block.split('\n')
+    extra = {'Move': True, 'inflict': ['IsStatus terms.rules status'], 'lower_foes_stat': ['1 ≤ by']}
+    lines, _, places, aliases = walk(FILES, 'sound', ['sound_rules'], SOUND_LEFT_OUT, by_hand, extra)
+    words = vocabulary(places, aliases)
+    body = SOUND_HEAD + '\n'.join(lines) + '\n' + SOUND_TAIL
+    written('SoundWalk', body, written_imports(body, words, aliases, {}))
+
+
+if __name__ == '__main__':
+    {'free': free, 'sound': sound}[sys.argv[1]]()
