@@ -1,5 +1,6 @@
 //! A member of a team as a battle begins (docs/MECHANICS.md, "Stats").
 ghost use Rattle.std.specs.Prelude.{◌≡◌, ◌≢◌, ◌≤◌, All, AllPairs, IfErr, IfOk, None, OnOk, Some, length, map};
+ghost use Rattle.gen1_stats.specs.declared.status.Status.TheVariants.{Healthy};
 ghost use Rattle.gen1_stats.specs.Members.{IsKnown, IsMember, least_member};
 ghost use Rattle.gen1_stats.specs.Teams.{known_of, member_of, member_refusal};
 
@@ -111,9 +112,11 @@ impl Member {
         self.level
     }
 
-    /// The HP of the unhurt member, from 11 to 999.
+    /// The HP of the unhurt member, from 11 to 999: those that it begins with, healthy.
     pub fn max_hp(&self) -> u16
         ensures value { result ≡ self.now.max }
+        ensures unhurt { self.now.hp ≡ result }
+        ensures healthy { self.now.status ≡ Healthy }
         ensures low { 11 ≤ result }
         ensures high { result ≤ 999 }
     {

@@ -1,0 +1,143 @@
+-- How what is shown goes through phases. Each lemma takes what is shown and gives what is shown; phases are explicit
+-- arguments, for which `_` will mostly do.
+use Rattle.std.proofs.Common.{Bool, List, [], ap, false, refl, subst, sym, true, ℕ, ◌++◌, ◌+◌, ◌≡◌, ◌∙◌, ◌∷◌}
+use Rattle.gen1_rolls.specs.Draws.{StandsAt}
+use Rattle.gen1_rolls.specs.Streams.{Stream, byte_at}
+use Rattle.gen1_rolls.proofs.Standing.{byte_drawn, stands_after_draw, stands_there}
+use Rattle.gen1_stats.specs.Members.{Member}
+use Rattle.gen1_machine.specs.declared.side.Side.{Side}
+use Rattle.gen1_machine.specs.declared.event.Event.{Event}
+use Rattle.gen1_machine.specs.Conditions.{Conditions}
+use Rattle.gen1_machine.specs.State.{changed_active, changed_conditions, changed_member, with_last_damage, Active, Field}
+use Rattle.gen1_machine.specs.Progress.{Action, Phase, Progress, choose, draw, given, note, on_action, on_active, on_conditions, on_field, on_member, set_last_damage, stay, stop, told, unless_stopped, ◌▸◌}
+use Rattle.gen1_layout.specs.Parts.{Parts}
+use Rattle.gen1_layout.specs.Within.{Within}
+use Rattle.gen1_layout.specs.Shows.{Frame, Shows, ShowsDrawn}
+
+-- phases, by what they come to
+
+pub then-goes : (f k : Phase) (p : Progress) → (f p).stopped ≡ false → (f ▸ k) p ≡ k (f p)
+unfolding ◌▸◌ unless_stopped
+then-goes f k p e = ap (λ (b : Bool). elim b as (λ _. Progress) [ true ↦ f p | false ↦ k (f p) ]) e
+
+pub then-stops : (f k : Phase) (p : Progress) → (f p).stopped ≡ true → (f ▸ k) p ≡ f p
+unfolding ◌▸◌ unless_stopped
+then-stops f k p e = ap (λ (b : Bool). elim b as (λ _. Progress) [ true ↦ f p | false ↦ k (f p) ]) e
+
+pub choose-true : (test : Progress → Bool) (f k : Phase) (p : Progress) → test p ≡ true → choose test f k p ≡ f p
+unfolding choose
+choose-true test f k p e = ap (λ (b : Bool). elim b as (λ _. Progress) [ true ↦ f p | false ↦ k p ]) e
+
+pub choose-false : (test : Progress → Bool) (f k : Phase) (p : Progress) → test p ≡ false → choose test f k p ≡ k p
+unfolding choose
+choose-false test f k p e = ap (λ (b : Bool). elim b as (λ _. Progress) [ true ↦ f p | false ↦ k p ]) e
+
+-- one phase, then the next
+
+module _ {g g' : Frame} {parts parts' : Parts} {events events' : List Event} {b : Bool} {p : Progress} where
+  pub goes : (f k : Phase) → Shows g parts events false (f p) → Shows g' parts' events' b (k (f p)) → Shows g' parts' events' b ((f ▸ k) p)
+  goes f k a h = rw (then-goes f k p a.ends) h
+
+module _ {g : Frame} {parts : Parts} {events : List Event} {p : Progress} where
+  pub stops : (f k : Phase) → Shows g parts events true (f p) → Shows g parts events true ((f ▸ k) p)
+  stops f k a = rw (then-stops f k p a.ends) a
+
+module _ {g : Frame} {parts : Parts} {events : List Event} {b : Bool} {p : Progress} where
+  pub if_so : (test : Progress → Bool) (f k : Phase) → test p ≡ true → Shows g parts events b (f p) → Shows g parts events b (choose test f k p)
+  if_so test f k e h = rw (choose-true test f k p e) h
+
+  pub if_not : (test : Progress → Bool) (f k : Phase) → test p ≡ false → Shows g parts events b (k p) → Shows g parts events b (choose test f k p)
+  if_not test f k e h = rw (choose-false test f k p e) h
+
+  pub stays : Shows g parts events b p → Shows g parts events b (stay p)
+  unfolding stay
+  stays h = h
+
+  pub seeing : {A : Type 0} {a : A} (read : Progress → A) (f : A → Phase) → a ≡ read p → Shows g parts events b (f a p) → Shows g parts events b (given read f p)
+  unfolding given
+  seeing read f e h = rw (← e) h
+
+  pub halted : Shows g parts events b p → Shows g parts events true (stop p)
+  unfolding stop
+  halted h = record { within = h.within; written = h.written; ends = refl; stream = h.stream; drawn = h.drawn; skips = h.skips; action = h.action }
+
+  pub settled : {b' : Bool} → b ≡ b' → Shows g parts events b p → Shows g parts events b' p
+  settled e h = record { within = h.within; written = h.written; ends = h.ends ∙ e; stream = h.stream; drawn = h.drawn; skips = h.skips; action = h.action }
+
+  pub acted : (f : Action → Action) → Shows g parts events b p → Shows (record g { action = f g.action }) parts events b (on_action f p)
+  unfolding on_action
+  acted f h = record { within = h.within; written = h.written; ends = h.ends; stream = h.stream; drawn = h.drawn; skips = h.skips; action = ap f h.action }
+
+-- writes and events
+
+module _ {g : Frame} {parts : Parts} {events : List Event} {b : Bool} {p : Progress} (h : Shows g parts events b p) where
+  pub put : {parts' : Parts} (f : Field → Field) → Within g.setting parts' (f p.field) → Shows g parts' events b (on_field f p)
+  unfolding on_field
+  put f w = record { within = w; written = h.written; ends = h.ends; stream = h.stream; drawn = h.drawn; skips = h.skips; action = h.action }
+
+  pub noted : {events' : List Event} (event : Field → Event) {e : Event} → events' ≡ events ++ e ∷ [] → e ≡ event p.field → Shows g parts events' b (note event p)
+  unfolding note
+  noted event a k = record { within = h.within; written = rw (a, h.written, k) refl; ends = h.ends; stream = h.stream; drawn = h.drawn; skips = h.skips; action = h.action }
+
+  -- a change, and the event that tells of it
+  pub told_so : {parts' : Parts} {events' : List Event} (f : Field → Field) (event : Field → Event) {e : Event} → Within g.setting parts' (f p.field)
+      → events' ≡ events ++ e ∷ [] → e ≡ event (f p.field) → Shows g parts' events' b (told f event p)
+  unfolding told
+  told_so f event w a k = record { within = w; written = rw (a, h.written, k) refl; ends = h.ends; stream = h.stream; drawn = h.drawn; skips = h.skips; action = h.action }
+
+  pub put_on_member : {parts' : Parts} (s : Side) (f : Member → Member) → Within g.setting parts' (changed_member s f p.field) → Shows g parts' events b (on_member s f p)
+  unfolding on_member
+  put_on_member s f w = put (changed_member s f) w
+
+  pub put_on_active : {parts' : Parts} (s : Side) (f : Active → Active) → Within g.setting parts' (changed_active s f p.field) → Shows g parts' events b (on_active s f p)
+  unfolding on_active
+  put_on_active s f w = put (changed_active s f) w
+
+  pub put_on_conditions : {parts' : Parts} (s : Side) (f : Conditions → Conditions) → Within g.setting parts' (changed_conditions s f p.field) → Shows g parts' events b (on_conditions s f p)
+  unfolding on_conditions
+  put_on_conditions s f w = put (changed_conditions s f) w
+
+  pub put_damage : {parts' : Parts} (damage : ℕ) → Within g.setting parts' (with_last_damage damage p.field) → Shows g parts' events b (set_last_damage damage p)
+  unfolding set_last_damage
+  put_damage damage w = put (with_last_damage damage) w
+
+-- with a generator
+
+module _ {A : Type 0} {byte : A → ℕ} {next : A → A} {width : ℕ} {origin : A} where
+  -- what code without draws showed, for a generator that has not moved
+  pub still : {g g' : Frame} {parts parts' : Parts} {events events' : List Event} {now : A} {b b' : Bool} {p q : Progress}
+      → ShowsDrawn byte next width origin g parts events now b p → Shows (record g' { drawn = p.drawn }) parts' events' b' q → g'.stream ≡ g.stream
+      → ShowsDrawn byte next width origin g' parts' events' now b' q
+  still {g = g} {g' = g'} {now = now} {q = q} a h same = record {
+    shows = record { within = h.within; written = h.written; ends = h.ends; stream = h.stream; drawn = refl; skips = h.skips; action = h.action };
+    stands = subst (λ (s : Stream). StandsAt byte next width origin s q.drawn now) (sym same) (stands_there a.stands (sym h.drawn));
+  }
+
+  -- a draw: the byte is the stream's, and what follows begins behind it
+  pub drawing : {g g' : Frame} {parts parts' : Parts} {events events' : List Event} {old new now : A} {b b' : Bool} {p : Progress} (f : ℕ → Phase) {drawn : ℕ}
+      → ShowsDrawn byte next width origin g parts events old b p → drawn ≡ byte old → new ≡ next old
+      → (ShowsDrawn byte next width origin g parts events new b (record p { drawn = p.drawn + 1 })
+      → ShowsDrawn byte next width origin g' parts' events' now b' (f drawn (record p { drawn = p.drawn + 1 })))
+      → ShowsDrawn byte next width origin g' parts' events' now b' (draw f p)
+  unfolding draw
+  drawing {g = g} {p = p} f a e left then =
+      let at = byte_drawn a.stands e ∙ ap (λ (s : Stream). byte_at s p.drawn) (sym a.shows.stream) in
+      let h = a.shows in
+      rw (← at) (then (record {
+        shows = record { within = h.within; written = h.written; ends = h.ends; stream = h.stream; drawn = refl; skips = h.skips; action = h.action };
+        stands = stands_after_draw a.stands left;
+      }))
+
+  pub drawn_goes : {g g' : Frame} {parts parts' : Parts} {events events' : List Event} {now now' : A} {b : Bool} {p : Progress} (f k : Phase)
+      → ShowsDrawn byte next width origin g parts events now false (f p) → ShowsDrawn byte next width origin g' parts' events' now' b (k (f p))
+      → ShowsDrawn byte next width origin g' parts' events' now' b ((f ▸ k) p)
+  drawn_goes {p = p} f k a h = rw (then-goes f k p a.shows.ends) h
+
+  pub drawn_stops : {g : Frame} {parts : Parts} {events : List Event} {now : A} {p : Progress} (f k : Phase)
+      → ShowsDrawn byte next width origin g parts events now true (f p) → ShowsDrawn byte next width origin g parts events now true ((f ▸ k) p)
+  drawn_stops {p = p} f k a = rw (then-stops f k p a.shows.ends) a
+
+  pub drawn_seeing : {B : Type 0} {a : B} {g : Frame} {parts : Parts} {events : List Event} {now : A} {b : Bool} {p : Progress} (read : Progress → B) (f : B → Phase)
+      → a ≡ read p → ShowsDrawn byte next width origin g parts events now b (f a p) → ShowsDrawn byte next width origin g parts events now b (given read f p)
+  unfolding given
+  drawn_seeing read f e h = rw (← e) h

@@ -1,0 +1,110 @@
+-- The conditions in an active block: the bits as a number, and the numbers beside them.
+use Rattle.std.proofs.Common.{Bool, None, Option, Some, arith, false, is_some, refl, true, unwrap_or, ℕ, ◌+◌, ◌<◌, ◌≡◌, ◌≤◌}
+use Rattle.gen1_machine.specs.declared.picks.DisabledSlot.{DisabledSlot}
+use Rattle.gen1_machine.specs.Rules.{bit_of}
+use Rattle.gen1_machine.specs.Conditions.{Conditions, Storing, Underway}
+use Rattle.gen1_machine.specs.Layout.{condition_bits, conditions_number, disabled_slot, disabled_turns, energy_of, turns_byte}
+use Rattle.gen1_layout.specs.Decoding.{turns_stored}
+use Rattle.gen1_layout.specs.Flags.{SameNumbers}
+use Rattle.gen1_layout.specs.Storable.{IsStorableConditions, IsStorableUnderway, IsStorableBide}
+use Rattle.gen1_layout.proofs.Bits.{bits_of-is, bits_of-lt}
+
+-- 17 bits
+pub number_small : (c : Conditions) → conditions_number c < 131072
+number_small c = let bits = condition_bits c in let e = bits_of-is bits in let small = bits_of-lt bits in omega (arith, e, small)
+
+-- a number beside its bit
+
+pub some_back : (o : Option ℕ) → is_some o ≡ true → Some (unwrap_or o 0) ≡ o
+some_back None e = cc
+some_back (Some n) e = refl
+
+pub disabled_back : (o : Option DisabledSlot) → is_some o ≡ true → Some (record { slot = disabled_slot o; turns = disabled_turns o }) ≡ o
+disabled_back None e = cc
+disabled_back (Some d) e = refl
+
+-- Bide, thrashing and trapping, of which one at most is on
+
+pub bide_back : (u : Underway) → is_some u.bide ≡ true → Some (turns_byte u.bide u.thrash u.trapping) ≡ turns_stored u.bide
+bide_back u = both u.bide
+  where
+    both : (b : Option Storing) → is_some b ≡ true → Some (turns_byte b u.thrash u.trapping) ≡ turns_stored b
+    both None e = cc
+    both (Some x) e = refl
+
+pub bide_none : (b : Option Storing) → is_some b ≡ false → None ≡ turns_stored b
+bide_none None e = refl
+bide_none (Some x) e = cc
+
+abbrev Alone : Option Storing → Option ℕ → Option ℕ → Type 0
+Alone b t r = bit_of (is_some b) + bit_of (is_some t) + bit_of (is_some r) ≤ 1
+
+pub thrash_back : (b : Option Storing) (t r : Option ℕ) → Alone b t r → is_some t ≡ true → Some (turns_byte b t r) ≡ t
+thrash_back b None r h e = cc
+thrash_back None (Some n) r h e = refl
+thrash_back (Some x) (Some n) r h e = absurd (omega (arith, h))
+
+pub trapping_back : (b : Option Storing) (t r : Option ℕ) → Alone b t r → is_some r ≡ true → Some (turns_byte b t r) ≡ r
+trapping_back b t None h e = cc
+trapping_back None None (Some n) h e = refl
+trapping_back (Some x) t (Some n) h e = absurd (omega (arith, h))
+trapping_back None (Some m) (Some n) h e = absurd (omega (arith, h))
+
+-- the byte of turns once one of them is off: 0 where it was on, and else as it was
+
+pub without_bide-on : (b : Option Storing) (t r : Option ℕ) → Alone b t r → is_some b ≡ true → 0 ≡ turns_byte None t r
+without_bide-on None t r h e = cc
+without_bide-on (Some x) (Some m) r h e = absurd (omega (arith, h))
+without_bide-on (Some x) None (Some n) h e = absurd (omega (arith, h))
+without_bide-on (Some x) None None h e = refl
+
+pub without_bide-off : (b : Option Storing) (t r : Option ℕ) → is_some b ≡ false → turns_byte b t r ≡ turns_byte None t r
+without_bide-off None t r e = refl
+without_bide-off (Some x) t r e = cc
+
+pub without_thrash-on : (b : Option Storing) (t r : Option ℕ) → Alone b t r → is_some t ≡ true → 0 ≡ turns_byte b None r
+without_thrash-on b None r h e = cc
+without_thrash-on (Some x) (Some m) r h e = absurd (omega (arith, h))
+without_thrash-on None (Some m) (Some n) h e = absurd (omega (arith, h))
+without_thrash-on None (Some m) None h e = refl
+
+pub without_thrash-off : (b : Option Storing) (t r : Option ℕ) → is_some t ≡ false → turns_byte b t r ≡ turns_byte b None r
+without_thrash-off b None r e = refl
+without_thrash-off b (Some m) r e = cc
+
+pub without_trapping-on : (b : Option Storing) (t r : Option ℕ) → Alone b t r → is_some r ≡ true → 0 ≡ turns_byte b t None
+without_trapping-on b t None h e = cc
+without_trapping-on (Some x) t (Some n) h e = absurd (omega (arith, h))
+without_trapping-on None (Some m) (Some n) h e = absurd (omega (arith, h))
+without_trapping-on None None (Some n) h e = refl
+
+pub without_trapping-off : (b : Option Storing) (t r : Option ℕ) → is_some r ≡ false → turns_byte b t r ≡ turns_byte b t None
+without_trapping-off b t None e = refl
+without_trapping-off b t (Some n) e = cc
+
+pub energy_fits : (b : Option Storing) → IsStorableBide b → energy_of b < 65536
+energy_fits None h = omega arith
+energy_fits (Some x) h = omega (arith, h.1)
+
+-- what stays storable
+
+pub bits-bound : (b : Bool) → bit_of b ≤ 1
+bits-bound true = omega arith
+bits-bound false = omega arith
+
+pub less_alone : (u : Underway) → IsStorableUnderway u → Alone None u.thrash u.trapping × Alone u.bide None u.trapping × Alone u.bide u.thrash None
+less_alone u h = (omega (arith, h.alone), omega (arith, h.alone), omega (arith, h.alone))
+
+pub same_storable : (count : ℕ) (c d : Conditions) → SameNumbers c d → IsStorableConditions count d → IsStorableConditions count c
+same_storable count c d e h = record {
+  underway = record {
+    bide = rw e.bide h.underway.bide;
+    thrash = rw e.thrash h.underway.thrash;
+    trapping = rw e.trapping h.underway.trapping;
+    alone = rw (e.bide, e.thrash, e.trapping) h.underway.alone;
+  };
+  confused = rw e.confused h.confused;
+  substitute = rw e.substitute h.substitute;
+  bad_poison = rw e.bad_poison h.bad_poison;
+  disabled = rw e.disabled h.disabled;
+}

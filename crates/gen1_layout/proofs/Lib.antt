@@ -1,0 +1,29 @@
+-- The packed battle.
+pub mod Rewriting
+pub mod Views
+pub mod Memory
+pub mod Bits
+pub mod Blocks
+pub mod Counts
+pub mod Steps
+pub mod WaysBack
+pub mod Chain
+pub mod Storing
+pub mod Begun
+pub mod Packing
+pub mod Numbers
+pub mod Slots
+-- Loading.
+mod Loaded
+mod ReadingActives
+mod ReadingAnswers
+mod ReadingBits
+mod ReadingBlocks
+mod ReadingForms
+mod ReadingHeaders
+mod ReadingMembers
+mod ReadingParts
+mod ReadingPlaces
+mod ReadingRequestLaws
+mod ReadingStatLaws
+pub mod ReadingTests

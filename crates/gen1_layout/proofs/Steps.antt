@@ -1,0 +1,272 @@
+-- One lemma for each part that code writes: the parts still stand for a field, the one with that part changed.
+use Rattle.std.proofs.Common.{List, ap, arith, length, length-set, refl, subst, sym, ℕ, ◌-◌, ◌<◌, ◌≡◌, ◌≤◌, ◌∙◌}
+use Rattle.std.proofs.lemmas.List.{get_or-set_same}
+use Rattle.std.proofs.lemmas.List.Elements.{All-get_or, All-set}
+use Rattle.std.specs.List.{refill}
+use Rattle.gen1_stats.specs.Members.{Member, nobody}
+use Rattle.gen1_machine.specs.declared.side.Side.{Side}
+use Rattle.gen1_machine.specs.declared.side.Side.TheVariants.{One, Two}
+use Rattle.gen1_machine.specs.Rules.{Rules}
+use Rattle.gen1_machine.specs.Conditions.{Conditions}
+use Rattle.gen1_machine.specs.State.{active_in, changed_active, changed_conditions, changed_member, conditions_in, member_at, member_in, party, with_member as with_member_at, with_party, Active, Field, Party}
+use Rattle.gen1_machine.specs.Layout.{active_block, active_block_of, header_block, member_block}
+use Rattle.gen1_machine.specs.Valid.{IsMemberUnder, IsOutcome, IsMembersUnder}
+use Rattle.gen1_layout.specs.Parts.{active_of, member_of, with_active, with_member, Parts}
+use Rattle.gen1_layout.specs.Storable.{IsStorable, IsStorableActive, IsStorableConditions, IsStorableParty}
+use Rattle.gen1_layout.specs.Within.{blocks_of, state_in, Setting, Within, Packs}
+use Rattle.gen1_layout.proofs.Blocks.{block_out, blocks_set, party_in}
+
+-- a write to the header
+pub header_step : {g : Setting} {p : Parts} {f : Field} (new : Field) (w : List ℕ) → Within g p f
+    → refill 24 p.header w ≡ header_block (state_in g new) → new.one ≡ f.one → new.two ≡ f.two
+    → new.last_damage ≤ 65535 → new.turn ≤ g.terms.limit → IsOutcome new.outcome
+    → Within g (record p { header = refill 24 p.header w }) new
+header_step {g = g} {f = f} new w h e one two damage turn outcome = record {
+  same = rw (e, h.same, sym one, sym two) refl;
+  terms = h.terms;
+  seed = h.seed;
+  storable = record {
+    one = subst (λ (x : Party). IsStorableParty g.terms.rules x) (sym one) h.storable.one;
+    two = subst (λ (x : Party). IsStorableParty g.terms.rules x) (sym two) h.storable.two;
+    last_damage = damage;
+    turn = turn;
+    outcome = outcome;
+  };
+}
+
+-- a write to an active block
+
+with_party_storable : (g : Setting) (f : Field) (s : Side) (t : Party) → IsStorable g.terms f → IsStorableParty g.terms.rules t → IsStorable g.terms (with_party s t f)
+with_party_storable g f One t v new = record { one = new; two = v.two; last_damage = v.last_damage; turn = v.turn; outcome = v.outcome }
+with_party_storable g f Two t v new = record { one = v.one; two = new; last_damage = v.last_damage; turn = v.turn; outcome = v.outcome }
+
+active_put : (g : Setting) (f : Field) (s : Side) (a : Active) → 1 ≤ a.place → a.place ≡ (active_in s f).place
+    → with_active s (active_block (member_in s f) a) (blocks_of (state_in g f)) ≡ blocks_of (state_in g (with_party s (record (party s f) { active = a }) f))
+active_put g f One a low e =
+    let t : Party = record f.one { active = a } in
+    ap (λ (block : List ℕ). with_active One block (blocks_of (state_in g f)))
+    (ap (λ (k : ℕ). active_block (member_at k f.one) a) (sym e) ∙ sym (block_out t low))
+active_put g f Two a low e =
+    let t : Party = record f.two { active = a } in
+    ap (λ (block : List ℕ). with_active Two block (blocks_of (state_in g f)))
+    (ap (λ (k : ℕ). active_block (member_at k f.two) a) (sym e) ∙ sym (block_out t low))
+
+pub active_step : {g : Setting} {p : Parts} {f : Field} (s : Side) (change : Active → Active) (w : List ℕ) → Within g p f
+    → refill 36 (active_of s p) w ≡ active_block (member_in s f) (change (active_in s f))
+    → (change (active_in s f)).place ≡ (active_in s f).place
+    → IsStorableActive (length (member_in s f).moves) (change (active_in s f))
+    → Within g (with_active s (refill 36 (active_of s p) w) p) (changed_active s change f)
+unfolding changed_active
+active_step {g = g} {p = p} {f = f} s change w h e place storable =
+    let a = change (active_in s f) in
+    let v = party_in g f s h.storable in
+    let low : 1 ≤ a.place = subst (λ (k : ℕ). 1 ≤ k) (sym place) v.place.0 in
+    record {
+      same = ap (λ (block : List ℕ). with_active s block p) e
+          ∙ ap (λ (q : Parts). with_active s (active_block (member_in s f) a) q) h.same ∙ active_put g f s a low place;
+      terms = h.terms;
+      seed = h.seed;
+      storable = with_party_storable g f s (record (party s f) { active = a }) h.storable (record {
+        members = v.members;
+        place = subst (λ (k : ℕ). (1 ≤ k) × (k ≤ length (party s f).members)) (sym place) v.place;
+        active = subst (λ (k : ℕ). IsStorableActive (length (member_at k (party s f)).moves) a) (sym place) storable;
+      });
+    }
+
+pub conditions_step : {g : Setting} {p : Parts} {f : Field} (s : Side) (change : Conditions → Conditions) (w : List ℕ) → Within g p f
+    → refill 36 (active_of s p) w ≡ active_block (member_in s f) (record (active_in s f) { conditions = change (conditions_in s f) })
+    → IsStorableConditions (length (member_in s f).moves) (change (conditions_in s f))
+    → Within g (with_active s (refill 36 (active_of s p) w) p) (changed_conditions s change f)
+unfolding changed_conditions
+conditions_step {g = g} {f = f} s change w h e storable =
+    let v = (party_in g f s h.storable).active in
+    active_step s (λ a. record a { conditions = change a.conditions }) w h e refl (record {
+      stages = v.stages;
+      current = v.current;
+      picked = v.picked;
+      kept_accuracy = v.kept_accuracy;
+      conditions = storable;
+    })
+
+-- a write to the block of the member that is out
+
+-- what a change of a member in battle leaves alone
+pub record SameStats (m n : Member) : Type 0 where
+  pub attack : m.attack ≡ n.attack
+  pub defense : m.defense ≡ n.defense
+  pub speed : m.speed ≡ n.speed
+  pub special : m.special ≡ n.special
+
+pub same_active : (m n : Member) (a : Active) → SameStats m n → active_block m a ≡ active_block n a
+same_active m n a e = rw (e.attack, e.defense, e.speed, e.special) refl
+
+member_put : (g : Setting) (f : Field) (s : Side) (m : Member) → IsStorable g.terms f → SameStats m (member_in s f)
+    → with_member s (active_in s f).place (member_block m) (blocks_of (state_in g f))
+    ≡ blocks_of (state_in g (with_party s (with_member_at (active_in s f).place m (party s f)) f))
+member_put g f One m v e =
+    let ms = f.one.members in let k = f.one.active.place - 1 in
+    let inside : k < length ms = omega (arith, v.one.place.0, v.one.place.1) in
+    let t : Party = with_member_at f.one.active.place m f.one in
+    let blocks = blocks_set ms k m v.one.members.size.1 inside in
+    let there : member_at f.one.active.place t ≡ m = get_or-set_same ms k m nobody inside in
+    let active : active_block_of f.one ≡ active_block_of t =
+    block_out f.one v.one.place.0 ∙ sym (same_active m (member_in One f) f.one.active e)
+    ∙ ap (λ (n : Member). active_block n f.one.active) (sym there) ∙ sym (block_out t v.one.place.0) in
+    rw (blocks, active) refl
+member_put g f Two m v e =
+    let ms = f.two.members in let k = f.two.active.place - 1 in
+    let inside : k < length ms = omega (arith, v.two.place.0, v.two.place.1) in
+    let t : Party = with_member_at f.two.active.place m f.two in
+    let blocks = blocks_set ms k m v.two.members.size.1 inside in
+    let there : member_at f.two.active.place t ≡ m = get_or-set_same ms k m nobody inside in
+    let active : active_block_of f.two ≡ active_block_of t =
+    block_out f.two v.two.place.0 ∙ sym (same_active m (member_in Two f) f.two.active e)
+    ∙ ap (λ (n : Member). active_block n f.two.active) (sym there) ∙ sym (block_out t v.two.place.0) in
+    rw (blocks, active) refl
+
+member_storable : (rules : Rules) (t : Party) (m : Member) → IsStorableParty rules t → IsMemberUnder rules m
+    → length m.moves ≡ length (member_at t.active.place t).moves → IsStorableParty rules (with_member_at t.active.place m t)
+member_storable rules t m v ok count =
+    let k = t.active.place - 1 in
+    let inside : k < length t.members = omega (arith, v.place.0, v.place.1) in
+    let long = length-set t.members k m in
+    record {
+      members = record {
+        size = rw long v.members.size;
+        each = All-set (IsMemberUnder rules) t.members k m ok v.members.each;
+      };
+      place = rw long v.place;
+      active = rw (get_or-set_same t.members k m nobody inside, count) v.active;
+    }
+
+pub member_step : {g : Setting} {p : Parts} {f : Field} (s : Side) (place : ℕ) (change : Member → Member) (w : List ℕ) → Within g p f
+    → place ≡ (active_in s f).place → refill 24 (member_of s place p) w ≡ member_block (change (member_in s f))
+    → SameStats (change (member_in s f)) (member_in s f) → length (change (member_in s f)).moves ≡ length (member_in s f).moves
+    → IsMemberUnder g.terms.rules (change (member_in s f))
+    → Within g (with_member s place (refill 24 (member_of s place p) w) p) (changed_member s change f)
+unfolding changed_member
+member_step {g = g} {p = p} {f = f} s place change w h at e stats count ok =
+    let m = change (member_in s f) in
+    record {
+      same = ap (λ (block : List ℕ). with_member s place block p) e ∙ ap (λ (k : ℕ). with_member s k (member_block m) p) at
+          ∙ ap (λ (q : Parts). with_member s (active_in s f).place (member_block m) q) h.same ∙ member_put g f s m h.storable stats;
+      terms = h.terms;
+      seed = h.seed;
+      storable = with_party_storable g f s (with_member_at (active_in s f).place m (party s f)) h.storable
+          (member_storable g.terms.rules (party s f) m (party_in g f s h.storable) ok count);
+    }
+
+-- what is known of who is out
+pub member_ok : {g : Setting} {p : Parts} {f : Field} (s : Side) → Within g p f → IsMemberUnder g.terms.rules (member_in s f)
+member_ok {g = g} {f = f} s h =
+    let v = party_in g f s h.storable in
+    All-get_or (IsMemberUnder g.terms.rules) (party s f).members ((active_in s f).place - 1) nobody (omega (arith, v.place.0, v.place.1)) v.members.each
+
+-- the same steps, for a change that is known by what it makes
+
+pub member_written : {g : Setting} {p : Parts} {f : Field} (s : Side) (place : ℕ) (change : Member → Member) (new : Member) (w : List ℕ) → Within g p f
+    → place ≡ (active_in s f).place → change (member_in s f) ≡ new → refill 24 (member_of s place p) w ≡ member_block new
+    → SameStats new (member_in s f) → length new.moves ≡ length (member_in s f).moves → IsMemberUnder g.terms.rules new
+    → Within g (with_member s place (refill 24 (member_of s place p) w) p) (changed_member s change f)
+member_written {g = g} {f = f} s place change new w h at makes e stats count ok =
+    let is = sym makes in
+    member_step s place change w h at (e ∙ ap member_block is) (subst (λ (m : Member). SameStats m (member_in s f)) is stats)
+    (ap (λ (m : Member). length m.moves) makes ∙ count) (subst (λ (m : Member). IsMemberUnder g.terms.rules m) is ok)
+
+pub active_written : {g : Setting} {p : Parts} {f : Field} (s : Side) (change : Active → Active) (new : Active) (w : List ℕ) → Within g p f
+    → change (active_in s f) ≡ new → refill 36 (active_of s p) w ≡ active_block (member_in s f) new
+    → new.place ≡ (active_in s f).place → IsStorableActive (length (member_in s f).moves) new
+    → Within g (with_active s (refill 36 (active_of s p) w) p) (changed_active s change f)
+active_written {f = f} s change new w h makes e place ok =
+    let is = sym makes in
+    active_step s change w h (e ∙ ap (active_block (member_in s f)) is) (ap (λ (a : Active). a.place) makes ∙ place)
+    (subst (IsStorableActive (length (member_in s f).moves)) is ok)
+
+pub conditions_written : {g : Setting} {p : Parts} {f : Field} (s : Side) (change : Conditions → Conditions) (new : Conditions) (w : List ℕ) → Within g p f
+    → change (conditions_in s f) ≡ new
+    → refill 36 (active_of s p) w ≡ active_block (member_in s f) (record (active_in s f) { conditions = new })
+    → IsStorableConditions (length (member_in s f).moves) new
+    → Within g (with_active s (refill 36 (active_of s p) w) p) (changed_conditions s change f)
+conditions_written {f = f} s change new w h makes e ok =
+    let is = sym makes in
+    conditions_step s change w h (e ∙ ap (λ (c : Conditions). active_block (member_in s f) (record (active_in s f) { conditions = c })) is)
+    (subst (IsStorableConditions (length (member_in s f).moves)) is ok)
+
+-- what is known of the conditions of who is out
+pub active_ok : {g : Setting} {p : Parts} {f : Field} (s : Side) → Within g p f → IsStorableActive (length (member_in s f).moves) (active_in s f)
+active_ok {g = g} {f = f} s h = (party_in g f s h.storable).active
+
+-- another member is sent out
+
+sent_put : (g : Setting) (f : Field) (s : Side) (a : Active) → 1 ≤ a.place
+    → with_active s (active_block (member_at a.place (party s f)) a) (blocks_of (state_in g f)) ≡ blocks_of (state_in g (with_party s (record (party s f) { active = a }) f))
+sent_put g f One a low = ap (λ (block : List ℕ). with_active One block (blocks_of (state_in g f))) (sym (block_out (record f.one { active = a }) low))
+sent_put g f Two a low = ap (λ (block : List ℕ). with_active Two block (blocks_of (state_in g f))) (sym (block_out (record f.two { active = a }) low))
+
+pub sent_written : {g : Setting} {p : Parts} {f : Field} (s : Side) (change : Active → Active) (new : Active) (w : List ℕ) → Within g p f
+    → change (active_in s f) ≡ new → 1 ≤ new.place → new.place ≤ length (party s f).members
+    → refill 36 (active_of s p) w ≡ active_block (member_at new.place (party s f)) new
+    → IsStorableActive (length (member_at new.place (party s f)).moves) new
+    → Within g (with_active s (refill 36 (active_of s p) w) p) (changed_active s change f)
+unfolding changed_active
+sent_written {g = g} {p = p} {f = f} s change new w h makes low high e ok =
+    let v = party_in g f s h.storable in
+    let P : Active → Type 0 = λ a. Within g (with_active s (refill 36 (active_of s p) w) p) (with_party s (record (party s f) { active = a }) f) in
+    subst P (sym makes) (record {
+      same = ap (λ (block : List ℕ). with_active s block p) e
+          ∙ ap (λ (q : Parts). with_active s (active_block (member_at new.place (party s f)) new) q) h.same ∙ sent_put g f s new low;
+      terms = h.terms;
+      seed = h.seed;
+      storable = with_party_storable g f s (record (party s f) { active = new }) h.storable (record { members = v.members; place = (low, high); active = ok });
+    })
+
+pub first_written : {g : Setting} {p : Parts} {f : Field} (s : Side) (change : Active → Active) (new : Active) (w : List ℕ) → Packs g p f
+    → change (active_in s f) ≡ new → 1 ≤ new.place
+    → refill 36 (active_of s p) w ≡ active_block (member_at new.place (party s f)) new
+    → Packs g (with_active s (refill 36 (active_of s p) w) p) (changed_active s change f)
+unfolding changed_active
+first_written {g = g} {p = p} {f = f} s change new w h makes low e =
+    let P : Active → Type 0 = λ a. Packs g (with_active s (refill 36 (active_of s p) w) p) (with_party s (record (party s f) { active = a }) f) in
+    subst P (sym makes) (record {
+      same = ap (λ (block : List ℕ). with_active s block p) e
+          ∙ ap (λ (q : Parts). with_active s (active_block (member_at new.place (party s f)) new) q) h.same ∙ sent_put g f s new low;
+      terms = h.terms;
+      seed = h.seed;
+      one = members_one s new;
+      two = members_two s new;
+      last_damage = damage s new;
+      turn = turn s new;
+      outcome = outcome s new;
+    })
+  where
+  damage : (s : Side) (a : Active) → (with_party s (record (party s f) { active = a }) f).last_damage ≤ 65535
+  damage One a = h.last_damage
+  damage Two a = h.last_damage
+  turn : (s : Side) (a : Active) → (with_party s (record (party s f) { active = a }) f).turn ≤ g.terms.limit
+  turn One a = h.turn
+  turn Two a = h.turn
+  outcome : (s : Side) (a : Active) → IsOutcome (with_party s (record (party s f) { active = a }) f).outcome
+  outcome One a = h.outcome
+  outcome Two a = h.outcome
+  members_one : (s : Side) (a : Active) → IsMembersUnder g.terms.rules (with_party s (record (party s f) { active = a }) f).one.members
+  members_one One a = h.one
+  members_one Two a = h.one
+  members_two : (s : Side) (a : Active) → IsMembersUnder g.terms.rules (with_party s (record (party s f) { active = a }) f).two.members
+  members_two One a = h.two
+  members_two Two a = h.two
+
+-- once a member is out on both sides
+pub within_packed : {g : Setting} {p : Parts} {f : Field} → Packs g p f → IsStorable g.terms f → Within g p f
+within_packed h storable = record { same = h.same; terms = h.terms; seed = h.seed; storable = storable }
+
+pub packed_of : {g : Setting} {p : Parts} {f : Field} → Within g p f → Packs g p f
+packed_of h = record {
+  same = h.same;
+  terms = h.terms;
+  seed = h.seed;
+  one = h.storable.one.members;
+  two = h.storable.two.members;
+  last_damage = h.storable.last_damage;
+  turn = h.storable.turn;
+  outcome = h.storable.outcome;
+}

@@ -1,0 +1,220 @@
+-- What a part that is written anew makes of the parts of a battle, and that parts joined are the bytes again.
+use Rattle.std.proofs.Common.{List, ap, append_assoc, arith, length, lit≤, refl, suc, sym, zero, ℕ, ◌+◌, ◌≡◌, ◌≤◌, ◌∙◌}
+use Rattle.std.proofs.lemmas.List.{take_all}
+use Rattle.std.specs.List.{refill}
+use Rattle.std.specs.Prelude.{slice_set}
+use Rattle.gen1_machine.specs.declared.side.Side.{Side}
+use Rattle.gen1_machine.specs.declared.side.Side.TheVariants.{One, Two}
+use Rattle.gen1_layout.specs.Parts.{active_of, bytes_of_side, joined, member_at, member_of, part, parts_of, rewritten, side_at, side_of, side_parts, with_active, with_member, with_side, Parts}
+use Rattle.gen1_layout.proofs.Rewriting.{part-above, part-below, part-first, part-inside, part-part, part-same}
+
+-- the bytes of a side are its parts side by side
+
+pub side_one-joined : (xs : List ℕ) → bytes_of_side (side_parts 24 xs) ≡ part 24 180 xs
+side_one-joined xs =
+    simp append_assoc (rw (part-part 144 24 36 xs, part-part 120 24 60 xs, part-part 96 24 84 xs, part-part 72 24 108 xs, part-part 48 24 132 xs, part-part 24 24 156 xs) refl)
+
+pub side_two-joined : (xs : List ℕ) → bytes_of_side (side_parts 204 xs) ≡ part 204 180 xs
+side_two-joined xs =
+    simp append_assoc (rw (part-part 324 24 36 xs, part-part 300 24 60 xs, part-part 276 24 84 xs, part-part 252 24 108 xs, part-part 228 24 132 xs, part-part 204 24 156 xs) refl)
+
+pub joined-parts : (xs : List ℕ) → length xs ≡ 384 → joined (parts_of xs) ≡ xs
+joined-parts xs long =
+    rw (side_one-joined xs, side_two-joined xs, part-part 0 24 180 xs, part-part 0 204 180 xs) (take_all 384 xs (omega arith))
+
+-- a side below or above what is written is as it was
+
+side-below : (a n : ℕ) (w xs : List ℕ) → a + n ≤ length xs → (at : ℕ) → at + 180 ≤ a → side_parts at (rewritten a n w xs) ≡ side_parts at xs
+side-below a n w xs within at h =
+    let same = part-below a n w xs within in
+    rw (same at 24 (omega arith), same (at + 24) 24 (omega arith), same (at + 48) 24 (omega arith), same (at + 72) 24 (omega arith), same (at + 96) 24 (omega arith), same (at + 120) 24 (omega arith), same (at + 144) 36 (omega arith)) refl
+
+side-above : (a n : ℕ) (w xs : List ℕ) → a + n ≤ length xs → (at : ℕ) → a + n ≤ at → side_parts at (rewritten a n w xs) ≡ side_parts at xs
+side-above a n w xs within at h =
+    let same = part-above a n w xs within in
+    rw (same at 24 (omega arith), same (at + 24) 24 (omega arith), same (at + 48) 24 (omega arith), same (at + 72) 24 (omega arith), same (at + 96) 24 (omega arith), same (at + 120) 24 (omega arith), same (at + 144) 36 (omega arith)) refl
+
+-- a part of a side
+
+active-written : (at : ℕ) (w xs : List ℕ) → at + 180 ≤ length xs
+    → side_parts at (rewritten (at + 144) 36 w xs) ≡ record (side_parts at xs) { active = refill 36 (part (at + 144) 36 xs) w }
+active-written at w xs h =
+    let within : at + 144 + 36 ≤ length xs = omega arith in
+    let below = part-below (at + 144) 36 w xs within in
+    rw (below at 24 (omega arith), below (at + 24) 24 (omega arith), below (at + 48) 24 (omega arith), below (at + 72) 24 (omega arith), below (at + 96) 24 (omega arith), below (at + 120) 24 (omega arith), part-same (at + 144) 36 w xs within) refl
+
+side-written : (at : ℕ) (w xs : List ℕ) → at + 180 ≤ length xs → side_parts at (rewritten at 180 w xs) ≡ side_parts 0 (refill 180 (part at 180 xs) w)
+side-written at w xs h =
+    let inside = part-inside at 180 w xs h in
+    rw (part-first at 180 w xs h 24 (lit≤ tt), inside 24 24 (lit≤ tt), inside 48 24 (lit≤ tt), inside 72 24 (lit≤ tt), inside 96 24 (lit≤ tt), inside 120 24 (lit≤ tt), inside 144 36 (lit≤ tt)) refl
+
+member-0-written : (at : ℕ) (w xs : List ℕ) → at + 180 ≤ length xs
+    → side_parts at (rewritten at 24 w xs) ≡ record (side_parts at xs) { members = slice_set (side_parts at xs).members 0 (refill 24 (part at 24 xs) w) }
+member-0-written at w xs h =
+    let within : at + 24 ≤ length xs = omega arith in
+    let above = part-above at 24 w xs within in
+    rw (above (at + 24) 24 (omega arith), above (at + 48) 24 (omega arith), above (at + 72) 24 (omega arith), above (at + 96) 24 (omega arith), above (at + 120) 24 (omega arith), above (at + 144) 36 (omega arith), part-same at 24 w xs within) refl
+
+member-1-written : (at : ℕ) (w xs : List ℕ) → at + 180 ≤ length xs
+    → side_parts at (rewritten (at + 24) 24 w xs) ≡ record (side_parts at xs) { members = slice_set (side_parts at xs).members 1 (refill 24 (part (at + 24) 24 xs) w) }
+member-1-written at w xs h =
+    let within : at + 24 + 24 ≤ length xs = omega arith in
+    let below = part-below (at + 24) 24 w xs within in
+    let above = part-above (at + 24) 24 w xs within in
+    rw (below at 24 (omega arith), above (at + 48) 24 (omega arith), above (at + 72) 24 (omega arith), above (at + 96) 24 (omega arith), above (at + 120) 24 (omega arith), above (at + 144) 36 (omega arith), part-same (at + 24) 24 w xs within) refl
+
+member-2-written : (at : ℕ) (w xs : List ℕ) → at + 180 ≤ length xs
+    → side_parts at (rewritten (at + 48) 24 w xs) ≡ record (side_parts at xs) { members = slice_set (side_parts at xs).members 2 (refill 24 (part (at + 48) 24 xs) w) }
+member-2-written at w xs h =
+    let within : at + 48 + 24 ≤ length xs = omega arith in
+    let below = part-below (at + 48) 24 w xs within in
+    let above = part-above (at + 48) 24 w xs within in
+    rw (below at 24 (omega arith), below (at + 24) 24 (omega arith), above (at + 72) 24 (omega arith), above (at + 96) 24 (omega arith), above (at + 120) 24 (omega arith), above (at + 144) 36 (omega arith), part-same (at + 48) 24 w xs within) refl
+
+member-3-written : (at : ℕ) (w xs : List ℕ) → at + 180 ≤ length xs
+    → side_parts at (rewritten (at + 72) 24 w xs) ≡ record (side_parts at xs) { members = slice_set (side_parts at xs).members 3 (refill 24 (part (at + 72) 24 xs) w) }
+member-3-written at w xs h =
+    let within : at + 72 + 24 ≤ length xs = omega arith in
+    let below = part-below (at + 72) 24 w xs within in
+    let above = part-above (at + 72) 24 w xs within in
+    rw (below at 24 (omega arith), below (at + 24) 24 (omega arith), below (at + 48) 24 (omega arith), above (at + 96) 24 (omega arith), above (at + 120) 24 (omega arith), above (at + 144) 36 (omega arith), part-same (at + 72) 24 w xs within) refl
+
+member-4-written : (at : ℕ) (w xs : List ℕ) → at + 180 ≤ length xs
+    → side_parts at (rewritten (at + 96) 24 w xs) ≡ record (side_parts at xs) { members = slice_set (side_parts at xs).members 4 (refill 24 (part (at + 96) 24 xs) w) }
+member-4-written at w xs h =
+    let within : at + 96 + 24 ≤ length xs = omega arith in
+    let below = part-below (at + 96) 24 w xs within in
+    let above = part-above (at + 96) 24 w xs within in
+    rw (below at 24 (omega arith), below (at + 24) 24 (omega arith), below (at + 48) 24 (omega arith), below (at + 72) 24 (omega arith), above (at + 120) 24 (omega arith), above (at + 144) 36 (omega arith), part-same (at + 96) 24 w xs within) refl
+
+member-5-written : (at : ℕ) (w xs : List ℕ) → at + 180 ≤ length xs
+    → side_parts at (rewritten (at + 120) 24 w xs) ≡ record (side_parts at xs) { members = slice_set (side_parts at xs).members 5 (refill 24 (part (at + 120) 24 xs) w) }
+member-5-written at w xs h =
+    let within : at + 120 + 24 ≤ length xs = omega arith in
+    let below = part-below (at + 120) 24 w xs within in
+    let above = part-above (at + 120) 24 w xs within in
+    rw (below at 24 (omega arith), below (at + 24) 24 (omega arith), below (at + 48) 24 (omega arith), below (at + 72) 24 (omega arith), below (at + 96) 24 (omega arith), above (at + 144) 36 (omega arith), part-same (at + 120) 24 w xs within) refl
+
+-- what each loan leaves
+
+pub header-lent : (xs w : List ℕ) → length xs ≡ 384 → parts_of (rewritten 0 24 w xs) ≡ record (parts_of xs) { header = refill 24 (part 0 24 xs) w }
+header-lent xs w long =
+    let within : 0 + 24 ≤ length xs = omega arith in
+    rw (part-same 0 24 w xs within, side-above 0 24 w xs within 24 (omega arith), side-above 0 24 w xs within 204 (omega arith)) refl
+
+-- a part of side 1, and of side 2
+
+one-lent : (at n : ℕ) (w xs : List ℕ) → length xs ≡ 384 → 24 ≤ at → at + n ≤ 204
+    → parts_of (rewritten at n w xs) ≡ record (parts_of xs) { one = side_parts 24 (rewritten at n w xs) }
+one-lent at n w xs long low high =
+    let within : at + n ≤ length xs = omega arith in
+    rw (part-below at n w xs within 0 24 (omega arith), side-above at n w xs within 204 (omega arith)) refl
+
+two-lent : (at n : ℕ) (w xs : List ℕ) → length xs ≡ 384 → 204 ≤ at → at + n ≤ 384
+    → parts_of (rewritten at n w xs) ≡ record (parts_of xs) { two = side_parts 204 (rewritten at n w xs) }
+two-lent at n w xs long low high =
+    let within : at + n ≤ length xs = omega arith in
+    rw (part-below at n w xs within 0 24 (omega arith), side-below at n w xs within 24 (omega arith)) refl
+
+-- a part of either side
+
+pub part_of-lent : (s : Side) (at n : ℕ) (w xs : List ℕ) → length xs ≡ 384 → side_at s ≤ at → at + n ≤ side_at s + 180
+    → parts_of (rewritten at n w xs) ≡ with_side s (side_parts (side_at s) (rewritten at n w xs)) (parts_of xs)
+part_of-lent One at n w xs long low high = one-lent at n w xs long low high
+part_of-lent Two at n w xs long low high = two-lent at n w xs long low high
+
+pub side_of-parts : (s : Side) (xs : List ℕ) → side_of s (parts_of xs) ≡ side_parts (side_at s) xs
+side_of-parts One xs = refl
+side_of-parts Two xs = refl
+
+pub side-joined : (s : Side) (xs : List ℕ) → bytes_of_side (side_of s (parts_of xs)) ≡ part (side_at s) 180 xs
+side-joined One xs = side_one-joined xs
+side-joined Two xs = side_two-joined xs
+
+pub side-lent : (s : Side) (xs w : List ℕ) → length xs ≡ 384
+    → parts_of (rewritten (side_at s) 180 w xs) ≡ with_side s (side_parts 0 (refill 180 (part (side_at s) 180 xs) w)) (parts_of xs)
+side-lent One xs w long = one-lent 24 180 w xs long (omega arith) (omega arith) ∙ ap (λ side. record (parts_of xs) { one = side }) (side-written 24 w xs (omega arith))
+side-lent Two xs w long = two-lent 204 180 w xs long (omega arith) (omega arith) ∙ ap (λ side. record (parts_of xs) { two = side }) (side-written 204 w xs (omega arith))
+
+pub active-lent : (s : Side) (xs w : List ℕ) → length xs ≡ 384
+    → parts_of (rewritten (side_at s + 144) 36 w xs) ≡ with_active s (refill 36 (part (side_at s + 144) 36 xs) w) (parts_of xs)
+active-lent One xs w long = one-lent 168 36 w xs long (omega arith) (omega arith) ∙ ap (λ side. record (parts_of xs) { one = side }) (active-written 24 w xs (omega arith))
+active-lent Two xs w long = two-lent 348 36 w xs long (omega arith) (omega arith) ∙ ap (λ side. record (parts_of xs) { two = side }) (active-written 204 w xs (omega arith))
+
+pub active-part : (s : Side) (xs : List ℕ) → active_of s (parts_of xs) ≡ part (side_at s + 144) 36 xs
+active-part One xs = refl
+active-part Two xs = refl
+
+pub member-lent : (s : Side) (place : ℕ) (xs w : List ℕ) → 1 ≤ place → place ≤ 6 → length xs ≡ 384
+    → parts_of (rewritten (member_at s place) 24 w xs) ≡ with_member s place (refill 24 (part (member_at s place) 24 xs) w) (parts_of xs)
+member-lent One zero xs w low high long = absurd (omega arith)
+member-lent One (suc zero) xs w low high long = one-lent 24 24 w xs long (omega arith) (omega arith) ∙ ap (λ side. record (parts_of xs) { one = side }) (member-0-written 24 w xs (omega arith))
+member-lent One (suc (suc zero)) xs w low high long = one-lent 48 24 w xs long (omega arith) (omega arith) ∙ ap (λ side. record (parts_of xs) { one = side }) (member-1-written 24 w xs (omega arith))
+member-lent One (suc (suc (suc zero))) xs w low high long = one-lent 72 24 w xs long (omega arith) (omega arith) ∙ ap (λ side. record (parts_of xs) { one = side }) (member-2-written 24 w xs (omega arith))
+member-lent One (suc (suc (suc (suc zero)))) xs w low high long = one-lent 96 24 w xs long (omega arith) (omega arith) ∙ ap (λ side. record (parts_of xs) { one = side }) (member-3-written 24 w xs (omega arith))
+member-lent One (suc (suc (suc (suc (suc zero))))) xs w low high long = one-lent 120 24 w xs long (omega arith) (omega arith) ∙ ap (λ side. record (parts_of xs) { one = side }) (member-4-written 24 w xs (omega arith))
+member-lent One (suc (suc (suc (suc (suc (suc zero)))))) xs w low high long = one-lent 144 24 w xs long (omega arith) (omega arith) ∙ ap (λ side. record (parts_of xs) { one = side }) (member-5-written 24 w xs (omega arith))
+member-lent One (suc (suc (suc (suc (suc (suc (suc k))))))) xs w low high long = absurd (omega arith)
+member-lent Two zero xs w low high long = absurd (omega arith)
+member-lent Two (suc zero) xs w low high long = two-lent 204 24 w xs long (omega arith) (omega arith) ∙ ap (λ side. record (parts_of xs) { two = side }) (member-0-written 204 w xs (omega arith))
+member-lent Two (suc (suc zero)) xs w low high long = two-lent 228 24 w xs long (omega arith) (omega arith) ∙ ap (λ side. record (parts_of xs) { two = side }) (member-1-written 204 w xs (omega arith))
+member-lent Two (suc (suc (suc zero))) xs w low high long = two-lent 252 24 w xs long (omega arith) (omega arith) ∙ ap (λ side. record (parts_of xs) { two = side }) (member-2-written 204 w xs (omega arith))
+member-lent Two (suc (suc (suc (suc zero)))) xs w low high long = two-lent 276 24 w xs long (omega arith) (omega arith) ∙ ap (λ side. record (parts_of xs) { two = side }) (member-3-written 204 w xs (omega arith))
+member-lent Two (suc (suc (suc (suc (suc zero))))) xs w low high long = two-lent 300 24 w xs long (omega arith) (omega arith) ∙ ap (λ side. record (parts_of xs) { two = side }) (member-4-written 204 w xs (omega arith))
+member-lent Two (suc (suc (suc (suc (suc (suc zero)))))) xs w low high long = two-lent 324 24 w xs long (omega arith) (omega arith) ∙ ap (λ side. record (parts_of xs) { two = side }) (member-5-written 204 w xs (omega arith))
+member-lent Two (suc (suc (suc (suc (suc (suc (suc k))))))) xs w low high long = absurd (omega arith)
+
+pub member-part : (s : Side) (place : ℕ) (xs : List ℕ) → 1 ≤ place → place ≤ 6 → member_of s place (parts_of xs) ≡ part (member_at s place) 24 xs
+member-part One zero xs low high = absurd (omega arith)
+member-part One (suc zero) xs low high = refl
+member-part One (suc (suc zero)) xs low high = refl
+member-part One (suc (suc (suc zero))) xs low high = refl
+member-part One (suc (suc (suc (suc zero)))) xs low high = refl
+member-part One (suc (suc (suc (suc (suc zero))))) xs low high = refl
+member-part One (suc (suc (suc (suc (suc (suc zero)))))) xs low high = refl
+member-part One (suc (suc (suc (suc (suc (suc (suc k))))))) xs low high = absurd (omega arith)
+member-part Two zero xs low high = absurd (omega arith)
+member-part Two (suc zero) xs low high = refl
+member-part Two (suc (suc zero)) xs low high = refl
+member-part Two (suc (suc (suc zero))) xs low high = refl
+member-part Two (suc (suc (suc (suc zero)))) xs low high = refl
+member-part Two (suc (suc (suc (suc (suc zero))))) xs low high = refl
+member-part Two (suc (suc (suc (suc (suc (suc zero)))))) xs low high = refl
+member-part Two (suc (suc (suc (suc (suc (suc (suc k))))))) xs low high = absurd (omega arith)
+
+-- the same of the parts of a battle, which are those of its bytes
+
+module _ (p : Parts) (long : length (joined p) ≡ 384) (same : parts_of (joined p) ≡ p) where
+  pub header-leaves : (w : List ℕ) → parts_of (rewritten 0 24 w (joined p)) ≡ record p { header = refill 24 p.header w }
+  header-leaves w = header-lent (joined p) w long ∙ ap (λ (x : Parts). record x { header = refill 24 x.header w }) same
+
+  pub header-value : part 0 24 (joined p) ≡ p.header
+  header-value = ap (λ (x : Parts). x.header) same
+
+  pub side-value : (s : Side) → part (side_at s) 180 (joined p) ≡ bytes_of_side (side_of s p)
+  side-value s = sym (side-joined s (joined p)) ∙ ap (λ (x : Parts). bytes_of_side (side_of s x)) same
+
+  pub side-leaves : (s : Side) (w : List ℕ)
+      → parts_of (rewritten (side_at s) 180 w (joined p)) ≡ with_side s (side_parts 0 (refill 180 (bytes_of_side (side_of s p)) w)) p
+  side-leaves s w =
+      side-lent s (joined p) w long ∙ ap (λ (l : List ℕ). with_side s (side_parts 0 (refill 180 l w)) (parts_of (joined p))) (side-value s)
+      ∙ ap (λ (x : Parts). with_side s (side_parts 0 (refill 180 (bytes_of_side (side_of s p)) w)) x) same
+
+  pub active-value : (s : Side) → part (side_at s + 144) 36 (joined p) ≡ active_of s p
+  active-value s = sym (active-part s (joined p)) ∙ ap (λ (x : Parts). active_of s x) same
+
+  pub active-leaves : (s : Side) (w : List ℕ)
+      → parts_of (rewritten (side_at s + 144) 36 w (joined p)) ≡ with_active s (refill 36 (active_of s p) w) p
+  active-leaves s w =
+      active-lent s (joined p) w long ∙ ap (λ (l : List ℕ). with_active s (refill 36 l w) (parts_of (joined p))) (active-value s)
+      ∙ ap (λ (x : Parts). with_active s (refill 36 (active_of s p) w) x) same
+
+  pub member-value : (s : Side) (place : ℕ) → 1 ≤ place → place ≤ 6 → part (member_at s place) 24 (joined p) ≡ member_of s place p
+  member-value s place low high = sym (member-part s place (joined p) low high) ∙ ap (λ (x : Parts). member_of s place x) same
+
+  pub member-leaves : (s : Side) (place : ℕ) (w : List ℕ) → 1 ≤ place → place ≤ 6
+      → parts_of (rewritten (member_at s place) 24 w (joined p)) ≡ with_member s place (refill 24 (member_of s place p) w) p
+  member-leaves s place w low high =
+      member-lent s place (joined p) w low high long
+      ∙ ap (λ (l : List ℕ). with_member s place (refill 24 l w) (parts_of (joined p))) (member-value s place low high)
+      ∙ ap (λ (x : Parts). with_member s place (refill 24 (member_of s place p) w) x) same

@@ -1,0 +1,12 @@
+use Rattle.std.proofs.Common.{List, ap, slice_index, ℕ, ◌+◌, ◌∙◌, ◌≡◌}
+use Rattle.gen1_machine.specs.Layout.{member_block}
+use Rattle.gen1_machine.specs.State.{member_in}
+use Rattle.gen1_layout.proofs.WaysBack.{pp_at}
+use Rattle.gen1_layout.proofs.packed.Packed.pp.Goals as goal
+
+pub returns : goal.returns
+returns c =
+    record {
+      stands = λ g f h. let at : slice_index c.member_out.result.now (c.args.slot + 18) ≡ slice_index (member_block (member_in c.args.side f)) (c.args.slot + 18) = ap (λ (l : List ℕ). slice_index l (c.args.slot + 18)) (c.member_out.ensures.stands g f h) in
+          at ∙ pp_at (member_in c.args.side f) c.args.slot c.requires.low c.requires.high;
+    }

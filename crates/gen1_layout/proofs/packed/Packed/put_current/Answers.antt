@@ -1,0 +1,13 @@
+use Rattle.std.proofs.Common.{refl, ◌∙◌}
+use Rattle.gen1_layout.proofs.Blocks.{active_holds}
+use Rattle.gen1_layout.proofs.Steps.{active_ok, active_written}
+use Rattle.gen1_layout.proofs.packed.Packed.put_current.Goals as goal
+
+pub returns : goal.returns
+returns c =
+    record {
+      stands = λ g f change h makes ok.
+          let old = active_ok c.args.side h in
+          let block = c.active_mut.ensures.value ∙ active_holds h c.args.side in
+          active_written c.args.side change _ _ h makes (rw (c.byte_of_used-byte.ensures, block) refl) refl (record { stages = old.stages; current = ok; picked = old.picked; kept_accuracy = old.kept_accuracy; conditions = old.conditions });
+    }

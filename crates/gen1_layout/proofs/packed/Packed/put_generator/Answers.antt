@@ -1,0 +1,24 @@
+use Rattle.std.proofs.Common.{List, ap, refl, ℕ, ◌∙◌}
+use Rattle.gen1_rolls.specs.Link.{Ring}
+use Rattle.gen1_machine.specs.Layout.{header_block}
+use Rattle.gen1_layout.proofs.Blocks.{header_holds}
+use Rattle.gen1_layout.proofs.Numbers.{numbers_are}
+use Rattle.gen1_layout.specs.Parts.{Parts}
+use Rattle.gen1_layout.specs.Within.{state_in}
+use Rattle.gen1_layout.proofs.packed.Packed.put_generator.Goals as goal
+
+pub returns : goal.returns
+returns c =
+    record {
+      stands = λ g f drawn h is.
+          let index = c.index-index.ensures.value ∙ ap (λ (r : Ring). r.index) is in
+          let numbers = c.numbers-numbers.ensures ∙ ap (λ (r : Ring). r.numbers) is ∙ numbers_are g.seed drawn h.seed.0 in
+          record {
+            same = ap (λ (block : List ℕ). record c.args.self.now { header = block })
+                (rw (c.copy_from_slice.ensures.after, c.header_mut-header.ensures.value, header_holds h, index, numbers) refl)
+                ∙ ap (λ (q : Parts). record q { header = header_block (state_in (record g { drawn = drawn }) f) }) h.same;
+            terms = h.terms;
+            seed = h.seed;
+            storable = h.storable;
+          };
+    }

@@ -1,0 +1,78 @@
+-- The 384 bytes as their parts (docs/LAYOUT.md): a header of 24, and for each side six members of 24 and an active block
+-- of 36.
+use Rattle.std.specs.Prelude.{List, [], drop, flat_map, slice_index_or, slice_set, take, ℕ, ◌*◌, ◌++◌, ◌+◌, ◌-◌, ◌∷◌}
+use Rattle.std.specs.List.{refill}
+use Rattle.gen1_machine.specs.declared.side.Side.{Side}
+use Rattle.gen1_machine.specs.declared.side.Side.TheVariants.{One, Two}
+
+pub record SideParts : Type 0 where
+  pub members : List (List ℕ)
+  pub active : List ℕ
+
+pub record Parts : Type 0 where
+  pub header : List ℕ
+  pub one : SideParts
+  pub two : SideParts
+
+-- so many bytes from an offset on
+abbrev pub part : ℕ → ℕ → List ℕ → List ℕ
+part at count bytes = take count (drop at bytes)
+
+abbrev pub side_parts : ℕ → List ℕ → SideParts
+side_parts at bytes = record {
+  members =
+      part at 24 bytes ∷ part (at + 24) 24 bytes ∷ part (at + 48) 24 bytes ∷ part (at + 72) 24 bytes ∷ part (at + 96) 24 bytes
+      ∷ part (at + 120) 24 bytes ∷ [];
+  active = part (at + 144) 36 bytes;
+}
+
+abbrev pub parts_of : List ℕ → Parts
+parts_of bytes = record { header = part 0 24 bytes; one = side_parts 24 bytes; two = side_parts 204 bytes }
+
+-- where a side begins, and a member by its place from 1
+
+abbrev pub side_at : Side → ℕ
+side_at One = 24
+side_at Two = 204
+
+abbrev pub member_at : Side → ℕ → ℕ
+member_at s place = side_at s + 24 * (place - 1)
+
+-- and back
+
+abbrev pub bytes_of_side : SideParts → List ℕ
+bytes_of_side side = flat_map (λ (block : List ℕ). block) side.members ++ side.active
+
+abbrev pub joined : Parts → List ℕ
+joined p = p.header ++ bytes_of_side p.one ++ bytes_of_side p.two
+
+-- one part
+
+abbrev pub side_of : Side → Parts → SideParts
+side_of One p = p.one
+side_of Two p = p.two
+
+abbrev pub active_of : Side → Parts → List ℕ
+active_of s p = (side_of s p).active
+
+-- places are counted from 1
+abbrev pub member_of : Side → ℕ → Parts → List ℕ
+member_of s place p = slice_index_or (side_of s p).members (place - 1) []
+
+-- one part changed
+
+abbrev pub with_side : Side → SideParts → Parts → Parts
+with_side One side p = record p { one = side }
+with_side Two side p = record p { two = side }
+
+abbrev pub with_active : Side → List ℕ → Parts → Parts
+with_active s block p = with_side s (record (side_of s p) { active = block }) p
+
+abbrev pub with_member : Side → ℕ → List ℕ → Parts → Parts
+with_member s place block p =
+    with_side s (record (side_of s p) { members = slice_set (side_of s p).members (place - 1) block }) p
+
+-- the bytes with a part written anew: as many bytes as it has, from the front of what was written
+abbrev pub rewritten : ℕ → ℕ → List ℕ → List ℕ → List ℕ
+rewritten at count written bytes =
+    take at bytes ++ (refill count (part at count bytes) written ++ drop count (drop at bytes))

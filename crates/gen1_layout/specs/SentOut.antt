@@ -1,0 +1,21 @@
+-- A member that is sent out, before anything happens to it.
+use Rattle.std.specs.Prelude.{List, [], ℕ, ◌∷◌}
+use Rattle.gen1_tables.specs.declared.element.Element.{Element}
+use Rattle.gen1_tables.specs.declared.effect.Stat.TheVariants.{Attack, Defense, Special, Speed}
+use Rattle.gen1_stats.specs.Members.{Member}
+use Rattle.gen1_machine.specs.State.{nobody_out, Active}
+use Rattle.gen1_machine.specs.CurrentStats.{now}
+
+-- at a place from 1, with two types, and after so many halvings of Attack and quarterings of Speed
+abbrev pub sent_as : ℕ → Element → Element → ℕ → ℕ → Active
+sent_as place first second halved quartered = record nobody_out {
+  place = place;
+  first_type = first;
+  second_type = second;
+  attack_halved = halved;
+  speed_quartered = quartered;
+}
+
+-- the four stats as they stand
+abbrev pub stats_of : Member → Active → List ℕ
+stats_of m a = now Attack m a ∷ now Defense m a ∷ now Speed m a ∷ now Special m a ∷ []

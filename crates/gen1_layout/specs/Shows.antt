@@ -1,0 +1,43 @@
+-- What code of an update has made: the bytes, the events so far and the generator stand for a battle in the middle of an
+-- update. An operation is said by its phase: from what is shown before follows that its phase of it is shown after.
+use Rattle.std.specs.Prelude.{Bool, List, false, ℕ, ◌≡◌}
+use Rattle.gen1_rolls.specs.Draws.{StandsAt}
+use Rattle.gen1_rolls.specs.Streams.{Stream}
+use Rattle.gen1_machine.specs.declared.event.Event.{Event}
+use Rattle.gen1_machine.specs.Progress.{Action, Phase, Progress}
+use Rattle.gen1_layout.specs.Parts.{Parts}
+use Rattle.gen1_layout.specs.Within.{Setting, Within}
+
+-- what is known beside the bytes and the events
+pub record Frame : Type 0 where
+  pub setting : Setting
+  pub stream : Stream
+  pub drawn : ℕ  -- draws so far
+  pub skips : Bool
+  pub action : Action
+
+-- the parts and the events stand for p, and `stopped` tells whether p has stopped
+pub record Shows (g : Frame) (parts : Parts) (events : List Event) (stopped : Bool) (p : Progress) : Type 0 where
+  pub within : Within g.setting parts p.field
+  pub written : events ≡ p.events
+  pub ends : p.stopped ≡ stopped
+  pub stream : p.stream ≡ g.stream
+  pub drawn : p.drawn ≡ g.drawn
+  pub skips : p.skips ≡ g.skips
+  pub action : p.action ≡ g.action
+
+-- the same with a generator, which stands exactly where p has drawn to; what the frame says of draws is then of no account
+pub record ShowsDrawn {A : Type 0} (byte : A → ℕ) (next : A → A) (width : ℕ) (origin : A) (g : Frame) (parts : Parts) (events : List Event) (now : A) (stopped : Bool) (p : Progress) : Type 0 where
+  pub shows : Shows (record g { drawn = p.drawn }) parts events stopped p
+  pub stands : StandsAt byte next width origin g.stream p.drawn now
+
+-- code with no draws, from these parts and events to those, does what a phase does
+abbrev pub Does : Parts → List Event → Parts → List Event → Bool → Phase → Type 0
+Does parts events parts' events' stopped phase =
+    (g : Frame) (p : Progress) → Shows g parts events false p → Shows g parts' events' stopped (phase p)
+
+-- code with draws does what a phase does, whatever generator it was handed
+abbrev pub DoesDrawing : {A : Type 0} → (A → ℕ) → (A → A) → ℕ → Parts → List Event → A → Parts → List Event → A → Bool → Phase → Type 0
+DoesDrawing {A = A} byte next width parts events old parts' events' new stopped phase =
+    (origin : A) (g : Frame) (p : Progress) → ShowsDrawn byte next width origin g parts events old false p
+    → ShowsDrawn byte next width origin g parts' events' new stopped (phase p)

@@ -1,0 +1,260 @@
+//! The fields of an active block (docs/LAYOUT.md, "Active block"), but for conditions.
+ghost use Rattle.std.specs.Prelude.{true, ℕ, ◌≡◌, ◌≤◌, length};
+ghost use Rattle.gen1_tables.specs.declared.effect.Stat.TheVariants.{Attack, Defense, Special, Speed};
+ghost use Rattle.gen1_machine.specs.State.{Active, Field, active_in, changed_active, member_at, member_in, party};
+ghost use Rattle.gen1_machine.specs.CurrentStats.{has_number, now, now_in, stage_of, with_stage};
+ghost use Rattle.gen1_machine.specs.Valid.{IsUsed};
+ghost use Rattle.gen1_stats.specs.Members.{Member};
+ghost use Rattle.gen1_machine.specs.Layout.{active_block};
+ghost use Rattle.gen1_layout.specs.SentOut.{sent_as, stats_of};
+ghost use Rattle.gen1_layout.specs.Within.{Packs, Setting, Within};
+
+use crate::Packed;
+use crate::beginning::{high, low};
+use crate::codes::{byte_of_used, element_from, used_from};
+use byteorder::{ByteOrder, LittleEndian};
+use gen1_machine::{Side, Used};
+use gen1_tables::{Element, Stat};
+
+impl Packed {
+    /// The first type of the member that is out, which need not be its species'.
+    pub fn first_type(&self, side: Side) -> Element
+        ensures stands { (g : Setting) (f : Field) → Within g self.now f → result ≡ (active_in side f).first_type }
+    {
+        element_from(self.active(side)[1])
+    }
+
+    /// Its second type.
+    pub fn second_type(&self, side: Side) -> Element
+        ensures stands { (g : Setting) (f : Field) → Within g self.now f → result ≡ (active_in side f).second_type }
+    {
+        element_from(self.active(side)[2])
+    }
+
+    /// A stage, from 0 to 12 with 6 in the middle.
+    pub fn stage(&self, side: Side, stat: Stat) -> u8
+        ensures stands { (g : Setting) (f : Field) → Within g self.now f → result ≡ stage_of stat (active_in side f).stages }
+    {
+        match stat {
+            Stat::Attack => self.active(side)[3],
+            Stat::Defense => self.active(side)[4],
+            Stat::Speed => self.active(side)[5],
+            Stat::Special => self.active(side)[6],
+            Stat::Accuracy => self.active(side)[7],
+            Stat::Evasion => self.active(side)[8],
+        }
+    }
+
+    /// A stat as it stands, at its stage and after its penalties; accuracy and evasion have no number and give 1.
+    pub fn current_stat(&self, side: Side, stat: Stat) -> u16
+        ensures stands { (g : Setting) (f : Field) → Within g self.now f → has_number stat ≡ true → result ≡ now_in stat side f }
+    {
+        match stat {
+            Stat::Attack => word!(self.active(side), 9..11),
+            Stat::Defense => word!(self.active(side), 11..13),
+            Stat::Speed => word!(self.active(side), 13..15),
+            Stat::Special => word!(self.active(side), 15..17),
+            Stat::Accuracy => 1,
+            Stat::Evasion => 1,
+        }
+    }
+
+    /// The move that was used last.
+    pub fn current(&self, side: Side) -> Used
+        ensures stands { (g : Setting) (f : Field) → Within g self.now f → result ≡ (active_in side f).current }
+    {
+        used_from(self.active(side)[29])
+    }
+
+    /// The move that was picked last.
+    pub fn picked(&self, side: Side) -> Used
+        ensures stands { (g : Setting) (f : Field) → Within g self.now f → result ≡ (active_in side f).picked }
+    {
+        used_from(self.active(side)[30])
+    }
+
+    /// The accuracy byte that is kept for a move that goes on.
+    pub fn kept_accuracy(&self, side: Side) -> u8
+        ensures stands { (g : Setting) (f : Field) → Within g self.now f → result ≡ (active_in side f).kept_accuracy }
+    {
+        self.active(side)[31]
+    }
+
+    /// Writes both types.
+    pub fn put_types(&mut self, side: Side, first: Element, second: Element)
+        ensures stands { (g : Setting) (f : Field) (change : Active → Active) → Within g self.old f
+            → change (active_in side f) ≡ record (active_in side f) { first_type = first; second_type = second }
+            → Within g self.new (changed_active side change f) }
+    {
+        let first = first.number();
+        let second = second.number();
+        let active = self.active_mut(side);
+        active[1] = first;
+        active[2] = second;
+    }
+
+    /// Writes the move that was used last: none, Struggle, or a slot that holds a move.
+    pub fn put_current(&mut self, side: Side, used: Used)
+        ensures stands { (g : Setting) (f : Field) (change : Active → Active) → Within g self.old f
+            → change (active_in side f) ≡ record (active_in side f) { current = used }
+            → IsUsed (length (member_in side f).moves) used
+            → Within g self.new (changed_active side change f) }
+    {
+        let byte = byte_of_used(used);
+        self.active_mut(side)[29] = byte;
+    }
+
+    /// Writes the move that was picked last.
+    pub fn put_picked(&mut self, side: Side, used: Used)
+        ensures stands { (g : Setting) (f : Field) (change : Active → Active) → Within g self.old f
+            → change (active_in side f) ≡ record (active_in side f) { picked = used }
+            → IsUsed (length (member_in side f).moves) used
+            → Within g self.new (changed_active side change f) }
+    {
+        let byte = byte_of_used(used);
+        self.active_mut(side)[30] = byte;
+    }
+
+    /// Writes the accuracy byte that is kept.
+    pub fn put_kept_accuracy(&mut self, side: Side, byte: u8)
+        ensures stands { (g : Setting) (f : Field) (change : Active → Active) → Within g self.old f
+            → change (active_in side f) ≡ record (active_in side f) { kept_accuracy = byte }
+            → Within g self.new (changed_active side change f) }
+    {
+        self.active_mut(side)[31] = byte;
+    }
+
+    /// Writes the stage of accuracy or of evasion, which have no number beside it.
+    pub fn put_accuracy(&mut self, side: Side, stage: u8)
+        ensures stands { (g : Setting) (f : Field) (change : Active → Active) → Within g self.old f
+            → change (active_in side f) ≡ record (active_in side f) { stages = record (active_in side f).stages { accuracy = stage } }
+            → stage ≤ 12 → Within g self.new (changed_active side change f) }
+    {
+        self.active_mut(side)[7] = stage;
+    }
+
+    /// Writes the stage of evasion.
+    pub fn put_evasion(&mut self, side: Side, stage: u8)
+        ensures stands { (g : Setting) (f : Field) (change : Active → Active) → Within g self.old f
+            → change (active_in side f) ≡ record (active_in side f) { stages = record (active_in side f).stages { evasion = stage } }
+            → stage ≤ 12 → Within g self.new (changed_active side change f) }
+    {
+        self.active_mut(side)[8] = stage;
+    }
+
+    /// Writes the stage of Attack, and the Attack that it gives, after any number of halvings.
+    pub fn put_attack(&mut self, side: Side, stage: u8, value: u16)
+        ensures stands { (g : Setting) (f : Field) (change : Active → Active) (penalties : ℕ) → Within g self.old f
+            → change (active_in side f) ≡ record (active_in side f) { stages = record (active_in side f).stages { attack = stage }; attack_halved = penalties }
+            → value ≡ now Attack (member_in side f) (change (active_in side f)) → stage ≤ 12
+            → Within g self.new (changed_active side change f) }
+    {
+        let active = self.active_mut(side);
+        active[3] = stage;
+        put_word!(active, 9..11, value);
+    }
+
+    /// Writes the stage of Speed, and the Speed that it gives, after any number of quarterings.
+    pub fn put_speed(&mut self, side: Side, stage: u8, value: u16)
+        ensures stands { (g : Setting) (f : Field) (change : Active → Active) (penalties : ℕ) → Within g self.old f
+            → change (active_in side f) ≡ record (active_in side f) { stages = record (active_in side f).stages { speed = stage }; speed_quartered = penalties }
+            → value ≡ now Speed (member_in side f) (change (active_in side f)) → stage ≤ 12
+            → Within g self.new (changed_active side change f) }
+    {
+        let active = self.active_mut(side);
+        active[5] = stage;
+        put_word!(active, 13..15, value);
+    }
+
+    /// Writes the stage of Defense, and the Defense that it gives.
+    pub fn put_defense(&mut self, side: Side, stage: u8, value: u16)
+        ensures stands { (g : Setting) (f : Field) (change : Active → Active) → Within g self.old f
+            → change (active_in side f) ≡ record (active_in side f) { stages = record (active_in side f).stages { defense = stage } }
+            → value ≡ now Defense (member_in side f) (change (active_in side f)) → stage ≤ 12
+            → Within g self.new (changed_active side change f) }
+    {
+        let active = self.active_mut(side);
+        active[4] = stage;
+        put_word!(active, 11..13, value);
+    }
+
+    /// Writes the stage of Special, and the Special that it gives.
+    pub fn put_special(&mut self, side: Side, stage: u8, value: u16)
+        ensures stands { (g : Setting) (f : Field) (change : Active → Active) → Within g self.old f
+            → change (active_in side f) ≡ record (active_in side f) { stages = record (active_in side f).stages { special = stage } }
+            → value ≡ now Special (member_in side f) (change (active_in side f)) → stage ≤ 12
+            → Within g self.new (changed_active side change f) }
+    {
+        let active = self.active_mut(side);
+        active[6] = stage;
+        put_word!(active, 15..17, value);
+    }
+
+    /// Sends out the member at a place from 1: with these types, all stages in the middle, its Attack, Defense, Speed and
+    /// Special as they stand, and no condition. Before the first update nobody needs to be out.
+    pub fn put_sent_out(
+        &mut self,
+        side: Side,
+        place: u8,
+        first: Element,
+        second: Element,
+        stats: [u16; 4],
+    )
+        ensures stands { (g : Setting) (f : Field) (change : Active → Active) (halved quartered : ℕ) → Within g self.old f
+            → change (active_in side f) ≡ sent_as place first second halved quartered
+            → 1 ≤ place → place ≤ length (party side f).members
+            → stats ≡ stats_of (member_at place (party side f)) (sent_as place first second halved quartered)
+            → Within g self.new (changed_active side change f) }
+        ensures begins { (g : Setting) (f : Field) (change : Active → Active) (halved quartered : ℕ) → Packs g self.old f
+            → change (active_in side f) ≡ sent_as place first second halved quartered → 1 ≤ place
+            → stats ≡ stats_of (member_at place (party side f)) (sent_as place first second halved quartered)
+            → Packs g self.new (changed_active side change f) }
+    {
+        self.active_mut(side)
+            .copy_from_slice(&sent_block(place, first, second, stats));
+    }
+}
+
+fn sent_block(place: u8, first: Element, second: Element, stats: [u16; 4]) -> [u8; 36]
+    ensures { (m : Member) (halved quartered : ℕ) → stats ≡ stats_of m (sent_as place first second halved quartered)
+        → result ≡ active_block m (sent_as place first second halved quartered) }
+{
+    [
+        place,
+        first.number(),
+        second.number(),
+        6,
+        6,
+        6,
+        6,
+        6,
+        6,
+        low(stats[0]),
+        high(stats[0]),
+        low(stats[1]),
+        high(stats[1]),
+        low(stats[2]),
+        high(stats[2]),
+        low(stats[3]),
+        high(stats[3]),
+        0,
+        0,
+        0,
+        0,
+        0,
+        0,
+        0,
+        0,
+        0,
+        0,
+        0,
+        0,
+        0,
+        0,
+        0,
+        0,
+        0,
+        0,
+        0,
+    ]
+}

@@ -1,0 +1,162 @@
+//! The bytes that stand for a status, a type, a move in use and the like (docs/LAYOUT.md).
+ghost use Rattle.std.specs.Prelude.{unwrap_or, ℕ, ◌≡◌, ◌≤◌};
+ghost use Rattle.gen1_stats.specs.Members.{is_marked};
+ghost use Rattle.gen1_machine.specs.Rules.{bit_of};
+ghost use Rattle.gen1_machine.specs.Layout.{disabled_slot, disabled_turns, outcome_byte, request_byte, status_byte, used_byte};
+ghost use Rattle.gen1_layout.specs.Decoding.{element_of, outcome_of, request_of_byte, status_of, used_of};
+
+use gen1_machine::{DisabledSlot, Outcome, Request, Used};
+use gen1_stats::Status;
+use gen1_tables::Element;
+
+pub(crate) fn outcome_from(byte: u8) -> Outcome
+    ensures { result ≡ outcome_of byte }
+{
+    match byte {
+        0 => Outcome::Ongoing,
+        1 => Outcome::WinOne,
+        2 => Outcome::WinTwo,
+        3 => Outcome::Tie,
+        4 => Outcome::Fault(1),
+        _ => Outcome::Fault(2),
+    }
+}
+
+pub(crate) fn byte_of_outcome(outcome: Outcome) -> u8
+    ensures { ((code : ℕ) → outcome ≡ Outcome.Fault code → code ≤ 2) → result ≡ outcome_byte outcome }
+{
+    match outcome {
+        Outcome::Ongoing => 0,
+        Outcome::WinOne => 1,
+        Outcome::WinTwo => 2,
+        Outcome::Tie => 3,
+        Outcome::Fault(code) => 3 + code.min(2),
+    }
+}
+
+pub(crate) fn request_from(byte: u8) -> Request
+    ensures { result ≡ request_of_byte byte }
+{
+    match byte {
+        1 => Request::Move,
+        2 => Request::Switch,
+        _ => Request::Pass,
+    }
+}
+
+pub(crate) fn byte_of_request(request: Request) -> u8
+    ensures { result ≡ request_byte request }
+{
+    match request {
+        Request::Pass => 0,
+        Request::Move => 1,
+        Request::Switch => 2,
+    }
+}
+
+pub(crate) fn status_from(byte: u8, mark: u8) -> Status
+    ensures { result ≡ status_of byte mark }
+{
+    match byte {
+        0 => Status::Healthy,
+        8 => Status::Poisoned,
+        16 => Status::Burned,
+        32 => Status::Frozen,
+        64 => Status::Paralysed,
+        turns => Status::Asleep {
+            turns,
+            marked: mark == 1,
+        },
+    }
+}
+
+pub(crate) fn byte_of_status(status: Status) -> u8
+    ensures { result ≡ status_byte status }
+{
+    match status {
+        Status::Healthy => 0,
+        Status::Asleep { turns, marked: _ } => turns,
+        Status::Poisoned => 8,
+        Status::Burned => 16,
+        Status::Frozen => 32,
+        Status::Paralysed => 64,
+    }
+}
+
+pub(crate) fn mark_of_status(status: Status) -> u8
+    ensures { result ≡ bit_of (is_marked status) }
+{
+    match status {
+        Status::Asleep { turns: _, marked } => marked as u8,
+        _ => 0,
+    }
+}
+
+pub(crate) fn used_from(byte: u8) -> Used
+    ensures { result ≡ used_of byte }
+{
+    match byte {
+        0 => Used::Unused,
+        5 => Used::Struggle,
+        slot => Used::Slot(slot),
+    }
+}
+
+pub(crate) fn byte_of_used(used: Used) -> u8
+    ensures { result ≡ used_byte used }
+{
+    match used {
+        Used::Unused => 0,
+        Used::Slot(slot) => slot,
+        Used::Struggle => 5,
+    }
+}
+
+pub(crate) fn element_from(byte: u8) -> Element
+    ensures { result ≡ element_of byte }
+{
+    match byte {
+        1 => Element::Fighting,
+        2 => Element::Flying,
+        3 => Element::Poison,
+        4 => Element::Ground,
+        5 => Element::Rock,
+        6 => Element::Bug,
+        7 => Element::Ghost,
+        8 => Element::Fire,
+        9 => Element::Water,
+        10 => Element::Grass,
+        11 => Element::Electric,
+        12 => Element::Psychic,
+        13 => Element::Ice,
+        14 => Element::Dragon,
+        _ => Element::Normal,
+    }
+}
+
+pub(crate) fn byte_of_count(count: Option<u8>) -> u8
+    ensures { result ≡ unwrap_or count 0 }
+{
+    match count {
+        Some(number) => number,
+        None => 0,
+    }
+}
+
+pub(crate) fn byte_of_disabled_slot(disabled: Option<DisabledSlot>) -> u8
+    ensures { result ≡ disabled_slot disabled }
+{
+    match disabled {
+        Some(disabled) => disabled.slot,
+        None => 0,
+    }
+}
+
+pub(crate) fn byte_of_disabled_turns(disabled: Option<DisabledSlot>) -> u8
+    ensures { result ≡ disabled_turns disabled }
+{
+    match disabled {
+        Some(disabled) => disabled.turns,
+        None => 0,
+    }
+}

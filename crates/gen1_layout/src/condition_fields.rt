@@ -1,0 +1,325 @@
+//! The conditions of a member that is out, with their numbers (docs/LAYOUT.md, "Active block", "Condition bits").
+ghost use Rattle.std.specs.Prelude.{Bool, None, Option, Some, false, length, slice_index_or, slice_set, true, ℕ, ◌<◌, ◌^◌, ◌≡◌, ◌≤◌};
+ghost use Rattle.gen1_machine.specs.Conditions.{Conditions as Named, after_haze, broken_off};
+ghost use Rattle.gen1_machine.specs.State.{Field, changed_conditions, conditions_in, member_in, underway_in};
+ghost use Rattle.gen1_machine.specs.Layout.{condition_bits, conditions_number, energy_of, turns_byte};
+ghost use Rattle.gen1_machine.specs.Valid.{IsCount};
+ghost use Rattle.gen1_layout.specs.Decoding.{turns_stored};
+ghost use Rattle.gen1_layout.specs.Flags.{SameNumbers};
+ghost use Rattle.gen1_layout.specs.Storable.{IsStorableDisabled};
+ghost use Rattle.gen1_layout.specs.Within.{Setting, Within};
+
+use crate::codes::{byte_of_count, byte_of_disabled_slot, byte_of_disabled_turns};
+use crate::{Conditions, Packed};
+use bitflags::Flags;
+use byteorder::{ByteOrder, LittleEndian};
+use gen1_machine::{DisabledSlot, Side};
+
+impl Packed {
+    /// All conditions of the member that is out.
+    pub fn conditions(&self, side: Side) -> Conditions
+        ensures stands { (g : Setting) (f : Field) → Within g self.now f → result.0 ≡ conditions_number (conditions_in side f) }
+    {
+        Conditions::from_bits_retain(long!(self.active(side), 17..21))
+    }
+
+    /// Whether it has a condition.
+    pub fn is_on(&self, side: Side, which: Conditions) -> bool
+        ensures stands { (k : ℕ) → which.0 ≡ 2 ^ k → (g : Setting) (f : Field) → Within g self.now f
+            → result ≡ slice_index_or (condition_bits (conditions_in side f)) k false }
+    {
+        self.conditions(side).has(which)
+    }
+
+    /// The HP of its Substitute.
+    pub fn substitute(&self, side: Side) -> Option<u8>
+        ensures stands { (g : Setting) (f : Field) → Within g self.now f → result ≡ (conditions_in side f).substitute }
+    {
+        if self.is_on(side, Conditions::SUBSTITUTE) {
+            Some(self.active(side)[21])
+        } else {
+            None
+        }
+    }
+
+    /// For how many turns more it is confused.
+    pub fn confused(&self, side: Side) -> Option<u8>
+        ensures stands { (g : Setting) (f : Field) → Within g self.now f → result ≡ (conditions_in side f).confused }
+    {
+        if self.is_on(side, Conditions::CONFUSED) {
+            Some(self.active(side)[22])
+        } else {
+            None
+        }
+    }
+
+    /// The counter that Toxic begins.
+    pub fn bad_poison(&self, side: Side) -> Option<u8>
+        ensures stands { (g : Setting) (f : Field) → Within g self.now f → result ≡ (conditions_in side f).bad_poison }
+    {
+        if self.is_on(side, Conditions::BAD_POISON) {
+            Some(self.active(side)[25])
+        } else {
+            None
+        }
+    }
+
+    /// The slot that Disable bars, and for how many turns more.
+    pub fn disabled(&self, side: Side) -> Option<DisabledSlot>
+        ensures stands { (g : Setting) (f : Field) → Within g self.now f → result ≡ (conditions_in side f).disabled }
+    {
+        if self.is_on(side, Conditions::DISABLED) {
+            let active = self.active(side);
+            Some(DisabledSlot {
+                slot: active[23],
+                turns: active[24],
+            })
+        } else {
+            None
+        }
+    }
+
+    /// For how many turns more Bide stores.
+    pub fn bide(&self, side: Side) -> Option<u8>
+        ensures stands { (g : Setting) (f : Field) → Within g self.now f → result ≡ turns_stored (underway_in side f).bide }
+    {
+        if self.is_on(side, Conditions::BIDE) {
+            Some(self.active(side)[26])
+        } else {
+            None
+        }
+    }
+
+    /// For how many turns more it thrashes.
+    pub fn thrash(&self, side: Side) -> Option<u8>
+        ensures stands { (g : Setting) (f : Field) → Within g self.now f → result ≡ (underway_in side f).thrash }
+    {
+        if self.is_on(side, Conditions::THRASH) {
+            Some(self.active(side)[26])
+        } else {
+            None
+        }
+    }
+
+    /// For how many turns more it traps the foe.
+    pub fn trapping(&self, side: Side) -> Option<u8>
+        ensures stands { (g : Setting) (f : Field) → Within g self.now f → result ≡ (underway_in side f).trapping }
+    {
+        if self.is_on(side, Conditions::TRAPPING) {
+            Some(self.active(side)[26])
+        } else {
+            None
+        }
+    }
+
+    /// The energy that Bide has stored, or 0 without Bide.
+    pub fn energy(&self, side: Side) -> u16
+        ensures stands { (g : Setting) (f : Field) → Within g self.now f → result ≡ energy_of (underway_in side f).bide }
+    {
+        word!(self.active(side), 27..29)
+    }
+
+    // The byte of turns once one of Bide, thrashing and trapping is off.
+    fn turns_without(&self, side: Side, which: Conditions) -> u8
+        ensures bide { (g : Setting) (f : Field) → Within g self.now f → which.0 ≡ 1
+            → result ≡ turns_byte None (underway_in side f).thrash (underway_in side f).trapping }
+        ensures thrash { (g : Setting) (f : Field) → Within g self.now f → which.0 ≡ 2
+            → result ≡ turns_byte (underway_in side f).bide None (underway_in side f).trapping }
+        ensures trapping { (g : Setting) (f : Field) → Within g self.now f → which.0 ≡ 4
+            → result ≡ turns_byte (underway_in side f).bide (underway_in side f).thrash None }
+    {
+        if self.is_on(side, which) {
+            0
+        } else {
+            self.active(side)[26]
+        }
+    }
+
+    /// Sets or clears a condition that has no number. The place of its bit is k.
+    pub fn put_flag(&mut self, side: Side, which: Conditions, on: bool)
+        ensures stands { (k : ℕ) → which.0 ≡ 2 ^ k → k < 17 → (g : Setting) (f : Field) (change : Named → Named) → Within g self.old f
+            → condition_bits (change (conditions_in side f)) ≡ slice_set (condition_bits (conditions_in side f)) k on
+            → SameNumbers (change (conditions_in side f)) (conditions_in side f)
+            → Within g self.new (changed_conditions side change f) }
+    {
+        let now = self.conditions(side).with(which, on);
+        put_long!(self.active_mut(side), 17..21, now.bits());
+    }
+
+    /// Writes the HP of a Substitute, or that there is none.
+    pub fn put_substitute(&mut self, side: Side, hp: Option<u8>)
+        ensures stands { (g : Setting) (f : Field) (change : Named → Named) → Within g self.old f
+            → change (conditions_in side f) ≡ record (conditions_in side f) { substitute = hp } → IsCount 0 249 hp
+            → Within g self.new (changed_conditions side change f) }
+    {
+        let on = hp.is_some();
+        let byte = byte_of_count(hp);
+        let now = self.conditions(side).with(Conditions::SUBSTITUTE, on);
+        let active = self.active_mut(side);
+        put_long!(active, 17..21, now.bits());
+        active[21] = byte;
+    }
+
+    /// Writes for how many turns more it is confused.
+    pub fn put_confused(&mut self, side: Side, turns: Option<u8>)
+        ensures stands { (g : Setting) (f : Field) (change : Named → Named) → Within g self.old f
+            → change (conditions_in side f) ≡ record (conditions_in side f) { confused = turns } → IsCount 0 5 turns
+            → Within g self.new (changed_conditions side change f) }
+    {
+        let on = turns.is_some();
+        let byte = byte_of_count(turns);
+        let now = self.conditions(side).with(Conditions::CONFUSED, on);
+        let active = self.active_mut(side);
+        put_long!(active, 17..21, now.bits());
+        active[22] = byte;
+    }
+
+    /// Writes the counter that Toxic begins.
+    pub fn put_bad_poison(&mut self, side: Side, count: Option<u8>)
+        ensures stands { (g : Setting) (f : Field) (change : Named → Named) → Within g self.old f
+            → change (conditions_in side f) ≡ record (conditions_in side f) { bad_poison = count } → IsCount 0 64 count
+            → Within g self.new (changed_conditions side change f) }
+    {
+        let on = count.is_some();
+        let byte = byte_of_count(count);
+        let now = self.conditions(side).with(Conditions::BAD_POISON, on);
+        let active = self.active_mut(side);
+        put_long!(active, 17..21, now.bits());
+        active[25] = byte;
+    }
+
+    /// Writes what Disable bars.
+    pub fn put_disabled(&mut self, side: Side, disabled: Option<DisabledSlot>)
+        ensures stands { (g : Setting) (f : Field) (change : Named → Named) → Within g self.old f
+            → change (conditions_in side f) ≡ record (conditions_in side f) { disabled = disabled }
+            → IsStorableDisabled (length (member_in side f).moves) disabled
+            → Within g self.new (changed_conditions side change f) }
+    {
+        let on = disabled.is_some();
+        let slot = byte_of_disabled_slot(disabled);
+        let turns = byte_of_disabled_turns(disabled);
+        let now = self.conditions(side).with(Conditions::DISABLED, on);
+        let active = self.active_mut(side);
+        put_long!(active, 17..21, now.bits());
+        active[23] = slot;
+        active[24] = turns;
+    }
+
+    /// Writes that Bide stores, for so many turns more and with so much energy. Neither thrashing nor trapping is on.
+    pub fn put_bide(&mut self, side: Side, turns: u8, energy: u16)
+        ensures stands { (g : Setting) (f : Field) (change : Named → Named) → Within g self.old f
+            → change (conditions_in side f) ≡ record (conditions_in side f) { underway = record (underway_in side f) { bide = Some (record { turns = turns; energy = energy }) } }
+            → turns ≤ 3 → (underway_in side f).thrash ≡ None → (underway_in side f).trapping ≡ None
+            → Within g self.new (changed_conditions side change f) }
+    {
+        let now = self.conditions(side).with(Conditions::BIDE, true);
+        let active = self.active_mut(side);
+        put_long!(active, 17..21, now.bits());
+        active[26] = turns;
+        put_word!(active, 27..29, energy);
+    }
+
+    /// Writes that Bide is off.
+    pub fn end_bide(&mut self, side: Side)
+        ensures stands { (g : Setting) (f : Field) (change : Named → Named) → Within g self.old f
+            → change (conditions_in side f) ≡ record (conditions_in side f) { underway = record (underway_in side f) { bide = None } }
+            → Within g self.new (changed_conditions side change f) }
+    {
+        let turns = self.turns_without(side, Conditions::BIDE);
+        let now = self.conditions(side).with(Conditions::BIDE, false);
+        let active = self.active_mut(side);
+        put_long!(active, 17..21, now.bits());
+        active[26] = turns;
+        put_word!(active, 27..29, 0);
+    }
+
+    /// Writes that it thrashes for so many turns more. Neither Bide nor trapping is on.
+    pub fn put_thrash(&mut self, side: Side, turns: u8)
+        ensures stands { (g : Setting) (f : Field) (change : Named → Named) → Within g self.old f
+            → change (conditions_in side f) ≡ record (conditions_in side f) { underway = record (underway_in side f) { thrash = Some turns } }
+            → turns ≤ 3 → (underway_in side f).bide ≡ None → (underway_in side f).trapping ≡ None
+            → Within g self.new (changed_conditions side change f) }
+    {
+        let now = self.conditions(side).with(Conditions::THRASH, true);
+        let active = self.active_mut(side);
+        put_long!(active, 17..21, now.bits());
+        active[26] = turns;
+    }
+
+    /// Writes that thrashing is off.
+    pub fn end_thrash(&mut self, side: Side)
+        ensures stands { (g : Setting) (f : Field) (change : Named → Named) → Within g self.old f
+            → change (conditions_in side f) ≡ record (conditions_in side f) { underway = record (underway_in side f) { thrash = None } }
+            → Within g self.new (changed_conditions side change f) }
+    {
+        let turns = self.turns_without(side, Conditions::THRASH);
+        let now = self.conditions(side).with(Conditions::THRASH, false);
+        let active = self.active_mut(side);
+        put_long!(active, 17..21, now.bits());
+        active[26] = turns;
+    }
+
+    /// Writes that it traps the foe for so many turns more. Neither Bide nor thrashing is on.
+    pub fn put_trapping(&mut self, side: Side, turns: u8)
+        ensures stands { (g : Setting) (f : Field) (change : Named → Named) → Within g self.old f
+            → change (conditions_in side f) ≡ record (conditions_in side f) { underway = record (underway_in side f) { trapping = Some turns } }
+            → turns ≤ 4 → (underway_in side f).bide ≡ None → (underway_in side f).thrash ≡ None
+            → Within g self.new (changed_conditions side change f) }
+    {
+        let now = self.conditions(side).with(Conditions::TRAPPING, true);
+        let active = self.active_mut(side);
+        put_long!(active, 17..21, now.bits());
+        active[26] = turns;
+    }
+
+    /// Writes that trapping is off.
+    pub fn end_trapping(&mut self, side: Side)
+        ensures stands { (g : Setting) (f : Field) (change : Named → Named) → Within g self.old f
+            → change (conditions_in side f) ≡ record (conditions_in side f) { underway = record (underway_in side f) { trapping = None } }
+            → Within g self.new (changed_conditions side change f) }
+    {
+        let turns = self.turns_without(side, Conditions::TRAPPING);
+        let now = self.conditions(side).with(Conditions::TRAPPING, false);
+        let active = self.active_mut(side);
+        put_long!(active, 17..21, now.bits());
+        active[26] = turns;
+    }
+
+    /// Breaks off Bide, thrashing, trapping and charging.
+    pub fn break_off(&mut self, side: Side)
+        ensures stands { (g : Setting) (f : Field) → Within g self.old f → Within g self.new (changed_conditions side broken_off f) }
+    {
+        let now = self
+            .conditions(side)
+            .with(Conditions::BIDE, false)
+            .with(Conditions::THRASH, false)
+            .with(Conditions::TRAPPING, false)
+            .with(Conditions::CHARGING, false);
+        let active = self.active_mut(side);
+        put_long!(active, 17..21, now.bits());
+        active[26] = 0;
+        put_word!(active, 27..29, 0);
+    }
+
+    /// Takes away what Haze does: confusion, mist, focus energy, the seed, bad poison, both screens and Disable.
+    pub fn clear_by_haze(&mut self, side: Side)
+        ensures stands { (g : Setting) (f : Field) → Within g self.old f → Within g self.new (changed_conditions side after_haze f) }
+    {
+        let now = self
+            .conditions(side)
+            .with(Conditions::CONFUSED, false)
+            .with(Conditions::MIST, false)
+            .with(Conditions::FOCUS_ENERGY, false)
+            .with(Conditions::SEEDED, false)
+            .with(Conditions::BAD_POISON, false)
+            .with(Conditions::LIGHT_SCREEN, false)
+            .with(Conditions::REFLECT, false)
+            .with(Conditions::DISABLED, false);
+        let active = self.active_mut(side);
+        put_long!(active, 17..21, now.bits());
+        active[22] = 0;
+        active[23] = 0;
+        active[24] = 0;
+        active[25] = 0;
+    }
+}

@@ -1,0 +1,79 @@
+//! The conditions of a member that is out, as bits.
+ghost use Rattle.std.specs.Prelude.{Bool, List, [], codes, false, slice_index_or, slice_set, ℕ, ◌<◌, ◌^◌, ◌≡◌, ◌∷◌, ⊤, length};
+ghost use Rattle.gen1_machine.specs.Layout.{number_of_bits};
+
+use bitflags::{Flag, Flags, bitflag_items};
+
+/// The conditions of a member that is out (docs/LAYOUT.md, "Condition bits"), as a set of 17 bits.
+///
+/// A condition with a number of its own, as confusion, keeps it elsewhere in the active block.
+#[derive(Clone, Copy, PartialEq, Eq, Debug)]
+pub struct Conditions(u32);
+
+bitflag_items! {
+    impl Conditions: u32 {
+        const BIDE = 1;
+        const THRASH = 2;
+        const TRAPPING = 4;
+        const FLINCH = 8;
+        const CHARGING = 16;
+        const INVULNERABLE = 32;
+        const CONFUSED = 64;
+        const MIST = 128;
+        const FOCUS_ENERGY = 256;
+        const SUBSTITUTE = 512;
+        const RECHARGE = 1024;
+        const RAGE = 2048;
+        const SEEDED = 4096;
+        const BAD_POISON = 8192;
+        const LIGHT_SCREEN = 16384;
+        const REFLECT = 32768;
+        const DISABLED = 65536;
+    }
+}
+
+impl Flags for Conditions {
+    type Bits = u32;
+
+    ghost exact = { ⊤ };
+
+    ghost table = { (codes "BIDE", 1) ∷ (codes "THRASH", 2) ∷ (codes "TRAPPING", 4) ∷ (codes "FLINCH", 8) ∷ (codes "CHARGING", 16) ∷ (codes "INVULNERABLE", 32) ∷ (codes "CONFUSED", 64) ∷ (codes "MIST", 128) ∷ (codes "FOCUS_ENERGY", 256) ∷ (codes "SUBSTITUTE", 512) ∷ (codes "RECHARGE", 1024) ∷ (codes "RAGE", 2048) ∷ (codes "SEEDED", 4096) ∷ (codes "BAD_POISON", 8192) ∷ (codes "LIGHT_SCREEN", 16384) ∷ (codes "REFLECT", 32768) ∷ (codes "DISABLED", 65536) ∷ [] };
+
+    ghost set_of = { λ c. c.0 };
+
+    fn flags<'a>() -> &'a [Flag<Conditions>] {
+        Conditions::FLAGS
+    }
+
+    fn bits(&self) -> u32 {
+        self.0
+    }
+
+    fn from_bits_retain(bits: u32) -> Conditions {
+        Conditions(bits)
+    }
+}
+
+impl Conditions {
+    /// These conditions with one of them set or cleared.
+    pub fn with(self, which: Conditions, on: bool) -> Conditions
+        ensures { (k : ℕ) → which.0 ≡ 2 ^ k → (bits : List Bool) → k < length bits → length bits ≡ 17
+            → self.0 ≡ number_of_bits bits → result.0 ≡ number_of_bits (slice_set bits k on) }
+    {
+        let mut now = self;
+        if on {
+            now.insert(which);
+        } else {
+            now.remove(which);
+        }
+        now
+    }
+
+    /// Whether a condition is among these.
+    pub fn has(self, which: Conditions) -> bool
+        ensures { (k : ℕ) → which.0 ≡ 2 ^ k → (bits : List Bool)
+            → self.0 ≡ number_of_bits bits → result ≡ slice_index_or bits k false }
+    {
+        self.contains(which)
+    }
+}

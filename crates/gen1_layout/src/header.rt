@@ -1,0 +1,130 @@
+//! The fields of the header (docs/LAYOUT.md, "Header").
+ghost use Rattle.std.specs.Prelude.{Some, ℕ, ◌%◌, ◌+◌, ◌<◌, ◌≡◌, ◌≤◌};
+ghost use Rattle.gen1_rolls.specs.Link.{ring_at};
+ghost use Rattle.gen1_machine.specs.State.{Field, request_of, with_last_damage, with_next_turn, with_outcome, with_requests};
+ghost use Rattle.gen1_machine.specs.Valid.{IsOutcome};
+ghost use Rattle.gen1_layout.specs.Within.{Packs, Setting, Within};
+
+use crate::Packed;
+use crate::codes::{byte_of_outcome, byte_of_request, outcome_from, request_from};
+use byteorder::{ByteOrder, LittleEndian};
+use gen1_machine::{Outcome, Request, Side};
+use gen1_rolls::LinkRandom;
+
+impl Packed {
+    /// The turn, from 0 to the turn limit.
+    pub fn turn(&self) -> u16
+        ensures stands { (g : Setting) (f : Field) → Within g self.now f → result ≡ f.turn }
+        ensures packs { (g : Setting) (f : Field) → Packs g self.now f → result ≡ f.turn }
+    {
+        word!(self.header(), 1..3)
+    }
+
+    /// The last damage, of either side.
+    pub fn last_damage(&self) -> u16
+        ensures stands { (g : Setting) (f : Field) → Within g self.now f → result ≡ f.last_damage }
+    {
+        word!(self.header(), 3..5)
+    }
+
+    /// How the battle stands.
+    pub fn outcome(&self) -> Outcome
+        ensures stands { (g : Setting) (f : Field) → Within g self.now f → result ≡ f.outcome }
+        ensures packs { (g : Setting) (f : Field) → Packs g self.now f → result ≡ f.outcome }
+    {
+        outcome_from(self.header()[16])
+    }
+
+    /// What is asked of a side.
+    pub fn request(&self, side: Side) -> Request
+        ensures stands { (g : Setting) (f : Field) → Within g self.now f → result ≡ request_of side f }
+        ensures packs { (g : Setting) (f : Field) → Packs g self.now f → result ≡ request_of side f }
+    {
+        match side {
+            Side::One => request_from(self.header()[17]),
+            Side::Two => request_from(self.header()[18]),
+        }
+    }
+
+    /// The last turn, from 1 to 9,999.
+    pub fn limit(&self) -> u16
+        ensures stands { (g : Setting) (f : Field) → Within g self.now f → result ≡ g.terms.limit }
+        ensures packs { (g : Setting) (f : Field) → Packs g self.now f → result ≡ g.terms.limit }
+    {
+        word!(self.header(), 20..22)
+    }
+
+    /// Whether a sleep move fails while an earlier one keeps a living member of the foe's side asleep.
+    pub fn sleep_clause(&self) -> bool
+        ensures stands { (g : Setting) (f : Field) → Within g self.now f → result ≡ g.terms.rules.sleep_clause }
+    {
+        self.header()[19] % 2 == 1
+    }
+
+    /// Whether a freeze does nothing while a living member of the foe's side is frozen.
+    pub fn freeze_clause(&self) -> bool
+        ensures stands { (g : Setting) (f : Field) → Within g self.now f → result ≡ g.terms.rules.freeze_clause }
+    {
+        self.header()[19] / 2 == 1
+    }
+
+    /// Writes the last damage.
+    pub fn put_last_damage(&mut self, damage: u16)
+        ensures stands { (g : Setting) (f : Field) → Within g self.old f → Within g self.new (with_last_damage damage f) }
+    {
+        put_word!(self.header_mut(), 3..5, damage);
+    }
+
+    /// Writes how the battle stands.
+    pub fn put_outcome(&mut self, outcome: Outcome)
+        ensures stands { (g : Setting) (f : Field) → Within g self.old f → IsOutcome outcome → Within g self.new (with_outcome outcome f) }
+    {
+        let byte = byte_of_outcome(outcome);
+        self.header_mut()[16] = byte;
+    }
+
+    /// Writes what is asked of both sides.
+    pub fn put_requests(&mut self, one: Request, two: Request)
+        ensures stands { (g : Setting) (f : Field) → Within g self.old f → Within g self.new (with_requests one two f) }
+    {
+        let one = byte_of_request(one);
+        let two = byte_of_request(two);
+        let header = self.header_mut();
+        header[17] = one;
+        header[18] = two;
+    }
+
+    /// Goes on to the next turn, which is the limit at most.
+    pub fn put_next_turn(&mut self)
+        ensures stands { (g : Setting) (f : Field) → Within g self.old f → f.turn < g.terms.limit → Within g self.new (with_next_turn f) }
+    {
+        let next = self.turn().wrapping_add(1);
+        put_word!(self.header_mut(), 1..3, next);
+    }
+
+    /// The generator as the bytes have it. Between two updates there is always an answer.
+    pub fn generator(&self) -> Option<LinkRandom>
+        ensures stands { (g : Setting) (f : Field) → Within g self.now f → result ≡ Some (ring_at g.seed g.drawn) }
+    {
+        let header = self.header();
+        LinkRandom::from_parts(
+            header[5],
+            [
+                header[6], header[7], header[8], header[9], header[10], header[11], header[12],
+                header[13], header[14], header[15],
+            ],
+        )
+    }
+
+    /// Writes where the generator stands after any number of draws.
+    pub fn put_generator(&mut self, generator: &LinkRandom)
+        ensures stands { (g : Setting) (f : Field) (drawn : ℕ) → Within g self.old f → generator.now ≡ ring_at g.seed drawn
+            → Within (record g { drawn = drawn }) self.new f }
+    {
+        let index = generator.index();
+        let numbers = generator.numbers();
+        let header = self.header_mut();
+        header[5] = index;
+        header[6..16].copy_from_slice(&numbers);
+    }
+}

@@ -1,0 +1,162 @@
+//! The fields of a member (docs/LAYOUT.md, "Member"): of any by its place, and of the one that is out.
+ghost use Rattle.std.specs.Prelude.{length, slice_set, ℕ, ◌-◌, ◌≡◌, ◌≤◌};
+ghost use Rattle.gen1_stats.specs.Members.{Member};
+ghost use Rattle.gen1_machine.specs.State.{Field, active_in, changed_member, known_in, member_at, member_in, party};
+ghost use Rattle.gen1_machine.specs.CurrentStats.{unmodified};
+ghost use Rattle.gen1_machine.specs.Layout.{member_block};
+ghost use Rattle.gen1_machine.specs.Valid.{IsStatus};
+ghost use Rattle.gen1_layout.specs.Within.{Packs, Setting, Within};
+
+use crate::Packed;
+use crate::codes::{byte_of_status, mark_of_status, status_from};
+use byteorder::{ByteOrder, LittleEndian};
+use gen1_machine::Side;
+use gen1_stats::Status;
+use gen1_tables::Stat;
+
+impl Packed {
+    /// The place of the member that is out, from 1 to 6.
+    pub fn place(&self, side: Side) -> usize
+        ensures low { 1 ≤ result }
+        ensures high { result ≤ 6 }
+        ensures stands { (g : Setting) (f : Field) → Within g self.now f → result ≡ (active_in side f).place }
+    {
+        (self.active(side)[0] as usize).max(1).min(6)
+    }
+
+    // The bytes of the member that is out.
+    pub(crate) fn member_out(&self, side: Side) -> &[u8]
+        ensures len { length result.now ≡ 24 }
+        ensures stands { (g : Setting) (f : Field) → Within g self.now f → result.now ≡ member_block (member_in side f) }
+    {
+        self.member(side, self.place(side))
+    }
+
+    /// The level of the member that is out.
+    pub fn level(&self, side: Side) -> u8
+        ensures stands { (g : Setting) (f : Field) → Within g self.now f → result ≡ (member_in side f).level }
+    {
+        self.member_out(side)[1]
+    }
+
+    /// The most HP that it can have.
+    pub fn max_hp(&self, side: Side) -> u16
+        ensures stands { (g : Setting) (f : Field) → Within g self.now f → result ≡ (member_in side f).max }
+    {
+        word!(self.member_out(side), 2..4)
+    }
+
+    /// Its HP.
+    pub fn hp(&self, side: Side) -> u16
+        ensures stands { (g : Setting) (f : Field) → Within g self.now f → result ≡ (member_in side f).hp }
+    {
+        word!(self.member_out(side), 4..6)
+    }
+
+    /// Its own Attack, Defense, Speed or Special; accuracy and evasion have no number of their own, and give 0.
+    pub fn unmodified(&self, side: Side, stat: Stat) -> u16
+        ensures stands { (g : Setting) (f : Field) → Within g self.now f → result ≡ unmodified stat (member_in side f) }
+    {
+        match stat {
+            Stat::Attack => word!(self.member_out(side), 6..8),
+            Stat::Defense => word!(self.member_out(side), 8..10),
+            Stat::Speed => word!(self.member_out(side), 10..12),
+            Stat::Special => word!(self.member_out(side), 12..14),
+            Stat::Accuracy => 0,
+            Stat::Evasion => 0,
+        }
+    }
+
+    /// Its status.
+    pub fn status(&self, side: Side) -> Status
+        ensures stands { (g : Setting) (f : Field) → Within g self.now f → result ≡ (member_in side f).status }
+    {
+        let out = self.member_out(side);
+        status_from(out[14], out[23])
+    }
+
+    /// The number of the move in a slot from 1 to 4, or 0 where it has none there.
+    pub fn move_in(&self, side: Side, slot: usize) -> u8
+        requires low { 1 ≤ slot }
+        requires high { slot ≤ 4 }
+        ensures stands { (g : Setting) (f : Field) → Within g self.now f → result ≡ (known_in slot (member_in side f).moves).id }
+    {
+        self.member_out(side)[slot + 14]
+    }
+
+    /// The PP of the move in a slot from 1 to 4.
+    pub fn pp(&self, side: Side, slot: usize) -> u8
+        requires low { 1 ≤ slot }
+        requires high { slot ≤ 4 }
+        ensures stands { (g : Setting) (f : Field) → Within g self.now f → result ≡ (known_in slot (member_in side f).moves).pp }
+    {
+        self.member_out(side)[slot + 18]
+    }
+
+    /// The number of the species of the member at a place from 1 to 6, or 0 where there is none.
+    pub fn species_at(&self, side: Side, place: usize) -> u8
+        requires low { 1 ≤ place }
+        requires high { place ≤ 6 }
+        ensures stands { (g : Setting) (f : Field) → Within g self.now f → result ≡ (member_at place (party side f)).species }
+        ensures packs { (g : Setting) (f : Field) → Packs g self.now f → result ≡ (member_at place (party side f)).species }
+    {
+        self.member(side, place)[0]
+    }
+
+    /// The HP of the member at a place from 1 to 6, or 0 where there is none.
+    pub fn hp_at(&self, side: Side, place: usize) -> u16
+        requires low { 1 ≤ place }
+        requires high { place ≤ 6 }
+        ensures stands { (g : Setting) (f : Field) → Within g self.now f → result ≡ (member_at place (party side f)).hp }
+        ensures packs { (g : Setting) (f : Field) → Packs g self.now f → result ≡ (member_at place (party side f)).hp }
+    {
+        word!(self.member(side, place), 4..6)
+    }
+
+    /// The status of the member at a place from 1 to 6; healthy where there is none.
+    pub fn status_at(&self, side: Side, place: usize) -> Status
+        requires low { 1 ≤ place }
+        requires high { place ≤ 6 }
+        ensures stands { (g : Setting) (f : Field) → Within g self.now f → result ≡ (member_at place (party side f)).status }
+        ensures packs { (g : Setting) (f : Field) → Packs g self.now f → result ≡ (member_at place (party side f)).status }
+    {
+        let member = self.member(side, place);
+        status_from(member[14], member[23])
+    }
+
+    /// Writes the HP of the member that is out, at most its maximum.
+    pub fn put_hp(&mut self, side: Side, hp: u16)
+        ensures stands { (g : Setting) (f : Field) (change : Member → Member) → Within g self.old f
+            → change (member_in side f) ≡ record (member_in side f) { hp = hp } → hp ≤ (member_in side f).max
+            → Within g self.new (changed_member side change f) }
+    {
+        let place = self.place(side);
+        put_word!(self.member_mut(side, place), 4..6, hp);
+    }
+
+    /// Writes the status of the member that is out.
+    pub fn put_status(&mut self, side: Side, status: Status)
+        ensures stands { (g : Setting) (f : Field) (change : Member → Member) → Within g self.old f
+            → change (member_in side f) ≡ record (member_in side f) { status = status } → IsStatus g.terms.rules status
+            → Within g self.new (changed_member side change f) }
+    {
+        let place = self.place(side);
+        let byte = byte_of_status(status);
+        let mark = mark_of_status(status);
+        let member = self.member_mut(side, place);
+        member[14] = byte;
+        member[23] = mark;
+    }
+
+    /// Writes the PP of the move in a slot, at most 63.
+    pub fn put_pp(&mut self, side: Side, slot: usize, pp: u8)
+        requires low { 1 ≤ slot }
+        requires high { slot ≤ 4 }
+        ensures stands { (g : Setting) (f : Field) (change : Member → Member) → Within g self.old f
+            → change (member_in side f) ≡ record (member_in side f) { moves = slice_set (member_in side f).moves (slot - 1) (record (known_in slot (member_in side f).moves) { pp = pp }) }
+            → slot ≤ length (member_in side f).moves → pp ≤ 63 → Within g self.new (changed_member side change f) }
+    {
+        let place = self.place(side);
+        self.member_mut(side, place)[slot + 18] = pp;
+    }
+}

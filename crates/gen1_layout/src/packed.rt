@@ -1,0 +1,157 @@
+//! A packed battle, and the parts of it that are lent and read.
+ghost use Rattle.std.specs.Prelude.{◌≡◌, ◌+◌, ◌-◌, ◌≤◌, length};
+ghost use Rattle.std.specs.Borrow.{sem};
+ghost use Rattle.gen1_machine.specs.State.{State};
+ghost use Rattle.gen1_machine.specs.Layout.{bytes_of};
+ghost use Rattle.gen1_layout.specs.Within.{blocks_of};
+ghost use Rattle.gen1_layout.specs.Parts.{active_of, bytes_of_side, joined, member_at, member_of, part, parts_of, side_at, side_of};
+ghost use Rattle.gen1_layout.specs.Lending.{LendsActive, LendsHeader, LendsMember, LendsPart, LendsSide};
+
+use gen1_machine::Side;
+use std::marker::Model;
+
+/// A battle in 384 bytes (docs/LAYOUT.md), layout version 3.
+///
+/// A contract sees it as its parts (`specs/Parts.antt`): the header, and for each side six members and an active block.
+#[derive(Drop)]
+pub struct Packed([u8; 384]);
+
+impl Model for Packed {
+    ghost use Rattle.std.specs.Prelude.{◌≡◌, length};
+    ghost use Rattle.gen1_layout.specs.Parts.{Parts, parts_of};
+
+    ghost Value = { Parts };
+
+    ghost view = { λ p. parts_of p.0 };
+
+    ghost invariant = { λ p. length p.0 ≡ 384 };
+}
+
+impl Packed {
+    pub(crate) fn of_bytes(bytes: [u8; 384]) -> Packed
+        ensures { result ≡ parts_of bytes }
+    {
+        Packed(bytes)
+    }
+
+    // The bytes from an offset up to another, for writing.
+    fn part_mut(&mut self, from: usize, end: usize) -> &mut [u8]
+        requires order { from ≤ end }
+        requires within { end ≤ 384 }
+        ensures* writes_back { sem 𝓛 (LendsPart from end self.entry result) }
+        ensures value { (result.now ≡ part from (end - from) (joined self.old))
+            × (length result.now ≡ end - from)
+            × (length (joined self.old) ≡ 384)
+            × (parts_of (joined self.old) ≡ self.old) }
+    {
+        &mut self.0[from..end]
+    }
+
+    /// The 24 bytes of the header (docs/LAYOUT.md, "Header"), for writing.
+    pub fn header_mut(&mut self) -> &mut [u8]
+        ensures* writes_back { sem 𝓛 (LendsHeader self.entry result) }
+        ensures value { result.now ≡ self.old.header }
+        ensures len { length result.now ≡ 24 }
+    {
+        self.part_mut(0, 24)
+    }
+
+    /// The 180 bytes of a side, its members' and its active block, for writing.
+    pub fn side_mut(&mut self, side: Side) -> &mut [u8]
+        ensures* writes_back { sem 𝓛 (LendsSide side self.entry result) }
+        ensures value { result.now ≡ bytes_of_side (side_of side self.old) }
+        ensures len { length result.now ≡ 180 }
+    {
+        let from = start_of_side(side);
+        self.part_mut(from, from + 180)
+    }
+
+    /// The 36 bytes of a side's active block (docs/LAYOUT.md, "Active block"), for writing.
+    pub fn active_mut(&mut self, side: Side) -> &mut [u8]
+        ensures* writes_back { sem 𝓛 (LendsActive side self.entry result) }
+        ensures value { result.now ≡ active_of side self.old }
+        ensures len { length result.now ≡ 36 }
+    {
+        let from = start_of_side(side) + 144;
+        self.part_mut(from, from + 36)
+    }
+
+    /// The 24 bytes of a member (docs/LAYOUT.md, "Member"), by its place from 1, for writing.
+    pub fn member_mut(&mut self, side: Side, place: usize) -> &mut [u8]
+        requires low { 1 ≤ place }
+        requires high { place ≤ 6 }
+        ensures* writes_back { sem 𝓛 (LendsMember side place self.entry result) }
+        ensures value { result.now ≡ member_of side place self.old }
+        ensures len { length result.now ≡ 24 }
+    {
+        let from = start_of_member(side, place);
+        self.part_mut(from, from + 24)
+    }
+
+    /// The whole battle (docs/LAYOUT.md).
+    pub fn as_bytes(&self) -> &[u8]
+        ensures value { result.now ≡ joined self.now }
+        ensures stands { (s : State) → self.now ≡ blocks_of s → result.now ≡ bytes_of s }
+        ensures len { length result.now ≡ 384 }
+    {
+        &self.0
+    }
+
+    /// The 24 bytes of the header.
+    pub fn header(&self) -> &[u8]
+        ensures value { result.now ≡ self.now.header }
+        ensures len { length result.now ≡ 24 }
+    {
+        &self.0[..24]
+    }
+
+    /// The 180 bytes of a side.
+    pub fn side(&self, side: Side) -> &[u8]
+        ensures value { result.now ≡ bytes_of_side (side_of side self.now) }
+        ensures len { length result.now ≡ 180 }
+    {
+        let from = start_of_side(side);
+        &self.0[from..from + 180]
+    }
+
+    /// The 36 bytes of a side's active block.
+    pub fn active(&self, side: Side) -> &[u8]
+        ensures value { result.now ≡ active_of side self.now }
+        ensures len { length result.now ≡ 36 }
+    {
+        let from = start_of_side(side) + 144;
+        &self.0[from..from + 36]
+    }
+
+    /// The 24 bytes of a member, by its place from 1.
+    pub fn member(&self, side: Side, place: usize) -> &[u8]
+        requires low { 1 ≤ place }
+        requires high { place ≤ 6 }
+        ensures value { result.now ≡ member_of side place self.now }
+        ensures len { length result.now ≡ 24 }
+    {
+        let from = start_of_member(side, place);
+        &self.0[from..from + 24]
+    }
+}
+
+fn start_of_side(side: Side) -> usize
+    ensures at { result ≡ side_at side }
+    ensures within { result + 180 ≤ 384 }
+{
+    match side {
+        Side::One => 24,
+        Side::Two => 204,
+    }
+}
+
+fn start_of_member(side: Side, place: usize) -> usize
+    requires low { 1 ≤ place }
+    requires high { place ≤ 6 }
+    ensures at { result ≡ member_at side place }
+    ensures within { result + 24 ≤ 384 }
+{
+    start_of_side(side) + 24 * (place - 1)
+}
+
+const _: () = prove!(std::mem::size_of::<Packed>() == 384);
