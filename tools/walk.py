@@ -6,7 +6,7 @@ parts do. The lemma is proved by `search` over the rules for the combinators, th
 the phases that its clauses name.
 
     tools/walk.py free      writes crates/gen1_machine/proofs/Free.antt
-    tools/walk.py sound     writes crates/gen1_machine/proofs/SoundWalk.antt, with the lemmas of tools/sound.antt
+    tools/walk.py sound     writes crates/gen1_machine/proofs/SoundWalk.antt, with the lemmas of tools/sound_lemmas.txt
 """
 import os
 import re
@@ -324,7 +324,7 @@ lead_up carry_out action_parts act let_energy_go store_energy bide_on bide_goes_
 resume'''.split()
 
 SOUND_HEAD = '''-- Phases of an action keep a valid field: those that touch nothing which the current move explains. Below its head this file
--- is written by tools/walk.py; the lemmas that it takes over as they are stand in tools/sound.antt.
+-- is written by tools/walk.py; the lemmas that it takes over as they are stand in tools/sound_lemmas.txt.
 %s
 use Rattle.std.proofs.lemmas.Bool.{false≢true, ltb-true}
 use Rattle.gen1_machine.proofs.Keeps.{choose-keeps, draw-keeps, ends-keeps, given-keeps, keeps_rules, note-keeps, on_action-keeps, on_active-keeps, on_conditions-keeps, on_field-keeps, set_last_damage-keeps, set_missed-keeps, starts-keeps, stay-keeps, stop-keeps, then-keeps, told-keeps, Keeps, KeepsRuling, Spares, SparesAction}
@@ -363,7 +363,7 @@ SOUND_TAIL = '''  pub ruling-sound : KeepsRuling P (ruling_of terms)
 
 def sound():
     by_hand = {}
-    with open(os.path.join(os.path.dirname(os.path.abspath(__file__)), 'sound.antt'), encoding='utf-8') as file:
+    with open(os.path.join(os.path.dirname(os.path.abspath(__file__)), 'sound_lemmas.txt'), encoding='utf-8') as file:
         for block in file.read().strip('\n').split('\n\n'):
             by_hand[re.match(r'  pub (%s)-sound :' % WORD, block).group(1)] = block.split('\n')
     extra = {'Move': True, 'inflict': ['IsStatus terms.rules status'], 'lower_foes_stat': ['1 ≤ by']}
