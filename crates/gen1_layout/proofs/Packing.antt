@@ -32,10 +32,10 @@ blocks_are ms few =
 active_is : (t : Party) → (active_block_of t ≡ replicate 36 0) ⊎ (active_block_of t ≡ active_block (member_at t.active.place t) t.active)
 active_is t = by (nat_eq t.active.place 0)
   where
-  by : (b : Bool) → (cond b (replicate 36 0) (active_block (member_at t.active.place t) t.active) ≡ replicate 36 0)
-      ⊎ (cond b (replicate 36 0) (active_block (member_at t.active.place t) t.active) ≡ active_block (member_at t.active.place t) t.active)
-  by true = inl refl
-  by false = inr refl
+    by : (b : Bool) → (cond b (replicate 36 0) (active_block (member_at t.active.place t) t.active) ≡ replicate 36 0)
+        ⊎ (cond b (replicate 36 0) (active_block (member_at t.active.place t) t.active) ≡ active_block (member_at t.active.place t) t.active)
+    by true = inl refl
+    by false = inr refl
 
 pub parts-bytes_of : (s : State) → length s.field.one.members ≤ 6 → length s.field.two.members ≤ 6 → parts_of (bytes_of s) ≡ blocks_of s
 unfolding bytes_of

@@ -239,21 +239,25 @@ first_written {g = g} {p = p} {f = f} s change new w h makes low e =
       outcome = outcome s new;
     })
   where
-  damage : (s : Side) (a : Active) → (with_party s (record (party s f) { active = a }) f).last_damage ≤ 65535
-  damage One a = h.last_damage
-  damage Two a = h.last_damage
-  turn : (s : Side) (a : Active) → (with_party s (record (party s f) { active = a }) f).turn ≤ g.terms.limit
-  turn One a = h.turn
-  turn Two a = h.turn
-  outcome : (s : Side) (a : Active) → IsOutcome (with_party s (record (party s f) { active = a }) f).outcome
-  outcome One a = h.outcome
-  outcome Two a = h.outcome
-  members_one : (s : Side) (a : Active) → IsMembersUnder g.terms.rules (with_party s (record (party s f) { active = a }) f).one.members
-  members_one One a = h.one
-  members_one Two a = h.one
-  members_two : (s : Side) (a : Active) → IsMembersUnder g.terms.rules (with_party s (record (party s f) { active = a }) f).two.members
-  members_two One a = h.two
-  members_two Two a = h.two
+    damage : (s : Side) (a : Active) → (with_party s (record (party s f) { active = a }) f).last_damage ≤ 65535
+    damage One a = h.last_damage
+    damage Two a = h.last_damage
+
+    turn : (s : Side) (a : Active) → (with_party s (record (party s f) { active = a }) f).turn ≤ g.terms.limit
+    turn One a = h.turn
+    turn Two a = h.turn
+
+    outcome : (s : Side) (a : Active) → IsOutcome (with_party s (record (party s f) { active = a }) f).outcome
+    outcome One a = h.outcome
+    outcome Two a = h.outcome
+
+    members_one : (s : Side) (a : Active) → IsMembersUnder g.terms.rules (with_party s (record (party s f) { active = a }) f).one.members
+    members_one One a = h.one
+    members_one Two a = h.one
+
+    members_two : (s : Side) (a : Active) → IsMembersUnder g.terms.rules (with_party s (record (party s f) { active = a }) f).two.members
+    members_two One a = h.two
+    members_two Two a = h.two
 
 -- once a member is out on both sides
 pub within_packed : {g : Setting} {p : Parts} {f : Field} → Packs g p f → IsStorable g.terms f → Within g p f

@@ -160,10 +160,16 @@ fn an_active_block(rt: HostRuntime) -> Result<(), Fail> {
         0, 2, 5, 229, 0, 0, 0, 0,
     ];
     assert_eq!(rt; packed.active(side), &block[..]);
-    packed.put_sent_out(side, 1, Element::Fire, Element::Flying, [149, 288, 318, 238]);
+    packed.put_sent_out(
+        side,
+        1,
+        Element::Fire,
+        Element::Flying,
+        [149, 288, 318, 238],
+    );
     let block = [
-        1, 8, 2, 6, 6, 6, 6, 6, 6, 149, 0, 32, 1, 62, 1, 238, 0, 0, 0, 0, 0, 0, 0, 0, 0, 0, 0, 0, 0,
-        0, 0, 0, 0, 0, 0, 0,
+        1, 8, 2, 6, 6, 6, 6, 6, 6, 149, 0, 32, 1, 62, 1, 238, 0, 0, 0, 0, 0, 0, 0, 0, 0, 0, 0, 0,
+        0, 0, 0, 0, 0, 0, 0, 0,
     ];
     assert_eq!(rt; packed.active(side), &block[..]);
     Ok(())
