@@ -7,6 +7,7 @@ the phases that its clauses name.
 
     tools/walk.py free      writes crates/gen1_machine/proofs/Free.antt
     tools/walk.py sound     writes crates/gen1_machine/proofs/SoundWalk.antt, with the lemmas of tools/sound_lemmas.txt
+    tools/walk.py steady    writes crates/gen1_machine/proofs/Steady.antt, with the lemmas of tools/steady_lemmas.txt
 """
 import os
 import re
@@ -106,9 +107,9 @@ def premises_for(word, arguments, names, fact, extra):
     return premises
 
 
-def lemma(word, arguments, clauses, fact, known, rules, depth, extra):
+def lemma(word, arguments, clauses, fact, known, rules, depth, extra, asked=()):
     names = names_for(arguments, clauses)
-    premises = premises_for(word, arguments, names, fact, extra)
+    premises = premises_for(word, arguments, names, fact, extra) + list(asked)
     binders = ['(%s : %s)' % (name, kind.strip('()') if '→' not in kind else kind[1:-1]) for name, kind in zip(names, arguments)]
     whole = word if not names else '(%s %s)' % (word, ' '.join(names))
     kind = ''.join(' '.join(binders) + ' → ' if binders else '') + ''.join(p + ' → ' for _, p in premises) + 'Keeps P ' + whole
@@ -373,5 +374,167 @@ def sound():
     written('SoundWalk', body, written_imports(body, words, aliases, {}))
 
 
+# what a phase asks of a fact beside, by what it may do: it hurts, it faults, it breaks off what goes on, it touches rage or
+# thrashing of the side that acts, or it settles what is known of the action
+ASKED = {'hurts': 'Hurts P', 'faults': 'Faults P', 'broken': 'Breaks P %s', 'own': 'Own P %s', 'acts': 'Acts P'}
+
+STEADY_HEAD = '''-- What a phase leaves: rage, thrashing and the accuracy that is kept for them, the health of who falls, and the outcome. What
+-- it asks of a fact beside is a premise of its lemma. Below its head this file is written by tools/walk.py; the lemmas that it
+-- takes over as they are stand in tools/steady_lemmas.txt.
+%s
+use Rattle.gen1_machine.proofs.Keeps.{choose-keeps, given-keeps, keeps_rules, on_action-keeps, on_active-keeps, on_conditions-keeps, on_field-keeps, on_member-keeps, stay-keeps, stop-keeps, then-keeps, told-keeps, Keeps, KeepsRuling, Spares, SparesAction}
+
+-- changes that leave rage, thrashing and the accuracy kept for them
+
+pub record LeavesKept (change : Active → Active) : Type 0 where
+  pub kept : (a : Active) → (change a).kept_accuracy ≡ a.kept_accuracy
+  pub conditions : (a : Active) → (change a).conditions ≡ a.conditions
+  pub place : (a : Active) → (change a).place ≡ a.place
+
+pub record Leaves (change : Conditions → Conditions) : Type 0 where
+  pub left : (c : Conditions) → keeps_accuracy (change c).underway ≡ keeps_accuracy c.underway
+
+-- a change that leaves a fallen member healthy
+pub record Softens (change : Member → Member) : Type 0 where
+  pub healthy : (m : Member) → (m.hp ≡ 0 → m.status ≡ Healthy) → (change m).hp ≡ 0 → (change m).status ≡ Healthy
+
+pub record LeavesAction (change : Action → Action) : Type 0 where
+  pub tested : (a : Action) → (change a).accuracy_tested ≡ a.accuracy_tested
+  pub going_on : (a : Action) → (change a).going_on ≡ a.going_on
+  pub letting_go : (a : Action) → (change a).letting_go ≡ a.letting_go
+
+%LEAVES
+
+softens-status : Softens (with_status Healthy)
+unfolding with_status
+softens-status = record { healthy = λ m h e. refl }
+
+pub softens-fallen : Softens fallen
+unfolding fallen
+softens-fallen = record { healthy = λ m h e. refl }
+
+softens-sleep : Softens with_sleep_one_less
+unfolding with_sleep_one_less
+softens-sleep = record { healthy = λ m h e. rw (h e) refl }
+
+softens-pp : (used : Used) → Softens (with_pp_spent used)
+unfolding with_pp_spent
+softens-pp used = record { healthy = λ m h. h }
+
+ruleset leaves_rules = (%RULES, softens-status, softens-fallen, softens-sleep, softens-pp)
+
+-- facts that outlive all this
+
+pub record Steady (P : Field → Action → Stream → Type 0) : Type 0 where
+  pub member : (s : Side) (change : Member → Member) → Softens change → Spares P (changed_member s change)
+  pub active : (s : Side) (change : Active → Active) → LeavesKept change → Spares P (changed_active s change)
+  pub conditions : (s : Side) (change : Conditions → Conditions) → Leaves change → Spares P (changed_conditions s change)
+  pub damage : (n : ℕ) → Spares P (with_last_damage n)
+  pub action : (change : Action → Action) → LeavesAction change → SparesAction P change
+
+-- and what else a fact may outlive
+
+pub record Hurts (P : Field → Action → Stream → Type 0) : Type 0 where
+  pub hurt : (s : Side) (change : Member → Member) → Spares P (changed_member s change)
+
+pub record Faults (P : Field → Action → Stream → Type 0) : Type 0 where
+  pub faulted : (n : ℕ) → Spares P (with_outcome (outcomes.Fault n))
+
+pub record Breaks (P : Field → Action → Stream → Type 0) (s : Side) : Type 0 where
+  pub broken : Spares P (changed_conditions s broken_off)
+
+pub record Own (P : Field → Action → Stream → Type 0) (s : Side) : Type 0 where
+  pub conditions : (change : Conditions → Conditions) → Spares P (changed_conditions s change)
+  pub kept : (byte : ℕ) → Spares P (changed_active s (with_kept_accuracy byte))
+
+pub record Acts (P : Field → Action → Stream → Type 0) : Type 0 where
+  pub action : (change : Action → Action) → SparesAction P change
+
+module _ {P : Field → Action → Stream → Type 0} (steady : Steady P) where
+  pub member-spared : (s : Side) (change : Member → Member) → Softens change → Spares P (changed_member s change)
+  member-spared = steady.member
+
+  pub active-spared : (s : Side) (change : Active → Active) → LeavesKept change → Spares P (changed_active s change)
+  active-spared = steady.active
+
+  pub conditions-spared : (s : Side) (change : Conditions → Conditions) → Leaves change → Spares P (changed_conditions s change)
+  conditions-spared = steady.conditions
+
+  pub damage-spared : (n : ℕ) → Spares P (with_last_damage n)
+  damage-spared = steady.damage
+
+  pub missed-spared : (missed : Bool) → SparesAction P (λ a. record a { missed = missed })
+  missed-spared missed = steady.action _ (record { tested = λ a. refl; going_on = λ a. refl; letting_go = λ a. refl })
+
+  ruleset steady_rules = (keeps_rules, leaves_rules, member-spared, active-spared, conditions-spared, damage-spared, missed-spared)
+
+'''
+
+STEADY_TAIL = '''  pub ruling-steady : (terms : Terms) → Hurts P → KeepsRuling P (ruling_of terms)
+  ruling-steady terms hurts = record { lulls = λ user. lulls_under-steady terms.rules.sleep_clause user hurts; freezes = λ user. freezes_under-steady terms.rules.freeze_clause user hurts }
+'''
+
+# changes of a member that is out, with their arguments, and changes of conditions
+LEFT_ACTIVES = ['with_types_of (foe : Active)', 'with_current (used : Used)', 'with_picked (used : Used)', 'at_new_stage (stat : Stat) (n : ℕ)',
+                'with_levelled_stats']
+LEFT_CONDITIONS = ['with_bide (turns : ℕ)', 'with_bide_storing (damage : ℕ)', 'without_bide', 'with_trapping (turns : ℕ)', 'with_trapping_one_less',
+                   'without_trapping', 'with_charging', 'without_charging', 'with_invulnerability', 'without_invulnerability', 'with_recharge',
+                   'without_recharge', 'with_flinch', 'without_flinch', 'with_confusion (turns : ℕ)', 'with_confusion_one_less', 'without_confusion',
+                   'with_mist', 'with_focus_energy', 'with_light_screen', 'with_reflect', 'with_substitute (hp : ℕ)', 'with_substitute_hurt (damage : ℕ)',
+                   'without_substitute', 'with_seed', 'without_seed', 'with_bad_poison', 'with_worse_poison', 'with_disabled (slot turns : ℕ)',
+                   'with_disable_one_less', 'without_disable', 'after_haze']
+
+
+def leaving(change, record, proof):
+    word, binders = (change.split(' ', 1) + [''])[:2]
+    names = ' '.join(name for group in re.findall(r'\(([^:]*) :', binders) for name in group.split())
+    whole = '(%s %s)' % (word, names) if names else word
+    kind = (binders + ' → ' if binders else '') + '%s %s' % (record, whole)
+    return ['pub %s-leaves : %s' % (word, kind), 'unfolding %s' % word, '%s-leaves%s = record { %s }' % (word, ' ' + names if names else '', proof), '']
+
+
+def steady():
+    by_hand, asked = {}, {}
+    with open(os.path.join(os.path.dirname(os.path.abspath(__file__)), 'steady_lemmas.txt'), encoding='utf-8') as file:
+        for block in file.read().strip('\n').split('\n\n'):
+            word = re.match(r'  pub (%s)-steady :' % WORD, block).group(1)
+            by_hand[word] = block.split('\n')
+            asked[word] = {name for name, kind in ASKED.items() if kind.split(' %')[0] in block.split('\n')[0]}
+    known, result, places, aliases, order = set(), [], {}, {}, list(ASKED)
+    for name in FILES:
+        words, named = imports_of(name)
+        aliases.update(named)
+        places.update({word: module for word, module in words.items() if word not in places})
+        for word, arguments, clauses in phases_of(name):
+            if word in COMBINATORS:
+                continue
+            known.add(word)
+            places[word] = 'Rattle.gen1_machine.specs.' + name
+            if word in by_hand:
+                result += by_hand[word]
+                continue
+            used = {w for _, body in clauses for w in re.findall(WORD, body) if w in known and w != word}
+            asked[word] = set().union(*[asked[w] for w in used]) if used else set()
+            names = names_for(arguments, clauses)
+            sides = [n for n, kind in zip(names, arguments) if kind == 'Side']
+            premises = [(n, ASKED[n] % sides[0] if '%' in ASKED[n] else ASKED[n]) for n in order if n in asked[word]]
+            result += lemma(word, arguments, clauses, 'steady', known, ['steady_rules'], 14, {}, premises)
+    leaves = []
+    for change in LEFT_ACTIVES:
+        leaves += leaving(change, 'LeavesKept', 'kept = λ a. refl; conditions = λ a. refl; place = λ a. refl')
+    for word, binder, cases in (('recomputed_at', '(n : ℕ) ', 'Attack Defense Speed Special Accuracy Evasion'), ('with_penalty_of', '', 'Healthy (Asleep_turns_marked) Poisoned Burned Frozen Paralysed')):
+        leaves += ['pub %s-leaves : (x : %s) %s→ LeavesKept (%s x%s)' % (word, 'Stat' if binder else 'Status', binder, word, ' n' if binder else ''), 'unfolding %s' % word]
+        leaves += ['%s-leaves %s%s = record { kept = λ a. refl; conditions = λ a. refl; place = λ a. refl }' % (word, case.replace('_', ' '), ' n' if binder else '') for case in cases.split()] + ['']
+    for change in LEFT_CONDITIONS:
+        leaves += leaving(change, 'Leaves', 'left = λ c. refl')
+    rules = ', '.join(line.split(' ')[1] for line in leaves if line.startswith('pub '))
+    words = vocabulary(places, aliases)
+    aliases['outcomes'] = 'Rattle.gen1_machine.specs.declared.terms.Outcome.TheVariants'
+    for word in ('Acts', 'Leaves', 'hurt', 'own', 'acts'):
+        words.pop(word, None)
+    body = STEADY_HEAD.replace('%LEAVES', '\n'.join(leaves).rstrip('\n')).replace('%RULES', rules) + '\n'.join(result) + '\n' + STEADY_TAIL
+    written('Steady', body, written_imports(body, words, aliases, {}))
+
+
 if __name__ == '__main__':
-    {'free': free, 'sound': sound}[sys.argv[1]]()
+    {'free': free, 'sound': sound, 'steady': steady}[sys.argv[1]]()

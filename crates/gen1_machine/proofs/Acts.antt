@@ -99,42 +99,42 @@ pp-tame Struggle = record { moves = λ m. record { count = refl; ids = λ i. ref
 
 -- phases that lead to one fact, or where they stop what is being done, to another
 
-abbrev IfStopped : Bool → Type 0 → Type 0 → Type 0
+abbrev pub IfStopped : Bool → Type 0 → Type 0 → Type 0
 IfStopped true Stopped Going = Stopped
 IfStopped false Stopped Going = Going
 
-either : {A B : Type 0} (b : Bool) → A → B → IfStopped b A B
+pub either : {A B : Type 0} (b : Bool) → A → B → IfStopped b A B
 either true x y = x
 either false x y = y
 
-record Passes (P Q R : Field → Action → Stream → Type 0) (f : Phase) : Type 0 where
+pub record Passes (P Q R : Field → Action → Stream → Type 0) (f : Phase) : Type 0 where
   pub passed : (p : Progress) → P p.field p.action p.stream
       → IfStopped (f p).stopped (R (f p).field (f p).action (f p).stream) (Q (f p).field (f p).action (f p).stream)
 
-abbrev After : (Field → Action → Stream → Type 0) → (Field → Action → Stream → Type 0) → Progress → Type 0
+abbrev pub After : (Field → Action → Stream → Type 0) → (Field → Action → Stream → Type 0) → Progress → Type 0
 After Q R x = IfStopped x.stopped (R x.field x.action x.stream) (Q x.field x.action x.stream)
 
 module _ {P Q R : Field → Action → Stream → Type 0} where
-  leads-passes : {f : Phase} → Leads P Q f → ((x : Field) (a : Action) (w : Stream) → Q x a w → R x a w) → Passes P Q R f
+  pub leads-passes : {f : Phase} → Leads P Q f → ((x : Field) (a : Action) (w : Stream) → Q x a w → R x a w) → Passes P Q R f
   leads-passes {f} k weaker = record { passed = λ p h. either (f p).stopped (weaker _ _ _ (k.led p h)) (k.led p h) }
 
-  passes-stop : ((x : Field) (a : Action) (w : Stream) → P x a w → R x a w) → Passes P Q R stop
+  pub passes-stop : ((x : Field) (a : Action) (w : Stream) → P x a w → R x a w) → Passes P Q R stop
   unfolding stop
   passes-stop weaker = record { passed = λ p h. weaker _ _ _ h }
 
-  passes-choose_sees : (b : Bool) {f g : Phase} → (b ≡ true → Passes P Q R f) → (b ≡ false → Passes P Q R g) → Passes P Q R (choose (λ p. b) f g)
+  pub passes-choose_sees : (b : Bool) {f g : Phase} → (b ≡ true → Passes P Q R f) → (b ≡ false → Passes P Q R g) → Passes P Q R (choose (λ p. b) f g)
   unfolding choose
   passes-choose_sees true k l = record { passed = λ p h. (k refl).passed p h }
   passes-choose_sees false k l = record { passed = λ p h. (l refl).passed p h }
 
-  passes-choose : (test : Progress → Bool) {f g : Phase} → Passes P Q R f → Passes P Q R g → Passes P Q R (choose test f g)
+  pub passes-choose : (test : Progress → Bool) {f g : Phase} → Passes P Q R f → Passes P Q R g → Passes P Q R (choose test f g)
   unfolding choose
   passes-choose test {f} {g} k l = record {
     passed = λ p h. elim (test p) as (λ t. After Q R (elim t as (λ _. Progress) [ true ↦ f p | false ↦ g p ])) [ true ↦ k.passed p h | false ↦ l.passed p h ];
   }
 
 module _ {P Q R S : Field → Action → Stream → Type 0} where
-  passes-then : {f g : Phase} → Passes P Q R f → Passes Q S R g → Passes P S R (f ▸ g)
+  pub passes-then : {f g : Phase} → Passes P Q R f → Passes Q S R g → Passes P S R (f ▸ g)
   unfolding ◌▸◌ unless_stopped
   passes-then {f} {g} k l = record { passed = λ p h. by (f p) (f p).stopped refl (k.passed p h) }
     where
@@ -145,7 +145,7 @@ module _ {P Q R S : Field → Action → Stream → Type 0} where
       by q false e h = subst (λ x. After S R x) (sym (ap (λ (b : Bool). elim b as (λ _. Progress) [ true ↦ q | false ↦ g q ]) e))
           (l.passed q (subst (λ b. IfStopped b (R q.field q.action q.stream) (Q q.field q.action q.stream)) e h))
 
-passes-leads : {P R : Field → Action → Stream → Type 0} {f : Phase} → Passes P R R f → Leads P R f
+pub passes-leads : {P R : Field → Action → Stream → Type 0} {f : Phase} → Passes P R R f → Leads P R f
 passes-leads {P} {R} {f} k = record { led = λ p h. by (f p).stopped (k.passed p h) }
   where
     by : {A : Type 0} (b : Bool) → IfStopped b A A → A
@@ -237,10 +237,10 @@ module _ (terms : Terms) (plan : Side → Plan) (s : Side) (move : Move) (is : I
 
 -- where a move is taken up that was planned
 
-abbrev Quiet : Terms → (Side → Plan) → Field → Action → Stream → Type 0
+abbrev pub Quiet : Terms → (Side → Plan) → Field → Action → Stream → Type 0
 Quiet terms plan f a w = Within terms plan f a w × (a.letting_go ≡ false)
 
-quiet-sound : (terms : Terms) (plan : Side → Plan) → Sound terms (Quiet terms plan)
+pub quiet-sound : (terms : Terms) (plan : Side → Plan) → Sound terms (Quiet terms plan)
 quiet-sound terms plan =
     let sound = within-sound terms plan in
     record {
@@ -255,7 +255,7 @@ quiet-sound terms plan =
       action = λ change tame. record { spared = λ f a w h. ((sound.action change tame).spared f a w h.0, tame.letting_go a ∙ h.1) };
     }
 
-no-bide : (o : Option Storing) → (is_some o ≡ true → false ≡ true) → o ≡ None
+pub no-bide : (o : Option Storing) → (is_some o ≡ true → false ≡ true) → o ≡ None
 no-bide None k = refl
 no-bide (Some b) k = absurd (false≢true (k refl))
 
@@ -322,7 +322,7 @@ module _ (terms : Terms) (plan : Side → Plan) (s : Side) (move : Move) (is : I
 -- the whole
 
 module _ (terms : Terms) (plan : Side → Plan) (s : Side) where
-  begin-quiet : Leads (Within terms plan) (Quiet terms plan) (begin s)
+  pub begin-quiet : Leads (Within terms plan) (Quiet terms plan) (begin s)
   unfolding begin on_action
   begin-quiet = record { led = λ p h. (record { field = h.field; tested = tt; stream = h.stream; holds = h.holds }, refl) }
 

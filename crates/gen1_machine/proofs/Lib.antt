@@ -44,6 +44,16 @@ pub mod Acts
 pub mod Fitting
 pub mod ValidTurns
 pub mod ValidSteps
+pub mod Steady
+pub mod TiedTurns
+pub mod RequestsStand
+pub mod FallenHealthy
+pub mod FallenActs
+pub mod FallenFaint
+pub mod KeptAccuracy
+pub mod KeptActs
+pub mod KeptTurns
+pub mod ValidStates
 pub mod Fits
 -- Worked examples of single rules, computed.
 pub mod Computing

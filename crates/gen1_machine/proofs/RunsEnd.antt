@@ -74,7 +74,7 @@ left-most false limit f = omega arith
 
 -- what an update makes before it is closed
 
-record Fewer (less n turn : ℕ) (f : Field) : Type 0 where
+pub record Fewer (less n turn : ℕ) (f : Field) : Type 0 where
   pub turned : f.turn ≡ turn
   pub fewer : less + (bench f.one + bench f.two) ≤ n
 
@@ -141,7 +141,7 @@ two_replaces s y fell b =
     (omega (arith, lives-behind two y b fell))
 
 -- by what was asked for
-update-fewer : (s : State) (x y : Choice) (q r : Request) → Waits q r s.terms.limit s.field → is_over s.field.outcome ≡ false
+pub update-fewer : (s : State) (x y : Choice) (q r : Request) → Waits q r s.terms.limit s.field → is_over s.field.outcome ≡ false
     → is_among x (offered_for q One s.field) ≡ true → is_among y (offered_for r Two s.field) ≡ true
     → Fewer (1 - due q r) (bench s.field.one + bench s.field.two) s.field.turn (update_for (ruling_of s.terms) q r x y (opened s)).field
 unfolding update_for
@@ -215,7 +215,7 @@ fault-left r k limit n p e =
     } in
     (then-leads none (keeps-leads (note-keeps _)) (λ f x w h. h)).led p e
 
-faints-goes : (s : Side) → Goes (faint_if_fallen s)
+pub faints-goes : (s : Side) → Goes (faint_if_fallen s)
 unfolding faint_if_fallen
 faints-goes s = choose-goes _ (told-goes _ _) stay-goes
 

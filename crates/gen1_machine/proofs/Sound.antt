@@ -354,7 +354,7 @@ with_plan-is Two x plan = refl
 
 -- the move that was planned becomes the current one
 
-untied : (e : Effect) (u : Underway) → IsUnderway effects.DamageOnly u → IsUnderway e u
+pub untied : (e : Effect) (u : Underway) → IsUnderway effects.DamageOnly u → IsUnderway e u
 untied e u h = record {
   bide = h.bide;
   thrash = h.thrash;

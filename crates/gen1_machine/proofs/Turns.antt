@@ -24,7 +24,7 @@ use Rattle.gen1_machine.proofs.Bench.{alike-free, alike-most, bench, between-fre
 -- parts of a turn in which nobody is sent out, and what comes after them
 
 module _ {P : Field → Action → Stream → Type 0} (free : Free P) (terms : Terms) where
-  part-acts : (s : Side) (pick : Pick) → Keeps P (do_part (ruling_of terms) (Acts s pick))
+  pub part-acts : (s : Side) (pick : Pick) → Keeps P (do_part (ruling_of terms) (Acts s pick))
   unfolding do_part
   part-acts s pick = then-keeps (begin-free free s) (choose-keeps _ stay-keeps (act-free free (ruling_of terms) s pick (ruling-free free terms)))
 

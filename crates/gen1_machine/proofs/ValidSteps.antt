@@ -163,10 +163,10 @@ two_replaces-valid terms y s l h = (send_out-leads terms (λ u. Any) Two y refl)
 
 -- an update
 
-abbrev Stands : Terms → Field → Type 0
+abbrev pub Stands : Terms → Field → Type 0
 Stands terms f = IsUnstarted terms f ⊎ IsField terms f
 
-opened-sure : (s : State) → IsStream (Link s.seed) → IsField s.terms s.field → Sure s.terms s.field (opened s).action (Link s.seed)
+pub opened-sure : (s : State) → IsStream (Link s.seed) → IsField s.terms s.field → Sure s.terms s.field (opened s).action (Link s.seed)
 opened-sure s seed h = record { field = h; tested = tt; stream = seed; holds = λ u. tt }
 
 started-update : (s : State) (x y : Choice) (q r : Request) → IsStream (Link s.seed) → IsField s.terms s.field → Waits q r s.terms.limit s.field → is_over s.field.outcome ≡ false
@@ -196,7 +196,7 @@ started-update s (choices.Switch k) y requests.Pass r seed h w o a b = absurd (o
 started-update s x (choices.Move k) q requests.Pass seed h w o a b = absurd (offered-passes (choices.Move k) b)
 started-update s x (choices.Switch k) q requests.Pass seed h w o a b = absurd (offered-passes (choices.Switch k) b)
 
-update-valid : (s : State) (x y : Choice) → IsStream (Link s.seed) → Stands s.terms s.field → Ready s.terms.limit s.field → is_over s.field.outcome ≡ false
+pub update-valid : (s : State) (x y : Choice) → IsStream (Link s.seed) → Stands s.terms s.field → Ready s.terms.limit s.field → is_over s.field.outcome ≡ false
     → is_among x (offered_for s.field.request_one One s.field) ≡ true → is_among y (offered_for s.field.request_two Two s.field) ≡ true
     → IsField s.terms (update (ruling_of s.terms) x y (opened s)).field
 unfolding update update_for

@@ -40,11 +40,11 @@ use Rattle.gen1_machine.proofs.Fitting.{free-plain, Fits}
 abbrev pub Sure : Terms → Field → Action → Stream → Type 0
 Sure terms = Within terms (λ s. Any)
 
-sure : {terms : Terms} {plan : Side → Plan} (f : Field) (a : Action) (w : Stream) → Within terms plan f a w → Sure terms f a w
+pub sure : {terms : Terms} {plan : Side → Plan} (f : Field) (a : Action) (w : Stream) → Within terms plan f a w → Sure terms f a w
 sure f a w h = record { field = h.field; tested = h.tested; stream = h.stream; holds = λ s. tt }
 
 -- a pick fits what is planned
-abbrev FitsPick : Pick → Plan → Type 0
+abbrev pub FitsPick : Pick → Plan → Type 0
 FitsPick (Use used) x = (e : Effect) × (x ≡ Plans used e)
 FitsPick _ x = Unit {0}
 
@@ -87,20 +87,20 @@ module _ (terms : Terms) (plan : Side → Plan) (s : Side) where
             (same-plan (plan s) (member_in s f).moves (active_in s f) used (h.holds s)) h.holds;
       }
 
-  set_picked-keeps : (pick : Pick) → FitsPick pick (plan s) → Keeps (Within terms plan) (set_picked s pick)
+  pub set_picked-keeps : (pick : Pick) → FitsPick pick (plan s) → Keeps (Within terms plan) (set_picked s pick)
   unfolding set_picked given on_active on_field
   set_picked-keeps pick fits = record { kept = λ p h. picks _ p.field p.action p.stream (picked-valid plan s pick p.field p.action p.stream fits h) h }
 
-  act_part : (pick : Pick) → FitsPick pick (plan s) → Leads (Within terms plan) (Within terms (with_plan s Any plan)) (do_part (ruling_of terms) (Acts s pick))
+  pub act_part : (pick : Pick) → FitsPick pick (plan s) → Leads (Within terms plan) (Within terms (with_plan s Any plan)) (do_part (ruling_of terms) (Acts s pick))
   unfolding do_part
   act_part pick fits = then-leads (keeps-leads (begin-keeps terms plan s))
       (choose-leads _ (stay-leads (λ f a w h. replanned s Any f a w tt h)) (act-fits terms plan s pick fits)) (λ f a w h. replanned s Any f a w tt h)
 
-  suffers_part : Keeps (Within terms plan) (do_part (ruling_of terms) (Suffers s))
+  pub suffers_part : Keeps (Within terms plan) (do_part (ruling_of terms) (Suffers s))
   unfolding do_part
   suffers_part = residual-sound (within-sound terms plan) s
 
-  end_spent : Keeps (Within terms plan) (end_spent_trapping s)
+  pub end_spent : Keeps (Within terms plan) (end_spent_trapping s)
   unfolding end_spent_trapping
   end_spent = choose-keeps _ (on_conditions-keeps s _ (conditions-spared (within-sound terms plan) s _ without_trapping-tame)) stay-keeps
 
@@ -186,13 +186,13 @@ pub room-free : (n : ℕ) → FreeParty (Room n)
 room-free n = record { member = λ t m h. length-set t.members (t.active.place - 1) m ∙ h; active = λ t a e h. h }
 
 -- beside the number of members of each party
-abbrev Roomy : Terms → (Side → Plan) → ℕ → ℕ → ℕ → Field → Action → Stream → Type 0
+abbrev pub Roomy : Terms → (Side → Plan) → ℕ → ℕ → ℕ → Field → Action → Stream → Type 0
 Roomy terms plan one two turn f a w = Within terms plan f a w × Between (Room one) (Room two) turn f a w
 
-both-keep : {P Q : Field → Action → Stream → Type 0} {f : Phase} → Keeps P f → Keeps Q f → Keeps (λ x a w. P x a w × Q x a w) f
+pub both-keep : {P Q : Field → Action → Stream → Type 0} {f : Phase} → Keeps P f → Keeps Q f → Keeps (λ x a w. P x a w × Q x a w) f
 both-keep k l = record { kept = λ p h. (k.kept p h.0, l.kept p h.1) }
 
-both-lead : {P Q R S : Field → Action → Stream → Type 0} {f : Phase} → Leads P Q f → Leads R S f → Leads (λ x a w. P x a w × R x a w) (λ x a w. Q x a w × S x a w) f
+pub both-lead : {P Q R S : Field → Action → Stream → Type 0} {f : Phase} → Leads P Q f → Leads R S f → Leads (λ x a w. P x a w × R x a w) (λ x a w. Q x a w × S x a w) f
 both-lead k l = record { led = λ p h. (k.led p h.0, l.led p h.1) }
 
 pub send_out-leads : (terms : Terms) (plan : Side → Plan) (s : Side) (place : ℕ) → plan s ≡ Any
@@ -215,7 +215,7 @@ send_out-leads terms plan s place any = then-leads
 
 -- a place of a party stays one, since no change of who is out touches its members
 
-abbrev InRange : Side → ℕ → Field → Type 0
+abbrev pub InRange : Side → ℕ → Field → Type 0
 InRange s place f = IsBetween 1 (length (party s f).members) place
 
 active-members : (s t : Side) (change : Active → Active) (f : Field) → (party t (changed_active s change f)).members ≡ (party t f).members
@@ -225,10 +225,10 @@ active-members One Two change f = refl
 active-members Two One change f = refl
 active-members Two Two change f = refl
 
-range-kept : (s t : Side) (change : Active → Active) (place : ℕ) (f : Field) → InRange t place f → InRange t place (changed_active s change f)
+pub range-kept : (s t : Side) (change : Active → Active) (place : ℕ) (f : Field) → InRange t place f → InRange t place (changed_active s change f)
 range-kept s t change place f h = rw (active-members s t change f) h
 
-send_part : (terms : Terms) (plan : Side → Plan) (s : Side) (place : ℕ) → plan s ≡ Any
+pub send_part : (terms : Terms) (plan : Side → Plan) (s : Side) (place : ℕ) → plan s ≡ Any
     → Leads (λ f a w. Within terms plan f a w × InRange s place f) (Within terms plan) (do_part (ruling_of terms) (Sends s place))
 unfolding do_part begin on_action
 send_part terms plan s place any =
@@ -246,7 +246,7 @@ one_picks-leads terms plan s pick place fits any = then-leads {Q = λ f a w. Wit
 
 -- both switch
 
-sends-room : (terms : Terms) (one two turn place : ℕ) → Leads (Between (Room one) (Room two) turn) (Between (Room one) (Room two) turn) (do_part (ruling_of terms) (Sends One place))
+pub sends-room : (terms : Terms) (one two turn place : ℕ) → Leads (Between (Room one) (Room two) turn) (Between (Room one) (Room two) turn) (do_part (ruling_of terms) (Sends One place))
 unfolding do_part
 sends-room terms one two turn place = then-leads (keeps-leads (begin-free (between-free turn (room-free one) (room-free two)) One))
     (send_one turn place (room-free two) (λ t a e h. h)) (λ f a w h. h)
@@ -268,20 +268,20 @@ both_switch-leads terms plan one two turn x y any_one any_two l m =
 
 -- what is planned by choices
 
-abbrev PlanOf : Choice → Plan → Type 0
+abbrev pub PlanOf : Choice → Plan → Type 0
 PlanOf (choices.Move (suc k)) x = (e : Effect) × (x ≡ Plans (Slot (suc k)) e)
 PlanOf _ x = x ≡ Any
 
-abbrev Comes : Choice → Side → Field → Type 0
+abbrev pub Comes : Choice → Side → Field → Type 0
 Comes (choices.Switch place) s f = InRange s place f
 Comes _ s f = Unit {0}
 
-comes-kept : (c : Choice) (s t : Side) (change : Active → Active) (f : Field) → Comes c t f → Comes c t (changed_active s change f)
+pub comes-kept : (c : Choice) (s t : Side) (change : Active → Active) (f : Field) → Comes c t f → Comes c t (changed_active s change f)
 comes-kept (choices.Switch place) s t change f h = range-kept s t change place f h
 comes-kept choices.Pass s t change f h = h
 comes-kept (choices.Move k) s t change f h = h
 
-record Picked (terms : Terms) (plan : Side → Plan) (s : Side) (pick : Pick) (f : Field) (a : Action) (w : Stream) : Type 0 where
+pub record Picked (terms : Terms) (plan : Side → Plan) (s : Side) (pick : Pick) (f : Field) (a : Action) (w : Stream) : Type 0 where
   pub next : Side → Plan
   pub within : Within terms next f a w
   pub fits : FitsPick pick (next s)
@@ -295,7 +295,7 @@ with_plan-this : (s : Side) (x : Plan) (plan : Side → Plan) → with_plan s x 
 with_plan-this One x plan = refl
 with_plan-this Two x plan = refl
 
-pick-plan : {terms : Terms} (plan : Side → Plan) (s : Side) (j : ℕ) (f : Field) (a : Action) (w : Stream) → PlanOf (choices.Move j) (plan s) → Within terms plan f a w
+pub pick-plan : {terms : Terms} (plan : Side → Plan) (s : Side) (j : ℕ) (f : Field) (a : Action) (w : Stream) → PlanOf (choices.Move j) (plan s) → Within terms plan f a w
     → Picked terms plan s (pick_in j s f) f a w
 pick-plan plan s (suc k) f a w fits h = record { next = plan; within = h; fits = fits; rest = refl }
 pick-plan {terms} plan s zero f a w fits h = by (must_continue (underway_in s f)) (sleeps_or_freezes (status_in s f)) (is_some (underway_in (other s) f).trapping) refl
@@ -368,40 +368,47 @@ turn-keeps terms plan x y one two =
 
 -- from a valid field
 
-choice_plan : Choice → Side → Field → Plan
+pub choice_plan : Choice → Side → Field → Plan
 choice_plan (choices.Move (suc k)) s f = Plans (Slot (suc k)) (effect_of (Slot (suc k)) (member_in s f).moves)
 choice_plan _ s f = Any
 
-both_plan : Choice → Choice → Field → Side → Plan
+pub both_plan : Choice → Choice → Field → Side → Plan
 both_plan x y f One = choice_plan x One f
 both_plan x y f Two = choice_plan y Two f
 
-plan-of : (c : Choice) (s : Side) (f : Field) → PlanOf c (choice_plan c s f)
+pub plan-of : (c : Choice) (s : Side) (f : Field) → PlanOf c (choice_plan c s f)
 unfolding choice_plan
 plan-of (choices.Move (suc k)) s f = (effect_of (Slot (suc k)) (member_in s f).moves, refl)
 plan-of (choices.Move zero) s f = refl
 plan-of (choices.Switch place) s f = refl
 plan-of choices.Pass s f = refl
 
-fits-plan : (c : Choice) (s : Side) (f : Field) → Fits c s f → HoldsPlan (choice_plan c s f) (member_in s f).moves (active_in s f)
+pub fits-plan : (c : Choice) (s : Side) (f : Field) → Fits c s f → HoldsPlan (choice_plan c s f) (member_in s f).moves (active_in s f)
 unfolding choice_plan
 fits-plan (choices.Move (suc k)) s f h = ((omega arith, h.0), refl, h.1)
 fits-plan (choices.Move zero) s f h = tt
 fits-plan (choices.Switch place) s f h = tt
 fits-plan choices.Pass s f h = tt
 
-fits-comes : (c : Choice) (s : Side) (f : Field) → Fits c s f → Comes c s f
+pub fits-comes : (c : Choice) (s : Side) (f : Field) → Fits c s f → Comes c s f
 fits-comes (choices.Move k) s f h = tt
 fits-comes (choices.Switch place) s f h = h
 fits-comes choices.Pass s f h = tt
 
+pub both-plan_of : (x y : Choice) (f : Field) → PlanOf x (both_plan x y f One) × PlanOf y (both_plan x y f Two)
+unfolding both_plan
+both-plan_of x y f = (plan-of x One f, plan-of y Two f)
+
+pub both-within : {terms : Terms} (x y : Choice) (f : Field) (a : Action) (w : Stream) → Sure terms f a w → Fits x One f → Fits y Two f → Within terms (both_plan x y f) f a w
+unfolding both_plan
+both-within x y f a w h one two = record { field = h.field; tested = h.tested; stream = h.stream; holds = by }
+  where
+    by : (s : Side) → HoldsPlan (both_plan x y f s) (member_in s f).moves (active_in s f)
+    by One = fits-plan x One f one
+    by Two = fits-plan y Two f two
+
 pub turn-valid : (terms : Terms) (x y : Choice) (p : Progress) → Sure terms p.field p.action p.stream → Fits x One p.field → Fits y Two p.field
     → let q : Progress = turn (ruling_of terms) x y p in Sure terms q.field q.action q.stream
-unfolding both_plan
 turn-valid terms x y p h one two =
-    (turn-keeps terms (both_plan x y p.field) x y (plan-of x One p.field) (plan-of y Two p.field)).led p
-    (record { field = h.field; tested = h.tested; stream = h.stream; holds = by }, fits-comes x One p.field one, fits-comes y Two p.field two)
-  where
-    by : (s : Side) → HoldsPlan (both_plan x y p.field s) (member_in s p.field).moves (active_in s p.field)
-    by One = fits-plan x One p.field one
-    by Two = fits-plan y Two p.field two
+    (turn-keeps terms (both_plan x y p.field) x y (both-plan_of x y p.field).0 (both-plan_of x y p.field).1).led p
+    (both-within x y p.field p.action p.stream h one two, fits-comes x One p.field one, fits-comes y Two p.field two)

@@ -87,6 +87,10 @@ abbrev pub FieldsStayValid : Type 0
 FieldsStayValid = (s : State) (pairs : List (Choice × Choice))
     → IsState s → IsUnstarted s.terms (run s pairs).state.field ⊎ IsField s.terms (run s pairs).state.field
 
+-- no update leaves the valid states: after any run from one the state is one
+abbrev pub StatesStayValid : Type 0
+StatesStayValid = (s : State) (pairs : List (Choice × Choice)) → IsState s → IsState (run s pairs).state
+
 -- every number of a valid state fits its bytes
 abbrev pub StatesFit : Type 0
 StatesFit = (s : State) → IsState s → All (λ b. b < 256) (bytes_of s)

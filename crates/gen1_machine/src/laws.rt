@@ -1,7 +1,7 @@
 //! Laws of the battle machine (docs/PROOFS.md, "Laws"). Each function does nothing: its contract
 //! is the law.
 ghost use Rattle.gen1_machine.specs.Bounds.{ActIsBounded, EndIsBounded, OrderIsBounded, ResidualIsBounded, StepIsBounded, SwitchIsBounded, TurnIsBounded, UpdateIsBounded};
-ghost use Rattle.gen1_machine.specs.Laws.{OverStaysOver, RefusalChangesNothing, TermsStay, RunsAppend, SameAsBeforeRules, SameAsFixedLimit, RoomRuns, FirstIsLeast, FirstExists, FirstStatesAreValid, RunsEnd, FieldsStayValid, StatesFit};
+ghost use Rattle.gen1_machine.specs.Laws.{OverStaysOver, RefusalChangesNothing, TermsStay, RunsAppend, SameAsBeforeRules, SameAsFixedLimit, RoomRuns, FirstIsLeast, FirstExists, FirstStatesAreValid, RunsEnd, FieldsStayValid, StatesFit, StatesStayValid};
 ghost use Rattle.gen1_machine.specs.Spectator.{TeamsAreUnhurt, WatcherKnows};
 
 /// Once a battle is over, every pair of choices is refused and nothing changes.
@@ -62,6 +62,11 @@ pub fn runs_end()
 /// No run from a valid state leaves a number out of its range, or anything underway that the current move does not explain.
 pub fn fields_stay_valid()
     ensures { FieldsStayValid }
+{}
+
+/// From a valid state every run leads to a valid one.
+pub fn states_stay_valid()
+    ensures { StatesStayValid }
 {}
 
 /// Every number of a valid state fits its bytes (docs/LAYOUT.md).
@@ -135,6 +140,7 @@ fn each_law_can_be_called() {
     first_states_are_valid();
     runs_end();
     fields_stay_valid();
+    states_stay_valid();
     states_fit();
     act_is_bounded();
     switch_is_bounded();

@@ -1,0 +1,270 @@
+-- An update leaves the fallen healthy, and asks for what fits: all of a valid state but the accuracy that is kept.
+use Rattle.std.proofs.Common.{Bool, List, [], ap, arith, false, get_or, get_or-set_other, inl, inr, not, refl, set, subst, suc, sym, true, zero, ℕ, ◌-◌, ◌∙◌, ◌∷◌, ◌≡◌, ◌≢◌, ◌≤◌, ◌⊎◌}
+use Rattle.std.proofs.lemmas.Bool.{false≢true}
+use Rattle.std.proofs.lemmas.Bool.Decides.{eqb_tells}
+use Rattle.gen1_rolls.specs.Streams.{IsStream, Link, Stream}
+use Rattle.gen1_stats.specs.Members.{is_living, nobody, Member}
+use Rattle.gen1_machine.specs.declared.choice.Choice.{Choice}
+use Rattle.gen1_machine.specs.declared.choice.Choice.TheVariants as choices
+use Rattle.gen1_machine.specs.declared.side.Side.{Side}
+use Rattle.gen1_machine.specs.declared.side.Side.TheVariants.{One, Two}
+use Rattle.gen1_machine.specs.declared.terms.Outcome.{Outcome}
+use Rattle.gen1_machine.specs.declared.terms.Outcome.TheVariants as outcomes
+use Rattle.gen1_machine.specs.declared.event.Event.TheVariants as events
+use Rattle.gen1_machine.specs.declared.terms.Request.{Request}
+use Rattle.gen1_machine.specs.declared.terms.Request.TheVariants as requests
+use Rattle.gen1_machine.specs.State.{changed_active, changed_conditions, changed_member, fallen, is_over, member_at, with_last_damage, with_member, with_outcome, with_party, with_requests, Field, Party, State, Terms}
+use Rattle.gen1_machine.specs.Progress.{given, note, on_active, on_conditions, on_field, stay, told, unless_stopped, ◌▸◌, Action, Progress}
+use Rattle.gen1_machine.specs.Ruling.{ruling_of}
+use Rattle.gen1_machine.specs.SwitchingIn.{replace, send_if_chosen, send_out, start, with_sent_out}
+use Rattle.gen1_machine.specs.Falls.{ask_nothing, close, faint_if_fallen, faint_in_order, settle, the_fallen_faint}
+use Rattle.gen1_machine.specs.OfferedChoices.{offered_for}
+use Rattle.gen1_machine.specs.Step.{close_update, is_among, opened, update, update_for}
+use Rattle.gen1_machine.specs.Valid.{FallenAreHealthy, IsField, IsTerms, IsUnstarted, StandsAs}
+use Rattle.gen1_machine.proofs.Keeps.{stay-keeps, then-keeps, Keeps}
+use Rattle.gen1_machine.proofs.Leads.{then-goes, Leads}
+use Rattle.gen1_machine.proofs.Free.{Free}
+use Rattle.gen1_machine.proofs.Turns.{sent-place, the_fallen_faint-free}
+use Rattle.gen1_machine.proofs.Settled.{settle-settles, Done, Due, Next, Settled}
+use Rattle.gen1_machine.proofs.RunsEnd.{faints-goes, the_fallen_faint-goes, update-fewer, Ready, Waits}
+use Rattle.gen1_machine.proofs.Fitting.{offered-fits}
+use Rattle.gen1_machine.proofs.TiedTurns.{choose-cases, turn-tied}
+use Rattle.gen1_machine.proofs.RequestsStand.{first-turn, lives-any, nobody-faints, settled-stands, settled-turn}
+use Rattle.gen1_machine.proofs.FallenHealthy.{soft-all, soft-at, sturdy-tired, whole-soft, AllSoft, Ended, Falling, OthersSoft, Soft, Sturdy, Tired, stands-soft}
+use Rattle.gen1_machine.proofs.FallenActs.{fallen-tied, send_out-sturdy}
+use Rattle.gen1_machine.proofs.ValidSteps.{opened-sure}
+
+-- the fallen faint
+
+same-or-not : (i j : ℕ) → (i ≡ j) ⊎ (i ≢ j)
+same-or-not i j = elim (eqb_tells i j) [ inl e ↦ inl e.1 | inr e ↦ inr e.1 ]
+
+set-same : (members : List Member) (i : ℕ) (m : Member) → Soft m → Soft (get_or (set members i m) i nobody)
+set-same [] i m h = λ e. refl
+set-same (x ∷ members) zero m h = h
+set-same (x ∷ members) (suc i) m h = set-same members i m h
+
+fallen-soft : (t : Party) → OthersSoft t → AllSoft (with_member t.active.place (fallen (member_at t.active.place t)) t)
+unfolding fallen
+fallen-soft t h i = by (same-or-not i (t.active.place - 1))
+  where
+    m : Member
+    m = fallen (member_at t.active.place t)
+
+    by : (i ≡ (t.active.place - 1)) ⊎ (i ≢ (t.active.place - 1)) → Soft (get_or (set t.members (t.active.place - 1) m) i nobody)
+    by (inl e) = rw e (set-same t.members (t.active.place - 1) m (λ none. refl))
+    by (inr differs) = rw (get_or-set_other t.members (t.active.place - 1) i m nobody differs) (h i differs)
+
+-- one side after the other
+
+abbrev Facts : (Party → Type 0) → (Party → Type 0) → Field → Action → Stream → Type 0
+Facts A B f a w = (f.outcome ≡ outcomes.Ongoing) × A f.one × B f.two
+
+faint-one : (B : Party → Type 0) → Leads (Facts OthersSoft B) (Facts AllSoft B) (faint_if_fallen One)
+unfolding faint_if_fallen told changed_member stay
+faint-one B = choose-cases _ _ _ (λ p e h. (h.0, fallen-soft p.field.one h.1, h.2))
+    (λ p e h. (h.0, whole-soft p.field.one (stands-soft p.field.one e) h.1, h.2))
+
+faint-two : (A : Party → Type 0) → Leads (Facts A OthersSoft) (Facts A AllSoft) (faint_if_fallen Two)
+unfolding faint_if_fallen told changed_member stay
+faint-two A = choose-cases _ _ _ (λ p e h. (h.0, h.1, fallen-soft p.field.two h.2))
+    (λ p e h. (h.0, h.1, whole-soft p.field.two (stands-soft p.field.two e) h.2))
+
+the_fallen-soft : (p : Progress) → p.stopped ≡ false → Falling p.field p.action p.stream → let q : Progress = the_fallen_faint p in Sturdy q.field q.action q.stream
+unfolding the_fallen_faint faint_in_order given
+the_fallen-soft p going h = by p.action.side
+  where
+    by : (s : Side) → let q : Progress = faint_in_order s p in Sturdy q.field q.action q.stream
+    by One = subst (λ q. Sturdy q.field q.action q.stream) (sym (then-goes (faint_if_fallen Two) (faint_if_fallen One) p ((faints-goes Two).goes p going)))
+        ((faint-one AllSoft).led _ ((faint-two OthersSoft).led p h))
+    by Two = subst (λ q. Sturdy q.field q.action q.stream) (sym (then-goes (faint_if_fallen One) (faint_if_fallen Two) p ((faints-goes One).goes p going)))
+        ((faint-two AllSoft).led _ ((faint-one OthersSoft).led p h))
+
+-- what an update leaves
+
+pub record Standing (terms : Terms) (f : Field) : Type 0 where
+  pub turn : 1 ≤ f.turn
+  pub fallen_one : FallenAreHealthy f.one.members
+  pub fallen_two : FallenAreHealthy f.two.members
+  pub requests : StandsAs f.outcome terms f
+
+settled-soft : (limit : ℕ) (f g : Field) → AllSoft f.one × AllSoft f.two → Settled limit f g → AllSoft g.one × AllSoft g.two
+settled-soft limit f g h (Done o d e) = rw e h
+settled-soft limit f g h (Due undecided a b x y some e) = rw e h
+settled-soft limit f g h (Next undecided none e) = rw e h
+
+settled-standing : (terms : Terms) (f g : Field) (a : Action) (w : Stream) → Sturdy f a w → f.turn ≤ terms.limit → 1 ≤ g.turn → Settled terms.limit f g → Standing terms g
+settled-standing terms f g a w h l turn settled =
+    let soft = settled-soft terms.limit f g (h.1, h.2) settled in
+    record {
+      turn = turn;
+      fallen_one = soft-all g.one.members soft.0;
+      fallen_two = soft-all g.two.members soft.1;
+      requests = settled-stands terms f g l h.0 settled;
+    }
+
+faulted-standing : (terms : Terms) (n : ℕ) (p : Progress) → p.stopped ≡ false → p.field.outcome ≡ outcomes.Fault n → Tired p.field p.action p.stream → 1 ≤ p.field.turn
+    → Standing terms (close (ruling_of terms) (outcomes.Fault n) p).field
+unfolding close ask_nothing on_field with_requests note ◌▸◌ unless_stopped
+faulted-standing terms n p going e h turn = by p.stopped
+  where
+    g : Field
+    g = record p.field { request_one = requests.Pass; request_two = requests.Pass }
+
+    soft : AllSoft p.field.one × AllSoft p.field.two
+    soft = subst (λ o. Ended o p.field) e h
+
+    all : Standing terms g
+    all = record {
+      turn = turn;
+      fallen_one = soft-all p.field.one.members soft.0;
+      fallen_two = soft-all p.field.two.members soft.1;
+      requests = rw e (record { one = refl; two = refl });
+    }
+
+    by : (b : Bool) → Standing terms (elim b as (λ _. Progress) [ true ↦ record p { field = g } | false ↦ note (λ f. events.Fault n) (record p { field = g }) ]).field
+    by true = all
+    by false = all
+
+turn-free : (n : ℕ) → Free (λ f a w. f.turn ≡ n)
+unfolding changed_member changed_active with_last_damage with_outcome
+turn-free n = record {
+  member = λ s change. record { spared = λ f a w h. turn-stays s _ f ∙ h };
+  active = λ s change leaves. record { spared = λ f a w h. turn-stays s _ f ∙ h };
+  damage = λ n. record { spared = λ f a w h. h };
+  outcome = λ n. record { spared = λ f a w h. h };
+  action = λ change. record { spared = λ f a w h. h };
+}
+  where
+    turn-stays : (s : Side) (t : Party) (f : Field) → (with_party s t f).turn ≡ f.turn
+    turn-stays One t f = refl
+    turn-stays Two t f = refl
+
+abbrev pub Begun : Terms → Field → Type 0
+Begun terms f = (1 ≤ terms.limit) × (f.turn ≡ 0) × (is_living (member_at f.one.active.place f.one) ≡ true) × (is_living (member_at f.two.active.place f.two) ≡ true)
+
+not-fallen : (b : Bool) → b ≡ true → not b ≡ false
+not-fallen b e = rw e refl
+
+-- where the turn is known to be one, or the first one comes
+pub close-standing : (terms : Terms) (p : Progress) → Tired p.field p.action p.stream → p.field.turn ≤ terms.limit
+    → (1 ≤ p.field.turn) ⊎ ((p.field.outcome ≡ outcomes.Ongoing) × Begun terms p.field)
+    → Standing terms (close_update (ruling_of terms) p).field
+unfolding close_update close
+close-standing terms p h l turns = by p.field.outcome refl h
+  where
+    q : Progress
+    q = record p { stopped = false }
+
+    after : Progress
+    after = the_fallen_faint q
+
+    same-turn : after.field.turn ≡ p.field.turn
+    same-turn = (the_fallen_faint-free (turn-free p.field.turn) terms).kept q refl
+
+    comes : (1 ≤ p.field.turn) ⊎ ((p.field.outcome ≡ outcomes.Ongoing) × Begun terms p.field) → (g : Field) → Settled terms.limit after.field g → 1 ≤ g.turn
+    comes (inl more) g settled = omega (arith, settled-turn terms.limit after.field g settled, same-turn, more)
+    comes (inr begun) g settled =
+        let one = not-fallen _ begun.1.2 in
+        let two = not-fallen _ begun.1.3 in
+        first-turn terms.limit p.field g begun.1.0 begun.1.1 (lives-any p.field.one.members _ begun.1.2) (lives-any p.field.two.members _ begun.1.3) one two
+        (subst (λ x. Settled terms.limit x.field g) (nobody-faints q refl one two) settled)
+
+    usual : Falling p.field p.action p.stream → Standing terms ((the_fallen_faint ▸ settle (ruling_of terms)) q).field
+    usual k =
+        let goes = the_fallen_faint-goes.goes q refl in
+        let settled = settle-settles (ruling_of terms) after goes in
+        subst (λ x. Standing terms x.field) (sym (then-goes the_fallen_faint (settle (ruling_of terms)) q goes))
+        (settled-standing terms after.field _ after.action after.stream (the_fallen-soft q refl k) (omega (arith, same-turn, l)) (comes turns _ settled) settled)
+
+    begun-late : (n : ℕ) → p.field.outcome ≡ outcomes.Fault n → (1 ≤ p.field.turn) ⊎ ((p.field.outcome ≡ outcomes.Ongoing) × Begun terms p.field) → 1 ≤ p.field.turn
+    begun-late n e (inl more) = more
+    begun-late n e (inr begun) = absurd (false≢true (ap is_over (sym begun.0 ∙ e)))
+
+    by : (o : Outcome) → p.field.outcome ≡ o → Ended p.field.outcome p.field → Standing terms (close (ruling_of terms) o q).field
+    by outcomes.Ongoing e k = let j = subst (λ o. Ended o p.field) e k in usual (e, j.0, j.1)
+    by (outcomes.Fault n) e k = faulted-standing terms n q refl e h (begun-late n e turns)
+    by outcomes.WinOne e k = absurd (subst (λ o. Ended o p.field) e k)
+    by outcomes.WinTwo e k = absurd (subst (λ o. Ended o p.field) e k)
+    by outcomes.Tie e k = absurd (subst (λ o. Ended o p.field) e k)
+
+-- an update of a battle that has begun
+
+pub replace-keeps : {P : Field → Action → Stream → Type 0} → ((s : Side) (place : ℕ) → Keeps P (send_out s place)) → (x y : Choice) → Keeps P (replace x y)
+unfolding replace send_if_chosen
+replace-keeps {P} k x y = then-keeps (by One x) (by Two y)
+  where
+    by : (s : Side) (c : Choice) → Keeps P (send_if_chosen s c)
+    by s (choices.Switch place) = k s place
+    by s choices.Pass = stay-keeps
+    by s (choices.Move n) = stay-keeps
+
+replaced : (terms : Terms) (x y : Choice) (p : Progress) → Sturdy p.field p.action p.stream → let q : Progress = replace x y p in Tired q.field q.action q.stream
+replaced terms x y p h = let q : Progress = replace x y p in sturdy-tired q.field q.action q.stream ((replace-keeps (λ s place. send_out-sturdy terms s place) x y).kept p h)
+
+pub started-tired : (s : State) (x y : Choice) (q r : Request) → IsStream (Link s.seed) → IsField s.terms s.field → Waits q r s.terms.limit s.field → is_over s.field.outcome ≡ false
+    → is_among x (offered_for q One s.field) ≡ true → is_among y (offered_for r Two s.field) ≡ true → Sturdy s.field (opened s).action (Link s.seed)
+    → let p : Progress = update_for (ruling_of s.terms) q r x y (opened s) in Tired p.field p.action p.stream
+unfolding update_for
+started-tired s x y requests.Move requests.Move seed h w o a b k =
+    (turn-tied s.terms (fallen-tied s.terms) x y (opened s) (opened-sure s seed h) k (offered-fits One x s.field h a) (offered-fits Two y s.field h b)).1
+started-tired s x y requests.Pass requests.Pass seed h (inl over) o a b k = absurd (false≢true (sym o ∙ over))
+started-tired s x y requests.Pass requests.Pass seed h (inr nobody) o a b k = absurd (omega (arith, nobody.0, h.one.place))
+started-tired s x y requests.Switch requests.Switch seed h w o a b k = replaced s.terms x y (opened s) k
+started-tired s x y requests.Switch requests.Pass seed h w o a b k = replaced s.terms x y (opened s) k
+started-tired s x y requests.Pass requests.Switch seed h w o a b k = replaced s.terms x y (opened s) k
+started-tired s x y requests.Pass requests.Move seed h w o a b k = absurd w
+started-tired s x y requests.Switch requests.Move seed h w o a b k = absurd w
+started-tired s x y requests.Move requests.Pass seed h w o a b k = absurd w
+started-tired s x y requests.Move requests.Switch seed h w o a b k = absurd w
+
+not-over : (o : Outcome) (terms : Terms) (f : Field) → StandsAs o terms f → is_over o ≡ false → o ≡ outcomes.Ongoing
+not-over outcomes.Ongoing terms f h e = refl
+not-over outcomes.WinOne terms f h e = absurd (false≢true (sym e))
+not-over outcomes.WinTwo terms f h e = absurd (false≢true (sym e))
+not-over outcomes.Tie terms f h e = absurd (false≢true (sym e))
+not-over (outcomes.Fault n) terms f h e = absurd (false≢true (sym e))
+
+pub standing-sturdy : (s : State) → Standing s.terms s.field → is_over s.field.outcome ≡ false → Sturdy s.field (opened s).action (Link s.seed)
+standing-sturdy s h o = (not-over s.field.outcome s.terms s.field h.requests o, soft-at s.field.one.members h.fallen_one, soft-at s.field.two.members h.fallen_two)
+
+started-standing : (s : State) (x y : Choice) → IsStream (Link s.seed) → IsField s.terms s.field → Standing s.terms s.field → Ready s.terms.limit s.field → is_over s.field.outcome ≡ false
+    → is_among x (offered_for s.field.request_one One s.field) ≡ true → is_among y (offered_for s.field.request_two Two s.field) ≡ true
+    → Standing s.terms (update (ruling_of s.terms) x y (opened s)).field
+unfolding update
+started-standing s x y seed h k ready o a b =
+    let f = s.field in
+    let same = (update-fewer s x y f.request_one f.request_two ready o a b).turned in
+    close-standing s.terms _ (started-tired s x y f.request_one f.request_two seed h ready o a b (standing-sturdy s k o))
+    (omega (arith, same, h.turn)) (inl (omega (arith, same, k.turn)))
+
+-- the first update
+
+start-begun : (s : State) → IsTerms s.terms → IsUnstarted s.terms s.field → let q : Progress = start (opened s) in Begun s.terms q.field × Sturdy q.field q.action q.stream
+unfolding start send_out given on_active on_conditions on_field changed_active changed_conditions with_sent_out note ◌▸◌ unless_stopped
+start-begun s t h = (
+  (
+    t.limit.0,
+    h.turn,
+    rw (sent-place 1 (member_at 1 s.field.one)) h.first_one,
+    rw (sent-place 1 (member_at 1 s.field.two)) h.first_two,
+  ),
+  (h.outcome, soft-at s.field.one.members h.fallen_one, soft-at s.field.two.members h.fallen_two),
+)
+
+unstarted-standing : (s : State) (x y : Choice) → IsTerms s.terms → IsUnstarted s.terms s.field → Standing s.terms (update (ruling_of s.terms) x y (opened s)).field
+unfolding update update_for
+unstarted-standing s x y t h =
+    let r = ruling_of s.terms in
+    subst (λ q. Standing s.terms (close_update r (update_for r q s.field.request_two x y (opened s))).field) (sym h.requests.one)
+    (subst (λ q. Standing s.terms (close_update r (update_for r requests.Pass q x y (opened s))).field) (sym h.requests.two)
+    (let b = start-begun s t h in
+    let q : Progress = start (opened s) in
+    close-standing s.terms q (sturdy-tired q.field q.action q.stream b.1) (omega (arith, b.0.1)) (inr (b.1.0, b.0))))
+
+pub update-standing : (s : State) (x y : Choice) → IsTerms s.terms → IsStream (Link s.seed) → IsUnstarted s.terms s.field ⊎ (IsField s.terms s.field × Standing s.terms s.field)
+    → Ready s.terms.limit s.field → is_over s.field.outcome ≡ false
+    → is_among x (offered_for s.field.request_one One s.field) ≡ true → is_among y (offered_for s.field.request_two Two s.field) ≡ true
+    → Standing s.terms (update (ruling_of s.terms) x y (opened s)).field
+update-standing s x y t seed (inl h) ready o a b = unstarted-standing s x y t h
+update-standing s x y t seed (inr h) ready o a b = started-standing s x y seed h.0 h.1 ready o a b
