@@ -2,3 +2,6 @@ pub mod Reading
 pub mod JsonLemmas
 pub mod Standing
 pub mod Outcomes
+pub mod Duels
+pub mod Freshness
+pub mod CalcOutcomes

@@ -4,9 +4,9 @@ use Rattle.std.proofs.KnownBytes.{Appends-nil}
 use Rattle.battle_tool.specs.Answers.{Plays, is_write_fault}
 use Rattle.battle_tool.specs.Asked.{asked_of, input_limit}
 use Rattle.battle_tool.specs.Due.{Due, IsDue, refused}
-use Rattle.battle_tool.specs.Opening.{Opens}
+use Rattle.battle_tool.specs.Opening.{IsAskedFault}
 use Rattle.battle_tool.specs.declared.fault.ToolFault.{ToolFault}
-use Rattle.battle_tool.specs.declared.fault.ToolFault.TheVariants.{Json, TooLong, Team, Pair, Log, Read, Write, Memory}
+use Rattle.battle_tool.specs.declared.fault.ToolFault.TheVariants.{Json, TooLong, Team, Pair, Log, Calc, Read, Write, Memory}
 use Rattle.battle_tool.proofs.Standing.{some_due}
 
 -- a fact of what there may be follows from another
@@ -45,7 +45,7 @@ pub plays_too_long : {T : Type 0} (input : List ℕ) (old : Option (List ℕ)) �
 plays_too_long input old h = record { due = refused TooLong; is_due = asks_fault (asked_of input) TooLong (too_long input h); answers = (refl, Appends-nil old) }
 
 -- no bout was opened
-unopened : {T : Type 0} (fault : ToolFault) (input : List ℕ) (old : Option (List ℕ)) → Opens (Err fault) (asked_of input) → Plays {T = T} input old old (Err fault)
+unopened : {T : Type 0} (fault : ToolFault) (input : List ℕ) (old : Option (List ℕ)) → IsAskedFault fault (asked_of input) → Plays {T = T} input old old (Err fault)
 unopened Memory input old h = plays_unheld input old
 unopened Read input old h = absurd h
 unopened Write input old h = absurd h
@@ -56,12 +56,13 @@ unopened (Team side place refusal) input old h =
 unopened (Pair number refusal) input old h =
     record { due = refused (Pair number refusal); is_due = asks_fault (asked_of input) (Pair number refusal) h; answers = (refl, Appends-nil old) }
 unopened (Log number) input old h = record { due = refused (Log number); is_due = asks_fault (asked_of input) (Log number) h; answers = (refl, Appends-nil old) }
+unopened Calc input old h = record { due = refused Calc; is_due = asks_fault (asked_of input) Calc h; answers = (refl, Appends-nil old) }
 
 -- no bout was opened for the bytes that were read
 pub plays_unopened : (T : Type 0) (fault : ToolFault) (told : Option (List ℕ)) (items slice : List ℕ) (old : Option (List ℕ)) → slice ≡ items
-    → Opens (Err fault) (asked_of slice) → IfSome told (λ input. items ≡ input) → IfSome told (λ input. Plays {T = T} input old old (Err fault))
+    → IsAskedFault fault (asked_of slice) → IfSome told (λ input. items ≡ input) → IfSome told (λ input. Plays {T = T} input old old (Err fault))
 plays_unopened T fault told items slice old lent opens read =
-    let P : List ℕ → Type 0 = λ bytes. Opens (Err fault) (asked_of bytes) in
+    let P : List ℕ → Type 0 = λ bytes. IsAskedFault fault (asked_of bytes) in
     some_along told (λ input. items ≡ input) (λ input. Plays {T = T} input old old (Err fault))
     (λ input same. unopened {T = T} fault input old (subst P same (subst P lent opens))) read
 
@@ -70,7 +71,7 @@ or_false true = refl
 or_false false = refl
 
 -- and so no write has failed
-pub unopened_writes : (T : Type 0) (fault : ToolFault) (asked : Result (List (ℕ × ℕ)) ToolFault) (b : Bool) → Opens (Err fault) asked → b ≡ (b || is_write_fault {T = T} (Err fault))
+pub unopened_writes : (T : Type 0) {A : Type 0} (fault : ToolFault) (asked : Result A ToolFault) (b : Bool) → IsAskedFault fault asked → b ≡ (b || is_write_fault {T = T} (Err fault))
 unopened_writes T Write asked b h = absurd h
 unopened_writes T Read asked b h = or_false b
 unopened_writes T Memory asked b h = or_false b
@@ -79,3 +80,4 @@ unopened_writes T TooLong asked b h = or_false b
 unopened_writes T (Team side place refusal) asked b h = or_false b
 unopened_writes T (Pair number refusal) asked b h = or_false b
 unopened_writes T (Log number) asked b h = or_false b
+unopened_writes T Calc asked b h = or_false b

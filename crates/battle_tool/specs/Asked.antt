@@ -34,7 +34,7 @@ abbrev pub refusal_of : List MemberSheet → Option TeamRefusal
 refusal_of sheets = option_or (team_refusal sheets) (not_yet sheets)
 
 -- the fault of a side's team, if it is refused, in the place of what is asked
-abbrev pub unless : ℕ → Option TeamRefusal → Result (List (ℕ × ℕ)) ToolFault → Result (List (ℕ × ℕ)) ToolFault
+abbrev pub unless : {T : Type 0} → ℕ → Option TeamRefusal → Result T ToolFault → Result T ToolFault
 unless side (Some refusal) asked = Err (Team side (place_of refusal) (number_of refusal))
 unless side None asked = asked
 

@@ -4,7 +4,7 @@ use Rattle.gen1_machine.specs.declared.side.Side.TheVariants.{One, Two}
 use Rattle.battle_tool.specs.declared.battle.PairRefusal.{PairRefusal}
 use Rattle.battle_tool.specs.declared.battle.PairRefusal.TheVariants.{Over, NotOffered}
 use Rattle.battle_tool.specs.declared.fault.ToolFault.{ToolFault}
-use Rattle.battle_tool.specs.declared.fault.ToolFault.TheVariants.{Json, TooLong, Team, Pair, Log, Read, Write, Memory}
+use Rattle.battle_tool.specs.declared.fault.ToolFault.TheVariants.{Json, TooLong, Team, Pair, Log, Calc, Read, Write, Memory}
 
 abbrev pub status_of : ToolFault → ℕ
 status_of Json = 1
@@ -12,6 +12,7 @@ status_of TooLong = 1
 status_of (Team side place refusal) = 1
 status_of (Pair number refusal) = 1
 status_of (Log number) = 1
+status_of Calc = 1
 status_of Read = 3
 status_of Write = 3
 status_of Memory = 4

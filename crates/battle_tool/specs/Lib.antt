@@ -1,4 +1,8 @@
 pub mod Sheets
+pub mod CalcSheets
+pub mod Duel
+pub mod NumberLine
+pub mod Calc
 pub mod SheetViews
 pub mod Asked
 pub mod Due

@@ -1,4 +1,4 @@
--- What making a team and opening a bout answer.
+-- What making a team, opening a bout and finding damage numbers answer.
 use Rattle.std.specs.Prelude.{◌≡◌, ℕ, List, Option, Some, None, Result, Ok, Err}
 use Rattle.gen1_stats.specs.declared.refusal.TeamRefusal.{TeamRefusal}
 use Rattle.battle_tool.specs.declared.fault.ToolFault.{ToolFault}
@@ -10,10 +10,18 @@ abbrev pub refusal_in : {T : Type 0} → Result T TeamRefusal → Option TeamRef
 refusal_in (Ok team) = None
 refusal_in (Err refusal) = Some refusal
 
--- What was asked is answered, unless memory ran out; never a fault of a device.
+-- A fault is the one that was asked for, unless memory ran out; never one of a device.
+abbrev pub IsAskedFault : {A : Type 0} → ToolFault → Result A ToolFault → Type 0
+IsAskedFault Memory asked = Unit {0}
+IsAskedFault Read asked = ⊥
+IsAskedFault Write asked = ⊥
+IsAskedFault fault asked = asked ≡ Err fault
+
 abbrev pub Opens : Result Bout ToolFault → Result (List (ℕ × ℕ)) ToolFault → Type 0
 Opens (Ok bout) asked = asked ≡ Ok bout.choices.items
-Opens (Err Memory) asked = Unit {0}
-Opens (Err Read) asked = ⊥
-Opens (Err Write) asked = ⊥
-Opens (Err fault) asked = asked ≡ Err fault
+Opens (Err fault) asked = IsAskedFault fault asked
+
+-- likewise for damage numbers
+abbrev pub Finds : Result (List ℕ) ToolFault → Result (List ℕ) ToolFault → Type 0
+Finds (Ok numbers) asked = asked ≡ Ok numbers
+Finds (Err fault) asked = IsAskedFault fault asked

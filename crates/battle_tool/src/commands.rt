@@ -1,3 +1,4 @@
+use crate::calc::play_calc;
 use crate::fault::ToolFault;
 use crate::logs::play_print;
 use crate::playing::play;
@@ -28,6 +29,11 @@ const PRINT_ABOUT: &str = "Prints the lines of a log";
 const PRINT_INPUT: &str =
     "Reads the log bytes of updates, one after the other. Prints a line for each event; of bytes that are no log it prints nothing.";
 
+const CALC_ABOUT: &str = "Prints the damage numbers of a move";
+
+const CALC_INPUT: &str =
+    "Reads {\"attacker\":member,\"defender\":member,\"move\":name,\"critical\":true or false}, with members as in run. Prints the damage at each factor from 217 to 255 in one line, of the move that the attacker uses on the defender, both just sent out. Of a move without the usual damage it prints nothing.";
+
 const FILE_HELP: &str = "The input; without FILE it is standard input";
 
 /// A subcommand that reads a FILE, or standard input where none is named.
@@ -53,7 +59,8 @@ fn command<'a>(alloc: Global) -> Result<Command<'a>, AllocError> {
         .after_help(STATUSES)
         .subcommand_required(true)
         .subcommand(reading(alloc, "run", RUN_ABOUT, RUN_INPUT)?)?
-        .subcommand(reading(alloc, "print", PRINT_ABOUT, PRINT_INPUT)?)
+        .subcommand(reading(alloc, "print", PRINT_ABOUT, PRINT_INPUT)?)?
+        .subcommand(reading(alloc, "calc", CALC_ABOUT, CALC_INPUT)?)
 }
 
 /// Tells a fault on standard error, and answers its status. A fault of that stream changes nothing.
@@ -96,6 +103,7 @@ fn run_named<A: AllocGlobal, I: Source, O: Sink>(
 ) -> Result<(), ToolFault> {
     match name {
         "print" => play_print(rt, input, out),
+        "calc" => play_calc(rt, input, out),
         _ => play(rt, input, out),
     }
 }

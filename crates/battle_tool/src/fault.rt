@@ -1,6 +1,6 @@
 ghost use Rattle.std.specs.Prelude.{◌≡◌};
-ghost use Rattle.battle_tool.specs.Faults.{status_of};
 
+use gen1_stats::TeamRefusal;
 use thiserror::Error;
 
 /// Why the program did not do all that it was asked. Each is shown as standard error tells it,
@@ -24,6 +24,9 @@ pub enum ToolFault {
     /// The bytes are no log, by the number of the `LogFault`, 1 to 3.
     #[error("log {0}")]
     Log(u8),
+    /// Damage numbers were asked for a move that has none.
+    #[error("calc")]
+    Calc,
     /// The input could not be read.
     #[error("read")]
     Read,
@@ -36,6 +39,20 @@ pub enum ToolFault {
 }
 
 impl ToolFault {
+    ghost use Rattle.gen1_stats.specs.Refusals.{number_of, place_of};
+    ghost use Rattle.battle_tool.specs.Faults.{status_of};
+
+    /// The fault of a side, 1 or 2, whose team is refused.
+    pub fn of_team(side: u8, refusal: TeamRefusal) -> ToolFault
+        ensures { result ≡ ToolFault.Team side (place_of refusal) (number_of refusal) }
+    {
+        ToolFault::Team {
+            side,
+            place: refusal.place(),
+            refusal: refusal.number(),
+        }
+    }
+
     /// The exit status: 1 where the input is refused, 3 where a read or a write failed, 4 where
     /// memory was refused.
     pub fn status(self) -> u8
@@ -46,7 +63,8 @@ impl ToolFault {
             | ToolFault::TooLong
             | ToolFault::Team { .. }
             | ToolFault::Pair { .. }
-            | ToolFault::Log(_) => 1,
+            | ToolFault::Log(_)
+            | ToolFault::Calc => 1,
             ToolFault::Read | ToolFault::Write => 3,
             ToolFault::Memory => 4,
         }

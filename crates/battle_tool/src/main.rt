@@ -3,9 +3,14 @@
 #![tactic(auto)]
 
 mod battle;
+mod calc;
+mod calc_sheet;
 mod commands;
+mod damages;
+mod duel;
 mod fault;
 mod logs;
+mod number_line;
 mod playing;
 mod sheet;
 #[cfg(test)]

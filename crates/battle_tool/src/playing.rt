@@ -9,12 +9,11 @@ ghost use Rattle.battle_tool.specs.Sheets.{sheet_of};
 
 use crate::battle::Battle;
 use crate::fault::ToolFault;
-use crate::sheet::{Sheet, SheetFault, read_sheet};
+use crate::sheet::{Sheet, SheetFault, read_sheet, value_in};
 use gen1_machine::{Device, Event, InputFault, Sink, Source, read_whole, send};
 use gen1_printer::print_line;
 use gen1_stats::{MemberSpec, Team, TeamRefusal};
 use gen1_tables::Effect;
-use serde_json::Value;
 use std::alloc::{AllocError, Allocator, Global};
 
 /// The greatest length of an input, in bytes.
@@ -77,25 +76,11 @@ fn open_bout(alloc: Global, input: &[u8]) -> Result<Bout, ToolFault>
     };
     let one = match playable_team(sheet.one.as_slice()) {
         Ok(team) => team,
-        Err(refusal) => {
-            let (place, refusal) = (refusal.place(), refusal.number());
-            return Err(ToolFault::Team {
-                side: 1,
-                place,
-                refusal,
-            });
-        }
+        Err(refusal) => return Err(ToolFault::of_team(1, refusal)),
     };
     let two = match playable_team(sheet.two.as_slice()) {
         Ok(team) => team,
-        Err(refusal) => {
-            let (place, refusal) = (refusal.place(), refusal.number());
-            return Err(ToolFault::Team {
-                side: 2,
-                place,
-                refusal,
-            });
-        }
+        Err(refusal) => return Err(ToolFault::of_team(2, refusal)),
     };
     Ok(Bout {
         battle: Battle::new(
@@ -109,20 +94,11 @@ fn open_bout(alloc: Global, input: &[u8]) -> Result<Bout, ToolFault>
 }
 
 /// The sheet of an input.
-#[tactic(auto, using(crate::proofs::JsonLemmas::json_some, crate::proofs::JsonLemmas::json_none))]
 fn sheet_in(alloc: Global, input: &[u8]) -> Result<Sheet, SheetFault>
     ensures { Gives sheet_view result (option_and_then sheet_of (json_of input.now)) }
 {
-    match Value::from_slice(alloc, input) {
-        Ok(value) => read_sheet(alloc, &value),
-        Err(error) => {
-            if error.is_memory() {
-                Err(SheetFault::Memory)
-            } else {
-                Err(SheetFault::Shape)
-            }
-        }
-    }
+    let value = value_in(alloc, input)?;
+    read_sheet(alloc, &value)
 }
 
 /// The team of these members, if it can be played yet: with one member, whose moves do damage and

@@ -1,5 +1,6 @@
 ghost use Rattle.std.specs.Prelude.{◌≡◌, codes, option_map};
 ghost use Rattle.serde_json.specs.View.{view};
+ghost use Rattle.battle_tool.specs.Asked.{json_of};
 ghost use Rattle.battle_tool.specs.Sheets.{byte_of, word_of, numbers_of, pair_of, move_of, moves_of, member_of, list_of, field_of, rules_of, limit_of, sheet_of};
 ghost use Rattle.battle_tool.specs.SheetViews.{sheet_view, Gives};
 
@@ -28,6 +29,23 @@ pub enum SheetFault {
     Shape,
     /// Memory was refused.
     Memory,
+}
+
+/// The JSON value of an input. `Shape` where it is no text, or no JSON.
+#[tactic(auto, using(crate::proofs::JsonLemmas::json_some, crate::proofs::JsonLemmas::json_none))]
+pub fn value_in(alloc: Global, input: &[u8]) -> Result<Value, SheetFault>
+    ensures { Gives view result (json_of input.now) }
+{
+    match Value::from_slice(alloc, input) {
+        Ok(value) => Ok(value),
+        Err(error) => {
+            if error.is_memory() {
+                Err(SheetFault::Memory)
+            } else {
+                Err(SheetFault::Shape)
+            }
+        }
+    }
 }
 
 fn read_byte(value: &Value) -> Option<u8>
@@ -116,7 +134,8 @@ fn read_moves(value: &Value) -> Option<ArrayVec<(MoveId, u8), 4>>
     Some(moves)
 }
 
-fn read_member(value: &Value) -> Option<MemberSpec>
+/// The member that a JSON value stands for, before any test of its team.
+pub fn read_member(value: &Value) -> Option<MemberSpec>
     ensures { result ≡ member_of (view value.now) }
 {
     let species = Species::from_name(value.get("species")?.as_str()?)?;

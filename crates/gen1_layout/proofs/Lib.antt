@@ -1,6 +1,7 @@
 -- The packed battle.
 pub mod Rewriting
 pub mod Views
+pub mod Pairs
 pub mod Memory
 pub mod Bits
 pub mod Blocks

@@ -24,6 +24,17 @@ part-part a n m xs =
     ap (λ (l : List ℕ). part a n xs ++ take m l) back ∙ ap (λ (l : List ℕ). part a n xs ++ l) shift
     ∙ ap (λ (l : List ℕ). l ++ drop n (part a (n + m) xs)) front ∙ take-append-drop n (part a (n + m) xs)
 
+-- a part of the first of two lists, and of the second
+
+pub part-first_of : (at n : ℕ) (xs ys : List ℕ) → at + n ≤ length xs → part at n (xs ++ ys) ≡ part at n xs
+part-first_of at n xs ys within =
+    ap (λ (l : List ℕ). take n l) (drop-append-le at xs ys (omega arith))
+    ∙ take-append-le n (drop at xs) ys (omega (arith, length-drop at xs))
+
+pub part-second_of : (m at n : ℕ) (xs ys : List ℕ) → length xs ≡ m → part (m + at) n (xs ++ ys) ≡ part at n ys
+part-second_of m at n xs ys long =
+    ap (λ (l : List ℕ). take n l) (sym (drop-drop at m (xs ++ ys)) ∙ ap (λ (l : List ℕ). drop at l) (drop_at xs ys m long))
+
 module _ (a n : ℕ) (w xs : List ℕ) (within : a + n ≤ length xs) where
   abbrev pub fresh : List ℕ
   fresh = refill n (part a n xs) w

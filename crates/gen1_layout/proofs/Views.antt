@@ -1,12 +1,13 @@
 -- What a part that is written anew makes of the parts of a battle, and that parts joined are the bytes again.
-use Rattle.std.proofs.Common.{List, ap, append_assoc, arith, length, lit≤, refl, suc, sym, zero, ℕ, ◌+◌, ◌≡◌, ◌≤◌, ◌∙◌}
-use Rattle.std.proofs.lemmas.List.{take_all}
+use Rattle.std.proofs.Common.{List, ap, append_assoc, arith, drop, length, length-append, lit≤, refl, suc, sym, take, zero, ℕ, ◌++◌, ◌+◌, ◌≡◌, ◌≤◌, ◌∙◌}
+use Rattle.std.proofs.lemmas.List.{drop_at, take_all, take_at}
 use Rattle.std.specs.List.{refill}
 use Rattle.std.specs.Prelude.{slice_set}
 use Rattle.gen1_machine.specs.declared.side.Side.{Side}
 use Rattle.gen1_machine.specs.declared.side.Side.TheVariants.{One, Two}
-use Rattle.gen1_layout.specs.Parts.{active_of, bytes_of_side, joined, member_at, member_of, part, parts_of, rewritten, side_at, side_of, side_parts, with_active, with_member, with_side, Parts}
-use Rattle.gen1_layout.proofs.Rewriting.{part-above, part-below, part-first, part-inside, part-part, part-same}
+use Rattle.gen1_machine.specs.Sides.{other}
+use Rattle.gen1_layout.specs.Parts.{active_of, bytes_of_side, bytes_of_sides, in_order, joined, member_at, member_of, part, parts_of, refilled, rewritten, side_at, side_of, side_parts, with_active, with_member, with_side, with_sides, Parts}
+use Rattle.gen1_layout.proofs.Rewriting.{length-part, length-refill, part-above, part-below, part-first, part-first_of, part-inside, part-part, part-same, part-second_of, refill-same}
 
 -- the bytes of a side are its parts side by side
 
@@ -136,6 +137,38 @@ pub side-lent : (s : Side) (xs w : List ℕ) → length xs ≡ 384
 side-lent One xs w long = one-lent 24 180 w xs long (omega arith) (omega arith) ∙ ap (λ side. record (parts_of xs) { one = side }) (side-written 24 w xs (omega arith))
 side-lent Two xs w long = two-lent 204 180 w xs long (omega arith) (omega arith) ∙ ap (λ side. record (parts_of xs) { two = side }) (side-written 204 w xs (omega arith))
 
+-- both sides, of bytes that lie side by side
+abbrev sides_at : List ℕ → Parts → Parts
+sides_at bytes p = record p { one = side_parts 0 bytes; two = side_parts 180 bytes }
+
+sides-lent : (xs w : List ℕ) → length xs ≡ 384 → parts_of (rewritten 24 360 w xs) ≡ sides_at (refill 360 (part 24 360 xs) w) (parts_of xs)
+sides-lent xs w long =
+    let within : 24 + 360 ≤ length xs = omega arith in
+    let at = part-inside 24 360 w xs within in
+    rw (part-below 24 360 w xs within 0 24 (omega arith), part-first 24 360 w xs within 24 (lit≤ tt), at 24 24 (lit≤ tt), at 48 24 (lit≤ tt), at 72 24 (lit≤ tt), at 96 24 (lit≤ tt), at 120 24 (lit≤ tt), at 144 36 (lit≤ tt), at 180 24 (lit≤ tt), at 204 24 (lit≤ tt), at 228 24 (lit≤ tt), at 252 24 (lit≤ tt), at 276 24 (lit≤ tt), at 300 24 (lit≤ tt), at 324 36 (lit≤ tt)) refl
+
+side-first_of : (xs ys : List ℕ) → length xs ≡ 180 → side_parts 0 (xs ++ ys) ≡ side_parts 0 xs
+side-first_of xs ys long =
+    let at : (k n : ℕ) → k + n ≤ 180 → part k n (xs ++ ys) ≡ part k n xs = λ k n h. part-first_of k n xs ys (omega arith) in
+    rw (at 0 24 (lit≤ tt), at 24 24 (lit≤ tt), at 48 24 (lit≤ tt), at 72 24 (lit≤ tt), at 96 24 (lit≤ tt), at 120 24 (lit≤ tt), at 144 36 (lit≤ tt)) refl
+
+side-second_of : (xs ys : List ℕ) → length xs ≡ 180 → side_parts 180 (xs ++ ys) ≡ side_parts 0 ys
+side-second_of xs ys long =
+    let at = λ (k n : ℕ). part-second_of 180 k n xs ys long in
+    rw (at 0 24, at 24 24, at 48 24, at 72 24, at 96 24, at 120 24, at 144 36) refl
+
+halves-written : (v w : List ℕ) (p : Parts) → length v ≡ 180 → length w ≡ 180 → with_sides (v ++ w) p ≡ record p { one = side_parts 0 v; two = side_parts 0 w }
+halves-written v w p long_v long_w =
+    ap (λ (l : List ℕ). sides_at l p) (refill-same 360 (bytes_of_sides p) (v ++ w) (omega (arith, length-append v w)))
+    ∙ ap (λ side. record p { one = side; two = side_parts 180 (v ++ w) }) (side-first_of v w long_v)
+    ∙ ap (λ side. record p { one = side_parts 0 v; two = side }) (side-second_of v w long_v)
+
+-- a side's own 180 bytes and the other's
+pub both-written : (s : Side) (v w : List ℕ) (p : Parts) → length v ≡ 180 → length w ≡ 180
+    → with_sides (in_order s v w) p ≡ with_side s (side_parts 0 v) (with_side (other s) (side_parts 0 w) p)
+both-written One v w p long_v long_w = halves-written v w p long_v long_w
+both-written Two v w p long_v long_w = halves-written w v p long_w long_v
+
 pub active-lent : (s : Side) (xs w : List ℕ) → length xs ≡ 384
     → parts_of (rewritten (side_at s + 144) 36 w xs) ≡ with_active s (refill 36 (part (side_at s + 144) 36 xs) w) (parts_of xs)
 active-lent One xs w long = one-lent 168 36 w xs long (omega arith) (omega arith) ∙ ap (λ side. record (parts_of xs) { one = side }) (active-written 24 w xs (omega arith))
@@ -200,6 +233,20 @@ module _ (p : Parts) (long : length (joined p) ≡ 384) (same : parts_of (joined
       side-lent s (joined p) w long ∙ ap (λ (l : List ℕ). with_side s (side_parts 0 (refill 180 l w)) (parts_of (joined p))) (side-value s)
       ∙ ap (λ (x : Parts). with_side s (side_parts 0 (refill 180 (bytes_of_side (side_of s p)) w)) x) same
 
+  pub sides-value : part 24 360 (joined p) ≡ bytes_of_sides p
+  sides-value =
+      sym (part-part 24 180 180 (joined p)) ∙ ap (λ (l : List ℕ). l ++ part 204 180 (joined p)) (side-value One)
+      ∙ ap (λ (l : List ℕ). bytes_of_side p.one ++ l) (side-value Two)
+
+  pub sides-leave : (w : List ℕ) → parts_of (rewritten 24 360 w (joined p)) ≡ with_sides w p
+  sides-leave w =
+      sides-lent (joined p) w long ∙ ap (λ (x : Parts). sides_at (refill 360 (part 24 360 (joined p)) w) x) same
+      ∙ ap (λ (l : List ℕ). sides_at (refill 360 l w) p) sides-value
+
+  pub length-sides : (length (bytes_of_side p.one) ≡ 180) × (length (bytes_of_side p.two) ≡ 180)
+  length-sides =
+      (ap length (sym (side-value One)) ∙ length-part 24 180 (joined p) (omega arith), ap length (sym (side-value Two)) ∙ length-part 204 180 (joined p) (omega arith))
+
   pub active-value : (s : Side) → part (side_at s + 144) 36 (joined p) ≡ active_of s p
   active-value s = sym (active-part s (joined p)) ∙ ap (λ (x : Parts). active_of s x) same
 
@@ -218,3 +265,33 @@ module _ (p : Parts) (long : length (joined p) ≡ 384) (same : parts_of (joined
       member-lent s place (joined p) w low high long
       ∙ ap (λ (l : List ℕ). with_member s place (refill 24 l w) (parts_of (joined p))) (member-value s place low high)
       ∙ ap (λ (x : Parts). with_member s place (refill 24 (member_of s place p) w) x) same
+
+-- both sides at once, a side's own bytes and the other's
+
+module _ (p : Parts) (long : (length (bytes_of_side p.one) ≡ 180) × (length (bytes_of_side p.two) ≡ 180)) where
+  abbrev own : Side → List ℕ
+  own s = bytes_of_side (side_of s p)
+
+  length-own : (s : Side) → length (own s) ≡ 180
+  length-own One = long.0
+  length-own Two = long.1
+
+  both-refilled : (s : Side) (v w : List ℕ)
+      → with_side s (side_parts 0 (refill 180 (own s) v)) (with_side (other s) (side_parts 0 (refill 180 (own (other s)) w)) p) ≡ refilled s v (refilled (other s) w p)
+  both-refilled One v w = refl
+  both-refilled Two v w = refl
+
+  pub both-leave : (s : Side) (v w : List ℕ)
+      → with_sides (in_order s (refill 180 (own s) v) (refill 180 (own (other s)) w)) p ≡ refilled s v (refilled (other s) w p)
+  both-leave s v w =
+      both-written s (refill 180 (own s) v) (refill 180 (own (other s)) w) p (length-refill 180 (own s) v (length-own s))
+      (length-refill 180 (own (other s)) w (length-own (other s))) ∙ both-refilled s v w
+
+  halves-value : (v w : List ℕ) → bytes_of_sides p ≡ v ++ w → length v ≡ 180 → (v ≡ own One) × (w ≡ own Two)
+  halves-value v w cut long_v =
+      (sym (take_at v w 180 long_v) ∙ ap (λ (l : List ℕ). take 180 l) (sym cut) ∙ take_at (own One) (own Two) 180 (length-own One), sym (drop_at v w 180 long_v) ∙ ap (λ (l : List ℕ). drop 180 l) (sym cut) ∙ drop_at (own One) (own Two) 180 (length-own One))
+
+  pub both-value : (s : Side) (v w : List ℕ) → bytes_of_sides p ≡ in_order s v w → length v ≡ 180 → length w ≡ 180
+      → (v ≡ own s) × (w ≡ own (other s))
+  both-value One v w cut long_v long_w = halves-value v w cut long_v
+  both-value Two v w cut long_v long_w = let at = halves-value w v cut long_w in (at.1, at.0)

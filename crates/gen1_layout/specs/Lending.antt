@@ -1,9 +1,10 @@
 -- What a lent part leaves when its loan is over: that part written anew, and every other part as it was.
 use Rattle.std.specs.Prelude.{List, ℕ, ◌-◌}
-use Rattle.std.specs.Borrow.{Array, Fml, Lends, MutBor, u8}
+use Rattle.std.specs.Borrow.{Array, Fml, Lends, LendsBoth, MutBor, u8}
 use Rattle.std.specs.List.{refill}
 use Rattle.gen1_machine.specs.declared.side.Side.{Side}
-use Rattle.gen1_layout.specs.Parts.{active_of, bytes_of_side, joined, member_of, parts_of, rewritten, side_of, side_parts, with_active, with_member, with_side, Parts}
+use Rattle.gen1_machine.specs.Sides.{other}
+use Rattle.gen1_layout.specs.Parts.{active_of, in_order, joined, member_of, parts_of, refilled, rewritten, with_active, with_member, with_sides, Parts}
 use Rattle.gen1_layout.specs.contracts.packed.Packed.{the_row}
 
 -- the bytes from one offset up to another
@@ -17,8 +18,19 @@ LendsHeader packed lent =
 
 abbrev pub LendsSide : Side → MutBor Parts → MutBor (List ℕ) → Fml
 LendsSide s packed lent =
-    Lends the_row (Array u8 0) packed lent λ written.
-    with_side s (side_parts 0 (refill 180 (bytes_of_side (side_of s packed.now)) written)) packed.now
+    Lends the_row (Array u8 0) packed lent λ written. refilled s written packed.now
+
+-- both sides, as they lie
+abbrev pub LendsSides : MutBor Parts → MutBor (List ℕ) → Fml
+LendsSides packed lent = Lends the_row (Array u8 0) packed lent λ written. with_sides written packed.now
+
+-- their bytes in two: a side's own, and those of the side that it battles
+abbrev pub LendsInTwo : Side → MutBor (List ℕ) → MutBor (List ℕ) × MutBor (List ℕ) → Fml
+LendsInTwo s sides lent = LendsBoth (Array u8 0) (Array u8 0) (Array u8 0) sides lent (in_order s)
+
+abbrev pub LendsBothSides : Side → MutBor Parts → MutBor (List ℕ) × MutBor (List ℕ) → Fml
+LendsBothSides s packed lent =
+    LendsBoth the_row (Array u8 0) (Array u8 0) packed lent λ own others. refilled s own (refilled (other s) others packed.now)
 
 abbrev pub LendsActive : Side → MutBor Parts → MutBor (List ℕ) → Fml
 LendsActive s packed lent =

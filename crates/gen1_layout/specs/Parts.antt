@@ -43,6 +43,9 @@ member_at s place = side_at s + 24 * (place - 1)
 abbrev pub bytes_of_side : SideParts → List ℕ
 bytes_of_side side = flat_map (λ (block : List ℕ). block) side.members ++ side.active
 
+abbrev pub bytes_of_sides : Parts → List ℕ
+bytes_of_sides p = bytes_of_side p.one ++ bytes_of_side p.two
+
 abbrev pub joined : Parts → List ℕ
 joined p = p.header ++ bytes_of_side p.one ++ bytes_of_side p.two
 
@@ -51,6 +54,11 @@ joined p = p.header ++ bytes_of_side p.one ++ bytes_of_side p.two
 abbrev pub side_of : Side → Parts → SideParts
 side_of One p = p.one
 side_of Two p = p.two
+
+-- a side's bytes and the other's, in the order in which they lie
+abbrev pub in_order : Side → List ℕ → List ℕ → List ℕ
+in_order One own others = own ++ others
+in_order Two own others = others ++ own
 
 abbrev pub active_of : Side → Parts → List ℕ
 active_of s p = (side_of s p).active
@@ -64,6 +72,15 @@ member_of s place p = slice_index_or (side_of s p).members (place - 1) []
 abbrev pub with_side : Side → SideParts → Parts → Parts
 with_side One side p = record p { one = side }
 with_side Two side p = record p { two = side }
+
+-- a side with its bytes written anew
+abbrev pub refilled : Side → List ℕ → Parts → Parts
+refilled s written p = with_side s (side_parts 0 (refill 180 (bytes_of_side (side_of s p)) written)) p
+
+-- both, whose bytes lie side by side
+abbrev pub with_sides : List ℕ → Parts → Parts
+with_sides written p =
+    let bytes = refill 360 (bytes_of_sides p) written in record p { one = side_parts 0 bytes; two = side_parts 180 bytes }
 
 abbrev pub with_active : Side → List ℕ → Parts → Parts
 with_active s block p = with_side s (record (side_of s p) { active = block }) p

@@ -45,7 +45,8 @@ impl Packed {
         }
     }
 
-    /// A stat as it stands, at its stage and after its penalties; accuracy and evasion have no number and give 1.
+    /// A stat as it stands, at its stage and after its penalties, from 1 to 999; accuracy and evasion have no number and
+    /// give 1.
     pub fn current_stat(&self, side: Side, stat: Stat) -> u16
         ensures stands { (g : Setting) (f : Field) → Within g self.now f → has_number stat ≡ true → result ≡ now_in stat side f }
     {
@@ -59,21 +60,21 @@ impl Packed {
         }
     }
 
-    /// The move that was used last.
+    /// The move that was used last: none, a slot from 1 to 4, or Struggle.
     pub fn current(&self, side: Side) -> Used
         ensures stands { (g : Setting) (f : Field) → Within g self.now f → result ≡ (active_in side f).current }
     {
         used_from(self.active(side)[29])
     }
 
-    /// The move that was picked last.
+    /// The move that was picked last: none, a slot from 1 to 4, or Struggle.
     pub fn picked(&self, side: Side) -> Used
         ensures stands { (g : Setting) (f : Field) → Within g self.now f → result ≡ (active_in side f).picked }
     {
         used_from(self.active(side)[30])
     }
 
-    /// The accuracy byte that is kept for a move that goes on.
+    /// The accuracy byte that is kept for a move that goes on, from 0 to 255.
     pub fn kept_accuracy(&self, side: Side) -> u8
         ensures stands { (g : Setting) (f : Field) → Within g self.now f → result ≡ (active_in side f).kept_accuracy }
     {
@@ -104,7 +105,7 @@ impl Packed {
         self.active_mut(side)[29] = byte;
     }
 
-    /// Writes the move that was picked last.
+    /// Writes the move that was picked last: none, Struggle, or a slot that holds a move.
     pub fn put_picked(&mut self, side: Side, used: Used)
         ensures stands { (g : Setting) (f : Field) (change : Active → Active) → Within g self.old f
             → change (active_in side f) ≡ record (active_in side f) { picked = used }
@@ -124,7 +125,7 @@ impl Packed {
         self.active_mut(side)[31] = byte;
     }
 
-    /// Writes the stage of accuracy or of evasion, which have no number beside it.
+    /// Writes the stage of accuracy, from 0 to 12. There is no number beside it.
     pub fn put_accuracy(&mut self, side: Side, stage: u8)
         ensures stands { (g : Setting) (f : Field) (change : Active → Active) → Within g self.old f
             → change (active_in side f) ≡ record (active_in side f) { stages = record (active_in side f).stages { accuracy = stage } }
@@ -133,7 +134,7 @@ impl Packed {
         self.active_mut(side)[7] = stage;
     }
 
-    /// Writes the stage of evasion.
+    /// Writes the stage of evasion, from 0 to 12.
     pub fn put_evasion(&mut self, side: Side, stage: u8)
         ensures stands { (g : Setting) (f : Field) (change : Active → Active) → Within g self.old f
             → change (active_in side f) ≡ record (active_in side f) { stages = record (active_in side f).stages { evasion = stage } }

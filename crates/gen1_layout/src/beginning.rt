@@ -1,20 +1,26 @@
 //! A battle before its first update, at turn 0.
-ghost use Rattle.std.specs.Prelude.{[], length, replicate, slice_index_or, ℕ, ◌-◌, ◌≡◌, ◌≤◌};
+ghost use Rattle.std.specs.Prelude.{All, [], length, replicate, slice_index_or, ℕ, ◌-◌, ◌≡◌, ◌≤◌};
+ghost use Rattle.gen1_rolls.specs.Streams.{IsStream, Link};
 ghost use Rattle.gen1_stats.specs.Members.{nobody};
 ghost use Rattle.gen1_machine.specs.Rules.{no_rules};
 ghost use Rattle.gen1_machine.specs.State.{first_state, known_in, usual_terms};
+ghost use Rattle.gen1_machine.specs.Valid.{IsFresh, IsTerms};
 ghost use Rattle.gen1_machine.specs.Layout.{header_block, high_byte, low_byte, member_block, member_blocks};
 ghost use Rattle.gen1_layout.specs.Parts.{active_of, side_of, with_side};
-ghost use Rattle.gen1_layout.specs.Within.{blocks_of};
+ghost use Rattle.gen1_layout.specs.Within.{blocks_of, Stands};
 
 use crate::Packed;
 use gen1_machine::{Rules, Side, TurnLimit};
 use gen1_stats::{KnownMove, Member, Team};
 
 impl Packed {
-    /// A battle of two teams with a seed before its first update, with no rules and a turn limit of 1,000.
+    /// A battle of two teams before its first update, with the ten numbers of a seed, no rules and a turn limit of 1,000.
+    ///
+    /// It is valid where its members are fresh: unhurt and healthy, as a team has them.
     pub fn new(one: &Team, two: &Team, seed: [u8; 10]) -> Packed
         ensures stands { result ≡ blocks_of (first_state usual_terms one.now two.now seed) }
+        ensures valid { IsStream (Link seed) → All IsFresh one.now → All IsFresh two.now
+            → Stands result (first_state usual_terms one.now two.now seed) }
     {
         Packed::with_rules(one, two, seed, Rules::default())
     }
@@ -22,6 +28,8 @@ impl Packed {
     /// The same under rules.
     pub fn with_rules(one: &Team, two: &Team, seed: [u8; 10], rules: Rules) -> Packed
         ensures stands { result ≡ blocks_of (first_state (record { rules = rules; limit = 1000 }) one.now two.now seed) }
+        ensures valid { IsStream (Link seed) → All IsFresh one.now → All IsFresh two.now
+            → Stands result (first_state (record { rules = rules; limit = 1000 }) one.now two.now seed) }
     {
         Packed::with_limit(one, two, seed, rules, TurnLimit::default())
     }
@@ -35,6 +43,8 @@ impl Packed {
         limit: TurnLimit,
     ) -> Packed
         ensures stands { result ≡ blocks_of (first_state (record { rules = rules; limit = limit }) one.now two.now seed) }
+        ensures valid { IsStream (Link seed) → All IsFresh one.now → All IsFresh two.now
+            → Stands result (first_state (record { rules = rules; limit = limit }) one.now two.now seed) }
     {
         let mut packed = Packed::blank();
         packed.begin_header(&header_bytes(seed, rules, limit));
@@ -71,7 +81,8 @@ impl Packed {
 }
 
 fn header_bytes(seed: [u8; 10], rules: Rules, limit: TurnLimit) -> [u8; 24]
-    ensures { result ≡ header_block (first_state (record { rules = rules; limit = limit }) [] [] seed) }
+    ensures terms { IsTerms (record { rules = rules; limit = limit }) }
+    ensures block { result ≡ header_block (first_state (record { rules = rules; limit = limit }) [] [] seed) }
 {
     let limit = limit.number();
     [

@@ -31,7 +31,7 @@ impl Packed {
         self.conditions(side).has(which)
     }
 
-    /// The HP of its Substitute.
+    /// The HP of its Substitute, from 0 to 249. `None` without one.
     pub fn substitute(&self, side: Side) -> Option<u8>
         ensures stands { (g : Setting) (f : Field) → Within g self.now f → result ≡ (conditions_in side f).substitute }
     {
@@ -42,7 +42,7 @@ impl Packed {
         }
     }
 
-    /// For how many turns more it is confused.
+    /// For how many turns more it is confused, at most 5. `None` where it is not.
     pub fn confused(&self, side: Side) -> Option<u8>
         ensures stands { (g : Setting) (f : Field) → Within g self.now f → result ≡ (conditions_in side f).confused }
     {
@@ -53,7 +53,7 @@ impl Packed {
         }
     }
 
-    /// The counter that Toxic begins.
+    /// The counter that Toxic begins, from 0 to 64. `None` without bad poison.
     pub fn bad_poison(&self, side: Side) -> Option<u8>
         ensures stands { (g : Setting) (f : Field) → Within g self.now f → result ≡ (conditions_in side f).bad_poison }
     {
@@ -64,7 +64,7 @@ impl Packed {
         }
     }
 
-    /// The slot that Disable bars, and for how many turns more.
+    /// The slot that Disable bars, from 1 to 4, and for how many turns more, at most 8. `None` where it bars none.
     pub fn disabled(&self, side: Side) -> Option<DisabledSlot>
         ensures stands { (g : Setting) (f : Field) → Within g self.now f → result ≡ (conditions_in side f).disabled }
     {
@@ -79,7 +79,7 @@ impl Packed {
         }
     }
 
-    /// For how many turns more Bide stores.
+    /// For how many turns more Bide stores, at most 3. `None` without Bide.
     pub fn bide(&self, side: Side) -> Option<u8>
         ensures stands { (g : Setting) (f : Field) → Within g self.now f → result ≡ turns_stored (underway_in side f).bide }
     {
@@ -90,7 +90,7 @@ impl Packed {
         }
     }
 
-    /// For how many turns more it thrashes.
+    /// For how many turns more it thrashes, at most 3. `None` where it does not.
     pub fn thrash(&self, side: Side) -> Option<u8>
         ensures stands { (g : Setting) (f : Field) → Within g self.now f → result ≡ (underway_in side f).thrash }
     {
@@ -101,7 +101,7 @@ impl Packed {
         }
     }
 
-    /// For how many turns more it traps the foe.
+    /// For how many turns more it traps the foe, at most 4. `None` where it does not.
     pub fn trapping(&self, side: Side) -> Option<u8>
         ensures stands { (g : Setting) (f : Field) → Within g self.now f → result ≡ (underway_in side f).trapping }
     {
@@ -112,7 +112,7 @@ impl Packed {
         }
     }
 
-    /// The energy that Bide has stored, or 0 without Bide.
+    /// The energy that Bide has stored, in HP of damage, from 0 to 65,535; 0 without Bide.
     pub fn energy(&self, side: Side) -> u16
         ensures stands { (g : Setting) (f : Field) → Within g self.now f → result ≡ energy_of (underway_in side f).bide }
     {
@@ -146,7 +146,7 @@ impl Packed {
         put_long!(self.active_mut(side), 17..21, now.bits());
     }
 
-    /// Writes the HP of a Substitute, or that there is none.
+    /// Writes the HP of a Substitute, at most 249, or that there is none.
     pub fn put_substitute(&mut self, side: Side, hp: Option<u8>)
         ensures stands { (g : Setting) (f : Field) (change : Named → Named) → Within g self.old f
             → change (conditions_in side f) ≡ record (conditions_in side f) { substitute = hp } → IsCount 0 249 hp
@@ -160,7 +160,7 @@ impl Packed {
         active[21] = byte;
     }
 
-    /// Writes for how many turns more it is confused.
+    /// Writes for how many turns more it is confused, at most 5, or that it is not.
     pub fn put_confused(&mut self, side: Side, turns: Option<u8>)
         ensures stands { (g : Setting) (f : Field) (change : Named → Named) → Within g self.old f
             → change (conditions_in side f) ≡ record (conditions_in side f) { confused = turns } → IsCount 0 5 turns
@@ -174,7 +174,7 @@ impl Packed {
         active[22] = byte;
     }
 
-    /// Writes the counter that Toxic begins.
+    /// Writes the counter that Toxic begins, at most 64, or that it is not badly poisoned.
     pub fn put_bad_poison(&mut self, side: Side, count: Option<u8>)
         ensures stands { (g : Setting) (f : Field) (change : Named → Named) → Within g self.old f
             → change (conditions_in side f) ≡ record (conditions_in side f) { bad_poison = count } → IsCount 0 64 count
@@ -188,7 +188,7 @@ impl Packed {
         active[25] = byte;
     }
 
-    /// Writes what Disable bars.
+    /// Writes what Disable bars, a slot that holds a move for at most 8 turns more, or that it bars none.
     pub fn put_disabled(&mut self, side: Side, disabled: Option<DisabledSlot>)
         ensures stands { (g : Setting) (f : Field) (change : Named → Named) → Within g self.old f
             → change (conditions_in side f) ≡ record (conditions_in side f) { disabled = disabled }
@@ -205,7 +205,7 @@ impl Packed {
         active[24] = turns;
     }
 
-    /// Writes that Bide stores, for so many turns more and with so much energy. Neither thrashing nor trapping is on.
+    /// Writes that Bide stores, for so many turns more, at most 3, and with so much energy. Neither thrashing nor trapping is on.
     pub fn put_bide(&mut self, side: Side, turns: u8, energy: u16)
         ensures stands { (g : Setting) (f : Field) (change : Named → Named) → Within g self.old f
             → change (conditions_in side f) ≡ record (conditions_in side f) { underway = record (underway_in side f) { bide = Some (record { turns = turns; energy = energy }) } }
@@ -233,7 +233,7 @@ impl Packed {
         put_word!(active, 27..29, 0);
     }
 
-    /// Writes that it thrashes for so many turns more. Neither Bide nor trapping is on.
+    /// Writes that it thrashes for so many turns more, at most 3. Neither Bide nor trapping is on.
     pub fn put_thrash(&mut self, side: Side, turns: u8)
         ensures stands { (g : Setting) (f : Field) (change : Named → Named) → Within g self.old f
             → change (conditions_in side f) ≡ record (conditions_in side f) { underway = record (underway_in side f) { thrash = Some turns } }
@@ -259,7 +259,7 @@ impl Packed {
         active[26] = turns;
     }
 
-    /// Writes that it traps the foe for so many turns more. Neither Bide nor thrashing is on.
+    /// Writes that it traps the foe for so many turns more, at most 4. Neither Bide nor thrashing is on.
     pub fn put_trapping(&mut self, side: Side, turns: u8)
         ensures stands { (g : Setting) (f : Field) (change : Named → Named) → Within g self.old f
             → change (conditions_in side f) ≡ record (conditions_in side f) { underway = record (underway_in side f) { trapping = Some turns } }

@@ -20,14 +20,14 @@ impl Packed {
         word!(self.header(), 1..3)
     }
 
-    /// The last damage, of either side.
+    /// The last damage in HP, of either side, from 0 to 65,535.
     pub fn last_damage(&self) -> u16
         ensures stands { (g : Setting) (f : Field) → Within g self.now f → result ≡ f.last_damage }
     {
         word!(self.header(), 3..5)
     }
 
-    /// How the battle stands.
+    /// How the battle stands: it goes on, side 1 or side 2 has won, it is a tie, or it ended by fault 1 or 2.
     pub fn outcome(&self) -> Outcome
         ensures stands { (g : Setting) (f : Field) → Within g self.now f → result ≡ f.outcome }
         ensures packs { (g : Setting) (f : Field) → Packs g self.now f → result ≡ f.outcome }
@@ -35,7 +35,7 @@ impl Packed {
         outcome_from(self.header()[16])
     }
 
-    /// What is asked of a side.
+    /// What is asked of a side: nothing, a move, or a switch.
     pub fn request(&self, side: Side) -> Request
         ensures stands { (g : Setting) (f : Field) → Within g self.now f → result ≡ request_of side f }
         ensures packs { (g : Setting) (f : Field) → Packs g self.now f → result ≡ request_of side f }
@@ -68,7 +68,7 @@ impl Packed {
         self.header()[19] / 2 == 1
     }
 
-    /// Writes the last damage.
+    /// Writes the last damage, in HP.
     pub fn put_last_damage(&mut self, damage: u16)
         ensures stands { (g : Setting) (f : Field) → Within g self.old f → Within g self.new (with_last_damage damage f) }
     {
@@ -102,7 +102,8 @@ impl Packed {
         put_word!(self.header_mut(), 1..3, next);
     }
 
-    /// The generator as the bytes have it. Between two updates there is always an answer.
+    /// The generator as the bytes have it, with its index from 0 to 8. There is an answer wherever the bytes stand for a
+    /// battle.
     pub fn generator(&self) -> Option<LinkRandom>
         ensures stands { (g : Setting) (f : Field) → Within g self.now f → result ≡ Some (ring_at g.seed g.drawn) }
     {

@@ -40,5 +40,5 @@ mod telling;
 mod tests;
 
 pub use conditions::Conditions;
-pub use packed::Packed;
+pub use packed::{Packed, in_two};
 pub use reading::{ReadFault, laws};

@@ -32,28 +32,29 @@ impl Packed {
         self.member(side, self.place(side))
     }
 
-    /// The level of the member that is out.
+    /// The level of the member that is out, from 1 to 100.
     pub fn level(&self, side: Side) -> u8
         ensures stands { (g : Setting) (f : Field) → Within g self.now f → result ≡ (member_in side f).level }
     {
         self.member_out(side)[1]
     }
 
-    /// The most HP that it can have.
+    /// The most HP that it can have, from 11 to 999.
     pub fn max_hp(&self, side: Side) -> u16
         ensures stands { (g : Setting) (f : Field) → Within g self.now f → result ≡ (member_in side f).max }
     {
         word!(self.member_out(side), 2..4)
     }
 
-    /// Its HP.
+    /// Its HP, from 0 to its maximum HP.
     pub fn hp(&self, side: Side) -> u16
         ensures stands { (g : Setting) (f : Field) → Within g self.now f → result ≡ (member_in side f).hp }
     {
         word!(self.member_out(side), 4..6)
     }
 
-    /// Its own Attack, Defense, Speed or Special; accuracy and evasion have no number of their own, and give 0.
+    /// Its own Attack, Defense, Speed or Special before stages, from 5 to 999; accuracy and evasion have no number of
+    /// their own, and give 0.
     pub fn unmodified(&self, side: Side, stat: Stat) -> u16
         ensures stands { (g : Setting) (f : Field) → Within g self.now f → result ≡ unmodified stat (member_in side f) }
     {
@@ -67,7 +68,7 @@ impl Packed {
         }
     }
 
-    /// Its status.
+    /// Its status; a sleep has 1 to 7 turns left.
     pub fn status(&self, side: Side) -> Status
         ensures stands { (g : Setting) (f : Field) → Within g self.now f → result ≡ (member_in side f).status }
     {
@@ -75,7 +76,7 @@ impl Packed {
         status_from(out[14], out[23])
     }
 
-    /// The number of the move in a slot from 1 to 4, or 0 where it has none there.
+    /// The number of the move in a slot from 1 to 4, itself from 1 to 164, or 0 where it has none there.
     pub fn move_in(&self, side: Side, slot: usize) -> u8
         requires low { 1 ≤ slot }
         requires high { slot ≤ 4 }
@@ -84,7 +85,7 @@ impl Packed {
         self.member_out(side)[slot + 14]
     }
 
-    /// The PP of the move in a slot from 1 to 4.
+    /// The PP of the move in a slot from 1 to 4, from 0 to 63; 0 where it has none there.
     pub fn pp(&self, side: Side, slot: usize) -> u8
         requires low { 1 ≤ slot }
         requires high { slot ≤ 4 }
@@ -93,7 +94,7 @@ impl Packed {
         self.member_out(side)[slot + 18]
     }
 
-    /// The number of the species of the member at a place from 1 to 6, or 0 where there is none.
+    /// The number of the species of the member at a place from 1 to 6, itself from 1 to 151, or 0 where there is none.
     pub fn species_at(&self, side: Side, place: usize) -> u8
         requires low { 1 ≤ place }
         requires high { place ≤ 6 }
@@ -103,7 +104,7 @@ impl Packed {
         self.member(side, place)[0]
     }
 
-    /// The HP of the member at a place from 1 to 6, or 0 where there is none.
+    /// The HP of the member at a place from 1 to 6, from 0 to its maximum HP; 0 where there is none.
     pub fn hp_at(&self, side: Side, place: usize) -> u16
         requires low { 1 ≤ place }
         requires high { place ≤ 6 }
@@ -113,7 +114,7 @@ impl Packed {
         word!(self.member(side, place), 4..6)
     }
 
-    /// The status of the member at a place from 1 to 6; healthy where there is none.
+    /// The status of the member at a place from 1 to 6, with 1 to 7 turns for a sleep; healthy where there is none.
     pub fn status_at(&self, side: Side, place: usize) -> Status
         requires low { 1 ≤ place }
         requires high { place ≤ 6 }
@@ -148,7 +149,7 @@ impl Packed {
         member[23] = mark;
     }
 
-    /// Writes the PP of the move in a slot, at most 63.
+    /// Writes the PP of the move in a slot from 1 to 4, at most 63.
     pub fn put_pp(&mut self, side: Side, slot: usize, pp: u8)
         requires low { 1 ≤ slot }
         requires high { slot ≤ 4 }

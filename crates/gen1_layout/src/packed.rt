@@ -2,10 +2,11 @@
 ghost use Rattle.std.specs.Prelude.{◌≡◌, ◌+◌, ◌-◌, ◌≤◌, length};
 ghost use Rattle.std.specs.Borrow.{sem};
 ghost use Rattle.gen1_machine.specs.State.{State};
+ghost use Rattle.gen1_machine.specs.Sides.{other};
 ghost use Rattle.gen1_machine.specs.Layout.{bytes_of};
 ghost use Rattle.gen1_layout.specs.Within.{blocks_of};
-ghost use Rattle.gen1_layout.specs.Parts.{active_of, bytes_of_side, joined, member_at, member_of, part, parts_of, side_at, side_of};
-ghost use Rattle.gen1_layout.specs.Lending.{LendsActive, LendsHeader, LendsMember, LendsPart, LendsSide};
+ghost use Rattle.gen1_layout.specs.Parts.{active_of, bytes_of_side, bytes_of_sides, in_order, joined, member_at, member_of, part, parts_of, side_at, side_of};
+ghost use Rattle.gen1_layout.specs.Lending.{LendsActive, LendsBothSides, LendsHeader, LendsInTwo, LendsMember, LendsPart, LendsSide, LendsSides};
 
 use gen1_machine::Side;
 use std::marker::Model;
@@ -66,6 +67,26 @@ impl Packed {
         self.part_mut(from, from + 180)
     }
 
+    /// The 360 bytes of both sides, side 1's and then side 2's, for writing.
+    pub fn sides_mut(&mut self) -> &mut [u8]
+        ensures* writes_back { sem 𝓛 (LendsSides self.entry result) }
+        ensures value { result.now ≡ bytes_of_sides self.old }
+        ensures len { length result.now ≡ 360 }
+        ensures each { (length (bytes_of_side self.old.one) ≡ 180) × (length (bytes_of_side self.old.two) ≡ 180) }
+    {
+        self.part_mut(24, 384)
+    }
+
+    /// The 180 bytes of a side and those of the side that it battles, both for writing at once.
+    pub fn both_mut(&mut self, side: Side) -> (&mut [u8], &mut [u8])
+        ensures* writes_back { sem 𝓛 (LendsBothSides side self.entry result) }
+        ensures value { (result.0.now ≡ bytes_of_side (side_of side self.old))
+            × (result.1.now ≡ bytes_of_side (side_of (other side) self.old)) }
+        ensures len { (length result.0.now ≡ 180) × (length result.1.now ≡ 180) }
+    {
+        in_two(self.sides_mut(), side)
+    }
+
     /// The 36 bytes of a side's active block (docs/LAYOUT.md, "Active block"), for writing.
     pub fn active_mut(&mut self, side: Side) -> &mut [u8]
         ensures* writes_back { sem 𝓛 (LendsActive side self.entry result) }
@@ -94,7 +115,7 @@ impl Packed {
         ensures stands { (s : State) → self.now ≡ blocks_of s → result.now ≡ bytes_of s }
         ensures len { length result.now ≡ 384 }
     {
-        &self.0
+        &self.0[..]
     }
 
     /// The 24 bytes of the header.
@@ -132,6 +153,20 @@ impl Packed {
     {
         let from = start_of_member(side, place);
         &self.0[from..from + 24]
+    }
+}
+
+/// The bytes of both sides ([`Packed::sides_mut`]) in two: the 180 bytes of a side, and those of the side that it battles.
+pub fn in_two(sides: &mut [u8], side: Side) -> (&mut [u8], &mut [u8])
+    requires { length sides.old ≡ 360 }
+    ensures* writes_back { sem 𝓛 (LendsInTwo side sides.entry result) }
+    ensures value { sides.old ≡ in_order side result.0.now result.1.now }
+    ensures len { (length result.0.now ≡ 180) × (length result.1.now ≡ 180) }
+{
+    let (one, two) = sides.split_at_mut(180);
+    match side {
+        Side::One => (one, two),
+        Side::Two => (two, one),
     }
 }
 

@@ -1,5 +1,7 @@
 //! A battle at turn 0 by docs/LAYOUT.md, and each reader and writer once.
-use crate::{Conditions, Packed};
+ghost use Rattle.std.specs.Prelude.{◌≡◌};
+
+use crate::{Conditions, Packed, in_two};
 use arrayvec::ArrayVec;
 use gen1_machine::{DisabledSlot, Kind, Outcome, Request, Rules, Side, TurnLimit, Used};
 use gen1_rolls::{LinkRandom, Rolls};
@@ -56,6 +58,29 @@ fn a_battle_at_turn_0(rt: HostRuntime) -> Result<(), Fail> {
     assert_eq!(rt; packed.hp_at(Side::Two, 2), 0);
     assert_eq!(rt; packed.status_at(Side::Two, 1), Status::Healthy);
     Ok(())
+}
+
+// Side 1 lies from offset 24 on, and side 2 from 204 on.
+#[test]
+fn both_sides_at_once(rt: HostRuntime) -> Result<(), Fail> {
+    let mut packed = begun()?;
+    assert_eq!(rt; packed.sides_mut().len(), 360);
+    let (own, others) = packed.both_mut(Side::Two);
+    own[0] = 7;
+    others[179] = 9;
+    assert_eq!(rt; packed.as_bytes()[204], 7);
+    assert_eq!(rt; packed.as_bytes()[203], 9);
+    take_over(&mut packed, Side::One);
+    assert_eq!(rt; packed.as_bytes()[24], 7);
+    Ok(())
+}
+
+// What a caller learns of the battle, by the two calls that `both_mut` makes.
+fn take_over(packed: &mut Packed, side: Side)
+    ensures { packed.new.header ≡ packed.old.header }
+{
+    let (own, others) = in_two(packed.sides_mut(), side);
+    own[0] = others[0];
 }
 
 #[test]

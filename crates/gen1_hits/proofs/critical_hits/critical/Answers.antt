@@ -1,0 +1,20 @@
+use Rattle.std.proofs.Common.{nat_lt, refl, ℕ, ◌≡◌}
+use Rattle.gen1_machine.specs.Moves.{move_at}
+use Rattle.gen1_machine.specs.Progress.{Action}
+use Rattle.gen1_machine.specs.CriticalHits.{critical_bound_in, critical_by, roll_critical, rotated_left_3, set_critical}
+use Rattle.gen1_layout.proofs.Chain.{acted, drawing, drawn_seeing, still}
+use Rattle.gen1_hits.proofs.critical_hits.critical.Goals as goal
+
+pub returns : goal.returns
+unfolding roll_critical critical_by set_critical
+returns t c =
+    record {
+      shown = λ origin g events p h.
+          let w = h.shows.within in
+          let bound : c.critical_bound.result ≡ critical_bound_in c.args.side (move_at c.args.id) p.field =
+          rw (c.species.ensures.stands _ _ w, c.is_on-focused.ensures.stands 8 refl _ _ w) at c.critical_bound.ensures in
+          rw c.rotated_left_3-rotated.ensures
+          (drawing (critical_by c.args.side (move_at c.args.id)) h c.draw.ensures.drawn c.draw.ensures.left (λ a.
+          drawn_seeing _ (λ (b : ℕ). set_critical (nat_lt (rotated_left_3 c.draw.result) b)) bound
+          (still a (acted (λ (x : Action). record x { critical = nat_lt (rotated_left_3 c.draw.result) c.critical_bound.result }) a.shows) refl)));
+    }

@@ -1,0 +1,8 @@
+-- What a hit is made of, as the code holds it.
+pub mod Numbers
+pub mod TypeRows
+-- The damage at each factor, and what is drawn for one.
+pub mod Factors
+-- What an action knows after a landing, and after a hit test.
+pub mod Landed
+pub mod Tested

@@ -1,0 +1,70 @@
+//! Critical hits (docs/MECHANICS.md, "Critical hits").
+ghost use Rattle.std.specs.Prelude.{List, false, ◌≡◌};
+ghost use Rattle.gen1_tables.specs.Species.{species_row};
+ghost use Rattle.gen1_machine.specs.declared.event.Event.{Event};
+ghost use Rattle.gen1_machine.specs.Moves.{is_often_critical, move_at};
+ghost use Rattle.gen1_machine.specs.Progress.{Progress};
+ghost use Rattle.gen1_machine.specs.CriticalHits.{critical_bound, roll_critical, rotated_left_3};
+ghost use Rattle.gen1_layout.specs.Shows.{Frame, ShowsDrawn};
+
+use gen1_layout::{Conditions, Packed};
+use gen1_machine::Side;
+use gen1_rolls::Rolls;
+use gen1_tables::{MoveId, Species};
+
+const KARATE_CHOP: u8 = 2;
+
+const RAZOR_LEAF: u8 = 75;
+
+const CRABHAMMER: u8 = 152;
+
+const SLASH: u8 = 163;
+
+/// Takes the critical draw for a move of `side`, and tells whether the hit is critical. The battle stays as it is, and no
+/// event is written (docs/MECHANICS.md, "Critical hits").
+pub fn critical<R: Rolls>(battle: &Packed, side: Side, id: MoveId, random: &mut R) -> bool
+    ensures shown { (origin : R) (g : Frame) (events : List Event) (p : Progress)
+        → ShowsDrawn R.byte R.next R.SPAN origin g battle.now events random.old false p
+        → ShowsDrawn R.byte R.next R.SPAN origin (record g { action = record g.action { critical = result } }) battle.now events random.new false (roll_critical side (move_at id) p) }
+{
+    let rotated = rotated_left_3(random.draw());
+    let focused = battle.is_on(side, Conditions::FOCUS_ENERGY);
+    rotated < critical_bound(battle.species(side), focused, id)
+}
+
+/// What a draw, rotated left by 3 bits, must be below for a critical hit by a move of this species, from 0 to 255. Under
+/// Focus Energy, `focused`, it is less (docs/MECHANICS.md, "Critical hits").
+pub fn critical_bound(species: Species, focused: bool, id: MoveId) -> u8
+    ensures { result ≡ critical_bound (species_row species).speed focused (is_often_critical id) }
+{
+    let [_, _, _, speed, _] = species.base();
+    bound(speed, focused, is_often_critical(id))
+}
+
+fn bound(base_speed: u8, focused: bool, often: bool) -> u8
+    ensures { result ≡ critical_bound base_speed focused often }
+{
+    let half = base_speed / 2;
+    let by_energy = if focused {
+        half / 2
+    } else {
+        half.saturating_mul(2)
+    };
+    if often {
+        by_energy.saturating_mul(4)
+    } else {
+        by_energy / 2
+    }
+}
+
+fn is_often_critical(id: MoveId) -> bool
+    ensures { result ≡ is_often_critical id }
+{
+    matches!(id.number(), KARATE_CHOP | RAZOR_LEAF | CRABHAMMER | SLASH)
+}
+
+fn rotated_left_3(byte: u8) -> u8
+    ensures { result ≡ rotated_left_3 byte }
+{
+    byte.rotate_left(3)
+}

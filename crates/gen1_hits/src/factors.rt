@@ -1,0 +1,70 @@
+//! The factor of a hit's damage: one that is drawn, and all of them.
+ghost use Rattle.std.specs.Prelude.{map, ◌≡◌, ◌≤◌};
+ghost use Rattle.std.specs.List.{range_with_len};
+ghost use Rattle.gen1_machine.specs.Damage.{is_factor, rotated_right_1, times_factor};
+ghost use Rattle.gen1_hits.specs.Factors.{Varies, damages, varied};
+
+use crate::formula::{Numbers, damage};
+use crate::type_rows::type_steps;
+use gen1_rolls::{Rolls, until};
+
+/// Damage times a factor that is drawn, in 255ths (docs/MECHANICS.md, "Factor"). Damage 0 and 1 are kept, without a draw.
+pub fn factor<R: Rolls>(damage: u16, random: &mut R) -> u16
+    ensures varies { Varies R.byte R.next R.SPAN damage random.old result random.new }
+    ensures most { result ≤ damage }
+{
+    if damage <= 1 {
+        return damage;
+    }
+    match until(random, is_factor) {
+        Some(byte) => times_factor(rotated(byte), damage),
+        None => unreachable!(),
+    }
+}
+
+/// The damage of a hit at each factor from 217 to 255, in this order (docs/MECHANICS.md, "Factor"): 39 times the same
+/// where it is 0 or 1. `None` where the divisor is 0.
+pub fn damage_list(numbers: &Numbers) -> Option<[u16; 39]>
+    ensures { result ≡ damages numbers.now }
+{
+    let before = damage(numbers)?;
+    Some(at_factors(type_steps(before, numbers)))
+}
+
+fn at_factors(damage: u16) -> [u16; 39]
+    ensures { result ≡ map (λ factor. varied factor damage) (range_with_len 217 39) }
+{
+    let mut list = [damage; 39];
+    for (place, entry) in list.iter_mut().enumerate() {
+        *entry = varied(217 + place as u8, damage);
+    }
+    list
+}
+
+fn varied(factor: u8, damage: u16) -> u16
+    ensures { result ≡ varied factor damage }
+{
+    match damage {
+        0 | 1 => damage,
+        _ => times_factor(factor, damage),
+    }
+}
+
+fn times_factor(factor: u8, damage: u16) -> u16
+    ensures is { result ≡ times_factor factor damage }
+    ensures most { result ≤ damage }
+{
+    (u32::from(damage) * u32::from(factor) / 255) as u16
+}
+
+fn is_factor(byte: u8) -> bool
+    ensures { result ≡ is_factor byte }
+{
+    rotated(byte) >= 217
+}
+
+fn rotated(byte: u8) -> u8
+    ensures { result ≡ rotated_right_1 byte }
+{
+    byte.rotate_right(1)
+}

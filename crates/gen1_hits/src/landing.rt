@@ -1,0 +1,106 @@
+//! Where damage lands (docs/MECHANICS.md, "Landing"): on the HP, or on a Substitute.
+ghost use Rattle.std.specs.Prelude.{Some, false, nat_lt, ◌+◌, ◌≡◌, ◌≤◌};
+ghost use Rattle.arrayvec.specs.ArrayVec.{array_vec_len};
+ghost use Rattle.gen1_machine.specs.Sides.{other};
+ghost use Rattle.gen1_machine.specs.State.{Field, conditions_in};
+ghost use Rattle.gen1_machine.specs.Progress.{Progress, only};
+ghost use Rattle.gen1_machine.specs.Landing.{breaks, land_damage, land_on_hp, land_on_substitute};
+ghost use Rattle.gen1_layout.specs.Shows.{Does, Frame, Shows};
+ghost use Rattle.gen1_layout.specs.Within.{Setting, Within};
+ghost use Rattle.gen1_hits.specs.Landed.{has_broken, landed_on, with_break};
+
+use gen1_layout::Packed;
+use gen1_machine::{DamageSource, Event, EventList, Side, Volatile};
+
+/// Where damage landed.
+#[derive(Clone, Copy, Debug, PartialEq, Eq, Drop)]
+pub enum Landed {
+    /// On the HP; also where the damage was 0.
+    Hp,
+    /// On a Substitute that stays, perhaps with 0 HP.
+    Kept,
+    /// On a Substitute, which broke.
+    Broke,
+}
+
+/// Lands `damage` on the foe of `user`: on its Substitute where it has one, else on its HP, which cuts the last damage to
+/// what was there. Damage 0 changes nothing. At most one event is written, and one place in `events` is to be free for it
+/// (docs/MECHANICS.md, "Landing").
+pub fn land(battle: &mut Packed, user: Side, damage: u16, events: &mut EventList) -> Landed
+    requires { array_vec_len events.old + 1 ≤ 64 }
+    ensures shown { (g : Frame) (p : Progress) → Shows g battle.old events.old.items false p
+        → Shows (with_break (has_broken result) g) battle.new events.new.items false (only (nat_lt 0 damage) (land_damage (other user) damage) p) }
+    ensures landed { (g : Setting) (f : Field) → Within g battle.old f
+        → result ≡ landed_on damage (conditions_in (other user) f).substitute }
+    ensures room { array_vec_len events.new ≤ array_vec_len events.old + 1 }
+{
+    if damage == 0 {
+        return Landed::Hp;
+    }
+    let target = user.other();
+    match battle.substitute(target) {
+        Some(hp) => {
+            if land_on_substitute(battle, target, damage, hp, events) {
+                Landed::Broke
+            } else {
+                Landed::Kept
+            }
+        }
+        None => {
+            land_on_hp(battle, target, DamageSource::Direct, damage, events);
+            Landed::Hp
+        }
+    }
+}
+
+/// Lands `damage` on the Substitute of `target`, which has `hp` HP, and tells whether it broke. Damage above its HP, or
+/// above 255, breaks it, and `End` is written; else it keeps the rest, perhaps 0, and `Activate` is written. One place in
+/// `events` is to be free. The last damage stays (docs/MECHANICS.md, "Landing").
+pub fn land_on_substitute(
+    battle: &mut Packed,
+    target: Side,
+    damage: u16,
+    hp: u8,
+    events: &mut EventList,
+) -> bool
+    requires { array_vec_len events.old + 1 ≤ 64 }
+    ensures shown { (g : Frame) (p : Progress) → Shows g battle.old events.old.items false p
+        → (conditions_in target p.field).substitute ≡ Some hp
+        → Shows (with_break result g) battle.new events.new.items false (land_on_substitute target damage hp p) }
+    ensures broken { result ≡ breaks damage hp }
+    ensures room { array_vec_len events.new ≤ array_vec_len events.old + 1 }
+{
+    if breaks(damage, hp) {
+        battle.put_substitute(target, None);
+        events.push(Event::End(battle.who(target), Volatile::Substitute));
+        return true;
+    }
+    battle.put_substitute(target, Some(hp - damage as u8));
+    events.push(Event::Activate(battle.who(target), Volatile::Substitute));
+    false
+}
+
+fn breaks(damage: u16, hp: u8) -> bool
+    ensures { result ≡ breaks damage hp }
+{
+    255 < damage || u16::from(hp) < damage
+}
+
+/// Lands `damage` on the HP of `target`. The last damage becomes what is taken, the damage or as many HP as there are;
+/// `Damage` with the source is written where that is any, and one place in `events` is to be free for it (docs/MECHANICS.md,
+/// "Landing").
+pub fn land_on_hp(
+    battle: &mut Packed,
+    target: Side,
+    source: DamageSource,
+    damage: u16,
+    events: &mut EventList,
+)
+    requires { array_vec_len events.old + 1 ≤ 64 }
+    ensures shown { Does battle.old events.old.items battle.new events.new.items false (land_on_hp target source damage) }
+    ensures room { array_vec_len events.new ≤ array_vec_len events.old + 1 }
+{
+    let taken = damage.min(battle.hp(target));
+    battle.put_last_damage(taken);
+    crate::lose_hp(battle, target, source, damage, events);
+}

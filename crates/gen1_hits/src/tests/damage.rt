@@ -1,0 +1,105 @@
+//! Values worked out by hand (docs/MECHANICS.md, "Damage", "Types", "Factor").
+use super::{TAUROS, facing, named};
+use crate::{Numbers, damage, damage_list, factor, numbers, own_numbers, type_steps};
+use gen1_layout::Conditions;
+use gen1_machine::Side;
+use gen1_rolls::{LinkRandom, Sweep};
+use gen1_tables::Element;
+use std::test::Fail;
+
+#[test]
+fn body_slam(rt: HostRuntime) -> Result<(), Fail> {
+    let battle = facing("Tauros", TAUROS)?;
+    let slam = named("Body Slam")?;
+    let plain = numbers(&battle, Side::One, slam, false);
+    let expected = Numbers {
+        level: 100,
+        power: 85,
+        attack: 74,
+        defense: 72,
+        kind: Element::Normal,
+        own: [Element::Normal; 2],
+        foe: [Element::Normal; 2],
+        halved: false,
+    };
+    assert_eq!(rt; plain, expected);
+    assert_eq!(rt; damage(&plain), Some(75));
+    assert_eq!(rt; type_steps(75, &plain), 112);
+    let list = damage_list(&plain).ok_or("no damage")?;
+    let worked = [
+        95, 95, 96, 96, 97, 97, 97, 98, 98, 99, 99, 100, 100, 101, 101, 101, 102, 102, 103, 103,
+        104, 104, 104, 105, 105, 106, 106, 107, 107, 108, 108, 108, 109, 109, 110, 110, 111, 111,
+        112,
+    ];
+    assert_eq!(rt; list, worked);
+    let critical = numbers(&battle, Side::Two, slam, true);
+    assert_eq!(rt; critical.level, 200);
+    let list = damage_list(&critical).ok_or("no damage")?;
+    assert_eq!(rt; (list[0], list[38]), (184, 217));
+    Ok(())
+}
+
+#[test]
+fn ice_on_gyarados(rt: HostRuntime) {
+    let ice = Numbers {
+        level: 100,
+        power: 95,
+        attack: 100,
+        defense: 100,
+        kind: Element::Ice,
+        own: [Element::Normal; 2],
+        foe: [Element::Water, Element::Flying],
+        halved: false,
+    };
+    assert_eq!(rt; type_steps(75, &ice), 74);
+    let water = Numbers {
+        foe: [Element::Water; 2],
+        ..ice
+    };
+    assert_eq!(rt; type_steps(75, &water), 37);
+}
+
+#[test]
+fn a_divisor_of_0(rt: HostRuntime) -> Result<(), Fail> {
+    let mut battle = facing("Tauros", TAUROS)?;
+    battle.put_defense(Side::Two, 10, 512);
+    battle.put_flag(Side::Two, Conditions::REFLECT, true);
+    let strength = numbers(&battle, Side::One, named("Strength")?, false);
+    assert_eq!(rt; damage(&strength), None);
+    assert_eq!(rt; damage_list(&strength), None);
+    let explosion = numbers(&battle, Side::One, named("Explosion")?, false);
+    assert_eq!(rt; damage(&explosion), Some(999));
+    let critical = numbers(&battle, Side::One, named("Strength")?, true);
+    assert_eq!(rt; critical.defense, 72);
+    Ok(())
+}
+
+// 42 * 40 * 74 / 72 / 50 + 2 is 36; under the foe's Reflect the 72 are 144.
+#[test]
+fn a_hit_on_itself(rt: HostRuntime) -> Result<(), Fail> {
+    let mut battle = facing("Tauros", TAUROS)?;
+    assert_eq!(rt; damage(&own_numbers(&battle, Side::One)), Some(36));
+    battle.put_flag(Side::One, Conditions::REFLECT, true);
+    assert_eq!(rt; damage(&own_numbers(&battle, Side::One)), Some(36));
+    battle.put_flag(Side::Two, Conditions::REFLECT, true);
+    assert_eq!(rt; damage(&own_numbers(&battle, Side::One)), Some(19));
+    Ok(())
+}
+
+#[test]
+fn factors_are_drawn(rt: HostRuntime) {
+    let mut sweep = Sweep::new(0);
+    assert_eq!(rt; factor(255, &mut sweep), 217);
+    assert_eq!(rt; sweep, Sweep::new(180));
+    let mut late = Sweep::new(254);
+    assert_eq!(rt; factor(255, &mut late), 255);
+    assert_eq!(rt; late, Sweep::new(0));
+    assert_eq!(rt; (factor(0, &mut late), factor(1, &mut late)), (0, 1));
+    assert_eq!(rt; late, Sweep::new(0));
+    let seed = [1, 255, 0, 0, 0, 0, 0, 0, 0, 0];
+    let mut random = LinkRandom::new(seed);
+    assert_eq!(rt; factor(1, &mut random), 1);
+    assert_eq!(rt; random.index(), 0);
+    assert_eq!(rt; factor(999, &mut random), 999);
+    assert_eq!(rt; random.index(), 2);
+}

@@ -1,0 +1,21 @@
+-- Tests of numbers, by what they test, and one test or another.
+use Rattle.std.proofs.Common.{Bool, arith, false, nat_le, nat_lt, sym, true, ℕ, ◌<◌, ◌||◌, ◌≡◌, ◌≤◌, ◌∙◌}
+use Rattle.std.proofs.lemmas.Bool.Decides.{nat_tests}
+
+pub at_most : (a b : ℕ) → a ≤ b → nat_le a b ≡ true
+at_most a b h = grind (arith, nat_tests)
+
+pub not_at_most : (a b : ℕ) → b < a → nat_le a b ≡ false
+not_at_most a b h = grind (arith, nat_tests)
+
+pub below : (a b : ℕ) → a < b → nat_lt a b ≡ true
+below a b h = grind (arith, nat_tests)
+
+pub not_below : (a b : ℕ) → b ≤ a → nat_lt a b ≡ false
+not_below a b h = grind (arith, nat_tests)
+
+pub or_then : (a b : Bool) {v x : Bool} → x ≡ a → x ≡ true → v ≡ x → v ≡ (a || b)
+or_then a b is e value = let so : a ≡ true = sym is ∙ e in rw so (value ∙ e)
+
+pub or_else : (a b : Bool) {v x y : Bool} → x ≡ a → x ≡ false → y ≡ b → v ≡ y → v ≡ (a || b)
+or_else a b is e other value = let so : a ≡ false = sym is ∙ e in rw so (value ∙ other)

@@ -1,0 +1,173 @@
+-- How answers of the gate go through phases; and no test but the hit on itself says how the battle stands.
+use Rattle.std.proofs.Common.{Bool, List, Some, ap, false, refl, subst, sym, true, ℕ, ◌+◌, ◌≡◌, ◌∙◌}
+use Rattle.gen1_rolls.specs.Streams.{Stream, byte_at}
+use Rattle.gen1_rolls.proofs.Standing.{byte_drawn, stands_after_draw}
+use Rattle.gen1_machine.specs.declared.event.Event.{Event}
+use Rattle.gen1_machine.specs.declared.side.Side.{Side}
+use Rattle.gen1_machine.specs.declared.terms.Outcome.{Outcome}
+use Rattle.gen1_machine.specs.Conditions.{Conditions}
+use Rattle.gen1_machine.specs.State.{changed_active, changed_conditions, changed_member, with_last_damage, Field}
+use Rattle.gen1_machine.specs.Progress.{Action, Phase, Progress, choose, draw, given, ◌▸◌}
+use Rattle.gen1_machine.specs.HitOnItself.{hurt_itself_by}
+use Rattle.gen1_machine.proofs.Keeps.{choose-keeps, given-keeps, set_last_damage-keeps, then-keeps, Keeps, Spares}
+use Rattle.gen1_machine.proofs.RequestsStand.{outcome-stays}
+use Rattle.gen1_machine.proofs.Steady.{land_on_foes_substitute-steady, land_on_hp-steady, Breaks, Hurts, Steady}
+use Rattle.gen1_layout.specs.Parts.{Parts}
+use Rattle.gen1_layout.specs.Shows.{Frame, Shows, ShowsDrawn}
+use Rattle.gen1_layout.proofs.Chain.{choose-false, choose-true, settled, still, then-goes, then-stops}
+use Rattle.gen1_status.specs.declared.passing.Gate.{Gate}
+use Rattle.gen1_status.specs.declared.passing.Gate.TheVariants.{Go, Stop, Fault}
+use Rattle.gen1_status.specs.Telling.{Tells, TellsDrawn, action_after, frame_after, outcome_after, stopped_by}
+
+-- how the battle stands
+
+abbrev pub StaysAs : Outcome → Field → Action → Stream → Type 0
+StaysAs outcome f a w = f.outcome ≡ outcome
+
+pub outcome-steady : (outcome : Outcome) → Steady (StaysAs outcome)
+unfolding changed_member changed_active changed_conditions with_last_damage
+outcome-steady outcome = record {
+  member = λ s change soft. record { spared = λ f a w h. outcome-stays s _ f ∙ h };
+  active = λ s change left. record { spared = λ f a w h. outcome-stays s _ f ∙ h };
+  conditions = λ s change left. record { spared = λ f a w h. outcome-stays s _ f ∙ h };
+  damage = λ n. record { spared = λ f a w h. h };
+  action = λ change left. record { spared = λ f a w h. h };
+}
+
+pub outcome-hurts : (outcome : Outcome) → Hurts (StaysAs outcome)
+unfolding changed_member
+outcome-hurts outcome = record { hurt = λ s change. record { spared = λ f a w h. outcome-stays s _ f ∙ h } }
+
+pub outcome-breaks : (outcome : Outcome) (s : Side) → Breaks (StaysAs outcome) s
+unfolding changed_conditions changed_active
+outcome-breaks outcome s = record { broken = record { spared = λ f a w h. outcome-stays s _ f ∙ h } }
+
+-- any change of conditions, and the hit on itself by a number
+pub conditions-spare : (outcome : Outcome) (s : Side) (change : Conditions → Conditions) → Spares (StaysAs outcome) (changed_conditions s change)
+unfolding changed_conditions changed_active
+conditions-spare outcome s change = record { spared = λ f a w h. outcome-stays s _ f ∙ h }
+
+pub hit-keeps : (outcome : Outcome) (s : Side) (damage : ℕ) → Keeps (StaysAs outcome) (hurt_itself_by s (Some damage))
+unfolding hurt_itself_by
+hit-keeps outcome s damage =
+    let steady = outcome-steady outcome in
+    then-keeps (set_last_damage-keeps damage (steady.damage damage))
+    (choose-keeps _ (given-keeps _ (λ hp. land_on_foes_substitute-steady steady s damage hp)) (land_on_hp-steady steady s _ damage (outcome-hurts outcome)))
+
+-- what is known of the action
+
+known : (answer : Gate) (found left : Action) → left ≡ found → left ≡ action_after answer found left
+known Go found left e = e
+known Stop found left e = e ∙ ap (λ (a : Action). record found { broke = a.broke }) (sym e)
+known Fault found left e = e ∙ ap (λ (a : Action). record found { broke = a.broke }) (sym e)
+
+pub known_so : {g : Frame} {parts : Parts} {events : List Event} {b : Bool} {p : Progress} (answer : Gate) → Shows g parts events b p → Shows (frame_after answer p g) parts events b p
+known_so answer h = record { within = h.within; written = h.written; ends = h.ends; stream = h.stream; drawn = h.drawn; skips = h.skips; action = known answer _ _ h.action }
+
+-- a substitute may have been broken
+pub broken_so : (g : Frame) {parts : Parts} {events : List Event} {b : Bool} {p : Progress} (broke : Bool)
+    → Shows (record g { action = record g.action { broke = broke } }) parts events b p → Shows (frame_after Stop p g) parts events b p
+broken_so g broke h = record {
+  within = h.within;
+  written = h.written;
+  ends = h.ends;
+  stream = h.stream;
+  drawn = h.drawn;
+  skips = h.skips;
+  action = h.action ∙ ap (λ (x : Bool). record g.action { broke = x }) (sym (ap (λ (a : Action). a.broke) h.action));
+}
+
+gone : (answer : Gate) → stopped_by answer ≡ false → answer ≡ Go
+gone Go e = refl
+gone Stop e = cc
+gone Fault e = cc
+
+-- without draws
+
+module _ {g : Frame} {parts : Parts} {events : List Event} {p : Progress} where
+  pub tells : (answer : Gate) (f : Phase) → outcome_after answer p.field.outcome ≡ p.field.outcome → Keeps (StaysAs p.field.outcome) f
+      → Shows g parts events (stopped_by answer) (f p) → Tells g parts events answer p (f p)
+  tells answer f e k h = record { shows = known_so answer h; outcome = k.kept p refl ∙ sym e }
+
+  -- a phase that stops, and may have broken a substitute
+  pub tells_broken : (broke : Bool) (f : Phase) → Keeps (StaysAs p.field.outcome) f
+      → Shows (record g { action = record g.action { broke = broke } }) parts events true (f p) → Tells g parts events Stop p (f p)
+  tells_broken broke f k h = record { shows = broken_so g broke h; outcome = k.kept p refl }
+
+  pub tells_given : {A : Type 0} {a : A} {answer : Gate} (read : Progress → A) (f : A → Phase) (k : Phase) → a ≡ read p
+      → Tells g parts events answer p ((f a ▸ k) p) → Tells g parts events answer p ((given read f ▸ k) p)
+  unfolding given ◌▸◌
+  tells_given read f k e h = rw (← e) h
+
+  pub then_tells : {g' : Frame} {parts' : Parts} {events' : List Event} {answer : Gate} (f k : Phase) → Keeps (StaysAs p.field.outcome) f
+      → Shows g parts events false (f p) → Tells g' parts' events' answer (f p) (k (f p)) → Tells g' parts' events' answer p ((f ▸ k) p)
+  then_tells {answer = answer} f k keeps h a =
+      rw (then-goes f k p h.ends) (record { shows = a.shows; outcome = a.outcome ∙ ap (outcome_after answer) (keeps.kept p refl) })
+
+-- with a generator
+
+module _ {A : Type 0} {byte : A → ℕ} {next : A → A} {width : ℕ} {origin : A} {g : Frame} {parts : Parts} {events : List Event} {now : A} {p : Progress} where
+  -- what code without draws told, for a generator that has not moved
+  pub still_tells : {parts' : Parts} {events' : List Event} {answer : Gate} {b : Bool} {q : Progress} → ShowsDrawn byte next width origin g parts events now b p
+      → Tells (record g { drawn = p.drawn }) parts' events' answer p q → TellsDrawn byte next width origin g parts' events' now answer p q
+  still_tells {answer = answer} {q = q} h a = record { shows = still {g' = frame_after answer q g} h a.shows refl; outcome = a.outcome }
+
+  -- a phase that shows, and keeps how the battle stands
+  pub drawn_tells : (answer : Gate) (f : Phase) → outcome_after answer p.field.outcome ≡ p.field.outcome → Keeps (StaysAs p.field.outcome) f
+      → ShowsDrawn byte next width origin g parts events now (stopped_by answer) (f p) → TellsDrawn byte next width origin g parts events now answer p (f p)
+  drawn_tells answer f e k h = record { shows = record { shows = known_so answer h.shows; stands = h.stands }; outcome = k.kept p refl ∙ sym e }
+
+  pub tells_goes : {g' : Frame} {parts' : Parts} {events' : List Event} {now' : A} {answer : Gate} (f k : Phase)
+      → TellsDrawn byte next width origin g parts events now Go p (f p) → TellsDrawn byte next width origin g' parts' events' now' answer (f p) (k (f p))
+      → TellsDrawn byte next width origin g' parts' events' now' answer p ((f ▸ k) p)
+  tells_goes {answer = answer} f k a b =
+      rw (then-goes f k p a.shows.shows.ends) (record { shows = b.shows; outcome = b.outcome ∙ ap (outcome_after answer) a.outcome })
+
+  pub tells_stops : {answer : Gate} (f k : Phase) → stopped_by answer ≡ true
+      → TellsDrawn byte next width origin g parts events now answer p (f p) → TellsDrawn byte next width origin g parts events now answer p ((f ▸ k) p)
+  tells_stops f k e a = rw (then-stops f k p (a.shows.shows.ends ∙ e)) a
+
+  pub tells_if_so : {answer : Gate} (test : Progress → Bool) (f k : Phase) → test p ≡ true
+      → TellsDrawn byte next width origin g parts events now answer p (f p) → TellsDrawn byte next width origin g parts events now answer p (choose test f k p)
+  tells_if_so test f k e a = rw (choose-true test f k p e) a
+
+  pub tells_if_not : {answer : Gate} (test : Progress → Bool) (f k : Phase) → test p ≡ false
+      → TellsDrawn byte next width origin g parts events now answer p (k p) → TellsDrawn byte next width origin g parts events now answer p (choose test f k p)
+  tells_if_not test f k e a = rw (choose-false test f k p e) a
+
+  pub tells_seeing : {B : Type 0} {a : B} {answer : Gate} (read : Progress → B) (f : B → Phase) → a ≡ read p
+      → TellsDrawn byte next width origin g parts events now answer p (f a p) → TellsDrawn byte next width origin g parts events now answer p (given read f p)
+  unfolding given
+  tells_seeing read f e h = rw (← e) h
+
+  -- a draw
+  pub tells_drawing : {g' : Frame} {parts' : Parts} {events' : List Event} {old now' : A} {b : Bool} {answer : Gate} (f : ℕ → Phase) {drawn : ℕ}
+      → ShowsDrawn byte next width origin g parts events old b p → drawn ≡ byte old → now ≡ next old
+      → (ShowsDrawn byte next width origin g parts events now b (record p { drawn = p.drawn + 1 })
+      → TellsDrawn byte next width origin g' parts' events' now' answer (record p { drawn = p.drawn + 1 }) (f drawn (record p { drawn = p.drawn + 1 })))
+      → TellsDrawn byte next width origin g' parts' events' now' answer p (draw f p)
+  unfolding draw
+  tells_drawing f a e left then =
+      let at = byte_drawn a.stands e ∙ ap (λ (s : Stream). byte_at s p.drawn) (sym a.shows.stream) in
+      let h = a.shows in
+      let told = then (record {
+        shows = record { within = h.within; written = h.written; ends = h.ends; stream = h.stream; drawn = refl; skips = h.skips; action = h.action };
+        stands = stands_after_draw a.stands left;
+      }) in
+      rw (← at) (record { shows = told.shows; outcome = told.outcome })
+
+  pub drawn_settled : {b b' : Bool} → b ≡ b' → ShowsDrawn byte next width origin g parts events now b p → ShowsDrawn byte next width origin g parts events now b' p
+  drawn_settled e h = record { shows = settled e h.shows; stands = h.stands }
+
+  pub drawn_if_so : {b : Bool} (test : Progress → Bool) (f k : Phase) → test p ≡ true
+      → ShowsDrawn byte next width origin g parts events now b (f p) → ShowsDrawn byte next width origin g parts events now b (choose test f k p)
+  drawn_if_so test f k e h = rw (choose-true test f k p e) h
+
+  pub drawn_if_not : {b : Bool} (test : Progress → Bool) (f k : Phase) → test p ≡ false
+      → ShowsDrawn byte next width origin g parts events now b (k p) → ShowsDrawn byte next width origin g parts events now b (choose test f k p)
+  drawn_if_not test f k e h = rw (choose-false test f k p e) h
+
+  -- an answer that does not stop is Go
+  pub went : {answer : Gate} {q : Progress} → stopped_by answer ≡ false
+      → TellsDrawn byte next width origin g parts events now answer p q → TellsDrawn byte next width origin g parts events now Go p q
+  went {answer = answer} {q = q} e a = subst (λ (x : Gate). TellsDrawn byte next width origin g parts events now x p q) (gone answer e) a

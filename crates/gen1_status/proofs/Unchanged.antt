@@ -1,0 +1,10 @@
+-- A change that leaves what is there changes nothing.
+use Rattle.std.proofs.Common.{ap, ◌≡◌}
+use Rattle.gen1_machine.specs.declared.side.Side.{Side}
+use Rattle.gen1_machine.specs.declared.side.Side.TheVariants.{One, Two}
+use Rattle.gen1_machine.specs.State.{active_in, changed_active, with_party, Active, Field}
+
+pub changed_active-same : (s : Side) (change : Active → Active) (f : Field) → change (active_in s f) ≡ active_in s f → changed_active s change f ≡ f
+unfolding changed_active
+changed_active-same One change f e = ap (λ (a : Active). with_party One (record f.one { active = a }) f) e
+changed_active-same Two change f e = ap (λ (a : Active). with_party Two (record f.two { active = a }) f) e

@@ -1,0 +1,14 @@
+use Rattle.std.proofs.Common.{ap}
+use Rattle.gen1_machine.specs.declared.health.Who.{Who}
+use Rattle.gen1_machine.specs.declared.event.Event.TheVariants as events
+use Rattle.gen1_machine.specs.State.{who_in, Field}
+use Rattle.gen1_machine.specs.Gate.{cant}
+use Rattle.gen1_layout.proofs.Chain.{goes, halted, noted}
+use Rattle.gen1_status.proofs.gating.cant.Goals as goal
+
+pub returns-clause-shown : goal.returns-clause-shown
+unfolding cant
+returns-clause-shown c g p h =
+    let a = noted h (λ (f : Field). events.Cant (who_in c.args.side f) c.args.why) c.push.ensures.items
+    (ap (λ (w : Who). events.Cant w c.args.why) (c.who.ensures.stands _ _ h.within)) in
+    goes _ _ a (halted a)

@@ -1,0 +1,45 @@
+-- A shift of a stage, whose failure is left to its caller (docs/MECHANICS.md, "Stage shift").
+use Rattle.std.specs.Prelude.{Bool, List, false, true, ℕ, ℤ, negsuc, pos, ◌+◌, ◌≡◌, ◌≤◌}
+use Rattle.gen1_tables.specs.declared.effect.Stat.{Stat}
+use Rattle.gen1_tables.specs.declared.effect.Stat.TheVariants.{Accuracy, Attack, Defense, Evasion, Special, Speed}
+use Rattle.gen1_stats.specs.Members.{IsBetween}
+use Rattle.gen1_machine.specs.declared.side.Side.{Side}
+use Rattle.gen1_machine.specs.declared.event.Event.{Event}
+use Rattle.gen1_machine.specs.State.{Active}
+use Rattle.gen1_machine.specs.CurrentStats.{with_stage}
+use Rattle.gen1_machine.specs.Progress.{Phase, Progress}
+use Rattle.gen1_machine.specs.StageShift.{lower_stage, raise_stage}
+use Rattle.gen1_layout.specs.Parts.{Parts}
+use Rattle.gen1_layout.specs.Shows.{Frame, Shows}
+
+-- a stage, and so many penalties since its stat was last recomputed; Attack and Speed alone have any
+abbrev pub with_stage_after : Stat → ℕ → ℕ → Active → Active
+with_stage_after Attack stage penalties a = record a { stages = with_stage Attack stage a.stages; attack_halved = penalties }
+with_stage_after Speed stage penalties a = record a { stages = with_stage Speed stage a.stages; speed_quartered = penalties }
+with_stage_after Defense stage penalties a = record a { stages = with_stage Defense stage a.stages }
+with_stage_after Special stage penalties a = record a { stages = with_stage Special stage a.stages }
+with_stage_after Accuracy stage penalties a = record a { stages = with_stage Accuracy stage a.stages }
+with_stage_after Evasion stage penalties a = record a { stages = with_stage Evasion stage a.stages }
+
+-- the parts and the events stand for what a shift comes to at p: where it succeeded, for all of it; where it failed, for
+-- some q, from which on the shift is nothing but what happens on failing
+abbrev pub ShowsShifted : Frame → Parts → List Event → Bool → (Phase → Phase) → Phase → Progress → Type 0
+ShowsShifted g parts events true shift failing p = Shows g parts events false (shift failing p)
+ShowsShifted g parts events false shift failing p = (q : Progress) × Shows g parts events false q × (shift failing p ≡ failing q)
+
+-- code with no draws, from these parts and events to those, does what a shift does, up to its failing: whatever happens then
+abbrev pub Shifts : Parts → List Event → Parts → List Event → Bool → (Phase → Phase) → Type 0
+Shifts parts events parts' events' succeeded shift =
+    (failing : Phase) (g : Frame) (p : Progress) → Shows g parts events false p
+    → ShowsShifted g parts' events' succeeded shift failing p
+
+-- by so many stages, up where they are above 0 and down where they are below
+
+abbrev pub shift_stage : Side → Side → Stat → ℤ → Phase → Phase
+shift_stage user target stat (pos n) = raise_stage user target stat n
+shift_stage user target stat (negsuc n) = lower_stage user target stat (n + 1)
+
+-- by one or two
+abbrev pub IsShift : ℤ → Type 0
+IsShift (pos n) = IsBetween 1 2 n
+IsShift (negsuc n) = n ≤ 1

@@ -1,0 +1,58 @@
+//! Statuses that a member gets (docs/MECHANICS.md, "Penalties", "Order of events").
+ghost use Rattle.std.specs.Prelude.{false, ◌+◌, ◌≡◌, ◌≤◌};
+ghost use Rattle.arrayvec.specs.ArrayVec.{array_vec_len};
+ghost use Rattle.gen1_machine.specs.Progress.{Progress, inflict};
+ghost use Rattle.gen1_machine.specs.Valid.{IsStatus};
+ghost use Rattle.gen1_layout.specs.Shows.{Does, Frame, Shows};
+ghost use Rattle.gen1_status.specs.Inflicted.{IsCountOf, status_of_kind};
+
+use crate::take_penalty;
+use gen1_layout::Packed;
+use gen1_machine::{Event, EventList, Kind, Side};
+use gen1_stats::Status;
+
+/// Gives the member of `target` that is out a status of this kind, in place of any that it has, lays its penalty on the member
+/// once, and writes `Status`: one place in `events` is to be free for it (docs/MECHANICS.md, "Penalties").
+///
+/// Sleep lasts for `count` turns, from 1 to 7, and is unmarked. For another kind `count` is of no account.
+pub fn inflict(battle: &mut Packed, target: Side, kind: Kind, count: u8, events: &mut EventList)
+    requires { array_vec_len events.old + 1 ≤ 64 }
+    ensures shown { IsCountOf kind count → Does battle.old events.old.items battle.new events.new.items false (inflict target (status_of_kind kind count) kind) }
+    ensures room { array_vec_len events.new ≤ array_vec_len events.old + 1 }
+{
+    inflict_status(battle, target, status_of_kind(kind, count), kind, events);
+}
+
+/// The same as [`inflict`] with the status itself, whose kind `kind` is. Its sleep may be marked, but under the sleep clause
+/// alone (docs/MECHANICS.md, "Rules (sleep clause, freeze clause)").
+pub fn inflict_status(
+    battle: &mut Packed,
+    target: Side,
+    status: Status,
+    kind: Kind,
+    events: &mut EventList,
+)
+    requires { array_vec_len events.old + 1 ≤ 64 }
+    ensures shown { (g : Frame) (p : Progress) → IsStatus g.setting.terms.rules status → Shows g battle.old events.old.items false p
+        → Shows g battle.new events.new.items false (inflict target status kind p) }
+    ensures room { array_vec_len events.new ≤ array_vec_len events.old + 1 }
+{
+    battle.put_status(target, status);
+    take_penalty(battle, target, status);
+    events.push(Event::Status(battle.who(target), kind));
+}
+
+fn status_of_kind(kind: Kind, count: u8) -> Status
+    ensures { result ≡ status_of_kind kind count }
+{
+    match kind {
+        Kind::Sleep => Status::Asleep {
+            turns: count,
+            marked: false,
+        },
+        Kind::Poison => Status::Poisoned,
+        Kind::Burn => Status::Burned,
+        Kind::Freeze => Status::Frozen,
+        Kind::Paralysis => Status::Paralysed,
+    }
+}

@@ -1,0 +1,33 @@
+//! What paralysis and a burn do to a stat (docs/MECHANICS.md, "Penalties").
+ghost use Rattle.gen1_machine.specs.CurrentStats.{with_penalty_of};
+ghost use Rattle.gen1_machine.specs.State.{Field, changed_active};
+ghost use Rattle.gen1_layout.specs.Within.{Setting, Within};
+
+use gen1_layout::Packed;
+use gen1_machine::Side;
+use gen1_stats::Status;
+use gen1_tables::Stat;
+
+/// Lays the penalty of a status on the member of `side` that is out, once more: paralysis quarters its current Speed, a burn
+/// halves its current Attack, each to at least 1. Another status has none, and nothing changes (docs/MECHANICS.md,
+/// "Penalties"). The stage stays, and the status need not be the member's own.
+pub fn take_penalty(battle: &mut Packed, side: Side, status: Status)
+    ensures stands { (g : Setting) (f : Field) → Within g battle.old f → Within g battle.new (changed_active side (with_penalty_of status) f) }
+{
+    match status {
+        Status::Paralysed => {
+            let stage = battle.stage(side, Stat::Speed);
+            let speed = battle.current_stat(side, Stat::Speed);
+            battle.put_speed(side, stage, (speed / 4).max(1));
+        }
+        Status::Burned => {
+            let stage = battle.stage(side, Stat::Attack);
+            let attack = battle.current_stat(side, Stat::Attack);
+            battle.put_attack(side, stage, (attack / 2).max(1));
+        }
+        Status::Healthy => {}
+        Status::Asleep { .. } => {}
+        Status::Poisoned => {}
+        Status::Frozen => {}
+    }
+}

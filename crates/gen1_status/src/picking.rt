@@ -1,0 +1,71 @@
+//! What a side's choice comes to as the turn begins (docs/MECHANICS.md, "Picks").
+ghost use Rattle.std.specs.Prelude.{is_some, zero, ℕ, ◌||◌, ◌≡◌};
+ghost use Rattle.gen1_machine.specs.State.{Field, underway_in};
+ghost use Rattle.gen1_machine.specs.Picks.{must_continue, pick_in, sleeps_or_freezes};
+ghost use Rattle.gen1_layout.specs.Within.{Setting, Within};
+
+use gen1_layout::{Conditions, Packed};
+use gen1_machine::{Choice, Pick, Side, Used};
+use gen1_stats::Status;
+
+/// What a choice of a move comes to (docs/MECHANICS.md, "Picks"): slots 1 to 4 are picked as they are, and what slot 0 means
+/// depends on what there is. Another choice is no pick, and is answered as slot 0 is.
+pub fn pick(battle: &Packed, side: Side, choice: Choice) -> Pick
+    ensures stands { (slot : ℕ) → choice ≡ Choice.Move slot → (g : Setting) (f : Field) → Within g battle.now f
+        → result ≡ pick_in slot side f }
+{
+    match choice {
+        Choice::Move(slot) => pick_of(battle, side, slot.number()),
+        Choice::Pass => pick_without_slot(battle, side),
+        Choice::Switch(_) => pick_without_slot(battle, side),
+    }
+}
+
+fn pick_of(battle: &Packed, side: Side, slot: u8) -> Pick
+    ensures stands { (g : Setting) (f : Field) → Within g battle.now f → result ≡ pick_in slot side f }
+{
+    if slot == 0 {
+        return pick_without_slot(battle, side);
+    }
+    Pick::Use(Used::Slot(slot))
+}
+
+fn pick_without_slot(battle: &Packed, side: Side) -> Pick
+    ensures stands { (g : Setting) (f : Field) → Within g battle.now f → result ≡ pick_in zero side f }
+{
+    if must_continue(battle, side) {
+        return Pick::Continue;
+    }
+    if sleeps_or_freezes(battle.status(side)) {
+        return Pick::Idle;
+    }
+    if battle.is_on(side.other(), Conditions::TRAPPING) {
+        return Pick::Held;
+    }
+    Pick::Use(Used::Struggle)
+}
+
+// Whether something keeps the member at its current move.
+fn must_continue(battle: &Packed, side: Side) -> bool
+    ensures stands { (g : Setting) (f : Field) → Within g battle.now f → result ≡ must_continue (underway_in side f) }
+{
+    recharges_rages_or_thrashes(battle, side)
+        || battle.is_on(side, Conditions::CHARGING)
+        || battle.is_on(side, Conditions::BIDE)
+        || battle.is_on(side, Conditions::TRAPPING)
+}
+
+fn recharges_rages_or_thrashes(battle: &Packed, side: Side) -> bool
+    ensures stands { (g : Setting) (f : Field) → Within g battle.now f
+        → result ≡ ((underway_in side f).recharge || (underway_in side f).rage || is_some (underway_in side f).thrash) }
+{
+    battle.is_on(side, Conditions::RECHARGE)
+        || battle.is_on(side, Conditions::RAGE)
+        || battle.is_on(side, Conditions::THRASH)
+}
+
+fn sleeps_or_freezes(status: Status) -> bool
+    ensures { result ≡ sleeps_or_freezes status }
+{
+    matches!(status, Status::Asleep { .. } | Status::Frozen)
+}
