@@ -7,7 +7,7 @@ use Rattle.gen1_machine.specs.declared.side.Side.{Side}
 use Rattle.gen1_machine.specs.declared.event.Event.TheVariants as events
 use Rattle.gen1_machine.specs.declared.picks.Pick.{Pick}
 use Rattle.gen1_machine.specs.declared.picks.Pick.TheVariants.{Use, Continue, Idle, Held}
-use Rattle.gen1_rolls.specs.Streams.{low_bits}
+use Rattle.gen1_rolls.specs.Streams.{low_bits, span}
 use Rattle.gen1_machine.specs.Sides.{other}
 use Rattle.gen1_machine.specs.Conditions.{Storing}
 use Rattle.gen1_machine.specs.Moves.{knocks_out, hits_more, Move}
@@ -421,14 +421,15 @@ unfolding action_parts
 parts-costs r h s pick = more (gate_or_held-costs s pick ⊳ see_if-costs s pick ⊳ taken-costs r h s pick) refl
 
 -- a new action plans nothing, whatever was planned before
-pub act-reached : (r : Ruling) → RulingCosts 5 r → (s : Side) (pick : Pick) (p : Progress) → p.stopped ≡ false → Reached 5 p (act r s pick p) 2323 19 107
+pub act-reached : (r : Ruling) → RulingCosts 5 r → (s : Side) (pick : Pick) (p : Progress) → p.stopped ≡ false → span p.stream ≤ 2304
+    → Reached 5 p (act r s pick p) 2323 19 107
 unfolding act resume keep_accuracy begin given on_action on_active on_field
-act-reached r h s pick p i =
+act-reached r h s pick p i spans =
     let q : Progress = begin s p in
     let x : Progress = action_parts r s pick q in
-    let reached : Reached 5 q x 2323 19 107 = ends-reached q x 2323 19 107 ((parts-costs r h s pick).cost q i (lit≤ tt)) in
+    let reached : Reached 5 q x 2323 19 107 = ends-reached q x 2323 19 107 ((parts-costs r h s pick).cost q i (lit≤ tt, spans)) in
     let w = reached.spends in
     record {
       spends = record { forward = w.forward; drawn = w.drawn; new = w.new; appended = w.appended; counted = w.counted; coded = w.coded };
-      planned = reached.planned;
+      limited = reached.limited;
     }

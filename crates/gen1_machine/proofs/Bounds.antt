@@ -17,7 +17,7 @@ use Rattle.gen1_machine.proofs.ActionCosts.{act-reached}
 use Rattle.gen1_machine.proofs.TurnCosts.{residual-costs, send_out-costs, turn-costs, order-spends, end-spends, update-spends, anywhere}
 
 pub act_is_bounded : ActIsBounded
-act_is_bounded t s pick p r = (act-reached (ruling_of t) (ruling_of-costs t) s pick p r).spends
+act_is_bounded t s pick p r i = (act-reached (ruling_of t) (ruling_of-costs t) s pick p r i).spends
 
 pub switch_is_bounded : SwitchIsBounded
 switch_is_bounded s place = anywhere 0 1 10 (send_out s place) (λ limit five. more (send_out-costs s place) refl)
@@ -41,7 +41,7 @@ update_is_bounded t = update-spends (ruling_of t) (ruling_of-costs t)
 -- what an update makes of a state
 bounded : (s : State) (one two : Choice) → let p = update (ruling_of s.terms) one two (opened s) in Bounded s p.events (accepted s p).state
 bounded s one two =
-    let w = update_is_bounded s.terms one two (opened s) refl in
+    let w = update_is_bounded s.terms one two (opened s) refl (omega arith) in
     record {
       forward = w.forward;
       draws = omega (arith, w.drawn);

@@ -1,7 +1,7 @@
 -- What a phase costs at most: one bound where it goes on, and one where it stops.
 use Rattle.std.proofs.Common.{[], Bool, List, None, Option, Some, ap, append-nil, append_assoc, arith, false, length, length-append, max, nat_le, refl, subst, sym, true, true≢false, unwrap_or, ℕ, ◌&&◌, ◌++◌, ◌+◌, ◌∙◌, ◌∷◌, ◌≡◌, ◌≤◌}
 use Rattle.std.proofs.lemmas.Bool.{leb-true}
-use Rattle.gen1_rolls.specs.Streams.{byte_at, span, first, Stream, Link, Sweep}
+use Rattle.gen1_rolls.specs.Streams.{byte_at, span, first}
 use Rattle.gen1_rolls.proofs.First.{first-finds, first-within}
 use Rattle.gen1_stats.specs.Members.{Member}
 use Rattle.gen1_machine.specs.declared.side.Side.{Side}
@@ -118,10 +118,14 @@ spends-grows w = rw w.appended (simp length-append (omega arith))
 abbrev pub hits_planned : Progress → ℕ
 hits_planned p = unwrap_or p.action.hits_planned 1
 
--- q comes of p at this cost or less, and no more hits are planned than a limit
+-- no more hits are planned than a limit, and a loop makes no more draws than in a link battle
+abbrev pub Limited : ℕ → Progress → Type 0
+Limited limit p = (hits_planned p ≤ limit) × (span p.stream ≤ 2304)
+
+-- q comes of p at this cost or less, and is limited
 pub record Reached (limit : ℕ) (p q : Progress) (draws events bytes : ℕ) : Type 0 where
   pub spends : Spends draws events bytes p q
-  pub planned : hits_planned q ≤ limit
+  pub limited : Limited limit q
 
 abbrev pub Meets : ℕ → Progress → Progress → Cost → Type 0
 Meets limit p q Never = ⊥
@@ -131,9 +135,9 @@ pub data Ends (limit : ℕ) (p q : Progress) (b : Bound) : Type 0 where
   Goes : (running : q.stopped ≡ false) → (meets : Meets limit p q b.on) → Ends limit p q b
   Stops : (stopped : q.stopped ≡ true) → (meets : Meets limit p q b.off) → Ends limit p q b
 
--- where at most so many hits are planned, a phase costs this, and leaves it so
+-- where it is limited, a phase costs this, and leaves it so
 pub record Costs (limit : ℕ) (f : Phase) (b : Bound) : Type 0 where
-  pub cost : (p : Progress) → p.stopped ≡ false → hits_planned p ≤ limit → Ends limit p (f p) b
+  pub cost : (p : Progress) → p.stopped ≡ false → Limited limit p → Ends limit p (f p) b
 
 pub and-left : (a b : Bool) → (a && b) ≡ true → a ≡ true
 and-left true b e = refl
@@ -144,18 +148,18 @@ and-right true b e = e
 and-right false b e = absurd (true≢false (sym e))
 
 reached-more : {limit : ℕ} {p q : Progress} {d e b x y z : ℕ} → d ≤ x → e ≤ y → b ≤ z → Reached limit p q d e b → Reached limit p q x y z
-reached-more h i j m = record { spends = spends-more h i j m.spends; planned = m.planned }
+reached-more h i j m = record { spends = spends-more h i j m.spends; limited = m.limited }
 
 -- how costs add up
 
-meets-planned : (limit : ℕ) (p q : Progress) (c : Cost) → Meets limit p q c → hits_planned q ≤ limit
-meets-planned limit p q Never m = absurd m
-meets-planned limit p q (At d e b) m = m.planned
+meets-limited : (limit : ℕ) (p q : Progress) (c : Cost) → Meets limit p q c → Limited limit q
+meets-limited limit p q Never m = absurd m
+meets-limited limit p q (At d e b) m = m.limited
 
 meets-plus : (limit : ℕ) (p q r : Progress) (a c : Cost) → Meets limit p q a → Meets limit q r c → Meets limit p r (plus a c)
 meets-plus limit p q r Never c m n = absurd m
 meets-plus limit p q r (At d e b) Never m n = absurd n
-meets-plus limit p q r (At d e b) (At x y z) m n = record { spends = spends-trans m.spends n.spends; planned = n.planned }
+meets-plus limit p q r (At d e b) (At x y z) m n = record { spends = spends-trans m.spends n.spends; limited = n.limited }
 
 meets-left : (limit : ℕ) (p q : Progress) (a c : Cost) → Meets limit p q a → Meets limit p q (most a c)
 meets-left limit p q Never c m = absurd m
@@ -182,11 +186,6 @@ meets-grows : (limit : ℕ) (p q : Progress) (c : Cost) → Meets limit p q c �
 meets-grows limit p q Never m = absurd m
 meets-grows limit p q (At d e n) m = spends-grows m.spends
 
--- a loop makes as many draws as hold every byte
-span-most : (s : Stream) → span s ≤ 2304
-span-most (Link seed) = omega arith
-span-most (Sweep x) = omega arith
-
 module _ {limit : ℕ} where
   ends-more : (p q : Progress) (b c : Bound) → all_covered b c ≡ true → Ends limit p q b → Ends limit p q c
   ends-more p q b c e (Goes r m) = Goes r (meets-more limit p q b.on c.on (and-left (covers b.on c.on) (covers b.off c.off) e) m)
@@ -207,7 +206,7 @@ module _ {limit : ℕ} where
   reached-ends p q d e b false r m = Goes r m
 
   pub where_on : {f : Phase} {d e b : ℕ} {off : Cost} → Costs limit f (record { on = At d e b; off = off })
-      → (p : Progress) → p.stopped ≡ false → hits_planned p ≤ limit → (f p).stopped ≡ false → Spends d e b p (f p)
+      → (p : Progress) → p.stopped ≡ false → Limited limit p → (f p).stopped ≡ false → Spends d e b p (f p)
   where_on {f} {d} {e} {b} {off} h p r i t = by (f p) t (h.cost p r i)
     where
       by : (q : Progress) → q.stopped ≡ false → Ends limit p q (record { on = At d e b; off = off }) → Spends d e b p q
@@ -215,7 +214,7 @@ module _ {limit : ℕ} where
       by q t (Stops r m) = absurd (true≢false (sym r ∙ t))
 
   pub where_off : {f : Phase} {d e b : ℕ} {on : Cost} → Costs limit f (record { on = on; off = At d e b })
-      → (p : Progress) → p.stopped ≡ false → hits_planned p ≤ limit → (f p).stopped ≡ true → Spends d e b p (f p)
+      → (p : Progress) → p.stopped ≡ false → Limited limit p → (f p).stopped ≡ true → Spends d e b p (f p)
   where_off {f} {d} {e} {b} {on} h p r i t = by (f p) t (h.cost p r i)
     where
       by : (q : Progress) → q.stopped ≡ true → Ends limit p q (record { on = on; off = At d e b }) → Spends d e b p q
@@ -228,7 +227,7 @@ module _ {limit : ℕ} where
 
   -- events only grow, so what is within the room at the end was so all along
   pub grows : {f : Phase} {b : Bound} → Costs limit f b
-      → (p : Progress) → p.stopped ≡ false → hits_planned p ≤ limit → length p.events ≤ length (f p).events
+      → (p : Progress) → p.stopped ≡ false → Limited limit p → length p.events ≤ length (f p).events
   grows {f} {b} h p r i = ends-grows p (f p) b (h.cost p r i)
 
   -- one phase after another
@@ -240,7 +239,7 @@ module _ {limit : ℕ} where
       (Stops r (meets-left limit p q b.off (plus b.on c.off) m))
   after_first p q b c g hg (Goes r m) =
       subst (λ (t : Bool). Ends limit p (elim t as (λ _. Progress) [ true ↦ q | false ↦ g q ]) (b ⨟ c)) (sym r)
-      (by p q (g q) b c m (hg.cost q r (meets-planned limit p q b.on m)))
+      (by p q (g q) b c m (hg.cost q r (meets-limited limit p q b.on m)))
     where
       by : (p q x : Progress) (b c : Bound) → Meets limit p q b.on → Ends limit q x c → Ends limit p x (b ⨟ c)
       by p q x b c m (Goes r n) = Goes r (meets-plus limit p q x b.on c.on m n)
@@ -252,7 +251,7 @@ module _ {limit : ℕ} where
 
   -- what fits after both phases fits after the first
   pub fits-before : {f g : Phase} {b c : Bound} (room : ℕ) → Costs limit f b → Costs limit g c
-      → (p : Progress) → p.stopped ≡ false → hits_planned p ≤ limit → length ((f ▸ g) p).events ≤ room → length (f p).events ≤ room
+      → (p : Progress) → p.stopped ≡ false → Limited limit p → length ((f ▸ g) p).events ≤ room → length (f p).events ≤ room
   unfolding ◌▸◌ unless_stopped
   fits-before {f} {g} {b} {c} room hf hg p r i = by (f p) (hf.cost p r i)
     where
@@ -263,7 +262,7 @@ module _ {limit : ℕ} where
       by q (Goes r m) h =
           let e : unless_stopped g q ≡ g q = ap (λ (t : Bool). elim t as (λ _. Progress) [ true ↦ q | false ↦ g q ]) r in
           let k : length (g q).events ≤ room = subst (λ x. length x.events ≤ room) e h in
-          omega (arith, k, grows hg q r (meets-planned limit p q b.on m))
+          omega (arith, k, grows hg q r (meets-limited limit p q b.on m))
 
   -- one phase or another
 
@@ -300,10 +299,10 @@ module _ {limit : ℕ} where
 
   -- what leaves draws and events
 
-  reached-draws : (p q : Progress) (k : ℕ) → p.drawn ≤ q.drawn → q.drawn ≤ p.drawn + k → q.events ≡ p.events → hits_planned q ≤ limit → Reached limit p q k 0 0
-  reached-draws p q k low high e i = record { spends = spends-draws p q k low high e; planned = i }
+  reached-draws : (p q : Progress) (k : ℕ) → p.drawn ≤ q.drawn → q.drawn ≤ p.drawn + k → q.events ≡ p.events → Limited limit q → Reached limit p q k 0 0
+  reached-draws p q k low high e i = record { spends = spends-draws p q k low high e; limited = i }
 
-  reached-same : (p q : Progress) → q.drawn ≡ p.drawn → q.events ≡ p.events → hits_planned q ≤ limit → Reached limit p q 0 0 0
+  reached-same : (p q : Progress) → q.drawn ≡ p.drawn → q.events ≡ p.events → Limited limit q → Reached limit p q 0 0 0
   reached-same p q d e i = reached-draws p q 0 (omega (arith, d)) (omega (arith, d)) e i
 
   pub stay-costs : Costs limit stay (goes 0 0 0)
@@ -314,12 +313,12 @@ module _ {limit : ℕ} where
   unfolding stop
   stop-costs = record { cost = λ p r i. Stops refl (reached-same p (stop p) refl refl i) }
 
-  -- what changes neither whether it stops nor what is known of the action
-  pub silent-costs : (f : Phase) → ((p : Progress) → ((f p).drawn ≡ p.drawn) × ((f p).events ≡ p.events) × ((f p).stopped ≡ p.stopped) × ((f p).action ≡ p.action))
+  -- what changes neither whether it stops nor the stream nor what is known of the action
+  pub silent-costs : (f : Phase) → ((p : Progress) → ((f p).drawn ≡ p.drawn) × ((f p).events ≡ p.events) × ((f p).stopped ≡ p.stopped) × ((f p).action ≡ p.action) × ((f p).stream ≡ p.stream))
       → Costs limit f (goes 0 0 0)
   silent-costs f h = record {
     cost = λ p r i.
-        Goes ((h p).2 ∙ r) (reached-same p (f p) (h p).0 (h p).1 (rw (h p).3 i));
+        Goes ((h p).2 ∙ r) (reached-same p (f p) (h p).0 (h p).1 (rw ((h p).3, (h p).4) i));
   }
 
   pub field-costs : (change : Field → Field) → Costs limit (on_field change) (goes 0 0 0)
@@ -345,7 +344,7 @@ module _ {limit : ℕ} where
   pub action-costs : (change : Action → Action)
       → ((a : Action) → unwrap_or a.hits_planned 1 ≤ limit → unwrap_or (change a).hits_planned 1 ≤ limit) → Costs limit (on_action change) (goes 0 0 0)
   unfolding on_action
-  action-costs change h = record { cost = λ p r i. Goes r (reached-same p (on_action change p) refl refl (h p.action i)) }
+  action-costs change h = record { cost = λ p r i. Goes r (reached-same p (on_action change p) refl refl (h p.action i.0, i.1)) }
 
   -- what leaves the number of hits planned
   pub action_else-costs : (change : Action → Action) → ((a : Action) → (change a).hits_planned ≡ a.hits_planned) → Costs limit (on_action change) (goes 0 0 0)
@@ -361,7 +360,7 @@ module _ {limit : ℕ} where
   drew p q x k b w (Goes r m) = Goes r (meets-plus limit p q x (At k 0 0) b.on w m)
   drew p q x k b w (Stops r m) = Stops r (meets-plus limit p q x (At k 0 0) b.off w m)
 
-  drew-to : (p : Progress) (k m : ℕ) → p.drawn ≤ m + 1 → m + 1 ≤ p.drawn + k → hits_planned p ≤ limit → Reached limit p (record p { drawn = m + 1 }) k 0 0
+  drew-to : (p : Progress) (k m : ℕ) → p.drawn ≤ m + 1 → m + 1 ≤ p.drawn + k → Limited limit p → Reached limit p (record p { drawn = m + 1 }) k 0 0
   drew-to p k m low high i = reached-draws p (record p { drawn = m + 1 }) k low high refl i
 
   pub draw-costs : {f : ℕ → Phase} {b : Bound} → ((x : ℕ) → Costs limit (f x) b) → Costs limit (draw f) (goes 1 0 0 ⨟ b)
@@ -376,20 +375,20 @@ module _ {limit : ℕ} where
   -- a loop
 
   loop-costs : {f : ℕ → Phase} {b : Bound} (p : Progress) (test : ℕ → Bool) (o : Option ℕ) → first p.stream p.drawn test ≡ o
-      → ((x : ℕ) → Costs limit (f x) b) → p.stopped ≡ false → hits_planned p ≤ limit
+      → ((x : ℕ) → Costs limit (f x) b) → p.stopped ≡ false → Limited limit p
       → Ends limit p (elim o as (λ _. Progress) [ Some m ↦ f (byte_at p.stream m) (record p { drawn = m + 1 }) | None ↦ record p { drawn = p.drawn + span p.stream } ])
       (either (goes 2304 0 0) (goes 2304 0 0 ⨟ b))
   loop-costs {f} {b} p test None e h r i =
       let q : Progress = record p { drawn = p.drawn + span p.stream } in
       ends-left p q (goes 2304 0 0) (goes 2304 0 0 ⨟ b)
-      (Goes r (reached-draws p q 2304 (omega arith) (omega (arith, span-most p.stream)) refl i))
+      (Goes r (reached-draws p q 2304 (omega arith) (omega (arith, i.1)) refl i))
   loop-costs {f} {b} p test (Some m) e h r i =
       let w = first-within p.stream p.drawn test m e in
       let v = (first-finds p.stream p.drawn test m e).from in
       let q : Progress = record p { drawn = m + 1 } in
       let x : Progress = f (byte_at p.stream m) q in
       ends-right p x (goes 2304 0 0) (goes 2304 0 0 ⨟ b)
-      (drew p q x 2304 b (drew-to p 2304 m (omega (arith, v)) (omega (arith, w, span-most p.stream)) i) ((h (byte_at p.stream m)).cost q r i))
+      (drew p q x 2304 b (drew-to p 2304 m (omega (arith, v)) (omega (arith, w, i.1)) i) ((h (byte_at p.stream m)).cost q r i))
 
   pub until-costs : (test : ℕ → Bool) {f : ℕ → Phase} {b : Bound} → ((x : ℕ) → Costs limit (f x) b)
       → Costs limit (draw_until test f) (either (goes 2304 0 0) (goes 2304 0 0 ⨟ b))
@@ -402,7 +401,7 @@ module _ {limit : ℕ} where
   unfolding note
   note-costs event n h = record {
     cost = λ p r i.
-        Goes r (record { spends = spends-note p (note event p) (event p.field) n refl refl (h p.field); planned = i });
+        Goes r (record { spends = spends-note p (note event p) (event p.field) n refl refl (h p.field); limited = i });
   }
 
   pub told-costs : (change : Field → Field) (event : Field → Event) (n : ℕ) → ((f : Field) → length (code (event f)) ≤ n)
@@ -410,7 +409,7 @@ module _ {limit : ℕ} where
   unfolding told
   told-costs change event n h = record {
     cost = λ p r i.
-        Goes r (record { spends = spends-note p (told change event p) (event (change p.field)) n refl refl (h (change p.field)); planned = i });
+        Goes r (record { spends = spends-note p (told change event p) (event (change p.field)) n refl refl (h (change p.field)); limited = i });
   }
 
 infixr 20 ◌⊳◌

@@ -154,7 +154,7 @@ module _ {limit : ℕ} where
 
   pub skips-costs : (skips : Bool) → Costs limit (set_skips skips) (goes 0 0 0)
   unfolding set_skips
-  skips-costs skips = silent-costs (set_skips skips) (λ p. (refl, refl, refl, refl))
+  skips-costs skips = silent-costs (set_skips skips) (λ p. (refl, refl, refl, refl, refl))
 
   pub haze_cures-costs : (s : Side) (status : Status) → Costs limit (haze_cures s status) (goes 0 1 4)
   unfolding haze_cures

@@ -6,7 +6,7 @@ use Rattle.std.proofs.lemmas.List.Elements.{All-get_or}
 use Rattle.gen1_tables.specs.declared.effect.Effect.{Effect}
 use Rattle.gen1_tables.specs.declared.effect.Effect.TheVariants as effects
 use Rattle.gen1_rolls.proofs.First.{first-finds}
-use Rattle.gen1_rolls.specs.Streams.{byte_at, first, iterate, renewed, span, IsStream, Link, Stream, Sweep}
+use Rattle.gen1_rolls.specs.Streams.{byte_at, first, iterate, renewed, span, IsStream, Link, Stream, Sweep, Other}
 use Rattle.gen1_stats.specs.declared.known_move.KnownMove.{KnownMove}
 use Rattle.gen1_stats.specs.Members.{nobody, IsBetween, Member}
 use Rattle.gen1_machine.specs.declared.picks.Used.{Used}
@@ -310,6 +310,7 @@ pub byte-small : (w : Stream) (n : ℕ) → IsStream w → byte_at w n < 256
 unfolding byte_at
 byte-small (Link seed) n is = below_byte (n / 9) (slice_index seed (n % 9)) (All-get_or (λ x. x < 256) seed (n % 9) 0 (omega (arith, is.0)) is.1)
 byte-small (Sweep start) n is = omega arith
+byte-small (Other bytes width) n is = is.0 n
 
 module _ {terms : Terms} {P : Field → Action → Stream → Type 0} (sound : Sound terms P) where
   pub draw-sees : {f : ℕ → Phase} → ((b : ℕ) → b < 256 → Keeps P (f b)) → Keeps P (draw f)

@@ -1,6 +1,6 @@
 -- What a turn costs, and an update.
 use Rattle.std.proofs.Common.{[], Bool, List, arith, false, length, lit≤, nat_lt, refl, subst, sym, true, ℕ, ◌+◌, ◌∷◌, ◌≡◌, ◌≤◌}
-use Rattle.gen1_rolls.specs.Streams.{byte_at}
+use Rattle.gen1_rolls.specs.Streams.{byte_at, span}
 use Rattle.gen1_stats.specs.declared.status.Status.{Status}
 use Rattle.gen1_stats.specs.declared.status.Status.TheVariants.{Poisoned, Burned}
 use Rattle.gen1_machine.specs.declared.side.Side.{Side}
@@ -27,7 +27,7 @@ use Rattle.gen1_machine.specs.Turn.{Part, Sends, Acts, Suffers, do_part, end_spe
 use Rattle.gen1_machine.specs.Falls.{faint_if_fallen, faint_in_order, the_fallen_faint, ask_nothing, battle_ends, end_if_decided, ask_for_switches, ask_for_moves, settle, close}
 use Rattle.gen1_machine.specs.Step.{update_for, close_update, update}
 use Rattle.gen1_machine.specs.Bounds.{Spends, CostsAtMost}
-use Rattle.gen1_machine.proofs.Costs.{Bound, Costs, Reached, hits_planned, spends-trans, spends-more, spends-draws, goes, ends, both, may_stop, either, ◌⨟◌, ◌⊳◌, more, ends-reached, reached-ends, choose-costs, given-costs, stay-costs, stop-costs, field-costs, active-costs, conditions-costs, action-costs, note-costs, told-costs}
+use Rattle.gen1_machine.proofs.Costs.{Bound, Costs, Reached, Limited, hits_planned, spends-trans, spends-more, spends-draws, goes, ends, both, may_stop, either, ◌⨟◌, ◌⊳◌, more, ends-reached, reached-ends, choose-costs, given-costs, stay-costs, stop-costs, field-costs, active-costs, conditions-costs, action-costs, note-costs, told-costs}
 use Rattle.gen1_machine.proofs.GateCosts.{lose-costs, gain-costs}
 use Rattle.gen1_machine.proofs.EffectCosts.{RulingCosts}
 use Rattle.gen1_machine.proofs.ActionCosts.{act-reached}
@@ -168,31 +168,31 @@ order-begun begins p = rank-begun (rank_in One p.field) (rank_in Two p.field) be
 one-drawn : (p : Progress) → Spends 1 0 0 p (record p { drawn = p.drawn + 1 })
 one-drawn p = spends-draws p (record p { drawn = p.drawn + 1 }) 1 (omega arith) (omega arith) refl
 
-spends-order : {d e b : ℕ} (begins : Side → Phase) (p q : Progress) → ((s : Side) (x : Progress) → x.stopped ≡ false → Spends d e b x (begins s x))
-    → p.stopped ≡ false → Begun begins p q → Spends (d + 1) e b p q
-spends-order {d} {e} {b} begins p q h r (AtOnce s same) =
-    subst (λ x. Spends (d + 1) e b p x) (sym same) (spends-more (omega arith) (omega arith) (omega arith) (h s p r))
-spends-order {d} {e} {b} begins p q h r (AfterDraw s same) =
+spends-order : {d e b : ℕ} (begins : Side → Phase) (p q : Progress) → ((s : Side) (x : Progress) → x.stopped ≡ false → span x.stream ≤ 2304 → Spends d e b x (begins s x))
+    → p.stopped ≡ false → span p.stream ≤ 2304 → Begun begins p q → Spends (d + 1) e b p q
+spends-order {d} {e} {b} begins p q h r i (AtOnce s same) =
+    subst (λ x. Spends (d + 1) e b p x) (sym same) (spends-more (omega arith) (omega arith) (omega arith) (h s p r i))
+spends-order {d} {e} {b} begins p q h r i (AfterDraw s same) =
     let x : Progress = record p { drawn = p.drawn + 1 } in
     subst (λ y. Spends (d + 1) e b p y) (sym same)
-    (spends-more (omega arith) (omega arith) (omega arith) (spends-trans (one-drawn p) (h s x r)))
+    (spends-more (omega arith) (omega arith) (omega arith) (spends-trans (one-drawn p) (h s x r i)))
 
 pub order-spends : (d e b : ℕ) (begins : Side → Phase) → ((s : Side) → CostsAtMost d e b (begins s)) → CostsAtMost (d + 1) e b (in_order begins)
-order-spends d e b begins h p r = spends-order begins p (in_order begins p) h r (order-begun begins p)
+order-spends d e b begins h p r i = spends-order begins p (in_order begins p) h r i (order-begun begins p)
 
 module _ {limit : ℕ} where
   reached-order : {d e b : ℕ} (begins : Side → Phase) (p q : Progress)
-      → ((s : Side) → Costs limit (begins s) (both d e b)) → p.stopped ≡ false → hits_planned p ≤ limit
+      → ((s : Side) → Costs limit (begins s) (both d e b)) → p.stopped ≡ false → Limited limit p
       → Begun begins p q → Reached limit p q (d + 1) e b
   reached-order {d} {e} {b} begins p q h r i (AtOnce s same) =
       let m = ends-reached p (begins s p) d e b ((h s).cost p r i) in
       subst (λ x. Reached limit p x (d + 1) e b) (sym same)
-      (record { spends = spends-more (omega arith) (omega arith) (omega arith) m.spends; planned = m.planned })
+      (record { spends = spends-more (omega arith) (omega arith) (omega arith) m.spends; limited = m.limited })
   reached-order {d} {e} {b} begins p q h r i (AfterDraw s same) =
       let x : Progress = record p { drawn = p.drawn + 1 } in
       let m = ends-reached x (begins s x) d e b ((h s).cost x r i) in
       subst (λ y. Reached limit p y (d + 1) e b) (sym same)
-      (record { spends = spends-more (omega arith) (omega arith) (omega arith) (spends-trans (one-drawn p) m.spends); planned = m.planned })
+      (record { spends = spends-more (omega arith) (omega arith) (omega arith) (spends-trans (one-drawn p) m.spends); limited = m.limited })
 
   pub order-costs : (begins : Side → Phase) → ((s : Side) → Costs limit (begins s) (both 4646 44 266)) → Costs limit (in_order begins) (both 4647 44 266)
   order-costs begins h = record {
@@ -220,9 +220,9 @@ module _ {limit : ℕ} where
   pub act-costs : (r : Ruling) → RulingCosts 5 r → 5 ≤ limit → (s : Side) (pick : Pick) → Costs limit (act r s pick) (both 2323 19 107)
   act-costs r h five s pick = record {
     cost = λ p i j.
-        let m = act-reached r h s pick p i in
+        let m = act-reached r h s pick p i j.1 in
         reached-ends p (act r s pick p) 2323 19 107 (act r s pick p).stopped refl
-        (record { spends = m.spends; planned = omega (arith, five, m.planned) });
+        (record { spends = m.spends; limited = (omega (arith, five, m.limited.0), m.limited.1) });
   }
 
   do_part-costs : (r : Ruling) → RulingCosts 5 r → 5 ≤ limit → (part : Part) → Costs limit (do_part r part) (part_bound part)
@@ -277,25 +277,27 @@ module _ {limit : ℕ} where
 
 -- from a cost under any limit of the hits planned to one from anywhere
 
+reached-anywhere : (d e b : ℕ) (f : Phase) → ((limit : ℕ) → 5 ≤ limit → Costs limit f (both d e b))
+    → (p : Progress) → p.stopped ≡ false → span p.stream ≤ 2304 → Reached (5 + hits_planned p) p (f p) d e b
+reached-anywhere d e b f h p r i = ends-reached p (f p) d e b ((h (5 + hits_planned p) (omega arith)).cost p r (omega arith, i))
+
 pub anywhere : (d e b : ℕ) (f : Phase) → ((limit : ℕ) → 5 ≤ limit → Costs limit f (both d e b)) → CostsAtMost d e b f
-anywhere d e b f h p r =
-    let limit = 5 + hits_planned p in
-    (ends-reached p (f p) d e b ((h limit (omega arith)).cost p r (omega arith))).spends
+anywhere d e b f h p r i = (reached-anywhere d e b f h p r i).spends
 
 pub end-spends : (r : Ruling) → CostsAtMost 0 3 9 (close_update r)
 unfolding close_update
-end-spends r p i =
+end-spends r p i spans =
     let x : Progress = record p { stopped = false } in
-    let w = anywhere 0 3 9 (close r p.field.outcome) (λ limit five. close-costs r p.field.outcome) x refl in
+    let w = anywhere 0 3 9 (close r p.field.outcome) (λ limit five. close-costs r p.field.outcome) x refl spans in
     record { forward = w.forward; drawn = w.drawn; new = w.new; appended = w.appended; counted = w.counted; coded = w.coded }
 
 -- an update makes 4,647 draws at most, and writes 47 events of 275 bytes at most
 pub update-spends : (r : Ruling) → RulingCosts 5 r → (one two : Choice) → CostsAtMost 4647 47 275 (update r one two)
 unfolding update close_update
-update-spends r h one two p i =
+update-spends r h one two p i spans =
     let q : Progress = update_for r p.field.request_one p.field.request_two one two p in
-    let w = anywhere 4647 44 266 (update_for r p.field.request_one p.field.request_two one two)
-    (λ limit five. update_for-costs r h five p.field.request_one p.field.request_two one two) p i in
+    let m = reached-anywhere 4647 44 266 (update_for r p.field.request_one p.field.request_two one two)
+    (λ limit five. update_for-costs r h five p.field.request_one p.field.request_two one two) p i spans in
     let x : Progress = record q { stopped = false } in
-    let v = anywhere 0 3 9 (close r q.field.outcome) (λ limit five. close-costs r q.field.outcome) x refl in
-    spends-trans w (record { forward = v.forward; drawn = v.drawn; new = v.new; appended = v.appended; counted = v.counted; coded = v.coded })
+    let v = anywhere 0 3 9 (close r q.field.outcome) (λ limit five. close-costs r q.field.outcome) x refl m.limited.1 in
+    spends-trans m.spends (record { forward = v.forward; drawn = v.drawn; new = v.new; appended = v.appended; counted = v.counted; coded = v.coded })

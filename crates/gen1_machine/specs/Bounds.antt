@@ -1,5 +1,6 @@
 -- What an update, and each of its parts, costs at most (docs/PROOFS.md, "Laws"): draws, events, and the bytes of their codes.
 use Rattle.std.specs.Prelude.{List, false, length, ℕ, ◌++◌, ◌+◌, ◌≡◌, ◌≤◌}
+use Rattle.gen1_rolls.specs.Streams.{span}
 use Rattle.gen1_machine.specs.declared.side.Side.{Side}
 use Rattle.gen1_machine.specs.declared.event.Event.{Event}
 use Rattle.gen1_machine.specs.declared.picks.Pick.{Pick}
@@ -24,9 +25,9 @@ pub record Spends (draws events bytes : ℕ) (p q : Progress) : Type 0 where
   pub counted : length new ≤ events
   pub coded : length (codes_of new) ≤ bytes
 
--- so much a phase costs at most, wherever it begins
+-- so much a phase costs at most, wherever it begins, on a stream with no longer a span than a link battle's
 abbrev pub CostsAtMost : ℕ → ℕ → ℕ → Phase → Type 0
-CostsAtMost draws events bytes f = (p : Progress) → p.stopped ≡ false → Spends draws events bytes p (f p)
+CostsAtMost draws events bytes f = (p : Progress) → p.stopped ≡ false → span p.stream ≤ 2304 → Spends draws events bytes p (f p)
 
 -- the parts
 

@@ -74,7 +74,8 @@ pub fn states_fit()
     ensures { StatesFit }
 {}
 
-/// An action of one side makes at most 2,323 draws, and writes at most 19 events of 107 bytes.
+/// On a stream with no longer a span than a link battle's, an action of one side makes at most 2,323 draws, and writes at
+/// most 19 events of 107 bytes.
 pub fn act_is_bounded()
     ensures { ActIsBounded }
 {}
@@ -99,12 +100,12 @@ pub fn end_is_bounded()
     ensures { EndIsBounded }
 {}
 
-/// A turn makes at most 4,647 draws, and writes at most 44 events of 266 bytes.
+/// On such a stream a turn makes at most 4,647 draws, and writes at most 44 events of 266 bytes.
 pub fn turn_is_bounded()
     ensures { TurnIsBounded }
 {}
 
-/// An update makes at most 4,647 draws, and writes at most 47 events of 275 bytes.
+/// On such a stream an update makes at most 4,647 draws, and writes at most 47 events of 275 bytes.
 pub fn update_is_bounded()
     ensures { UpdateIsBounded }
 {}

@@ -3,7 +3,7 @@ use Rattle.std.proofs.Common.{◌≡◌, ℕ, zero, suc, ◌+◌, ◌-◌, ◌*�
 use Rattle.std.proofs.lemmas.Bool.{cases_eq}
 use Rattle.std.proofs.lemmas.List.Elements.{All-get_or}
 use Rattle.std.specs.Prelude.{slice_index}
-use Rattle.gen1_rolls.specs.Streams.{iterate, renewed, Stream, byte_at, span, IsStream, HoldsEveryByte, Link, Sweep}
+use Rattle.gen1_rolls.specs.Streams.{iterate, renewed, Stream, byte_at, span, IsStream, HoldsEveryByte, Link, Sweep, Other}
 
 -- whether b is among the first n numbers from x on
 unfoldable pub finds : ℕ → ℕ → ℕ → Bool
@@ -112,3 +112,4 @@ every_byte (Sweep start) is n b lt =
     let k = (b + (256 - (start + n) % 256)) % 256 in
     let e : (start + (n + (b + (256 - (start + n) % 256)) % 256)) % 256 ≡ b = omega arith in
     (k, (omega arith, e))
+every_byte (Other bytes width) is n b lt = is.1 n b lt

@@ -1,6 +1,6 @@
 -- Where a generator stands after draws and searches.
 use Rattle.std.proofs.Common.{◌≡◌, ℕ, suc, ◌⊎◌, inl, inr, subst, ◌+◌, ◌<◌, ◌≤◌, Bool, IsFalse, Some, None, refl, sym, ap, ◌∙◌, arith}
-use Rattle.gen1_rolls.specs.Draws.{draws_of, FindsDraw, FindsNone, StandsAt}
+use Rattle.gen1_rolls.specs.Draws.{draws_of, stream_of, FindsDraw, FindsNone, StandsAt}
 use Rattle.gen1_rolls.specs.Streams.{iterate, Stream, byte_at, span, first, IsStream, HoldsEveryByte}
 use Rattle.gen1_rolls.proofs.First.{first_within-is, first_within-none}
 use Rattle.gen1_rolls.proofs.Period.{iterate-add, every_byte}
@@ -8,6 +8,22 @@ use Rattle.gen1_rolls.proofs.Period.{iterate-add, every_byte}
 -- one draw more
 pub iterate-more : {A : Type 0} (f : A → A) (n : ℕ) (x : A) → iterate (n + 1) f x ≡ f (iterate n f x)
 iterate-more f n x = ap (λ k. iterate k f x) (let e : n + 1 ≡ suc n = omega arith in e)
+
+-- any generator stands at the beginning of its own stream
+pub stands_at_itself : {A : Type 0} (byte : A → ℕ) (next : A → A) (width : ℕ) (r : A) → StandsAt byte next width r (stream_of byte next width r) 0 r
+unfolding byte_at
+stands_at_itself byte next width r = record { reached = refl; bytes = λ k. refl; spans = refl }
+
+-- which is a stream where each draw is a byte, and from each value that it comes to a span of draws holds every byte
+pub stream_of-is : {A : Type 0} (byte : A → ℕ) (next : A → A) (width : ℕ) (r : A) → ((n : ℕ) → byte (iterate n next r) < 256)
+    → ((n : ℕ) → HoldsEveryByte (draws_of byte next (iterate n next r)) width) → IsStream (stream_of byte next width r)
+stream_of-is byte next width r small full = (
+  small,
+  λ n b lt.
+      let at = full n b lt in
+      let swap : n + at.0 ≡ at.0 + n = omega arith in
+      (at.0, (at.1.0, ap (λ k. byte (iterate k next r)) swap ∙ ap byte (iterate-add next n at.0 r) ∙ at.1.1)),
+)
 
 -- the byte that is drawn at n is the stream's
 pub byte_drawn : {A : Type 0} {byte : A → ℕ} {next : A → A} {width : ℕ} {origin : A} {s : Stream} {n : ℕ} {now : A} {b : ℕ}

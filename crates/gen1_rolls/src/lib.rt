@@ -2,6 +2,7 @@
 //! up, and the first draw that meets a test.
 #![tactic(auto)]
 
+mod laws;
 mod link;
 mod rolls;
 mod searching;
@@ -9,6 +10,7 @@ mod sweep;
 #[cfg(test)]
 mod tests;
 
+pub use laws::every_generator_stands;
 pub use link::{LinkRandom, renew};
 pub use rolls::Rolls;
 pub use searching::until;
