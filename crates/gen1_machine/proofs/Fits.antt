@@ -5,6 +5,7 @@ use Rattle.gen1_tables.specs.declared.element.Element.{Element}
 use Rattle.gen1_tables.specs.declared.element.Element.TheVariants as elements
 use Rattle.gen1_tables.specs.Types.{number_of}
 use Rattle.gen1_rolls.specs.Streams.{IsStream, Link}
+use Rattle.gen1_rolls.proofs.Period.{byte-small}
 use Rattle.gen1_stats.specs.declared.known_move.KnownMove.{KnownMove}
 use Rattle.gen1_stats.specs.declared.status.Status.{Status}
 use Rattle.gen1_stats.specs.declared.status.Status.TheVariants.{Asleep, Burned, Frozen, Healthy, Paralysed, Poisoned}
@@ -22,7 +23,6 @@ use Rattle.gen1_machine.specs.State.{member_at, nobody_out, Active, Party, State
 use Rattle.gen1_machine.specs.Layout.{active_block, active_block_of, bytes_of, disabled_slot, disabled_turns, header_block, member_block, member_blocks, outcome_byte, party_bytes, request_byte, status_byte, turns_byte, used_byte}
 use Rattle.gen1_machine.specs.Valid.{IsActive, IsCount, IsDisabled, IsMembersUnder, IsMemberUnder, IsOutcome, IsParty, IsStarted, IsStatus, IsStoring, IsUnstarted, IsUsed}
 use Rattle.gen1_machine.specs.Laws.{StatesFit}
-use Rattle.gen1_machine.proofs.Sound.{byte-small}
 
 -- a list of bytes, part by part
 abbrev Bytes : List ℕ → Type 0

@@ -1,12 +1,12 @@
 -- Facts that hold a valid field, and that outlive every tame change.
-use Rattle.std.proofs.Common.{Bool, List, None, Option, Some, ap, arith, false, get_or, get_or-set_other, get_or-set_same, inl, inr, length, length-set, refl, set, slice_index, subst, suc, sym, true, zero, ℕ, ◌%◌, ◌+◌, ◌-◌, ◌/◌, ◌<◌, ◌==◌, ◌∙◌, ◌≡◌, ◌≢◌, ◌≤◌, ◌⊎◌}
+use Rattle.std.proofs.Common.{Bool, List, None, Option, Some, ap, arith, false, get_or, get_or-set_other, get_or-set_same, inl, inr, length, length-set, refl, set, subst, sym, true, ℕ, ◌+◌, ◌-◌, ◌<◌, ◌==◌, ◌∙◌, ◌≡◌, ◌≢◌, ◌≤◌, ◌⊎◌}
 use Rattle.std.proofs.lemmas.Bool.{false≢true}
 use Rattle.std.proofs.lemmas.Bool.Decides.{eqb_tells}
-use Rattle.std.proofs.lemmas.List.Elements.{All-get_or}
 use Rattle.gen1_tables.specs.declared.effect.Effect.{Effect}
 use Rattle.gen1_tables.specs.declared.effect.Effect.TheVariants as effects
 use Rattle.gen1_rolls.proofs.First.{first-finds}
-use Rattle.gen1_rolls.specs.Streams.{byte_at, first, iterate, renewed, span, IsStream, Link, Stream, Sweep, Other}
+use Rattle.gen1_rolls.proofs.Period.{byte-small}
+use Rattle.gen1_rolls.specs.Streams.{byte_at, first, span, IsStream, Stream}
 use Rattle.gen1_stats.specs.declared.known_move.KnownMove.{KnownMove}
 use Rattle.gen1_stats.specs.Members.{nobody, IsBetween, Member}
 use Rattle.gen1_machine.specs.declared.picks.Used.{Used}
@@ -301,16 +301,6 @@ module _ {P Q : Field → Action → Stream → Type 0} where
   pub on_field-leads : (change : Field → Field) → ((f : Field) (a : Action) (w : Stream) → P f a w → Q (change f) a w) → Leads P Q (on_field change)
   unfolding on_field
   on_field-leads change k = record { led = λ p h. k p.field p.action p.stream h }
-
-below_byte : (k x : ℕ) → x < 256 → iterate k renewed x < 256
-below_byte zero x lt = lt
-below_byte (suc k) x lt = omega arith
-
-pub byte-small : (w : Stream) (n : ℕ) → IsStream w → byte_at w n < 256
-unfolding byte_at
-byte-small (Link seed) n is = below_byte (n / 9) (slice_index seed (n % 9)) (All-get_or (λ x. x < 256) seed (n % 9) 0 (omega (arith, is.0)) is.1)
-byte-small (Sweep start) n is = omega arith
-byte-small (Other bytes width) n is = is.0 n
 
 module _ {terms : Terms} {P : Field → Action → Stream → Type 0} (sound : Sound terms P) where
   pub draw-sees : {f : ℕ → Phase} → ((b : ℕ) → b < 256 → Keeps P (f b)) → Keeps P (draw f)

@@ -3,7 +3,7 @@ use Rattle.std.proofs.Common.{◌≡◌, ℕ, zero, suc, ◌+◌, ◌-◌, ◌*�
 use Rattle.std.proofs.lemmas.Bool.{cases_eq}
 use Rattle.std.proofs.lemmas.List.Elements.{All-get_or}
 use Rattle.std.specs.Prelude.{slice_index}
-use Rattle.gen1_rolls.specs.Streams.{iterate, renewed, Stream, byte_at, span, IsStream, HoldsEveryByte, Link, Sweep, Other}
+use Rattle.gen1_rolls.specs.Streams.{iterate, renewed, Stream, byte_at, span, IsStream, HoldsEveryByte, Link, Sweep, Drawn}
 
 -- whether b is among the first n numbers from x on
 unfoldable pub finds : ℕ → ℕ → ℕ → Bool
@@ -101,6 +101,13 @@ byte_at-rounds seed n r =
     ap (λ j. iterate ((n + 9 * r) / 9) renewed (slice_index seed j)) place ∙ ap (λ k. iterate k renewed (slice_index seed (n % 9))) rounds
     ∙ iterate-add renewed (n / 9) r (slice_index seed (n % 9))
 
+-- a stream draws bytes alone
+pub byte-small : (s : Stream) (n : ℕ) → IsStream s → byte_at s n < 256
+unfolding byte_at
+byte-small (Link seed) n is = below_byte (n / 9) (slice_index seed (n % 9)) (All-get_or (λ x. x < 256) seed (n % 9) 0 (omega (arith, is.0)) is.1)
+byte-small (Sweep start) n is = omega arith
+byte-small (Drawn bytes width) n is = is.0 n
+
 -- a stream holds every byte within a span, from any place on
 pub every_byte : (s : Stream) → IsStream s → (n : ℕ) → HoldsEveryByte (λ k. byte_at s (n + k)) (span s)
 unfolding byte_at
@@ -112,4 +119,4 @@ every_byte (Sweep start) is n b lt =
     let k = (b + (256 - (start + n) % 256)) % 256 in
     let e : (start + (n + (b + (256 - (start + n) % 256)) % 256)) % 256 ≡ b = omega arith in
     (k, (omega arith, e))
-every_byte (Other bytes width) is n b lt = is.1 n b lt
+every_byte (Drawn bytes width) is n b lt = is.1 n b lt

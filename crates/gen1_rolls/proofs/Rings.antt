@@ -7,10 +7,10 @@ use Rattle.std.proofs.lemmas.List.Edits.{map_over_more}
 use Rattle.std.proofs.lemmas.List.Elements.{All-from_get_or}
 use Rattle.std.proofs.lemmas.Bool.{le-leb, lt-leb}
 use Rattle.std.proofs.lemmas.Grind.{common_steps}
-use Rattle.gen1_rolls.specs.Draws.{draws_of, StandsAt}
+use Rattle.gen1_rolls.specs.Draws.{stream_of, StandsAt}
 use Rattle.gen1_rolls.specs.Link.{Ring, turned, byte_of, after_draw, ring_of, ring_at}
-use Rattle.gen1_rolls.specs.Streams.{iterate, renewed, times_renewed, byte_at, HoldsEveryByte, Link}
-use Rattle.gen1_rolls.proofs.Standing.{draws_of-full}
+use Rattle.gen1_rolls.specs.Streams.{iterate, renewed, times_renewed, byte_at, IsStream, Link}
+use Rattle.gen1_rolls.proofs.Standing.{own_is_stream}
 
 -- numbers that were not renewed yet
 pub turned-none : (s : List ℕ) → turned 0 s ≡ s
@@ -103,11 +103,11 @@ pub first_round-stands : (i : ℕ) (s : List ℕ) → 9 ≤ length s → i < 9 �
 first_round-stands i s long lt =
     subst (λ (ring : Ring). StandsAt byte_of after_draw 2304 (ring_of s) (Link s) i ring) (sym (ring-first_round i s lt)) (ring_at-stands s i long)
 
--- so its draws hold every byte
-pub first_round-full : (i : ℕ) (s : List ℕ) → length s ≡ 10 → i < 9 → ((j : ℕ) → j < length s → get_or s j 0 < 256)
-    → HoldsEveryByte (draws_of byte_of after_draw (record { index = i; numbers = s })) 2304
-first_round-full i s ten lt small =
-    draws_of-full (first_round-stands i s (omega (arith, ten)) lt) (ten, All-from_get_or (λ x. x < 256) s 0 small)
+-- so its draws are a stream
+pub first_round-stream : (i : ℕ) (s : List ℕ) → length s ≡ 10 → i < 9 → ((j : ℕ) → j < length s → get_or s j 0 < 256)
+    → IsStream (stream_of byte_of after_draw 2304 (record { index = i; numbers = s }))
+first_round-stream i s ten lt small =
+    own_is_stream (first_round-stands i s (omega (arith, ten)) lt) (ten, All-from_get_or (λ x. x < 256) s 0 small)
 
 -- one number more is renewed
 pub turn_step : (xs ys : List ℕ) (i y : ℕ) → i < length xs → ys ≡ map renewed (take i xs) ++ drop i xs → y ≡ renewed (get_or ys i 0)

@@ -3,7 +3,7 @@ use Rattle.std.proofs.Common.{◌≡◌, ℕ, suc, ◌⊎◌, inl, inr, subst, �
 use Rattle.gen1_rolls.specs.Draws.{draws_of, stream_of, FindsDraw, FindsNone, StandsAt}
 use Rattle.gen1_rolls.specs.Streams.{iterate, Stream, byte_at, span, first, IsStream, HoldsEveryByte}
 use Rattle.gen1_rolls.proofs.First.{first_within-is, first_within-none}
-use Rattle.gen1_rolls.proofs.Period.{iterate-add, every_byte}
+use Rattle.gen1_rolls.proofs.Period.{iterate-add, byte-small, every_byte}
 
 -- one draw more
 pub iterate-more : {A : Type 0} (f : A → A) (n : ℕ) (x : A) → iterate (n + 1) f x ≡ f (iterate n f x)
@@ -14,7 +14,8 @@ pub stands_at_itself : {A : Type 0} (byte : A → ℕ) (next : A → A) (width :
 unfolding byte_at
 stands_at_itself byte next width r = record { reached = refl; bytes = λ k. refl; spans = refl }
 
--- which is a stream where each draw is a byte, and from each value that it comes to a span of draws holds every byte
+-- its own stream keeps to the law of streams where each draw is a byte, and from each value that it comes to a span of draws
+-- holds every byte
 pub stream_of-is : {A : Type 0} (byte : A → ℕ) (next : A → A) (width : ℕ) (r : A) → ((n : ℕ) → byte (iterate n next r) < 256)
     → ((n : ℕ) → HoldsEveryByte (draws_of byte next (iterate n next r)) width) → IsStream (stream_of byte next width r)
 stream_of-is byte next width r small full = (
@@ -62,6 +63,12 @@ pub draws_of-full : {A : Type 0} {byte : A → ℕ} {next : A → A} {width : �
     → StandsAt byte next width origin s n now → IsStream s → HoldsEveryByte (draws_of byte next now) width
 draws_of-full {s = s} {n = n} a is b lt =
     let at = every_byte s is n b lt in (at.0, (omega (arith, at.1.0, a.spans), draws_of-stands a at.0 ∙ at.1.1))
+
+-- so its own stream keeps to the law too
+pub own_is_stream : {A : Type 0} {byte : A → ℕ} {next : A → A} {width : ℕ} {origin : A} {s : Stream} {n : ℕ} {now : A}
+    → StandsAt byte next width origin s n now → IsStream s → IsStream (stream_of byte next width now)
+own_is_stream {byte = byte} {next = next} {width = width} {s = s} {n = n} {now = now} a is =
+    stream_of-is byte next width now (λ k. rw (draws_of-stands a k) (byte-small s (n + k) is)) (λ k. draws_of-full (stands_after_draws k a refl) is)
 
 -- where a search found a byte, `first` finds its place
 pub first-found : {A : Type 0} {byte : A → ℕ} {next : A → A} {width : ℕ} {origin : A} {s : Stream} {n : ℕ} {now : A} {test : ℕ → Bool} {b : ℕ} {new : A}

@@ -1,9 +1,9 @@
 -- The draws of a sweep.
 use Rattle.std.proofs.Common.{◌≡◌, ℕ, zero, suc, ◌+◌, ◌%◌, ◌<◌, refl, ap, ◌∙◌, arith}
-use Rattle.gen1_rolls.specs.Draws.{draws_of, StandsAt}
-use Rattle.gen1_rolls.specs.Streams.{iterate, byte_at, HoldsEveryByte, Sweep}
+use Rattle.gen1_rolls.specs.Draws.{stream_of, StandsAt}
+use Rattle.gen1_rolls.specs.Streams.{iterate, byte_at, IsStream, Sweep}
 use Rattle.gen1_rolls.specs.Sweep.{one_up}
-use Rattle.gen1_rolls.proofs.Standing.{draws_of-full}
+use Rattle.gen1_rolls.proofs.Standing.{own_is_stream}
 
 pub iterate-one_up : (k n : ℕ) → n < 256 → iterate k one_up n ≡ (n + k) % 256
 iterate-one_up zero n lt = omega arith
@@ -15,6 +15,6 @@ pub sweep_stands : (n : ℕ) → n < 256 → StandsAt (λ x. x) one_up 256 n (Sw
 unfolding byte_at
 sweep_stands n lt = record { reached = refl; bytes = λ k. iterate-one_up k n lt; spans = refl }
 
--- so its draws hold every byte
-pub sweep_is_full : (n : ℕ) → n < 256 → HoldsEveryByte (draws_of (λ x. x) one_up n) 256
-sweep_is_full n lt = draws_of-full (sweep_stands n lt) lt
+-- so its draws are a stream
+pub sweep_is_stream : (n : ℕ) → n < 256 → IsStream (stream_of (λ x. x) one_up 256 n)
+sweep_is_stream n lt = own_is_stream (sweep_stands n lt) lt

@@ -3,15 +3,15 @@
 -- A generator of any type is spoken of by the byte that it draws next (`byte`), by what a draw leaves of it (`next`), and
 -- by how many draws in a row hold every byte (`width`). Under a bound `R: Rolls` these are `R.byte`, `R.next` and `R.SPAN`.
 use Rattle.std.specs.Prelude.{◌≡◌, ℕ, ◌+◌, ◌<◌, Bool, IsFalse}
-use Rattle.gen1_rolls.specs.Streams.{iterate, Stream, byte_at, span, IsFirstOf, Other}
+use Rattle.gen1_rolls.specs.Streams.{iterate, Stream, byte_at, span, IsFirstOf, Drawn}
 
 -- the bytes that a generator draws, one after the other
 abbrev pub draws_of : {A : Type 0} → (A → ℕ) → (A → A) → A → ℕ → ℕ
 draws_of byte next r k = byte (iterate k next r)
 
--- those bytes as a stream: the one that a generator of any type draws, from where it is on
+-- those bytes as a stream: what a generator draws from where it is on
 abbrev pub stream_of : {A : Type 0} → (A → ℕ) → (A → A) → ℕ → A → Stream
-stream_of byte next width r = Other (draws_of byte next r) width
+stream_of byte next width r = Drawn (draws_of byte next r) width
 
 -- what a test can answer at a byte is settled by the byte
 abbrev pub Settles : (ℕ → Bool → Type 0) → (ℕ → Bool) → Type 0
@@ -44,10 +44,10 @@ pub record FindsNone {A : Type 0} (byte : A → ℕ) (next : A → A) (width : �
 --     None           `none_then a (c.in-None.ensures.none p settles) (λ none stands. ..)`, where
 --                    none : `first s n p ≡ None`, stands : r stands at n + span s
 -- `stands_there a e` renames n. Every generator stands somewhere: `stands_at_itself` of proofs/Standing.antt has each value r
--- of each R at the beginning of its own stream, `stream_of R.byte R.next R.SPAN r`. So such a clause says something of every
--- generator, and a body that asks for its type or SPAN is refused. Where R is chosen, the clauses `stands` of
--- `LinkRandom::new`, `LinkRandom::from_parts` and `Sweep::new` give a stream that is named by data. proofs/Rings.antt has
--- `ring_at-stands seed n`, for a generator whose index and numbers are those of n draws, and back
+-- of each R at the beginning of its own stream, `stream_of R.byte R.next R.SPAN r`, and `draws_a_stream` says that this is one.
+-- So such a clause says something of every generator, and a body that asks for its type or SPAN is refused. Where R is chosen,
+-- the clauses `stands` of `LinkRandom::new`, `LinkRandom::from_parts` and `Sweep::new` give a stream that is named by data.
+-- proofs/Rings.antt has `ring_at-stands seed n`, for a generator whose index and numbers are those of n draws, and back
 -- `ring-stands a` : now ≡ ring_at seed n, so both are known after any operation.
 pub record StandsAt {A : Type 0} (byte : A → ℕ) (next : A → A) (width : ℕ) (origin : A) (s : Stream) (n : ℕ) (now : A) : Type 0 where
   pub reached : now ≡ iterate n next origin

@@ -17,35 +17,34 @@ times_renewed times x = iterate times renewed x
 abbrev pub low_bits : ℕ → ℕ → ℕ
 low_bits count b = b % (2 ^ count)
 
--- a stream is named by data: by the ten numbers that a link battle begins with, or by the byte that a sweep begins with. That
--- of any other generator is its bytes themselves, and how many of them in a row hold every byte; a battle's state has the ten
--- numbers, and none of these
+-- A battle's stream is named by data: by the ten numbers that a link battle begins with, or by the byte that a sweep begins
+-- with. Any other is the bytes that some generator draws, with how many of them in a row hold every byte.
 pub data Stream : Type 0 where
   Link : (seed : List ℕ) → Stream
   Sweep : (start : ℕ) → Stream
-  Other : (bytes : ℕ → ℕ) → (width : ℕ) → Stream
+  Drawn : (bytes : ℕ → ℕ) → (width : ℕ) → Stream
 
--- its n-th byte, from 0: nine link numbers in turn, each renewed once a round; one more each time; or what it is said to be
+-- its n-th byte, from 0: nine link numbers in turn, each renewed once a round; one more each time; or what is drawn
 unfoldable pub byte_at : Stream → ℕ → ℕ
 byte_at (Link seed) n = times_renewed (n / 9) (slice_index seed (n % 9))
 byte_at (Sweep start) n = (start + n) % 256
-byte_at (Other bytes width) n = bytes n
+byte_at (Drawn bytes width) n = bytes n
 
 -- any so many bytes in a row hold every number from 0 to 255
 abbrev pub span : Stream → ℕ
 span (Link seed) = 2304
 span (Sweep start) = 256
-span (Other bytes width) = width
+span (Drawn bytes width) = width
 
 -- so many bytes from the first on hold every number from 0 to 255
 abbrev pub HoldsEveryByte : (ℕ → ℕ) → ℕ → Type 0
 HoldsEveryByte bytes count = (b : ℕ) → b < 256 → (k : ℕ) × ((k < count) × (bytes k ≡ b))
 
--- ten bytes, or one; or nothing but bytes, any span of which holds every byte
+-- ten bytes, or one; or nothing but bytes, of which any so many in a row hold every number from 0 to 255
 abbrev pub IsStream : Stream → Type 0
 IsStream (Link seed) = (length seed ≡ 10) × All (λ x. x < 256) seed
 IsStream (Sweep start) = start < 256
-IsStream (Other bytes width) = ((n : ℕ) → bytes n < 256) × ((n : ℕ) → HoldsEveryByte (λ k. bytes (n + k)) width)
+IsStream (Drawn bytes width) = ((n : ℕ) → bytes n < 256) × ((n : ℕ) → HoldsEveryByte (λ k. bytes (n + k)) width)
 
 -- the place of the first of so many bytes from place n on that meets a test
 unfoldable pub first_within : ℕ → Stream → ℕ → (ℕ → Bool) → Option ℕ

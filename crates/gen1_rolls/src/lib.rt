@@ -10,7 +10,7 @@ mod sweep;
 #[cfg(test)]
 mod tests;
 
-pub use laws::every_generator_stands;
+pub use laws::{draws_a_stream, every_generator_stands};
 pub use link::{LinkRandom, renew};
 pub use rolls::Rolls;
 pub use searching::until;

@@ -1,7 +1,7 @@
 ghost use Rattle.std.specs.Prelude.{◌≡◌, ◌<◌, nat_lt, if◌then◌else◌, slice_index, length, IfSome};
-ghost use Rattle.gen1_rolls.specs.Draws.{draws_of, StandsAt};
+ghost use Rattle.gen1_rolls.specs.Draws.{stream_of, StandsAt};
 ghost use Rattle.gen1_rolls.specs.Link.{Ring, ring_of, byte_of, after_draw, turned};
-ghost use Rattle.gen1_rolls.specs.Streams.{HoldsEveryByte, renewed, Link};
+ghost use Rattle.gen1_rolls.specs.Streams.{IsStream, renewed, Link};
 
 use crate::rolls::Rolls;
 use std::marker::Model;
@@ -113,12 +113,12 @@ fn turn(numbers: &mut [u8; 10])
     }
 }
 
-/// The number at an index, and that the draws from there on hold every number.
+/// The number at an index, and that the draws from there on are a stream.
 fn number_at(numbers: &[u8], index: u8) -> u8
     requires below { index < 9 }
     requires ten { length numbers.now ≡ 10 }
     ensures value { result ≡ slice_index numbers.now index }
-    ensures full { HoldsEveryByte (draws_of byte_of after_draw (record { index = index; numbers = numbers.now })) 2304 }
+    ensures stream { IsStream (stream_of byte_of after_draw 2304 (record { index = index; numbers = numbers.now })) }
 {
     numbers[index as usize]
 }

@@ -1,6 +1,6 @@
 ghost use Rattle.std.specs.Prelude.{◌≡◌, ℕ, ◌<◌};
-ghost use Rattle.gen1_rolls.specs.Draws.{draws_of};
-ghost use Rattle.gen1_rolls.specs.Streams.{HoldsEveryByte};
+ghost use Rattle.gen1_rolls.specs.Draws.{stream_of};
+ghost use Rattle.gen1_rolls.specs.Streams.{IsStream};
 
 /// A generator of bytes: what it draws next, and what a draw leaves, depend on its value alone.
 pub trait Rolls {
@@ -15,11 +15,12 @@ pub trait Rolls {
 
     ghost next: { Self → Self };
 
-    /// Draws the next byte.
+    /// Draws the next byte. The draws from this one on are a stream: bytes, of which any `SPAN` in a
+    /// row hold every number from 0 to 255.
     fn draw(&mut self) -> u8
         ensures drawn { result ≡ byte self.old }
         ensures left { self.new ≡ next self.old }
-        ensures full { HoldsEveryByte (draws_of byte next self.old) SPAN };
+        ensures stream { IsStream (stream_of byte next SPAN self.old) };
 
     ghost positive: { 0 < SPAN };
 }

@@ -1,6 +1,6 @@
 ghost use Rattle.std.specs.Prelude.{◌≡◌, ℕ};
-ghost use Rattle.gen1_rolls.specs.Draws.{draws_of, StandsAt};
-ghost use Rattle.gen1_rolls.specs.Streams.{HoldsEveryByte, Sweep as SweepFrom};
+ghost use Rattle.gen1_rolls.specs.Draws.{stream_of, StandsAt};
+ghost use Rattle.gen1_rolls.specs.Streams.{IsStream, Sweep as SweepFrom};
 ghost use Rattle.gen1_rolls.specs.Sweep.{one_up};
 
 use crate::rolls::Rolls;
@@ -51,10 +51,10 @@ impl Rolls for Sweep {
     ghost positive = { lit< tt };
 }
 
-/// The number after a number.
+/// The number after a number, and that the draws from the first on are a stream.
 fn step(number: u8) -> u8
     ensures value { result ≡ one_up number }
-    ensures full { HoldsEveryByte (draws_of (λ x. x) one_up number) 256 }
+    ensures stream { IsStream (stream_of (λ x. x) one_up 256 number) }
 {
     number.wrapping_add(1)
 }

@@ -2,7 +2,7 @@ use Rattle.std.proofs.Common.{◌≡◌, ◌<◌, true, false, ap, sym, ◌∙�
 use borrow.Author.Count.{below_more}
 use Rattle.gen1_rolls.specs.Draws.{draws_of}
 use Rattle.gen1_rolls.specs.Streams.{iterate}
-use Rattle.gen1_rolls.proofs.Standing.{iterate-more, none_meets, full_from}
+use Rattle.gen1_rolls.proofs.Standing.{draws_of-full, iterate-more, none_meets, full_from, stands_at_itself}
 use Rattle.gen1_rolls.proofs.searching.until.Goals as goal
 
 pub returns-then-test-clause-found : goal.returns-then-test-clause-found
@@ -30,7 +30,7 @@ draws-preserved g c =
           (ap p (sym drawn) ∙ sym (settles c.draw-byte.result false c.draw-byte.type_inv c.if-test.ensures));
       full = λ _.
           full_from g.R.Rolls.byte g.R.Rolls.next c.args.r.now c.draws.r g.R.Rolls.SPAN c.draws.counter c.draws.invariant.drawn
-          c.draws.invariant.full c.draw-byte.ensures.full;
+          c.draws.invariant.full (draws_of-full (stands_at_itself g.R.Rolls.byte g.R.Rolls.next g.R.Rolls.SPAN c.draws.r) c.draw-byte.ensures.stream);
     }
 
 pub returns-clause-none : goal.returns-clause-none

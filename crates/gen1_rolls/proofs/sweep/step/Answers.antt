@@ -1,6 +1,6 @@
 use Rattle.std.proofs.Common.{arith}
-use Rattle.gen1_rolls.proofs.Sweeps.{sweep_is_full}
+use Rattle.gen1_rolls.proofs.Sweeps.{sweep_is_stream}
 use Rattle.gen1_rolls.proofs.sweep.step.Goals as goal
 
-pub returns-clause-full : goal.returns-clause-full
-returns-clause-full c = sweep_is_full c.args.number (omega arith)
+pub returns-clause-stream : goal.returns-clause-stream
+returns-clause-stream c = sweep_is_stream c.args.number (omega arith)
