@@ -1,13 +1,14 @@
 -- Bits as a list of tests, and what `|`, `& !` and `&` with one bit make of them.
-use Rattle.std.proofs.Common.{Bool, List, [], arith, false, get_or, length, lit<, nat_eq, refl, set, suc, true, zero, ap, ℕ, ◌%◌, ◌*◌, ◌+◌, ◌-◌, ◌/◌, ◌<◌, ◌≡◌, ◌≤◌, ◌^◌, ◌∙◌, ◌∷◌}
+use Rattle.std.proofs.Common.{Bool, List, [], arith, false, get_or, length, lit<, nat_eq, not, refl, set, suc, sym, true, zero, ap, ℕ, ◌%◌, ◌*◌, ◌+◌, ◌-◌, ◌/◌, ◌<◌, ◌||◌, ◌≡◌, ◌≤◌, ◌^◌, ◌∙◌, ◌∷◌}
 use Rattle.std.proofs.Math.Nat.{pow-suc}
 use Rattle.std.proofs.lemmas.Bool.{eq-eqb}
 use Rattle.std.proofs.lemmas.Bool.Decides.{nat_tests}
-use Rattle.std.proofs.lemmas.Nat.{and_comm, and_mask, or_shifted}
+use Rattle.std.proofs.lemmas.Nat.{and_assoc, and_comm, and_mask, and_or_apart, and_or_self, or_shifted}
 use Rattle.std.specs.Int.Bits.{and_step, or_step}
 use Rattle.std.specs.Int.RustNames.{bit_and, bit_or}
 use Rattle.gen1_machine.specs.Rules.{bit_of}
 use Rattle.gen1_machine.specs.Layout.{number_of_bits}
+use Rattle.gen1_layout.specs.Flags.{any_at, holds_or_any_at, set_at}
 
 -- the bit at a place
 abbrev pub power : ℕ → ℕ
@@ -146,3 +147,48 @@ power-positive (suc k) = let h = power-positive k in omega arith
 -- one bit of the bits read
 pub bit_read : (bs : List Bool) (k : ℕ) → nat_eq (bit_and (bits_of bs) (power k)) (power k) ≡ get_or bs k false
 bit_read bs k = rw (bits_get bs k) (bit_test (get_or bs k false) (power k) (power-positive k))
+
+-- whether one of several bits is set
+
+abbrev meets : List Bool → ℕ → Bool
+meets bs n = not (nat_eq (bit_and (bits_of bs) n) 0)
+
+is_none : (n : ℕ) → n ≡ 0 → not (nat_eq n 0) ≡ false
+is_none n e = grind (arith, nat_tests)
+
+is_one : (n : ℕ) → (n ≡ 0 → ⊥) → not (nat_eq n 0) ≡ true
+is_one n h = grind (arith, nat_tests)
+
+meets_bit : (bs : List Bool) (m k : ℕ) → meets bs (bit_or m (power k)) ≡ get_or bs k false || meets bs m
+meets_bit bs m k = by (get_or bs k false) refl
+  where
+    by : (b : Bool) → get_or bs k false ≡ b → meets bs (bit_or m (power k)) ≡ b || meets bs m
+    by true e = is_one (bit_and (bits_of bs) (bit_or m (power k))) λ none.
+        let bit_is : bit_and (bits_of bs) (power k) ≡ 1 * power k = bits_get bs k ∙ ap (λ (b : Bool). bit b * power k) e in
+        let still : bit_and (bit_and (bits_of bs) (bit_or m (power k))) (power k) ≡ bit_and (bits_of bs) (power k) =
+        and_assoc (power k) (bits_of bs) (bit_or m (power k)) ∙ ap (bit_and (bits_of bs)) (and_or_self (power k) m) in
+        let gone : bit_and (bit_and (bits_of bs) (bit_or m (power k))) (power k) ≡ 0 = ap (λ (n : ℕ). bit_and n (power k)) none ∙ and_nothing (power k) in
+        absurd (omega (arith, bit_is, still, gone, power-positive k))
+    by false e =
+        let off : bit_and (power k) (bits_of bs) ≡ 0 = and_comm (power k) (bits_of bs) ∙ bits_get bs k ∙ ap (λ (b : Bool). bit b * power k) e ∙ omega arith in
+        ap (λ (n : ℕ). not (nat_eq n 0)) (and_comm (bits_of bs) (bit_or m (power k)) ∙ and_or_apart (bits_of bs) m (power k) off ∙ and_comm m (bits_of bs))
+
+holds_first : (holds : Bool) (places : List ℕ) (bs : List Bool) → holds_or_any_at holds places bs ≡ holds || any_at places bs
+holds_first holds [] bs = by holds
+  where
+    by : (b : Bool) → b ≡ b || false
+    by true = refl
+    by false = refl
+holds_first holds (k ∷ places) bs =
+    holds_first (holds || get_or bs k false) places bs ∙ or_assoc holds (get_or bs k false) (any_at places bs)
+    ∙ ap (λ (b : Bool). holds || b) (sym (holds_first (get_or bs k false) places bs))
+  where
+    or_assoc : (x y z : Bool) → (x || y) || z ≡ x || (y || z)
+    or_assoc true y z = refl
+    or_assoc false y z = refl
+
+pub any_read : (bs : List Bool) (places : List ℕ) → not (nat_eq (bit_and (bits_of bs) (set_at places)) 0) ≡ any_at places bs
+any_read bs [] = is_none (bit_and (bits_of bs) 0) (and_comm (bits_of bs) 0 ∙ and_nothing (bits_of bs))
+any_read bs (k ∷ places) =
+    ap (λ (n : ℕ). meets bs (bit_or (set_at places) n)) (power_is k) ∙ meets_bit bs (set_at places) k
+    ∙ ap (λ (b : Bool). get_or bs k false || b) (any_read bs places) ∙ sym (holds_first (get_or bs k false) places bs)

@@ -1,5 +1,5 @@
--- What stands beside the condition bits, and what a change of one bit leaves alone.
-use Rattle.std.specs.Prelude.{◌≡◌}
+-- Condition bits: several at once by their places, what stands beside them, and what a change of one bit leaves alone.
+use Rattle.std.specs.Prelude.{Bool, List, [], bit_or, false, slice_index_or, ℕ, ◌^◌, ◌||◌, ◌≡◌, ◌∷◌}
 use Rattle.gen1_machine.specs.Conditions.{Conditions}
 
 -- two sets of conditions have the same numbers
@@ -11,3 +11,16 @@ pub record SameNumbers (c d : Conditions) : Type 0 where
   pub substitute : c.substitute ≡ d.substitute
   pub bad_poison : c.bad_poison ≡ d.bad_poison
   pub disabled : c.disabled ≡ d.disabled
+
+-- a set of conditions as a number, by the places of their bits
+abbrev pub set_at : List ℕ → ℕ
+set_at [] = 0
+set_at (place ∷ places) = bit_or (set_at places) (2 ^ place)
+
+-- whether something holds already, or else one of the bits at these places is set
+abbrev pub holds_or_any_at : Bool → List ℕ → List Bool → Bool
+holds_or_any_at holds [] bits = holds
+holds_or_any_at holds (place ∷ places) bits = holds_or_any_at (holds || slice_index_or bits place false) places bits
+
+abbrev pub any_at : List ℕ → List Bool → Bool
+any_at places bits = holds_or_any_at false places bits

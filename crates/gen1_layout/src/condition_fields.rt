@@ -1,11 +1,11 @@
 //! The conditions of a member that is out, with their numbers (docs/LAYOUT.md, "Active block", "Condition bits").
-ghost use Rattle.std.specs.Prelude.{Bool, None, Option, Some, false, length, slice_index_or, slice_set, true, ℕ, ◌<◌, ◌^◌, ◌≡◌, ◌≤◌};
+ghost use Rattle.std.specs.Prelude.{Bool, List, None, Option, Some, false, length, slice_index_or, slice_set, true, ℕ, ◌<◌, ◌^◌, ◌≡◌, ◌≤◌};
 ghost use Rattle.gen1_machine.specs.Conditions.{Conditions as Named, after_haze, broken_off};
 ghost use Rattle.gen1_machine.specs.State.{Field, changed_conditions, conditions_in, member_in, underway_in};
 ghost use Rattle.gen1_machine.specs.Layout.{condition_bits, conditions_number, energy_of, turns_byte};
 ghost use Rattle.gen1_machine.specs.Valid.{IsCount};
 ghost use Rattle.gen1_layout.specs.Decoding.{turns_stored};
-ghost use Rattle.gen1_layout.specs.Flags.{SameNumbers};
+ghost use Rattle.gen1_layout.specs.Flags.{SameNumbers, any_at, set_at};
 ghost use Rattle.gen1_layout.specs.Storable.{IsStorableDisabled};
 ghost use Rattle.gen1_layout.specs.Within.{Setting, Within};
 
@@ -29,6 +29,15 @@ impl Packed {
             → result ≡ slice_index_or (condition_bits (conditions_in side f)) k false }
     {
         self.conditions(side).has(which)
+    }
+
+    /// Whether it has one at least of several conditions, by the places of their bits. Of two it is
+    /// `has_any(side, Conditions::MIST.union(Conditions::RAGE))`.
+    pub fn has_any(&self, side: Side, which: Conditions) -> bool
+        ensures stands { (places : List ℕ) → which.0 ≡ set_at places → (g : Setting) (f : Field) → Within g self.now f
+            → result ≡ any_at places (condition_bits (conditions_in side f)) }
+    {
+        self.conditions(side).has_any(which)
     }
 
     /// The HP of its Substitute, from 0 to 249. `None` without one.

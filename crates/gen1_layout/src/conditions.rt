@@ -1,6 +1,7 @@
 //! The conditions of a member that is out, as bits.
 ghost use Rattle.std.specs.Prelude.{Bool, List, [], codes, false, slice_index_or, slice_set, ℕ, ◌<◌, ◌^◌, ◌≡◌, ◌∷◌, ⊤, length};
 ghost use Rattle.gen1_machine.specs.Layout.{number_of_bits};
+ghost use Rattle.gen1_layout.specs.Flags.{any_at, set_at};
 
 use bitflags::{Flag, Flags, bitflag_items};
 
@@ -55,6 +56,10 @@ impl Flags for Conditions {
 }
 
 impl Conditions {
+    /// What keeps a member at its current move (docs/MECHANICS.md, "Picks"): recharging, rage, thrashing, charging, Bide
+    /// and trapping.
+    pub const CONTINUES: Conditions = Conditions(1024 | 2048 | 2 | 16 | 1 | 4);
+
     /// These conditions with one of them set or cleared.
     pub fn with(self, which: Conditions, on: bool) -> Conditions
         ensures { (k : ℕ) → which.0 ≡ 2 ^ k → (bits : List Bool) → k < length bits → length bits ≡ 17
@@ -75,5 +80,13 @@ impl Conditions {
             → self.0 ≡ number_of_bits bits → result ≡ slice_index_or bits k false }
     {
         self.contains(which)
+    }
+
+    /// Whether one at least of several conditions is among these.
+    pub fn has_any(self, which: Conditions) -> bool
+        ensures { (places : List ℕ) → which.0 ≡ set_at places → (bits : List Bool)
+            → self.0 ≡ number_of_bits bits → result ≡ any_at places bits }
+    {
+        self.intersects(which)
     }
 }
