@@ -1,15 +1,34 @@
--- What is shown once `factor` has drawn and its result was written as the last damage: the machine's factor.
-use Rattle.std.proofs.Common.{Bool, List, refl, ℕ}
+-- The machine's factor, and what is shown of it once `factor` has drawn and its result was written as the last damage.
+use Rattle.std.proofs.Common.{Bool, List, None, Option, Some, ap, false, nat_le, refl, true, ℕ, ◌+◌, ◌∙◌, ◌≡◌}
+use Rattle.gen1_rolls.specs.Streams.{Stream, byte_at, first, span}
 use Rattle.gen1_machine.specs.declared.event.Event.{Event}
-use Rattle.gen1_machine.specs.Damage.{vary}
-use Rattle.gen1_machine.specs.Progress.{Progress, on_field, set_last_damage}
+use Rattle.gen1_machine.specs.Damage.{is_factor, rotated_right_1, times_factor, varied_by, vary}
+use Rattle.gen1_machine.specs.Progress.{Phase, Progress, draw_until, on_field, set_last_damage}
 use Rattle.gen1_machine.specs.State.{with_last_damage}
 use Rattle.gen1_layout.specs.Parts.{Parts}
 use Rattle.gen1_layout.specs.Shows.{Frame, Shows, ShowsDrawn}
 use Rattle.gen1_layout.specs.Within.{Within}
-use Rattle.gen1_layout.proofs.Chain.{put_damage}
+use Rattle.gen1_layout.proofs.Chain.{choose-false, choose-true, put_damage}
 use Rattle.gen1_hits.specs.Factors.{Varies}
 
+-- the machine's factor, where none is drawn, and where one is found at m
+
+pub vary-keeps : (d n : ℕ) (p : Progress) → nat_le d 1 ≡ true → p.drawn ≡ n → vary d p ≡ set_last_damage d (record p { drawn = n })
+unfolding vary
+vary-keeps d n p small at = choose-true _ _ _ p small ∙ ap (λ (k : ℕ). set_last_damage d (record p { drawn = k })) at
+
+found : (test : ℕ → Bool) (f : ℕ → Phase) (p : Progress) (m : ℕ) → first p.stream p.drawn test ≡ Some m → draw_until test f p ≡ f (byte_at p.stream m) (record p { drawn = m + 1 })
+unfolding draw_until
+found test f p m e =
+    ap (λ (o : Option ℕ). elim o as (λ _. Progress) [ Some k ↦ f (byte_at p.stream k) (record p { drawn = k + 1 }) | None ↦ record p { drawn = p.drawn + span p.stream } ]) e
+
+pub vary-draws : (d n m : ℕ) (stream : Stream) (p : Progress) → nat_le d 1 ≡ false → p.stream ≡ stream → p.drawn ≡ n → first stream n is_factor ≡ Some m
+    → vary d p ≡ set_last_damage (times_factor (rotated_right_1 (byte_at stream m)) d) (record p { drawn = m + 1 })
+unfolding vary varied_by
+vary-draws d n m stream p large same at e =
+    choose-false _ _ _ p large ∙ found is_factor (varied_by d) p m (rw (same, at) e) ∙ rw same refl
+
+-- what is shown once a factor was drawn
 pub varying : {A : Type 0} {byte : A → ℕ} {next : A → A} {width : ℕ} {origin : A} {g : Frame} {parts parts' : Parts} {events : List Event} {old new : A} {b : Bool} {p : Progress}
     → (damage result : ℕ) → ShowsDrawn byte next width origin g parts events old b p → Varies byte next width damage old result new
     → Within g.setting parts' (with_last_damage result p.field) → ShowsDrawn byte next width origin g parts' events new b (vary damage p)
