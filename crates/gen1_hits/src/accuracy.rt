@@ -4,7 +4,7 @@ ghost use Rattle.gen1_stats.specs.Members.{is_asleep};
 ghost use Rattle.gen1_machine.specs.declared.event.Event.{Event};
 ghost use Rattle.gen1_machine.specs.Moves.{move_at};
 ghost use Rattle.gen1_machine.specs.Stages.{percent_at};
-ghost use Rattle.gen1_machine.specs.State.{Field};
+ghost use Rattle.gen1_machine.specs.State.{Field, status_in};
 ghost use Rattle.gen1_machine.specs.Progress.{Progress, draw};
 ghost use Rattle.gen1_machine.specs.HitTest.{eats_dreams, hit_test, hits_below, lowers, miss, never_misses, scaled_in, settled_hit_in};
 ghost use Rattle.gen1_layout.specs.Shows.{Frame, Shows, ShowsDrawn};
@@ -19,6 +19,9 @@ use gen1_tables::{Effect, MoveId, Stat};
 
 // What the stages from -6 to +6 make of a number, in percent (docs/MECHANICS.md, "Stages").
 const PERCENTS: [u32; 13] = [25, 28, 33, 40, 50, 66, 100, 150, 200, 250, 300, 350, 400];
+
+// A stage of 0, as it is stored.
+const LEVEL: u8 = 6;
 
 /// What a hit test came to.
 #[derive(Clone, Copy, Debug, PartialEq, Eq, Drop)]
@@ -70,7 +73,7 @@ fn settled_hit(battle: &Packed, side: Side, id: MoveId) -> Option<bool>
 {
     let foe = side.other();
     let effect = id.effect();
-    if finds_no_dream(effect, battle.status(foe)) {
+    if finds_no_dream(battle, foe, effect) {
         return Some(false);
     }
     if never_misses(effect) {
@@ -85,10 +88,26 @@ fn settled_hit(battle: &Packed, side: Side, id: MoveId) -> Option<bool>
     None
 }
 
-fn finds_no_dream(effect: Effect, foe: Status) -> bool
-    ensures { result ≡ (eats_dreams effect && not (is_asleep foe)) }
+// Only Dream Eater asks for the foe's status.
+fn finds_no_dream(battle: &Packed, foe: Side, effect: Effect) -> bool
+    ensures stands { (g : Setting) (f : Field) → Within g battle.now f → result ≡ (eats_dreams effect && not (is_asleep (status_in foe f))) }
 {
-    matches!(effect, Effect::DreamEater) && !matches!(foe, Status::Asleep { .. })
+    if !eats_dreams(effect) {
+        return false;
+    }
+    !is_asleep(battle.status(foe))
+}
+
+fn eats_dreams(effect: Effect) -> bool
+    ensures { result ≡ eats_dreams effect }
+{
+    matches!(effect, Effect::DreamEater)
+}
+
+fn is_asleep(status: Status) -> bool
+    ensures { result ≡ is_asleep status }
+{
+    matches!(status, Status::Asleep { .. })
 }
 
 fn never_misses(effect: Effect) -> bool
@@ -110,6 +129,9 @@ pub fn scaled_accuracy(battle: &Packed, side: Side, base: u8) -> u8
 {
     let accuracy = battle.stage(side, Stat::Accuracy);
     let evasion = battle.stage(side.other(), Stat::Evasion);
+    if accuracy == LEVEL && evasion == LEVEL {
+        return base.max(1);
+    }
     let aimed = at_percent(base.into(), percent_at(accuracy));
     // A stage is stored as 0 to 12, so 12 less it is the one with its sign turned.
     at_percent(aimed, percent_at(12_u8.saturating_sub(evasion))).min(255) as u8
