@@ -60,6 +60,9 @@ impl Conditions {
     /// and trapping.
     pub const CONTINUES: Conditions = Conditions(1024 | 2048 | 2 | 16 | 1 | 4);
 
+    /// What the gate looks for at the member itself (docs/MECHANICS.md, "Gate"): flinching, confusion, recharging and Disable.
+    pub const GATED: Conditions = Conditions(8 | 64 | 1024 | 65536);
+
     /// These conditions with one of them set or cleared.
     pub fn with(self, which: Conditions, on: bool) -> Conditions
         ensures { (k : ℕ) → which.0 ≡ 2 ^ k → (bits : List Bool) → k < length bits → length bits ≡ 17

@@ -1,5 +1,6 @@
--- The gate: what its answers tell, draws and what they are compared with, conditions that are cleared, sleep, counts.
+-- The gate: what its answers tell, who is held or free, draws and what they are compared with, conditions that are cleared, sleep, counts.
 pub mod Told
+pub mod Untested
 pub mod Comparing
 pub mod Clearing
 pub mod Sleeping

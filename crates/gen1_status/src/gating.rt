@@ -1,8 +1,12 @@
 //! What can keep a member from acting (docs/MECHANICS.md, "Gate"): tests in their order, of which the first that stops decides.
 ghost use Rattle.std.specs.Prelude.{true, ◌+◌, ◌≡◌, ◌≤◌};
 ghost use Rattle.arrayvec.specs.ArrayVec.{array_vec_len};
+ghost use Rattle.gen1_machine.specs.Action.{gate_or_held};
 ghost use Rattle.gen1_machine.specs.Gate.{cant, gate};
+ghost use Rattle.gen1_machine.specs.State.{Field};
 ghost use Rattle.gen1_layout.specs.Shows.{Does};
+ghost use Rattle.gen1_layout.specs.Within.{Setting, Within};
+ghost use Rattle.gen1_status.specs.Gating.{ActsAtOnce, is_held, keeps_from_acting};
 ghost use Rattle.gen1_status.specs.Telling.{DoesTelling};
 
 mod by_move;
@@ -11,16 +15,70 @@ mod by_turn;
 mod confusion;
 
 use crate::Gate;
-use by_move::gate_of_move;
+use by_move::{gate_of_move, is_idle};
 use by_status::gate_of_status;
 use by_turn::gate_of_turn;
-use gen1_layout::Packed;
+use gen1_layout::{Conditions, Packed};
 use gen1_machine::{CantReason, Event, EventList, Pick, Side};
 use gen1_rolls::Rolls;
+use gen1_stats::Status;
 
 /// Takes the tests of a member that is about to act, and writes what they change and tell, three events at most
-/// (docs/MECHANICS.md, "Gate"). A pick of Held does not come here: its action ends without a test.
+/// (docs/MECHANICS.md, "Gate"). Who was held as the turn began does not act, with no test and no draw, also where the holder
+/// has left since.
 pub fn gate<R: Rolls>(
+    battle: &mut Packed,
+    side: Side,
+    pick: Pick,
+    random: &mut R,
+    events: &mut EventList,
+) -> Gate
+    requires { array_vec_len events.old + 3 ≤ 64 }
+    ensures shown { DoesTelling R.byte R.next R.SPAN battle.old events.old.items random.old battle.new events.new.items random.new result (gate_or_held side pick) }
+    ensures room { array_vec_len events.new ≤ array_vec_len events.old + 3 }
+{
+    if is_held(pick) {
+        cant(battle, side, CantReason::PartiallyTrapped, events);
+        return Gate::Stop;
+    }
+    if acts_at_once(battle, side, pick) {
+        return Gate::Go;
+    }
+    take_tests(battle, side, pick, random, events)
+}
+
+// One look for the many turns in which there is nothing to test.
+fn acts_at_once(battle: &Packed, side: Side, pick: Pick) -> bool
+    ensures stands { (g : Setting) (f : Field) → Within g battle.now f → result ≡ true → ActsAtOnce side pick f }
+{
+    if keeps_from_acting(battle.status(side)) {
+        return false;
+    }
+    if battle.has_any(side, Conditions::GATED) {
+        return false;
+    }
+    if battle.is_on(side.other(), Conditions::TRAPPING) {
+        return false;
+    }
+    !is_idle(pick)
+}
+
+fn keeps_from_acting(status: Status) -> bool
+    ensures { result ≡ keeps_from_acting status }
+{
+    matches!(
+        status,
+        Status::Asleep { .. } | Status::Frozen | Status::Paralysed
+    )
+}
+
+fn is_held(pick: Pick) -> bool
+    ensures { result ≡ is_held pick }
+{
+    matches!(pick, Pick::Held)
+}
+
+fn take_tests<R: Rolls>(
     battle: &mut Packed,
     side: Side,
     pick: Pick,

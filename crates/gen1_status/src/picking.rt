@@ -1,5 +1,5 @@
 //! What a side's choice comes to as the turn begins (docs/MECHANICS.md, "Picks").
-ghost use Rattle.std.specs.Prelude.{is_some, zero, ℕ, ◌||◌, ◌≡◌};
+ghost use Rattle.std.specs.Prelude.{zero, ℕ, ◌≡◌};
 ghost use Rattle.gen1_machine.specs.State.{Field, underway_in};
 ghost use Rattle.gen1_machine.specs.Picks.{must_continue, pick_in, sleeps_or_freezes};
 ghost use Rattle.gen1_layout.specs.Within.{Setting, Within};
@@ -49,19 +49,7 @@ fn pick_without_slot(battle: &Packed, side: Side) -> Pick
 fn must_continue(battle: &Packed, side: Side) -> bool
     ensures stands { (g : Setting) (f : Field) → Within g battle.now f → result ≡ must_continue (underway_in side f) }
 {
-    recharges_rages_or_thrashes(battle, side)
-        || battle.is_on(side, Conditions::CHARGING)
-        || battle.is_on(side, Conditions::BIDE)
-        || battle.is_on(side, Conditions::TRAPPING)
-}
-
-fn recharges_rages_or_thrashes(battle: &Packed, side: Side) -> bool
-    ensures stands { (g : Setting) (f : Field) → Within g battle.now f
-        → result ≡ ((underway_in side f).recharge || (underway_in side f).rage || is_some (underway_in side f).thrash) }
-{
-    battle.is_on(side, Conditions::RECHARGE)
-        || battle.is_on(side, Conditions::RAGE)
-        || battle.is_on(side, Conditions::THRASH)
+    battle.has_any(side, Conditions::CONTINUES)
 }
 
 fn sleeps_or_freezes(status: Status) -> bool

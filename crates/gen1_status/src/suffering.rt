@@ -1,13 +1,14 @@
 //! What poison, a burn and Leech Seed take (docs/MECHANICS.md, "Residual").
-ghost use Rattle.std.specs.Prelude.{List, false, ◌+◌, ◌≡◌, ◌≤◌};
+ghost use Rattle.std.specs.Prelude.{List, false, ◌+◌, ◌||◌, ◌≡◌, ◌≤◌};
 ghost use Rattle.arrayvec.specs.ArrayVec.{array_vec_len};
 ghost use Rattle.gen1_stats.specs.Members.{is_living};
 ghost use Rattle.gen1_machine.specs.declared.event.Event.{Event};
 ghost use Rattle.gen1_machine.specs.Conditions.{one_more};
 ghost use Rattle.gen1_machine.specs.Residual.{residual, residual_in, suffer, suffer_seed, suffer_status, times_poisoned, worsen};
-ghost use Rattle.gen1_machine.specs.State.{Field, member_in};
+ghost use Rattle.gen1_machine.specs.State.{Field, conditions_in, member_in, status_in};
 ghost use Rattle.gen1_layout.specs.Shows.{Does};
 ghost use Rattle.gen1_layout.specs.Within.{Setting, Within};
+ghost use Rattle.gen1_status.specs.Hurting.{takes_hp};
 
 use gen1_hits::{gain_hp, lose_hp};
 use gen1_layout::{Conditions, Packed};
@@ -25,6 +26,9 @@ pub fn residual(battle: &mut Packed, side: Side, events: &mut EventList)
     ensures shown { Does battle.old events.old.items battle.new events.new.items false (residual side) }
     ensures room { array_vec_len events.new ≤ array_vec_len events.old + 3 }
 {
+    if !suffers(battle, side) {
+        return;
+    }
     if !is_living(battle, side) {
         return;
     }
@@ -33,6 +37,22 @@ pub fn residual(battle: &mut Packed, side: Side, events: &mut EventList)
         return;
     }
     suffer_seed(battle, side, events);
+}
+
+// Most members have neither poison nor a burn nor a seed.
+fn suffers(battle: &Packed, side: Side) -> bool
+    ensures stands { (g : Setting) (f : Field) → Within g battle.now f → result ≡ (takes_hp (status_in side f) || (conditions_in side f).seeded) }
+{
+    if takes_hp(battle.status(side)) {
+        return true;
+    }
+    battle.is_on(side, Conditions::SEEDED)
+}
+
+fn takes_hp(status: Status) -> bool
+    ensures { result ≡ takes_hp status }
+{
+    matches!(status, Status::Poisoned | Status::Burned)
 }
 
 fn is_living(battle: &Packed, side: Side) -> bool

@@ -114,7 +114,7 @@ fn used_by(pick: Pick, current: Used) -> Used
     }
 }
 
-fn is_idle(pick: Pick) -> bool
+pub(super) fn is_idle(pick: Pick) -> bool
     ensures { result ≡ is_idle pick }
 {
     matches!(pick, Pick::Idle)

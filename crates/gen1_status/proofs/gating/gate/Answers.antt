@@ -1,30 +1,23 @@
-use Rattle.std.proofs.Common.{refl}
-use Rattle.gen1_machine.specs.Gate.{gate, gate_of_status, gate_of_turn}
-use Rattle.gen1_machine.proofs.Steady.{gate_of_status-steady, gate_of_turn-steady}
-use Rattle.gen1_layout.proofs.Chain.{settled}
+use Rattle.std.proofs.Common.{refl, sym, ◌∙◌}
+use Rattle.gen1_machine.specs.declared.event.CantReason.TheVariants as reasons
+use Rattle.gen1_machine.specs.Gate.{cant}
+use Rattle.gen1_machine.proofs.Steady.{cant-steady}
 use Rattle.gen1_status.specs.declared.passing.Gate.TheVariants.{Go, Stop}
-use Rattle.gen1_status.proofs.Told.{outcome-steady, still_tells, tells, tells_goes, tells_stops}
+use Rattle.gen1_status.proofs.Untested.{gate-acts, held-is, held-not}
+use Rattle.gen1_status.proofs.Told.{drawn_tells, outcome-steady, still_tells, tells}
 use Rattle.gen1_status.proofs.gating.gate.Goals as goal
 
-pub returns-then-gate_of_status-clause-shown : goal.returns-then-gate_of_status-clause-shown
-unfolding gate
-returns-then-gate_of_status-clause-shown t c origin g p h =
-    tells_stops _ _ refl (still_tells h (tells Stop (gate_of_status c.args.side) refl (gate_of_status-steady (outcome-steady _) c.args.side)
-    (settled c.if-gate_of_status.true (c.gate_of_status.ensures.shown _ _ h.shows))))
-
-pub returns-then-gate_of_turn-clause-shown : goal.returns-then-gate_of_turn-clause-shown
-unfolding gate
-returns-then-gate_of_turn-clause-shown t c origin g p h =
-    let a = still_tells h (tells Go (gate_of_status c.args.side) refl (gate_of_status-steady (outcome-steady _) c.args.side)
-    (settled c.if-gate_of_status.false (c.gate_of_status.ensures.shown _ _ h.shows))) in
-    tells_goes _ _ a (tells_stops _ _ refl (still_tells a.shows (tells Stop (gate_of_turn c.args.side) refl (gate_of_turn-steady (outcome-steady _) c.args.side)
-    (settled c.if-gate_of_turn.true (c.gate_of_turn.ensures.shown _ _ a.shows.shows)))))
+pub returns-then-is_held-clause-shown : goal.returns-then-is_held-clause-shown
+returns-then-is_held-clause-shown t c origin g p h =
+    rw (held-is c.args.side c.args.pick (sym c.is_held.ensures ∙ c.if-is_held.true))
+    (still_tells h (tells Stop (cant c.args.side reasons.PartiallyTrapped) refl (cant-steady (outcome-steady _) c.args.side _) (c.cant.ensures.shown _ _ h.shows)))
 
 pub returns-clause-shown : goal.returns-clause-shown
-unfolding gate
 returns-clause-shown t c origin g p h =
-    let a = still_tells h (tells Go (gate_of_status c.args.side) refl (gate_of_status-steady (outcome-steady _) c.args.side)
-    (settled c.if-gate_of_status.false (c.gate_of_status.ensures.shown _ _ h.shows))) in
-    let b = still_tells a.shows (tells Go (gate_of_turn c.args.side) refl (gate_of_turn-steady (outcome-steady _) c.args.side)
-    (settled c.if-gate_of_turn.false (c.gate_of_turn.ensures.shown _ _ a.shows.shows))) in
-    tells_goes _ _ a (tells_goes _ _ b (c.gate_of_move.ensures.shown _ _ _ b.shows))
+    rw (held-not c.args.side c.args.pick (sym c.is_held.ensures ∙ c.if-is_held.false)) (c.take_tests.ensures.shown origin g p h)
+
+pub returns-then-acts_at_once-clause-shown : goal.returns-then-acts_at_once-clause-shown
+returns-then-acts_at_once-clause-shown t c origin g p h =
+    let at_once = c.acts_at_once.ensures.stands _ _ h.shows.within c.if-acts_at_once.true in
+    rw (held-not c.args.side c.args.pick (sym c.is_held.ensures ∙ c.if-is_held.false), gate-acts c.args.side c.args.pick p at_once h.shows.ends)
+    (drawn_tells Go (λ q. q) refl (record { kept = λ q same. same }) h)

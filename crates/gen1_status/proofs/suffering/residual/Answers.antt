@@ -1,6 +1,7 @@
 use Rattle.std.proofs.Common.{refl, sym, ◌∙◌}
 use Rattle.gen1_machine.specs.Residual.{residual, suffer_status}
 use Rattle.gen1_layout.proofs.Chain.{goes, if_not, if_so, seeing, stays}
+use Rattle.gen1_status.proofs.Untested.{residual-spares}
 use Rattle.gen1_status.proofs.suffering.residual.Goals as goal
 
 pub returns-then-not-is_living-clause-shown : goal.returns-then-not-is_living-clause-shown
@@ -20,3 +21,7 @@ returns-clause-shown c g p h =
     let a = seeing _ (suffer_status c.args.side) (c.status.ensures.stands _ _ h.within) (c.suffer_status.ensures.shown g p h) in
     if_so _ _ _ (sym (c.is_living.ensures.stands _ _ h.within) ∙ c.if-not-is_living.false)
     (goes _ _ a (if_so _ _ _ (sym (c.is_on.ensures.stands 12 refl _ _ a.within) ∙ c.if-not-is_on.false) (c.suffer_seed.ensures.shown g _ a)))
+
+pub returns-then-not-suffers-clause-shown : goal.returns-then-not-suffers-clause-shown
+returns-then-not-suffers-clause-shown c g p h =
+    rw (residual-spares c.args.side p (sym (c.suffers.ensures.stands _ _ h.within) ∙ c.if-not-suffers.true) h.ends) h

@@ -1,0 +1,22 @@
+use Rattle.std.proofs.Common.{[], Bool, ap, false, is_some, not, refl, sym, true, ◌∙◌, ◌∷◌, ◌≡◌}
+use Rattle.gen1_machine.specs.declared.side.Side.{Side}
+use Rattle.gen1_machine.specs.State.{underway_in}
+use Rattle.gen1_status.specs.Gating.{keeps_from_acting}
+use Rattle.gen1_status.proofs.Untested.{free-is}
+use Rattle.gen1_status.proofs.gating.acts_at_once.Goals as goal
+
+not-so : (b : Bool) → not b ≡ true → b ≡ false
+not-so false e = refl
+not-so true e = cc
+
+pub returns : goal.returns
+returns c = record {
+  stands = λ g f h e.
+      let foe = ap (λ (s : Side). is_some (underway_in s f).trapping) c.other.ensures in
+      record {
+        free = free-is c.args.side f (sym (c.is_on.ensures.stands 2 refl g f h ∙ foe) ∙ c.if-is_on.false)
+            (sym (c.has_any.ensures.stands (3 ∷ 6 ∷ 10 ∷ 16 ∷ []) refl g f h) ∙ c.if-has_any.false);
+        able = sym (c.keeps_from_acting.ensures ∙ ap keeps_from_acting (c.status.ensures.stands g f h)) ∙ c.if-keeps_from_acting.false;
+        busy = sym c.is_idle.ensures ∙ not-so c.is_idle.result e;
+      };
+}

@@ -1,0 +1,35 @@
+-- Who is held, who is free but for its status, and who acts with no test (docs/MECHANICS.md, "Gate").
+use Rattle.std.specs.Prelude.{Bool, None, false, true, ◌≡◌}
+use Rattle.gen1_stats.specs.declared.status.Status.{Status}
+use Rattle.gen1_stats.specs.declared.status.Status.TheVariants.{Asleep, Frozen, Paralysed}
+use Rattle.gen1_machine.specs.declared.picks.Pick.{Pick}
+use Rattle.gen1_machine.specs.declared.picks.Pick.TheVariants.{Held}
+use Rattle.gen1_machine.specs.declared.side.Side.{Side}
+use Rattle.gen1_machine.specs.Picks.{is_idle}
+use Rattle.gen1_machine.specs.Sides.{other}
+use Rattle.gen1_machine.specs.State.{Field, conditions_in, status_in, underway_in}
+
+abbrev pub is_held : Pick → Bool
+is_held Held = true
+is_held _ = false
+
+-- the statuses that can
+abbrev pub keeps_from_acting : Status → Bool
+keeps_from_acting (Asleep turns marked) = true
+keeps_from_acting Frozen = true
+keeps_from_acting Paralysed = true
+keeps_from_acting _ = false
+
+-- nothing but its status can keep the member from acting
+pub record IsFree (s : Side) (f : Field) : Type 0 where
+  pub untrapped : (underway_in (other s) f).trapping ≡ None
+  pub unflinching : (conditions_in s f).flinch ≡ false
+  pub rested : (underway_in s f).recharge ≡ false
+  pub undisabled : (conditions_in s f).disabled ≡ None
+  pub unconfused : (conditions_in s f).confused ≡ None
+
+-- nor can its status, and it has picked something
+pub record ActsAtOnce (s : Side) (pick : Pick) (f : Field) : Type 0 where
+  pub free : IsFree s f
+  pub able : keeps_from_acting (status_in s f) ≡ false
+  pub busy : is_idle pick ≡ false
