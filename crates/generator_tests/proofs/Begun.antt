@@ -1,0 +1,33 @@
+-- What is shown where an operation begins on a field: any generator, at the beginning of its own stream.
+use Rattle.std.proofs.Common.{List, false, refl, ℕ}
+use Rattle.gen1_rolls.specs.Draws.{stream_of}
+use Rattle.gen1_rolls.specs.Streams.{Stream}
+use Rattle.gen1_rolls.proofs.Standing.{stands_at_itself}
+use Rattle.gen1_machine.specs.declared.side.Side.{Side}
+use Rattle.gen1_machine.specs.declared.event.Event.{Event}
+use Rattle.gen1_machine.specs.Progress.{Progress, new_action}
+use Rattle.gen1_machine.specs.State.{Field}
+use Rattle.gen1_layout.specs.Parts.{Parts}
+use Rattle.gen1_layout.specs.Shows.{Frame, ShowsDrawn}
+use Rattle.gen1_layout.specs.Within.{Setting, Within}
+
+abbrev pub begun : Field → Stream → Side → List Event → Progress
+begun f stream side events = record {
+  field = f;
+  stream = stream;
+  drawn = 0;
+  events = events;
+  stopped = false;
+  skips = false;
+  action = new_action side;
+}
+
+abbrev pub frame : Setting → Stream → Side → Frame
+frame g stream side = record { setting = g; stream = stream; drawn = 0; skips = false; action = new_action side }
+
+pub begun-shown : {A : Type 0} (byte : A → ℕ) (next : A → A) (width : ℕ) (r : A) (side : Side) {g : Setting} {parts : Parts} {f : Field} (events : List Event) → Within g parts f
+    → ShowsDrawn byte next width r (frame g (stream_of byte next width r) side) parts events r false (begun f (stream_of byte next width r) side events)
+begun-shown byte next width r side events w = record {
+  shows = record { within = w; written = refl; ends = refl; stream = refl; drawn = refl; skips = refl; action = refl };
+  stands = stands_at_itself byte next width r;
+}
