@@ -9,9 +9,9 @@ use Rattle.gen1_machine.specs.declared.side.Side.{Side}
 use Rattle.gen1_machine.specs.declared.event.Event.{Event}
 use Rattle.gen1_machine.specs.Conditions.{Conditions}
 use Rattle.gen1_machine.specs.State.{changed_active, changed_conditions, changed_member, with_last_damage, Active, Field}
-use Rattle.gen1_machine.specs.Progress.{Action, Phase, Progress, choose, draw, given, note, on_action, on_active, on_conditions, on_field, on_member, set_last_damage, stay, stop, told, unless_stopped, ◌▸◌}
+use Rattle.gen1_machine.specs.Progress.{Action, Phase, Progress, choose, draw, given, new_action, note, on_action, on_active, on_conditions, on_field, on_member, set_last_damage, stay, stop, told, unless_stopped, when, ◌▸◌}
 use Rattle.gen1_layout.specs.Parts.{Parts}
-use Rattle.gen1_layout.specs.Within.{Within}
+use Rattle.gen1_layout.specs.Within.{Setting, Within}
 use Rattle.gen1_layout.specs.Shows.{Frame, Shows, ShowsDrawn}
 
 -- phases, by what they come to
@@ -67,6 +67,16 @@ module _ {g : Frame} {parts : Parts} {events : List Event} {b : Bool} {p : Progr
   pub acted : (f : Action → Action) → Shows g parts events b p → Shows (record g { action = f g.action }) parts events b (on_action f p)
   unfolding on_action
   acted f h = record { within = h.within; written = h.written; ends = h.ends; stream = h.stream; drawn = h.drawn; skips = h.skips; action = ap f h.action }
+
+-- a part that changes nothing, and a test that does not hold
+
+module _ {g g' : Frame} {parts parts' : Parts} {events events' : List Event} {b : Bool} {p : Progress} where
+  pub passing : (f k : Phase) → f p ≡ p → Shows g parts events false p → Shows g' parts' events' b (k p) → Shows g' parts' events' b ((f ▸ k) p)
+  passing f k e h a = rw (then-goes f k p (ap (λ (q : Progress). q.stopped) e ∙ h.ends) ∙ ap k e) a
+
+  pub past : (test : Progress → Bool) (f k : Phase) → test p ≡ false → Shows g parts events false p → Shows g' parts' events' b (k p) → Shows g' parts' events' b ((when test f ▸ k) p)
+  unfolding stay
+  past test f k e h a = passing (when test f) k (choose-false test f stay p e) h a
 
 -- writes and events
 
@@ -137,7 +147,43 @@ module _ {A : Type 0} {byte : A → ℕ} {next : A → A} {width : ℕ} {origin 
       → ShowsDrawn byte next width origin g parts events now true (f p) → ShowsDrawn byte next width origin g parts events now true ((f ▸ k) p)
   drawn_stops {p = p} f k a = rw (then-stops f k p a.shows.ends) a
 
+  pub drawn_if_so : {g : Frame} {parts : Parts} {events : List Event} {now : A} {b : Bool} {p : Progress} (test : Progress → Bool) (f k : Phase) → test p ≡ true
+      → ShowsDrawn byte next width origin g parts events now b (f p) → ShowsDrawn byte next width origin g parts events now b (choose test f k p)
+  drawn_if_so {p = p} test f k e h = rw (choose-true test f k p e) h
+
+  pub drawn_if_not : {g : Frame} {parts : Parts} {events : List Event} {now : A} {b : Bool} {p : Progress} (test : Progress → Bool) (f k : Phase) → test p ≡ false
+      → ShowsDrawn byte next width origin g parts events now b (k p) → ShowsDrawn byte next width origin g parts events now b (choose test f k p)
+  drawn_if_not {p = p} test f k e h = rw (choose-false test f k p e) h
+
+  pub drawn_stays : {g : Frame} {parts : Parts} {events : List Event} {now : A} {b : Bool} {p : Progress}
+      → ShowsDrawn byte next width origin g parts events now b p → ShowsDrawn byte next width origin g parts events now b (stay p)
+  unfolding stay
+  drawn_stays h = h
+
   pub drawn_seeing : {B : Type 0} {a : B} {g : Frame} {parts : Parts} {events : List Event} {now : A} {b : Bool} {p : Progress} (read : Progress → B) (f : B → Phase)
       → a ≡ read p → ShowsDrawn byte next width origin g parts events now b (f a p) → ShowsDrawn byte next width origin g parts events now b (given read f p)
   unfolding given
   drawn_seeing read f e h = rw (← e) h
+
+  pub drawn_settled : {g : Frame} {parts : Parts} {events : List Event} {now : A} {b b' : Bool} {p : Progress} → b ≡ b'
+      → ShowsDrawn byte next width origin g parts events now b p → ShowsDrawn byte next width origin g parts events now b' p
+  drawn_settled e h = record { shows = settled e h.shows; stands = h.stands }
+
+  pub drawn_acted : {g : Frame} {parts : Parts} {events : List Event} {now : A} {b : Bool} {p : Progress} (f : Action → Action)
+      → ShowsDrawn byte next width origin g parts events now b p → ShowsDrawn byte next width origin (record g { action = f g.action }) parts events now b (on_action f p)
+  drawn_acted {g = g} f h = still {g' = record g { action = f g.action }} h (acted f h.shows) refl
+
+-- how what is shown begins: no draws, no events, and nothing known of the action
+
+abbrev pub begun_in : Field → Stream → Side → Progress
+begun_in f s side = record { field = f; stream = s; drawn = 0; events = []; stopped = false; skips = false; action = new_action side }
+
+abbrev pub frame_in : Setting → Stream → Side → Frame
+frame_in g s side = record { setting = g; stream = s; drawn = 0; skips = false; action = new_action side }
+
+pub begun-shown : {A : Type 0} {byte : A → ℕ} {next : A → A} {width : ℕ} {origin now : A} {s : Stream} {g : Setting} {parts : Parts} {f : Field} (side : Side)
+    → StandsAt byte next width origin s 0 now → Within g parts f → ShowsDrawn byte next width origin (frame_in g s side) parts [] now false (begun_in f s side)
+begun-shown side a w = record {
+  shows = record { within = w; written = refl; ends = refl; stream = refl; drawn = refl; skips = refl; action = refl };
+  stands = a;
+}

@@ -22,10 +22,11 @@ use Rattle.gen1_machine.specs.GoingOn.{bide_goes_on, bide_on}
 use Rattle.gen1_machine.specs.Charging.{begin_charge, charge, end_charge, make_current}
 use Rattle.gen1_machine.specs.Action.{act, action_parts, begin, carry_out, keep_accuracy, lead_up, lets_energy_go, move_taken_in, resume, spend_pp, use_move}
 use Rattle.gen1_machine.specs.Valid.{effect_of, IsCount, IsMemberUnder}
+use Rattle.gen1_machine.specs.Plans.{with_plan, Any, Doing, HoldsPlan, IsPlanned, Plan, Plans}
 use Rattle.gen1_machine.proofs.Keeps.{choose-keeps, given-keeps, note-keeps, on_active-keeps, on_conditions-keeps, on_member-keeps, stay-keeps, stop-keeps, then-keeps, Keeps}
 use Rattle.gen1_machine.proofs.Leads.{choose-false, keeps-leads, leads-weaker, then-leads, Leads}
 use Rattle.gen1_machine.proofs.Tame.{accuracy-tame, with_invulnerability-tame, without_charging-tame, without_invulnerability-tame, SameMoves, TameMember}
-use Rattle.gen1_machine.proofs.Sound.{choose-sees, given-sees, party-valid, replanned, taken-up, with_plan, with_plan-is, within-sound, within-tied, Any, Doing, HoldsPlan, Plan, Plans, Sound, Within}
+use Rattle.gen1_machine.proofs.Sound.{choose-sees, given-sees, party-valid, replanned, taken-up, with_plan-is, planned-sound, planned-tied, Sound}
 use Rattle.gen1_machine.proofs.SoundFacts.{is-move, IsMove}
 use Rattle.gen1_machine.proofs.SoundWalk.{conditions-spared, early_effect-sound, gate_or_held-sound, ruling-sound, see_if_going_on-sound}
 use Rattle.gen1_machine.proofs.Explained.{bide_goes_on-keeps, charging-on, prelude-keeps, strikes-keeps}
@@ -154,20 +155,20 @@ passes-leads {P} {R} {f} k = record { led = λ p h. by (f p).stopped (k.passed p
 
 -- the current move goes on
 
-unchanged : (s : Side) (f : Field) → changed_active s (with_current (active_in s f).current) f ≡ f
+pub unchanged : (s : Side) (f : Field) → changed_active s (with_current (active_in s f).current) f ≡ f
 unfolding changed_active with_current
 unchanged One f = refl
 unchanged Two f = refl
 
 module _ (terms : Terms) (plan : Side → Plan) (s : Side) where
-  sound : Sound terms (Within terms plan)
-  sound = within-sound terms plan
+  sound : Sound terms (IsPlanned terms plan)
+  sound = planned-sound terms plan
 
-  spend_pp-keeps : Keeps (Within terms plan) (spend_pp s)
+  pub spend_pp-keeps : Keeps (IsPlanned terms plan) (spend_pp s)
   unfolding spend_pp
   spend_pp-keeps = given-keeps _ (λ used. on_member-keeps s _ (sound.member s _ (pp-tame used)))
 
-  end_charge-keeps : Keeps (Within terms plan) (end_charge s)
+  pub end_charge-keeps : Keeps (IsPlanned terms plan) (end_charge s)
   unfolding end_charge
   end_charge-keeps = then-keeps (on_conditions-keeps s _ (conditions-spared sound s _ without_charging-tame)) (on_conditions-keeps s _ (conditions-spared sound s _ without_invulnerability-tame))
 
@@ -176,24 +177,24 @@ module _ (terms : Terms) (plan : Side → Plan) (s : Side) where
   tested-small None kept true h l = l
   tested-small (Some n) kept true h l = h.1
 
-  keep_accuracy-keeps : Keeps (Within terms plan) (keep_accuracy s)
+  pub keep_accuracy-keeps : Keeps (IsPlanned terms plan) (keep_accuracy s)
   unfolding keep_accuracy
   keep_accuracy-keeps = given-sees _ (λ byte. byte ≤ 255)
       (λ p h. tested-small p.action.accuracy_tested (active_in s p.field).kept_accuracy ((underway_in s p.field).rage || is_some (underway_in s p.field).thrash) h.tested (party-valid s p.field h.field).active.kept_accuracy)
       (λ byte l. on_active-keeps s _ (sound.active s _ (accuracy-tame byte l)))
 
 module _ (terms : Terms) (plan : Side → Plan) (s : Side) (move : Move) (is : IsMove move) (doing : plan s ≡ Doing move.effect) where
-  begins_charge : charges move.effect ≡ true → Keeps (Within terms plan) (on_conditions s with_charging)
+  begins_charge : charges move.effect ≡ true → Keeps (IsPlanned terms plan) (on_conditions s with_charging)
   begins_charge tie = on_conditions-keeps s _ (record {
-    spared = λ f a w k. within-tied terms plan s move.effect doing _ f a w k (charging-on move.effect _ (conditions_in s f) tie);
+    spared = λ f a w k. planned-tied terms plan s move.effect doing _ f a w k (charging-on move.effect _ (conditions_in s f) tie);
   })
 
-  hidden : Keeps (Within terms plan) (choose (λ p. hides move.effect) (on_conditions s with_invulnerability) stay)
-  hidden = choose-keeps _ (on_conditions-keeps s _ (conditions-spared (within-sound terms plan) s _ with_invulnerability-tame)) stay-keeps
+  hidden : Keeps (IsPlanned terms plan) (choose (λ p. hides move.effect) (on_conditions s with_invulnerability) stay)
+  hidden = choose-keeps _ (on_conditions-keeps s _ (conditions-spared (planned-sound terms plan) s _ with_invulnerability-tame)) stay-keeps
 
 -- a side's plan is over
-forgotten : {terms : Terms} (plan : Side → Plan) (s : Side) (x : Plan) (f : Field) (a : Action) (w : Stream)
-    → Within terms (with_plan s x plan) f a w → Within terms (with_plan s Any plan) f a w
+pub forgotten : {terms : Terms} (plan : Side → Plan) (s : Side) (x : Plan) (f : Field) (a : Action) (w : Stream)
+    → IsPlanned terms (with_plan s x plan) f a w → IsPlanned terms (with_plan s Any plan) f a w
 forgotten {terms} plan s x f a w h = record { field = h.field; tested = h.tested; stream = h.stream; holds = by s h.holds }
   where
     by : (s : Side) → ((u : Side) → HoldsPlan (with_plan s x plan u) (member_in u f).moves (active_in u f))
@@ -203,46 +204,46 @@ forgotten {terms} plan s x f a w h = record { field = h.field; tested = h.tested
     by Two k One = k One
     by Two k Two = tt
 
-unplanned : {terms : Terms} {plan : Side → Plan} (s : Side) (f : Field) (a : Action) (w : Stream) → Within terms plan f a w → Within terms (with_plan s Any plan) f a w
+pub unplanned : {terms : Terms} {plan : Side → Plan} (s : Side) (f : Field) (a : Action) (w : Stream) → IsPlanned terms plan f a w → IsPlanned terms (with_plan s Any plan) f a w
 unplanned s f a w h = replanned s Any f a w tt h
 
 -- where the current move stays
 
 module _ (terms : Terms) (plan : Side → Plan) (s : Side) (move : Move) (is : IsMove move) (doing : plan s ≡ Doing move.effect)
     (pick : Pick) (stays : (used : Used) → used_by pick used ≡ used) where
-  make_current-keeps : Keeps (Within terms plan) (make_current s pick)
+  pub make_current-keeps : Keeps (IsPlanned terms plan) (make_current s pick)
   unfolding make_current given on_active on_field
   make_current-keeps = record {
-    kept = λ p h. subst (λ u. Within terms plan (changed_active s (with_current u) p.field) p.action p.stream) (sym (stays (active_in s p.field).current))
-        (subst (λ f. Within terms plan f p.action p.stream) (sym (unchanged s p.field)) h);
+    kept = λ p h. subst (λ u. IsPlanned terms plan (changed_active s (with_current u) p.field) p.action p.stream) (sym (stays (active_in s p.field).current))
+        (subst (λ f. IsPlanned terms plan f p.action p.stream) (sym (unchanged s p.field)) h);
   }
 
-  begin_charge-keeps : charges move.effect ≡ true → Keeps (Within terms plan) (begin_charge s pick move)
+  pub begin_charge-keeps : charges move.effect ≡ true → Keeps (IsPlanned terms plan) (begin_charge s pick move)
   unfolding begin_charge
   begin_charge-keeps tie = then-keeps make_current-keeps (then-keeps (begins_charge terms plan s move is doing tie)
       (then-keeps (hidden terms plan s move is doing) (then-keeps (note-keeps _) stop-keeps)))
 
-  lead_up-keeps : Keeps (Within terms plan) (lead_up s pick move)
+  pub lead_up-keeps : Keeps (IsPlanned terms plan) (lead_up s pick move)
   unfolding lead_up charge use_move
   lead_up-keeps =
       then-keeps (choose-sees _ (λ tie. choose-keeps _ (end_charge-keeps terms plan s) (begin_charge-keeps tie)) (λ e. stay-keeps))
       (then-keeps (then-keeps make_current-keeps (then-keeps (choose-keeps _ stay-keeps (spend_pp-keeps terms plan s)) (choose-keeps _ (note-keeps _) stay-keeps)))
-      (then-keeps (choose-keeps _ (then-keeps (early_effect-sound (within-sound terms plan) s move move.effect is) stop-keeps) stay-keeps)
+      (then-keeps (choose-keeps _ (then-keeps (early_effect-sound (planned-sound terms plan) s move move.effect is) stop-keeps) stay-keeps)
       (prelude-keeps terms plan s move is doing)))
 
-  carry_out-keeps : Keeps (Within terms plan) (carry_out (ruling_of terms) s pick move)
+  carry_out-keeps : Keeps (IsPlanned terms plan) (carry_out (ruling_of terms) s pick move)
   unfolding carry_out
   carry_out-keeps = then-keeps (bide_goes_on-keeps terms plan s) (then-keeps (choose-keeps _ stay-keeps lead_up-keeps)
-      (strikes-keeps terms plan s move is doing (ruling_of terms) (ruling-sound (within-sound terms plan))))
+      (strikes-keeps terms plan s move is doing (ruling_of terms) (ruling-sound (planned-sound terms plan))))
 
 -- where a move is taken up that was planned
 
 abbrev pub Quiet : Terms → (Side → Plan) → Field → Action → Stream → Type 0
-Quiet terms plan f a w = Within terms plan f a w × (a.letting_go ≡ false)
+Quiet terms plan f a w = IsPlanned terms plan f a w × (a.letting_go ≡ false)
 
 pub quiet-sound : (terms : Terms) (plan : Side → Plan) → Sound terms (Quiet terms plan)
 quiet-sound terms plan =
-    let sound = within-sound terms plan in
+    let sound = planned-sound terms plan in
     record {
       field = λ f a w h. h.0.field;
       tested = λ f a w h. h.0.tested;
@@ -260,36 +261,36 @@ no-bide None k = refl
 no-bide (Some b) k = absurd (false≢true (k refl))
 
 module _ (terms : Terms) (plan : Side → Plan) (s : Side) (move : Move) (is : IsMove move) (used : Used) (planned : plan s ≡ Plans used move.effect) where
-  next : Side → Plan
+  pub next : Side → Plan
   next = with_plan s (Doing move.effect) plan
 
-  Over : Field → Action → Stream → Type 0
-  Over = Within terms (with_plan s Any plan)
+  pub Over : Field → Action → Stream → Type 0
+  Over = IsPlanned terms (with_plan s Any plan)
 
-  doing : next s ≡ Doing move.effect
+  pub doing : next s ≡ Doing move.effect
   unfolding next
   doing = with_plan-is s (Doing move.effect) plan
 
-  ends : (f : Field) (a : Action) (w : Stream) → Within terms next f a w → Over f a w
+  pub ends : (f : Field) (a : Action) (w : Stream) → IsPlanned terms next f a w → Over f a w
   unfolding next Over
   ends f a w h = forgotten plan s (Doing move.effect) f a w h
 
-  ends_at_once : (f : Field) (a : Action) (w : Stream) → Within terms plan f a w → Over f a w
+  pub ends_at_once : (f : Field) (a : Action) (w : Stream) → IsPlanned terms plan f a w → Over f a w
   unfolding Over
   ends_at_once f a w h = unplanned s f a w h
 
-  make_current-leads : Leads (Within terms plan) (Within terms next) (make_current s (Use used))
+  pub make_current-leads : Leads (IsPlanned terms plan) (IsPlanned terms next) (make_current s (Use used))
   unfolding make_current given on_active on_field next
   make_current-leads = record { led = λ p h. taken-up s used move.effect p.field p.action p.stream planned h }
 
-  begin_charge-passes : {Q : Field → Action → Stream → Type 0} → charges move.effect ≡ true → Passes (Within terms plan) Q Over (begin_charge s (Use used) move)
+  pub begin_charge-passes : {Q : Field → Action → Stream → Type 0} → charges move.effect ≡ true → Passes (IsPlanned terms plan) Q Over (begin_charge s (Use used) move)
   unfolding begin_charge
   begin_charge-passes tie = passes-then (leads-passes make_current-leads ends)
       (passes-then (leads-passes (keeps-leads (begins_charge terms next s move is doing tie)) ends)
       (passes-then (leads-passes (keeps-leads (hidden terms next s move is doing)) ends)
       (passes-then (leads-passes (keeps-leads (note-keeps _)) ends) (passes-stop ends))))
 
-  lead_up-passes : Passes (Within terms plan) (Within terms next) Over (lead_up s (Use used) move)
+  pub lead_up-passes : Passes (IsPlanned terms plan) (IsPlanned terms next) Over (lead_up s (Use used) move)
   unfolding lead_up charge use_move
   lead_up-passes =
       passes-then (passes-choose_sees _
@@ -298,10 +299,10 @@ module _ (terms : Terms) (plan : Side → Plan) (s : Side) (move : Move) (is : I
       (passes-then (leads-passes (then-leads make_current-leads
       (keeps-leads (then-keeps (choose-keeps _ stay-keeps (spend_pp-keeps terms next s)) (choose-keeps _ (note-keeps _) stay-keeps))) (λ f a w h. h)) ends)
       (leads-passes (keeps-leads (then-keeps
-      (choose-keeps _ (then-keeps (early_effect-sound (within-sound terms next) s move move.effect is) stop-keeps) stay-keeps)
+      (choose-keeps _ (then-keeps (early_effect-sound (planned-sound terms next) s move move.effect is) stop-keeps) stay-keeps)
       (prelude-keeps terms next s move is doing))) ends))
 
-  bide-quiet : Keeps (Quiet terms plan) (bide_goes_on s)
+  pub bide-quiet : Keeps (Quiet terms plan) (bide_goes_on s)
   unfolding bide_goes_on given bide_on stay
   bide-quiet = record {
     kept = λ p h.
@@ -315,32 +316,32 @@ module _ (terms : Terms) (plan : Side → Plan) (s : Side) (move : Move) (is : I
   carry_out-leads = passes-leads
       (passes-then (leads-passes (keeps-leads bide-quiet) (λ f a w h. ends_at_once f a w h.0))
       (passes-then (record {
-        passed = λ p h. subst (λ x. After (Within terms next) Over x) (sym (choose-false lets_energy_go stay (lead_up s (Use used) move) p h.1)) (lead_up-passes.passed p h.0);
+        passed = λ p h. subst (λ x. After (IsPlanned terms next) Over x) (sym (choose-false lets_energy_go stay (lead_up s (Use used) move) p h.1)) (lead_up-passes.passed p h.0);
       })
-      (leads-passes (leads-weaker (keeps-leads (strikes-keeps terms next s move is doing (ruling_of terms) (ruling-sound (within-sound terms next)))) ends) (λ f a w h. h))))
+      (leads-passes (leads-weaker (keeps-leads (strikes-keeps terms next s move is doing (ruling_of terms) (ruling-sound (planned-sound terms next)))) ends) (λ f a w h. h))))
 
 -- the whole
 
 module _ (terms : Terms) (plan : Side → Plan) (s : Side) where
-  pub begin-quiet : Leads (Within terms plan) (Quiet terms plan) (begin s)
+  pub begin-quiet : Leads (IsPlanned terms plan) (Quiet terms plan) (begin s)
   unfolding begin on_action
   begin-quiet = record { led = λ p h. (record { field = h.field; tested = tt; stream = h.stream; holds = h.holds }, refl) }
 
-  pub begin-keeps : Keeps (Within terms plan) (begin s)
+  pub begin-keeps : Keeps (IsPlanned terms plan) (begin s)
   unfolding begin on_action
   begin-keeps = record { kept = λ p h. record { field = h.field; tested = tt; stream = h.stream; holds = h.holds } }
 
-  parts-stay : (pick : Pick) → ((used : Used) → used_by pick used ≡ used) → Leads (Quiet terms plan) (Within terms (with_plan s Any plan)) (action_parts (ruling_of terms) s pick)
+  parts-stay : (pick : Pick) → ((used : Used) → used_by pick used ≡ used) → Leads (Quiet terms plan) (IsPlanned terms (with_plan s Any plan)) (action_parts (ruling_of terms) s pick)
   unfolding action_parts given
   parts-stay pick stays =
       let quiet = quiet-sound terms plan in
       then-leads (keeps-leads (gate_or_held-sound quiet s pick)) (then-leads (keeps-leads (see_if_going_on-sound quiet s pick)) (record { led = by }) weaker) weaker
     where
-      weaker : (f : Field) (a : Action) (w : Stream) → Quiet terms plan f a w → Within terms (with_plan s Any plan) f a w
+      weaker : (f : Field) (a : Action) (w : Stream) → Quiet terms plan f a w → IsPlanned terms (with_plan s Any plan) f a w
       weaker f a w h = unplanned s f a w h.0
 
       by : (p : Progress) → Quiet terms plan p.field p.action p.stream → let q : Progress = carry_out (ruling_of terms) s pick (move_taken_in s pick p.field) p in
-          Within terms (with_plan s Any plan) q.field q.action q.stream
+          IsPlanned terms (with_plan s Any plan) q.field q.action q.stream
       by p h =
           let active = active_in s p.field in
           let moves = (member_in s p.field).moves in
@@ -350,30 +351,30 @@ module _ (terms : Terms) (plan : Side → Plan) (s : Side) where
           ((carry_out-keeps terms (with_plan s (Doing move.effect) plan) s move (is-move _) (with_plan-is s (Doing move.effect) plan) pick stays).kept p
           (replanned s (Doing move.effect) p.field p.action p.stream e h.0))
 
-  parts-take : (used : Used) (e : Effect) → plan s ≡ Plans used e → Leads (Quiet terms plan) (Within terms (with_plan s Any plan)) (action_parts (ruling_of terms) s (Use used))
+  parts-take : (used : Used) (e : Effect) → plan s ≡ Plans used e → Leads (Quiet terms plan) (IsPlanned terms (with_plan s Any plan)) (action_parts (ruling_of terms) s (Use used))
   unfolding action_parts given Over
   parts-take used e planned =
       let quiet = quiet-sound terms plan in
       then-leads (keeps-leads (gate_or_held-sound quiet s (Use used))) (then-leads (keeps-leads (see_if_going_on-sound quiet s (Use used))) (record { led = by }) weaker) weaker
     where
-      weaker : (f : Field) (a : Action) (w : Stream) → Quiet terms plan f a w → Within terms (with_plan s Any plan) f a w
+      weaker : (f : Field) (a : Action) (w : Stream) → Quiet terms plan f a w → IsPlanned terms (with_plan s Any plan) f a w
       weaker f a w h = unplanned s f a w h.0
 
       by : (p : Progress) → Quiet terms plan p.field p.action p.stream → let q : Progress = carry_out (ruling_of terms) s (Use used) (move_taken_in s (Use used) p.field) p in
-          Within terms (with_plan s Any plan) q.field q.action q.stream
+          IsPlanned terms (with_plan s Any plan) q.field q.action q.stream
       by p h =
           let moves = (member_in s p.field).moves in
           let plans : HoldsPlan (Plans used e) moves (active_in s p.field) = subst (λ x. HoldsPlan x moves (active_in s p.field)) planned (h.0.holds s) in
           (carry_out-leads terms plan s (move_at (number_in used moves)) (is-move _) used (planned ∙ ap (λ x. Plans used x) (sym plans.1))).led p h
 
-  act-from : (pick : Pick) → Leads (Quiet terms plan) (Within terms (with_plan s Any plan)) (action_parts (ruling_of terms) s pick)
-      → Leads (Within terms plan) (Within terms (with_plan s Any plan)) (act (ruling_of terms) s pick)
+  act-from : (pick : Pick) → Leads (Quiet terms plan) (IsPlanned terms (with_plan s Any plan)) (action_parts (ruling_of terms) s pick)
+      → Leads (IsPlanned terms plan) (IsPlanned terms (with_plan s Any plan)) (act (ruling_of terms) s pick)
   unfolding act resume
   act-from pick k = record { led = λ p h. (keep_accuracy-keeps terms (with_plan s Any plan) s).kept _ (k.led _ (begin-quiet.led p h)) }
 
   -- a move that is not picked anew, and one that was planned
-  pub act-stays : (pick : Pick) → ((used : Used) → used_by pick used ≡ used) → Leads (Within terms plan) (Within terms (with_plan s Any plan)) (act (ruling_of terms) s pick)
+  pub act-stays : (pick : Pick) → ((used : Used) → used_by pick used ≡ used) → Leads (IsPlanned terms plan) (IsPlanned terms (with_plan s Any plan)) (act (ruling_of terms) s pick)
   act-stays pick stays = act-from pick (parts-stay pick stays)
 
-  pub act-takes : (used : Used) (e : Effect) → plan s ≡ Plans used e → Leads (Within terms plan) (Within terms (with_plan s Any plan)) (act (ruling_of terms) s (Use used))
+  pub act-takes : (used : Used) (e : Effect) → plan s ≡ Plans used e → Leads (IsPlanned terms plan) (IsPlanned terms (with_plan s Any plan)) (act (ruling_of terms) s (Use used))
   act-takes used e planned = act-from (Use used) (parts-take used e planned)

@@ -18,10 +18,11 @@ use Rattle.gen1_machine.specs.HitEffects.{hit_effect, start_rage}
 use Rattle.gen1_machine.specs.ManyHits.{hit_again, hit_once, hits, other_hits}
 use Rattle.gen1_machine.specs.Action.{damage_of, lands_at_once, lets_energy_go, prelude, strike}
 use Rattle.gen1_machine.specs.Valid.{rages, recharges, IsConditions, IsCount, IsStoring, OnlyWith}
+use Rattle.gen1_machine.specs.Plans.{Doing, IsPlanned, Plan}
 use Rattle.gen1_machine.proofs.Keeps.{choose-keeps, draw-keeps, ends-keeps, given-keeps, note-keeps, on_action-keeps, on_active-keeps, on_conditions-keeps, told-keeps, set_last_damage-keeps, set_missed-keeps, stay-keeps, stop-keeps, then-keeps, Keeps, KeepsRuling}
 use Rattle.gen1_machine.proofs.Leads.{keeps-leads, stay-leads, then-leads, Leads}
 use Rattle.gen1_machine.proofs.Tame.{accuracy-tame, with_trapping_one_less-tame, without_bide-tame, without_recharge-tame, without_thrash-tame}
-use Rattle.gen1_machine.proofs.Sound.{choose-leads_sees, choose-sees, told-leads, within-sound, within-tied, Doing, Plan, Sound, Within}
+use Rattle.gen1_machine.proofs.Sound.{choose-leads_sees, choose-sees, told-leads, planned-sound, planned-tied, Sound}
 use Rattle.gen1_machine.proofs.SoundFacts.{leads-from, on_conditions-leads, IsMove, LowersSome}
 use Rattle.gen1_machine.proofs.SoundWalk.{build_rage-sound, damage_of-sound, fail-sound, conditions-spared, confuse-sound, count_hit-sound, disable-sound, drain-sound, draw_count-sound, explode-sound, kept_away_effect-sound, land-sound, lower_foes_stat-sound, may_confuse-sound, missed-spared, missed_move-sound, note_first_hit-sound, note_hit_count-sound, plan_hits-sound, put_to_sleep-sound, raise_stage-sound, recoil-sound, set_planned-sound}
 
@@ -206,43 +207,43 @@ bide-less e n damage b c is more h = record {
 -- phases, while a side uses a move with this effect
 
 module _ (terms : Terms) (plan : Side → Plan) where
-  within : Sound terms (Within terms plan)
-  within = within-sound terms plan
+  planned : Sound terms (IsPlanned terms plan)
+  planned = planned-sound terms plan
 
-  let_go-keeps : Keeps (Within terms plan) set_letting_go
+  let_go-keeps : Keeps (IsPlanned terms plan) set_letting_go
   unfolding set_letting_go
   let_go-keeps = on_action-keeps (record { spared = λ f a w h. record { field = h.field; tested = h.tested; stream = h.stream; holds = h.holds } })
 
-  let_energy_go-keeps : (s : Side) (energy : ℕ) → Keeps (Within terms plan) (let_energy_go s energy)
+  let_energy_go-keeps : (s : Side) (energy : ℕ) → Keeps (IsPlanned terms plan) (let_energy_go s energy)
   unfolding let_energy_go
-  let_energy_go-keeps s energy = then-keeps (ends-keeps s _ _ (conditions-spared within s _ without_bide-tame))
-      (then-keeps (set_last_damage-keeps _ (within.damage _ (omega arith))) (then-keeps let_go-keeps (set_missed-keeps _ (missed-spared within _))))
+  let_energy_go-keeps s energy = then-keeps (ends-keeps s _ _ (conditions-spared planned s _ without_bide-tame))
+      (then-keeps (set_last_damage-keeps _ (planned.damage _ (omega arith))) (then-keeps let_go-keeps (set_missed-keeps _ (missed-spared planned _))))
 
   bide_on-keeps : (s : Side) (o : Option Storing) (damage : ℕ)
-      → Leads (λ f a w. Within terms plan f a w × ((underway_in s f).bide ≡ o)) (Within terms plan) (bide_on s o damage)
+      → Leads (λ f a w. IsPlanned terms plan f a w × ((underway_in s f).bide ≡ o)) (IsPlanned terms plan) (bide_on s o damage)
   unfolding bide_on store_energy goes_on
   bide_on-keeps s None damage = stay-leads (λ f a w h. h.0)
   bide_on-keeps s (Some b) damage = choose-leads_sees _
       (λ e. leads-from (λ f a w h. h.0) (let_energy_go-keeps s _))
-      (λ e. then-leads (told-leads _ _ (λ f a w h. within.conditions s (with_bide_storing damage) f a w h.0 (λ x k. bide-less x _ damage b (conditions_in s f) h.1 e k)))
+      (λ e. then-leads (told-leads _ _ (λ f a w h. planned.conditions s (with_bide_storing damage) f a w h.0 (λ x k. bide-less x _ damage b (conditions_in s f) h.1 e k)))
       (keeps-leads stop-keeps) (λ f a w h. h))
 
-  pub bide_goes_on-keeps : (s : Side) → Keeps (Within terms plan) (bide_goes_on s)
+  pub bide_goes_on-keeps : (s : Side) → Keeps (IsPlanned terms plan) (bide_goes_on s)
   unfolding bide_goes_on given
   bide_goes_on-keeps s = record { kept = λ p h. (bide_on-keeps s (underway_in s p.field).bide _).led p (h, refl) }
 
 module _ (terms : Terms) (plan : Side → Plan) (s : Side) (move : Move) (is : IsMove move) (doing : plan s ≡ Doing move.effect) where
-  valid : Sound terms (Within terms plan)
-  valid = within-sound terms plan
+  valid : Sound terms (IsPlanned terms plan)
+  valid = planned-sound terms plan
 
-  start_bide-keeps : bides move.effect ≡ true → Keeps (Within terms plan) (start_bide s)
+  start_bide-keeps : bides move.effect ≡ true → Keeps (IsPlanned terms plan) (start_bide s)
   unfolding start_bide bide_for starts
   start_bide-keeps tie = draw-keeps (λ b. told-keeps _ (record {
-    spared = λ f a w k. within-tied terms plan s move.effect doing _ f a w k (bide-on move.effect _ _ (conditions_in s f) tie (omega arith, omega arith));
+    spared = λ f a w k. planned-tied terms plan s move.effect doing _ f a w k (bide-on move.effect _ _ (conditions_in s f) tie (omega arith, omega arith));
   }))
 
-  late_effect-keeps : (r : Ruling) (x : Effect) → KeepsRuling (Within terms plan) r → LowersSome x → (bides x ≡ true → bides move.effect ≡ true)
-      → Keeps (Within terms plan) (late_effect r s move x)
+  late_effect-keeps : (r : Ruling) (x : Effect) → KeepsRuling (IsPlanned terms plan) r → LowersSome x → (bides x ≡ true → bides move.effect ≡ true)
+      → Keeps (IsPlanned terms plan) (late_effect r s move x)
   unfolding late_effect
   late_effect-keeps r (effects.StatUp stat n) ruling low tie = raise_stage-sound valid s s stat n _ (fail-sound valid s)
   late_effect-keeps r (effects.StatDown stat n) ruling low tie = lower_foes_stat-sound valid s move stat n low is
@@ -250,63 +251,63 @@ module _ (terms : Terms) (plan : Side → Plan) (s : Side) (move : Move) (is : I
   late_effect-keeps r effects.Bide ruling low tie = start_bide-keeps (tie refl)
   late_effect-keeps r _ ruling low tie = stay-keeps
 
-  trap_for-keeps : (n : ℕ) → traps move.effect ≡ true → n ≤ 3 → Keeps (Within terms plan) (trap_for s n)
+  trap_for-keeps : (n : ℕ) → traps move.effect ≡ true → n ≤ 3 → Keeps (IsPlanned terms plan) (trap_for s n)
   unfolding trap_for
   trap_for-keeps n tie l = on_conditions-keeps s _ (record {
-    spared = λ f a w k. within-tied terms plan s move.effect doing _ f a w k (trapping-on move.effect _ _ (conditions_in s f) tie (omega (arith, l)));
+    spared = λ f a w k. planned-tied terms plan s move.effect doing _ f a w k (trapping-on move.effect _ _ (conditions_in s f) tie (omega (arith, l)));
   })
 
-  trap-keeps : traps move.effect ≡ true → Keeps (Within terms plan) (trap s)
+  trap-keeps : traps move.effect ≡ true → Keeps (IsPlanned terms plan) (trap s)
   unfolding trap
   trap-keeps tie = choose-keeps _ (on_conditions-keeps s _ (conditions-spared valid s _ with_trapping_one_less-tame))
       (then-keeps (on_conditions-keeps (other s) _ (conditions-spared valid (other s) _ without_recharge-tame)) (draw_count-sound valid _ (λ n l. trap_for-keeps n tie l)))
 
-  thrash_less-keeps : (o : Option ℕ) → Leads (λ f a w. Within terms plan f a w × ((underway_in s f).thrash ≡ o)) (Within terms plan) (thrash_less s o)
+  thrash_less-keeps : (o : Option ℕ) → Leads (λ f a w. IsPlanned terms plan f a w × ((underway_in s f).thrash ≡ o)) (IsPlanned terms plan) (thrash_less s o)
   unfolding thrash_less
   thrash_less-keeps None = stay-leads (λ f a w h. h.0)
   thrash_less-keeps (Some turns) = choose-leads_sees _
       (λ e. leads-from (λ f a w h. h.0) (then-keeps (on_conditions-keeps s _ (conditions-spared valid s _ without_thrash-tame)) (confuse-sound valid s)))
       (λ e. on_conditions-leads s with_thrash_one_less (λ f a w h. valid.conditions s with_thrash_one_less f a w h.0 (λ x k. thrash-less x _ turns (conditions_in s f) h.1 e k)))
 
-  thrash_for-keeps : (b : ℕ) → thrashes move.effect ≡ true → Keeps (Within terms plan) (thrash_for s move b)
+  thrash_for-keeps : (b : ℕ) → thrashes move.effect ≡ true → Keeps (IsPlanned terms plan) (thrash_for s move b)
   unfolding thrash_for
   thrash_for-keeps b tie = then-keeps
       (on_conditions-keeps s _ (record {
-        spared = λ f a w k. within-tied terms plan s move.effect doing _ f a w k (thrash-on move.effect _ _ (conditions_in s f) tie (omega arith, omega arith));
+        spared = λ f a w k. planned-tied terms plan s move.effect doing _ f a w k (thrash-on move.effect _ _ (conditions_in s f) tie (omega arith, omega arith));
       }))
       (on_active-keeps s _ (valid.active s _ (accuracy-tame (accuracy_byte move) (omega (arith, is.accuracy)))))
 
-  thrash_about-keeps : thrashes move.effect ≡ true → Keeps (Within terms plan) (thrash_about s move)
+  thrash_about-keeps : thrashes move.effect ≡ true → Keeps (IsPlanned terms plan) (thrash_about s move)
   unfolding thrash_about given
   thrash_about-keeps tie = choose-keeps _
       (record { kept = λ p h. (thrash_less-keeps (underway_in s p.field).thrash).led p (h, refl) })
       (draw-keeps (λ b. thrash_for-keeps b tie))
 
-  pub prelude-keeps : Keeps (Within terms plan) (prelude s move)
+  pub prelude-keeps : Keeps (IsPlanned terms plan) (prelude s move)
   unfolding prelude
   prelude-keeps = then-keeps (choose-sees _ (λ tie. trap-keeps tie) (λ e. stay-keeps)) (choose-sees _ (λ tie. thrash_about-keeps tie) (λ e. stay-keeps))
 
-  must_recharge-keeps : recharges move.effect ≡ true → Keeps (Within terms plan) (must_recharge s)
+  must_recharge-keeps : recharges move.effect ≡ true → Keeps (IsPlanned terms plan) (must_recharge s)
   unfolding must_recharge
   must_recharge-keeps tie = told-keeps _ (record {
-    spared = λ f a w k. within-tied terms plan s move.effect doing _ f a w k (recharge-on move.effect _ (conditions_in s f) tie);
+    spared = λ f a w k. planned-tied terms plan s move.effect doing _ f a w k (recharge-on move.effect _ (conditions_in s f) tie);
   })
 
-  side_effect-keeps : (r : Ruling) (x : Effect) → KeepsRuling (Within terms plan) r → (recharges x ≡ true → recharges move.effect ≡ true)
-      → Keeps (Within terms plan) (side_effect r s move x)
+  side_effect-keeps : (r : Ruling) (x : Effect) → KeepsRuling (IsPlanned terms plan) r → (recharges x ≡ true → recharges move.effect ≡ true)
+      → Keeps (IsPlanned terms plan) (side_effect r s move x)
   unfolding side_effect
   side_effect-keeps r (effects.ConfusionChance n) ruling tie = may_confuse-sound valid s n
   side_effect-keeps r effects.Disable ruling tie = disable-sound valid s move is
   side_effect-keeps r effects.Recharge ruling tie = must_recharge-keeps (tie refl)
   side_effect-keeps r x ruling tie = choose-keeps _ stay-keeps (kept_away_effect-sound valid r s move x ruling is)
 
-  start_rage-keeps : rages move.effect ≡ true → Keeps (Within terms plan) (start_rage s)
+  start_rage-keeps : rages move.effect ≡ true → Keeps (IsPlanned terms plan) (start_rage s)
   unfolding start_rage starts
   start_rage-keeps tie = choose-keeps _ stay-keeps (told-keeps _ (record {
-    spared = λ f a w k. within-tied terms plan s move.effect doing _ f a w k (rage-on move.effect _ (conditions_in s f) tie);
+    spared = λ f a w k. planned-tied terms plan s move.effect doing _ f a w k (rage-on move.effect _ (conditions_in s f) tie);
   }))
 
-  hit_effect-keeps : (x : Effect) → (rages x ≡ true → rages move.effect ≡ true) → Keeps (Within terms plan) (hit_effect s move x)
+  hit_effect-keeps : (x : Effect) → (rages x ≡ true → rages move.effect ≡ true) → Keeps (IsPlanned terms plan) (hit_effect s move x)
   unfolding hit_effect
   hit_effect-keeps effects.MultiHit tie = plan_hits-sound valid
   hit_effect-keeps effects.DoubleHit tie = set_planned-sound valid 2
@@ -318,32 +319,32 @@ module _ (terms : Terms) (plan : Side → Plan) (s : Side) (move : Move) (is : I
   hit_effect-keeps effects.Explode tie = explode-sound valid s
   hit_effect-keeps _ tie = stay-keeps
 
-  hit_once-keeps : Keeps (Within terms plan) (hit_once s move)
+  hit_once-keeps : Keeps (IsPlanned terms plan) (hit_once s move)
   unfolding hit_once
   hit_once-keeps = then-keeps (land-sound valid (other s)) (then-keeps (choose-keeps _ (note-keeps _) stay-keeps) (then-keeps (count_hit-sound valid)
       (then-keeps (choose-keeps _ stay-keeps (hit_effect-keeps move.effect (λ t. t))) (choose-keeps _ stay-keeps (build_rage-sound valid (other s))))))
 
-  hit_again-keeps : (k : ℕ) → Keeps (Within terms plan) (hit_again k s move)
+  hit_again-keeps : (k : ℕ) → Keeps (IsPlanned terms plan) (hit_again k s move)
   unfolding hit_again
   hit_again-keeps zero = stay-keeps
   hit_again-keeps (suc k) = choose-keeps _ stay-keeps (then-keeps hit_once-keeps (hit_again-keeps k))
 
-  other_hits-keeps : Keeps (Within terms plan) (other_hits s move)
+  other_hits-keeps : Keeps (IsPlanned terms plan) (other_hits s move)
   unfolding other_hits
   other_hits-keeps = then-keeps (given-keeps _ (λ k. hit_again-keeps k)) (choose-keeps _ (given-keeps _ (λ n. note_hit_count-sound valid (other s) n)) stay-keeps)
 
-  hits-keeps : Keeps (Within terms plan) (hits s move)
+  hits-keeps : Keeps (IsPlanned terms plan) (hits s move)
   unfolding hits
   hits-keeps = then-keeps (note_first_hit-sound valid s move is) (then-keeps hit_once-keeps (choose-keeps _ other_hits-keeps stay-keeps))
 
-  strike-keeps : (r : Ruling) → KeepsRuling (Within terms plan) r → Keeps (Within terms plan) (strike r s move)
+  strike-keeps : (r : Ruling) → KeepsRuling (IsPlanned terms plan) r → Keeps (IsPlanned terms plan) (strike r s move)
   unfolding strike
   strike-keeps r ruling = then-keeps (choose-keeps _ (missed_move-sound valid s move is) stay-keeps)
       (then-keeps hits-keeps (choose-keeps _ stay-keeps (side_effect-keeps r move.effect ruling (λ t. t))))
 
   -- what comes after the move is settled
-  pub strikes-keeps : (r : Ruling) → KeepsRuling (Within terms plan) r
-      → Keeps (Within terms plan) (unless (lands_at_once move) (damage_of s move move.effect)
+  pub strikes-keeps : (r : Ruling) → KeepsRuling (IsPlanned terms plan) r
+      → Keeps (IsPlanned terms plan) (unless (lands_at_once move) (damage_of s move move.effect)
       ▸ unless lets_energy_go (only (is_late move.effect) (late_effect r s move move.effect ▸ stop)) ▸ strike r s move)
   strikes-keeps r ruling = then-keeps (choose-keeps _ stay-keeps (damage_of-sound valid s move move.effect is))
       (then-keeps (choose-keeps _ stay-keeps (choose-keeps _ (then-keeps (late_effect-keeps r move.effect ruling is.lowers (λ t. t)) stop-keeps) stay-keeps))

@@ -20,15 +20,16 @@ use Rattle.gen1_machine.specs.Action.{accuracy_after, act, action_parts, begin, 
 use Rattle.gen1_machine.specs.SwitchingIn.{send_out, sent_out, with_sent_out}
 use Rattle.gen1_machine.specs.Turn.{do_part, end_spent_trapping, set_picked, Acts, Sends, Suffers}
 use Rattle.gen1_machine.specs.Valid.{rages, IsUnderway, KeepsAccuracy}
+use Rattle.gen1_machine.specs.Plans.{FitsPick, HoldsPlan, IsPlanned, Plan, Plans}
 use Rattle.gen1_machine.proofs.Keeps.{choose-keeps, given-keeps, note-keeps, on_active-keeps, on_conditions-keeps, stay-keeps, then-keeps, Keeps, Spares}
 use Rattle.gen1_machine.proofs.Leads.{choose-leads, keeps-leads, stay-leads, then-leads, Leads}
-use Rattle.gen1_machine.proofs.Sound.{party-valid, untied, HoldsPlan, Plan, Plans, Within}
+use Rattle.gen1_machine.proofs.Sound.{party-valid, untied}
 use Rattle.gen1_machine.proofs.SoundWalk.{gate_or_held-sound, see_if_going_on-sound}
 use Rattle.gen1_machine.proofs.Acts.{begin-keeps, begin-quiet, either, leads-passes, no-bide, passes-leads, passes-then, quiet-sound, After, IfStopped, Quiet}
 use Rattle.gen1_machine.proofs.Steady as steadies
 use Rattle.gen1_machine.proofs.Steady.{act-steady, begin-steady, gate_or_held-steady, residual-steady, ruling-steady, with_penalty_of-leaves, with_picked-leaves, without_flinch-leaves, without_trapping-leaves, Own}
 use Rattle.gen1_machine.proofs.TiedTurns.{Tied}
-use Rattle.gen1_machine.proofs.ValidTurns.{FitsPick, both-keep}
+use Rattle.gen1_machine.proofs.ValidTurns.{both-keep}
 use Rattle.gen1_machine.proofs.KeptAccuracy.{active-at, aimed, at-faults, at-hurts, at-steady, foe-own, fresh-alone, fresh-breaks, fresh-keeps, kept-stands, keeps_on, off-keeps, stands-alone, stands-fresh, tested-keeps, then-runs, At, Fresh, Keeps_on, Off, On, Ready, Runs, Stands, Tested}
 use Rattle.gen1_machine.proofs.KeptActs.{carry_out-off, carry_out-runs}
 
@@ -99,7 +100,7 @@ module _ (terms : Terms) (s : Side) (pick : Pick) where
           either q.stopped k k
 
   -- the move that a pick uses explains what is underway
-  explained : (plan : Side → Plan) (f : Field) (x : Action) (w : Stream) → FitsPick pick (plan s) → Within terms plan f x w → IsUnderway (move_taken_in s pick f).effect (underway_in s f)
+  explained : (plan : Side → Plan) (f : Field) (x : Action) (w : Stream) → FitsPick pick (plan s) → IsPlanned terms plan f x w → IsUnderway (move_taken_in s pick f).effect (underway_in s f)
   explained plan f x w fits h = by pick fits
     where
       by : (pick : Pick) → FitsPick pick (plan s) → IsUnderway (move_taken_in s pick f).effect (underway_in s f)
@@ -133,7 +134,7 @@ module _ (terms : Terms) (s : Side) (pick : Pick) where
           settled p going h = carried (number_in (used_by pick (active_in s p.field).current) (member_in s p.field).moves) p going
               (explained plan p.field p.action p.stream fits h.0.0) h.0.1 h.1
 
-  begins : (plan : Side → Plan) → Leads (λ f x w. Within terms plan f x w × At Stands s f x w) (Before plan) (begin s)
+  begins : (plan : Side → Plan) → Leads (λ f x w. IsPlanned terms plan f x w × At Stands s f x w) (Before plan) (begin s)
   unfolding begin on_action
   begins plan = record { led = λ p h. ((begin-quiet terms plan s).led p h.0, begun p h.1) }
     where
@@ -149,7 +150,7 @@ module _ (terms : Terms) (s : Side) (pick : Pick) where
       by One f x h = kept-stands (On f.one.active) (unwrap_or x.accuracy_tested f.one.active.kept_accuracy) h
       by Two f x h = kept-stands (On f.two.active) (unwrap_or x.accuracy_tested f.two.active.kept_accuracy) h
 
-  act-own : (plan : Side → Plan) → FitsPick pick (plan s) → Leads (λ f x w. Within terms plan f x w × At Stands s f x w) (At Stands s) (act (ruling_of terms) s pick)
+  act-own : (plan : Side → Plan) → FitsPick pick (plan s) → Leads (λ f x w. IsPlanned terms plan f x w × At Stands s f x w) (At Stands s) (act (ruling_of terms) s pick)
   unfolding act resume
   act-own plan fits = record { led = λ p h. kept.led _ ((parts plan fits).led _ ((begins plan).led p h)) }
 
@@ -200,13 +201,13 @@ send_out-stands v s place = then-keeps (given-keeps _ (λ m. on_active-keeps s _
         sent m = sent-stands place m
 
 module _ (terms : Terms) where
-  acts-both : (plan : Side → Plan) (s : Side) (pick : Pick) → FitsPick pick (plan s) → Leads (λ f x w. Within terms plan f x w × Both f x w) Both (do_part (ruling_of terms) (Acts s pick))
+  acts-both : (plan : Side → Plan) (s : Side) (pick : Pick) → FitsPick pick (plan s) → Leads (λ f x w. IsPlanned terms plan f x w × Both f x w) Both (do_part (ruling_of terms) (Acts s pick))
   unfolding do_part
-  acts-both plan s pick fits = then-leads {Q = λ f x w. Within terms plan f x w × Both f x w}
+  acts-both plan s pick fits = then-leads {Q = λ f x w. IsPlanned terms plan f x w × Both f x w}
       (keeps-leads (both-keep (begin-keeps terms plan s) (both-of (λ v. begin-steady (at-steady stands-alone v) s (stands-settles terms s pick v)))))
       (choose-leads _ (stay-leads (λ f x w h. h.1)) acts) (λ f x w h. h.1)
     where
-      acts : Leads (λ f x w. Within terms plan f x w × Both f x w) Both (act (ruling_of terms) s pick)
+      acts : Leads (λ f x w. IsPlanned terms plan f x w × Both f x w) Both (act (ruling_of terms) s pick)
       acts = record {
         led = λ p h. let q : Progress = act (ruling_of terms) s pick p in
             together s q.field q.action q.stream ((act-own terms s pick plan fits).led p (h.0, this s p.field p.action p.stream h.1)) ((act-foe terms s pick).kept p (this (other s) p.field p.action p.stream h.1));

@@ -22,6 +22,7 @@ use Rattle.gen1_machine.specs.Picks.{number_in}
 use Rattle.gen1_machine.specs.declared.event.Event.{Event}
 use Rattle.gen1_machine.specs.Progress.{choose, draw, draw_until, given, on_field, told, Action, Phase, Progress}
 use Rattle.gen1_machine.specs.Valid.{effect_of, IsActive, IsConditions, IsCount, IsField, IsMembersUnder, IsMemberUnder, IsParty, IsUnderway, IsUsed}
+use Rattle.gen1_machine.specs.Plans.{with_plan, Any, Doing, HoldsPlan, IsPlanned, Plan, Plans}
 use Rattle.gen1_machine.proofs.Keeps.{Keeps, Spares, SparesAction}
 use Rattle.gen1_machine.proofs.Leads.{Leads}
 use Rattle.gen1_machine.proofs.Tame.{SameMoves, TameActive, TameMember}
@@ -43,24 +44,6 @@ pub record Sound (terms : Terms) (P : Field → Action → Stream → Type 0) : 
   pub damage : (n : ℕ) → n ≤ 65535 → Spares P (with_last_damage n)
   pub outcome : (n : ℕ) → IsBetween 1 2 n → Spares P (with_outcome (outcomes.Fault n))
   pub action : (change : Action → Action) → TameAction change → SparesAction P change
-
--- what is known of each side's current move beside: nothing; that a move with an effect is about to be used, while nothing is
--- underway; or the effect of the move that is being used
-pub data Plan : Type 0 where
-  Any : Plan
-  Plans : (used : Used) → (effect : Effect) → Plan
-  Doing : (effect : Effect) → Plan
-
-abbrev pub HoldsPlan : Plan → List KnownMove → Active → Type 0
-HoldsPlan Any moves a = Unit {0}
-HoldsPlan (Plans used e) moves a = IsUsed (length moves) used × (effect_of used moves ≡ e) × IsUnderway effects.DamageOnly a.conditions.underway
-HoldsPlan (Doing e) moves a = effect_of a.current moves ≡ e
-
-pub record Within (terms : Terms) (plan : Side → Plan) (f : Field) (a : Action) (w : Stream) : Type 0 where
-  pub field : IsField terms f
-  pub tested : IsCount 0 255 a.accuracy_tested
-  pub stream : IsStream w
-  pub holds : (s : Side) → HoldsPlan (plan s) (member_in s f).moves (active_in s f)
 
 -- a party of a valid field is valid, and may be put in the place of another
 
@@ -163,9 +146,9 @@ module _ (terms : Terms) (plan : Side → Plan) where
   holds-after Two t f k h One = h One
   holds-after Two t f k h Two = k
 
-  within-member : (s : Side) (change : Member → Member) → TameMember terms.rules change → Spares (Within terms plan) (changed_member s change)
+  planned-member : (s : Side) (change : Member → Member) → TameMember terms.rules change → Spares (IsPlanned terms plan) (changed_member s change)
   unfolding changed_member
-  within-member s change tame = record {
+  planned-member s change tame = record {
     spared = λ f a w h. record {
       field = with-party s _ f (member-changed terms.rules (party s f) (party-valid s f h.field) change tame) h.field;
       tested = h.tested;
@@ -174,9 +157,9 @@ module _ (terms : Terms) (plan : Side → Plan) where
     };
   }
 
-  within-active : (s : Side) (change : Active → Active) → TameActive change → Spares (Within terms plan) (changed_active s change)
+  planned-active : (s : Side) (change : Active → Active) → TameActive change → Spares (IsPlanned terms plan) (changed_active s change)
   unfolding changed_active
-  within-active s change tame = record {
+  planned-active s change tame = record {
     spared = λ f a w h. record {
       field = with-party s _ f (active-changed terms.rules (party s f) change tame (party-valid s f h.field)) h.field;
       tested = h.tested;
@@ -187,11 +170,11 @@ module _ (terms : Terms) (plan : Side → Plan) where
     };
   }
 
-  within-conditions : (s : Side) (change : Conditions → Conditions) (f : Field) (a : Action) (w : Stream) → Within terms plan f a w
+  planned-conditions : (s : Side) (change : Conditions → Conditions) (f : Field) (a : Action) (w : Stream) → IsPlanned terms plan f a w
       → ((e : Effect) → IsConditions e (length (member_in s f).moves) (conditions_in s f) → IsConditions e (length (member_in s f).moves) (change (conditions_in s f)))
-      → Within terms plan (changed_conditions s change f) a w
+      → IsPlanned terms plan (changed_conditions s change f) a w
   unfolding changed_conditions changed_active
-  within-conditions s change f a w h k =
+  planned-conditions s change f a w h k =
       let v = party-valid s f h.field in
       record {
         field = with-party s _ f (record {
@@ -205,7 +188,7 @@ module _ (terms : Terms) (plan : Side → Plan) where
             (conditions-plan (plan s) (member_in s f).moves (active_in s f) (change (conditions_in s f)) k v.active (h.holds s)) h.holds;
       }
 
-  damaged : (n : ℕ) → n ≤ 65535 → Spares (Within terms plan) (with_last_damage n)
+  damaged : (n : ℕ) → n ≤ 65535 → Spares (IsPlanned terms plan) (with_last_damage n)
   unfolding with_last_damage
   damaged n l = record {
     spared = λ f a w h. record {
@@ -221,7 +204,7 @@ module _ (terms : Terms) (plan : Side → Plan) where
       same f n h One = h One
       same f n h Two = h Two
 
-  faulted : (n : ℕ) → IsBetween 1 2 n → Spares (Within terms plan) (with_outcome (outcomes.Fault n))
+  faulted : (n : ℕ) → IsBetween 1 2 n → Spares (IsPlanned terms plan) (with_outcome (outcomes.Fault n))
   unfolding with_outcome
   faulted n l = record {
     spared = λ f a w h. record {
@@ -238,11 +221,11 @@ module _ (terms : Terms) (plan : Side → Plan) where
       same f n h Two = h Two
 
   -- what the current move explains
-  pub within-tied : (s : Side) (e : Effect) → plan s ≡ Doing e → (change : Conditions → Conditions) (f : Field) (a : Action) (w : Stream) → Within terms plan f a w
+  pub planned-tied : (s : Side) (e : Effect) → plan s ≡ Doing e → (change : Conditions → Conditions) (f : Field) (a : Action) (w : Stream) → IsPlanned terms plan f a w
       → (IsConditions e (length (member_in s f).moves) (conditions_in s f) → IsConditions e (length (member_in s f).moves) (change (conditions_in s f)))
-      → Within terms plan (changed_conditions s change f) a w
+      → IsPlanned terms plan (changed_conditions s change f) a w
   unfolding changed_conditions changed_active
-  within-tied s e is change f a w h k =
+  planned-tied s e is change f a w h k =
       let v = party-valid s f h.field in
       let moves = (member_in s f).moves in
       let doing : effect_of (active_in s f).current moves ≡ e = subst (λ x. HoldsPlan x moves (active_in s f)) is (h.holds s) in
@@ -259,14 +242,14 @@ module _ (terms : Terms) (plan : Side → Plan) where
             (subst (λ x. HoldsPlan x moves (record (active_in s f) { conditions = change (conditions_in s f) })) (sym is) doing) h.holds;
       }
 
-  pub within-sound : Sound terms (Within terms plan)
-  within-sound = record {
+  pub planned-sound : Sound terms (IsPlanned terms plan)
+  planned-sound = record {
     field = λ f a w h. h.field;
     tested = λ f a w h. h.tested;
     stream = λ f a w h. h.stream;
-    member = within-member;
-    active = within-active;
-    conditions = within-conditions;
+    member = planned-member;
+    active = planned-active;
+    conditions = planned-conditions;
     damage = damaged;
     outcome = faulted;
     action = λ change tame. record {
@@ -320,17 +303,9 @@ module _ {terms : Terms} {P : Field → Action → Stream → Type 0} (sound : S
       by p (Some m) e h = (k (byte_at p.stream m) (byte-small p.stream m (sound.stream _ _ _ h)) (first-finds p.stream p.drawn test m e).meets).kept (record p { drawn = m + 1 }) h
       by p None e h = h
 
--- plans with another for one side
-
-abbrev pub with_plan : Side → Plan → (Side → Plan) → Side → Plan
-with_plan One x plan One = x
-with_plan One x plan Two = plan Two
-with_plan Two x plan One = plan One
-with_plan Two x plan Two = x
-
 -- a fact of one side's plan may be put in the place of another
 pub replanned : {terms : Terms} {plan : Side → Plan} (s : Side) (x : Plan) (f : Field) (a : Action) (w : Stream)
-    → HoldsPlan x (member_in s f).moves (active_in s f) → Within terms plan f a w → Within terms (with_plan s x plan) f a w
+    → HoldsPlan x (member_in s f).moves (active_in s f) → IsPlanned terms plan f a w → IsPlanned terms (with_plan s x plan) f a w
 replanned {terms} {plan} s x f a w k h = record { field = h.field; tested = h.tested; stream = h.stream; holds = by s k }
   where
     by : (s : Side) → HoldsPlan x (member_in s f).moves (active_in s f) → (u : Side) → HoldsPlan (with_plan s x plan u) (member_in u f).moves (active_in u f)
@@ -359,7 +334,7 @@ untied e u h = record {
 }
 
 pub taken-up : {terms : Terms} {plan : Side → Plan} (s : Side) (used : Used) (e : Effect) (f : Field) (a : Action) (w : Stream) → plan s ≡ Plans used e
-    → Within terms plan f a w → Within terms (with_plan s (Doing e) plan) (changed_active s (with_current used) f) a w
+    → IsPlanned terms plan f a w → IsPlanned terms (with_plan s (Doing e) plan) (changed_active s (with_current used) f) a w
 unfolding changed_active with_current
 taken-up {terms} {plan} s used e f a w is h =
     let v = party-valid s f h.field in

@@ -15,23 +15,24 @@ use Rattle.gen1_machine.specs.Progress.{choose, given, on_active, on_conditions,
 use Rattle.gen1_machine.specs.Ruling.{ruling_of}
 use Rattle.gen1_machine.specs.TurnOrder.{in_order, in_order_of_rank, in_order_of_speed, toss}
 use Rattle.gen1_machine.specs.Turn.{both_act, both_pick, both_switch, do_part, do_parts, end_spent_trapping, end_turn, is_cut, of_side, one_picks, play_turn, set_picked, turn, Acts, Part, Sends, Suffers}
+use Rattle.gen1_machine.specs.Plans.{with_plan, Any, Comes, FitsPick, InRange, IsPlanned, Plan, PlanOf}
 use Rattle.gen1_machine.proofs.Keeps.{on_conditions-keeps, then-keeps, Keeps}
 use Rattle.gen1_machine.proofs.Leads.{choose-leads, given-leads, keeps-leads, stay-leads, then-leads, Leads}
 use Rattle.gen1_machine.proofs.Bench.{between-free, Between}
 use Rattle.gen1_machine.proofs.Turns.{part-suffers}
-use Rattle.gen1_machine.proofs.Sound.{with_plan, within-sound, Any, Plan, Within}
+use Rattle.gen1_machine.proofs.Sound.{planned-sound}
 use Rattle.gen1_machine.proofs.SoundFacts.{draw-leads}
 use Rattle.gen1_machine.proofs.SoundWalk.{conditions-spared}
 use Rattle.gen1_machine.proofs.Tame.{without_flinch-tame}
 use Rattle.gen1_machine.proofs.Fitting.{Fits}
-use Rattle.gen1_machine.proofs.ValidTurns.{act_part, both_plan, both-keep, both-plan_of, both-within, comes-kept, end_spent, fits-comes, pick-plan, range-kept, room-free, send_part, sends-room, set_picked-keeps, suffers_part, sure, Comes, FitsPick, InRange, PlanOf, Room, Sure}
+use Rattle.gen1_machine.proofs.ValidTurns.{act_part, both-keep, both-plan_of, both-planned, both_plan, comes-kept, end_spent, fits-comes, pick-plan, range-kept, room-free, send_part, sends-room, set_picked-keeps, suffers_part, sure, Room, Sure}
 
 -- what holds as a part begins, and what as it ends: where nobody has fallen and the battle goes on, the next part may begin
 pub record Tied (terms : Terms) (In Out : Field → Action → Stream → Type 0) : Type 0 where
   pub weaker : (f : Field) (a : Action) (w : Stream) → In f a w → Out f a w
   pub uncut : (p : Progress) → is_cut p ≡ false → Out p.field p.action p.stream → In p.field p.action p.stream
   pub acts : (plan : Side → Plan) (s : Side) (pick : Pick) → FitsPick pick (plan s)
-      → Leads (λ f a w. Within terms plan f a w × In f a w) Out (do_part (ruling_of terms) (Acts s pick))
+      → Leads (λ f a w. IsPlanned terms plan f a w × In f a w) Out (do_part (ruling_of terms) (Acts s pick))
   pub suffers : (s : Side) → Leads In Out (do_part (ruling_of terms) (Suffers s))
   pub sends : (s : Side) (place : ℕ) → Leads In Out (do_part (ruling_of terms) (Sends s place))
   pub ends : (s : Side) → Keeps Out (end_spent_trapping s)
@@ -51,7 +52,7 @@ choose-cases {P} {Q} test f g k l = record { led = λ p h. by p (test p) refl h 
 
 module _ (terms : Terms) {In Out : Field → Action → Stream → Type 0} (tied : Tied terms In Out) where
   abbrev Inside : (Side → Plan) → Field → Action → Stream → Type 0
-  Inside plan f a w = Within terms plan f a w × In f a w
+  Inside plan f a w = IsPlanned terms plan f a w × In f a w
 
   abbrev Outside : Field → Action → Stream → Type 0
   Outside f a w = Sure terms f a w × Out f a w
@@ -76,11 +77,11 @@ module _ (terms : Terms) {In Out : Field → Action → Stream → Type 0} (tied
   parts-then {P} {W} part rest k weaker l = then-leads k
       (choose-cases is_cut _ _ (λ p e h. (weaker _ _ _ h.0, h.1)) (λ p e h. l.led p (h.0, tied.uncut p e h.1))) (λ f a w h. (weaker f a w h.0, h.1))
 
-  suffers : (plan : Side → Plan) (s : Side) → Leads (Inside plan) (λ f a w. Within terms plan f a w × Out f a w) (do_part (ruling_of terms) (Suffers s))
+  suffers : (plan : Side → Plan) (s : Side) → Leads (Inside plan) (λ f a w. IsPlanned terms plan f a w × Out f a w) (do_part (ruling_of terms) (Suffers s))
   suffers plan s = record { led = λ p h. ((suffers_part terms plan s).kept p h.0, (tied.suffers s).led p h.1) }
 
   acts : (plan : Side → Plan) (s : Side) (pick : Pick) → FitsPick pick (plan s)
-      → Leads (Inside plan) (λ f a w. Within terms (with_plan s Any plan) f a w × Out f a w) (do_part (ruling_of terms) (Acts s pick))
+      → Leads (Inside plan) (λ f a w. IsPlanned terms (with_plan s Any plan) f a w × Out f a w) (do_part (ruling_of terms) (Acts s pick))
   acts plan s pick fits = record { led = λ p h. ((act_part terms plan s pick fits).led p h.0, (tied.acts plan s pick fits).led p h) }
 
   suffers-end : (plan : Side → Plan) (s : Side) → Leads (Inside plan) Outside (do_parts (ruling_of terms) (Suffers s ∷ []))
@@ -122,7 +123,7 @@ module _ (terms : Terms) {In Out : Field → Action → Stream → Type 0} (tied
   -- one side uses a move, and the other switches
 
   sends : (plan : Side → Plan) (s : Side) (place : ℕ) → plan s ≡ Any
-      → Leads (λ f a w. Inside plan f a w × InRange s place f) (λ f a w. Within terms plan f a w × Out f a w) (do_part (ruling_of terms) (Sends s place))
+      → Leads (λ f a w. Inside plan f a w × InRange s place f) (λ f a w. IsPlanned terms plan f a w × Out f a w) (do_part (ruling_of terms) (Sends s place))
   sends plan s place any = record { led = λ p h. ((send_part terms plan s place any).led p (h.0.0, h.1), (tied.sends s place).led p h.0.1) }
 
   picked-range : (plan : Side → Plan) (s : Side) (pick : Pick) (place : ℕ) → FitsPick pick (plan s)
@@ -140,14 +141,14 @@ module _ (terms : Terms) {In Out : Field → Action → Stream → Type 0} (tied
   -- both switch
 
   abbrev Spacious : (Side → Plan) → ℕ → ℕ → ℕ → Field → Action → Stream → Type 0
-  Spacious plan one two turn f a w = Within terms plan f a w × Between (Room one) (Room two) turn f a w
+  Spacious plan one two turn f a w = IsPlanned terms plan f a w × Between (Room one) (Room two) turn f a w
 
   both_switch-leads : (plan : Side → Plan) (one two turn x y : ℕ) → plan One ≡ Any → plan Two ≡ Any → IsBetween 1 one x → IsBetween 1 two y
       → Leads (λ f a w. Spacious plan one two turn f a w × In f a w) Outside (do_parts (ruling_of terms) (both_switch x y))
   both_switch-leads plan one two turn x y any_one any_two l m =
       parts-then {W = Spacious plan one two turn} _ _ first (λ f a w h. sure f a w h.0)
       (parts-then {W = Spacious plan one two turn} _ _ middle (λ f a w h. sure f a w h.0)
-      (parts-then {W = Within terms plan} _ _ second sure (suffers-end plan Two)))
+      (parts-then {W = IsPlanned terms plan} _ _ second sure (suffers-end plan Two)))
     where
       first : Leads (λ f a w. Spacious plan one two turn f a w × In f a w) (λ f a w. Spacious plan one two turn f a w × Out f a w) (do_part (ruling_of terms) (Sends One x))
       first = record {
@@ -165,7 +166,7 @@ module _ (terms : Terms) {In Out : Field → Action → Stream → Type 0} (tied
         );
       }
 
-      second : Leads (λ f a w. Spacious plan one two turn f a w × In f a w) (λ f a w. Within terms plan f a w × Out f a w) (do_part (ruling_of terms) (Sends Two y))
+      second : Leads (λ f a w. Spacious plan one two turn f a w × In f a w) (λ f a w. IsPlanned terms plan f a w × Out f a w) (do_part (ruling_of terms) (Sends Two y))
       second = record { led = λ p h. ((send_part terms plan Two y any_two).led p (h.0.0, rw h.0.1.two m), (tied.sends Two y).led p h.1) }
 
   -- the turn, by what both choose
@@ -181,7 +182,7 @@ module _ (terms : Terms) {In Out : Field → Action → Stream → Type 0} (tied
   flinch-chosen plan x y s = record { kept = λ p h. (inside p h.0, comes p h.1, second p h.2) }
     where
       inside : (p : Progress) → Inside plan p.field p.action p.stream → let q : Progress = on_conditions s without_flinch p in Inside plan q.field q.action q.stream
-      inside p h = ((on_conditions-keeps s _ (conditions-spared (within-sound terms plan) s _ without_flinch-tame)).kept p h.0, (tied.flinch s).kept p h.1)
+      inside p h = ((on_conditions-keeps s _ (conditions-spared (planned-sound terms plan) s _ without_flinch-tame)).kept p h.0, (tied.flinch s).kept p h.1)
 
       comes : (p : Progress) → Comes x One p.field → let q : Progress = on_conditions s without_flinch p in Comes x One q.field
       comes p h = comes-kept x s One _ p.field h
@@ -197,16 +198,16 @@ module _ (terms : Terms) {In Out : Field → Action → Stream → Type 0} (tied
           → let q : Progress = both_pick (ruling_of terms) (pick_in j One p.field) (pick_in k Two p.field) p in Outside q.field q.action q.stream
       by p h =
           let first = pick-plan plan One j p.field p.action p.stream one h.0.0 in
-          let second = pick-plan first.next Two k p.field p.action p.stream (subst (λ z. PlanOf (choices.Move k) z) (sym first.rest) two) first.within in
+          let second = pick-plan first.next Two k p.field p.action p.stream (subst (λ z. PlanOf (choices.Move k) z) (sym first.rest) two) first.planned in
           (both_pick-leads second.next (pick_in j One p.field) (pick_in k Two p.field)
-          (subst (λ z. FitsPick (pick_in j One p.field) z) (sym second.rest) first.fits) second.fits).led p (second.within, h.0.1)
+          (subst (λ z. FitsPick (pick_in j One p.field) z) (sym second.rest) first.fits) second.fits).led p (second.planned, h.0.1)
   play_turn-leads plan (choices.Move j) (choices.Switch place) one two = record {
     led = λ p h. let first = pick-plan plan One j p.field p.action p.stream one h.0.0 in
-        (one_picks-leads first.next One (pick_in j One p.field) place first.fits (first.rest ∙ two)).led p ((first.within, h.0.1), h.2);
+        (one_picks-leads first.next One (pick_in j One p.field) place first.fits (first.rest ∙ two)).led p ((first.planned, h.0.1), h.2);
   }
   play_turn-leads plan (choices.Switch place) (choices.Move k) one two = record {
     led = λ p h. let first = pick-plan plan Two k p.field p.action p.stream two h.0.0 in
-        (one_picks-leads first.next Two (pick_in k Two p.field) place first.fits (first.rest ∙ one)).led p ((first.within, h.0.1), h.1);
+        (one_picks-leads first.next Two (pick_in k Two p.field) place first.fits (first.rest ∙ one)).led p ((first.planned, h.0.1), h.1);
   }
   play_turn-leads plan (choices.Switch x) (choices.Switch y) one two = record {
     led = λ p h. (both_switch-leads plan (length p.field.one.members) (length p.field.two.members) p.field.turn x y one two h.1 h.2).led p
@@ -224,4 +225,4 @@ module _ (terms : Terms) {In Out : Field → Action → Stream → Type 0} (tied
       → let q : Progress = turn (ruling_of terms) x y p in Sure terms q.field q.action q.stream × Out q.field q.action q.stream
   turn-tied x y p h k one two =
       (turn-leads (both_plan x y p.field) x y (both-plan_of x y p.field).0 (both-plan_of x y p.field).1).led p
-      ((both-within x y p.field p.action p.stream h one two, k), fits-comes x One p.field one, fits-comes y Two p.field two)
+      ((both-planned x y p.field p.action p.stream h one two, k), fits-comes x One p.field one, fits-comes y Two p.field two)

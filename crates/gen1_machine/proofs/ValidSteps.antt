@@ -22,6 +22,7 @@ use Rattle.gen1_machine.specs.OfferedChoices.{offered_for}
 use Rattle.gen1_machine.specs.Step.{answered, close_update, is_among, offers, opened, run, run_by, step, step_by, update, update_for}
 use Rattle.gen1_machine.specs.Valid.{IsField, IsMembersUnder, IsOutcome, IsParty, IsStarted, IsUnstarted}
 use Rattle.gen1_machine.specs.Laws.{FieldsStayValid}
+use Rattle.gen1_machine.specs.Plans.{Any}
 use Rattle.gen1_machine.proofs.Keeps.{choose-keeps, given-keeps, note-keeps, on_field-keeps, stay-keeps, then-keeps, told-keeps, Keeps, Spares}
 use Rattle.gen1_machine.proofs.Leads.{keeps-leads, then-goes, then-leads, Leads}
 use Rattle.gen1_machine.proofs.Tame.{fallen-tame, without_trapping-tame}
@@ -30,7 +31,7 @@ use Rattle.gen1_machine.proofs.Turns.{send_one, sent-place}
 use Rattle.gen1_machine.proofs.Settled.{settle-settles, Decides, Done, Due, Next, Settled}
 use Rattle.gen1_machine.proofs.Promised.{offered-passes, offered-replaces}
 use Rattle.gen1_machine.proofs.RunsEnd.{offered-is, state-ready, step-lower, the_fallen_faint-goes, Ready, Waits}
-use Rattle.gen1_machine.proofs.Sound.{within-sound, Any}
+use Rattle.gen1_machine.proofs.Sound.{planned-sound}
 use Rattle.gen1_machine.proofs.Fitting.{offered-fits, offered-place}
 use Rattle.gen1_machine.proofs.ValidTurns.{room-free, send_out-leads, sent-valid, turn-valid, Room, Sure}
 
@@ -53,7 +54,7 @@ fault-closes terms n = then-keeps (on_field-keeps (requests-spared terms _ _)) (
 
 faints : (terms : Terms) (s : Side) → Keeps (Sure terms) (faint_if_fallen s)
 unfolding faint_if_fallen
-faints terms s = choose-keeps _ (told-keeps _ ((within-sound terms (λ u. Any)).member s _ fallen-tame)) stay-keeps
+faints terms s = choose-keeps _ (told-keeps _ ((planned-sound terms (λ u. Any)).member s _ fallen-tame)) stay-keeps
 
 the_fallen : (terms : Terms) → Keeps (Sure terms) the_fallen_faint
 unfolding the_fallen_faint faint_in_order

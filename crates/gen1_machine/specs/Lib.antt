@@ -54,8 +54,9 @@ pub mod Step
 pub mod View
 pub mod Room
 pub mod Layout
--- Which states are valid.
+-- Which states are valid, and what the sides plan in a turn.
 pub mod Valid
+pub mod Plans
 -- Laws over steps and whole runs.
 pub mod Laws
 pub mod Bounds

@@ -14,7 +14,7 @@ use Rattle.gen1_machine.proofs.RequestsStand.{outcome-stays}
 use Rattle.gen1_machine.proofs.Steady.{land_on_foes_substitute-steady, land_on_hp-steady, Breaks, Hurts, Steady}
 use Rattle.gen1_layout.specs.Parts.{Parts}
 use Rattle.gen1_layout.specs.Shows.{Frame, Shows, ShowsDrawn}
-use Rattle.gen1_layout.proofs.Chain.{choose-false, choose-true, settled, still, then-goes, then-stops}
+use Rattle.gen1_layout.proofs.Chain.{choose-false, choose-true, still, then-goes, then-stops}
 use Rattle.gen1_status.specs.declared.passing.Gate.{Gate}
 use Rattle.gen1_status.specs.declared.passing.Gate.TheVariants.{Go, Stop, Fault}
 use Rattle.gen1_status.specs.Telling.{Tells, TellsDrawn, action_after, frame_after, outcome_after, stopped_by}
@@ -155,17 +155,6 @@ module _ {A : Type 0} {byte : A → ℕ} {next : A → A} {width : ℕ} {origin 
         stands = stands_after_draw a.stands left;
       }) in
       rw (← at) (record { shows = told.shows; outcome = told.outcome })
-
-  pub drawn_settled : {b b' : Bool} → b ≡ b' → ShowsDrawn byte next width origin g parts events now b p → ShowsDrawn byte next width origin g parts events now b' p
-  drawn_settled e h = record { shows = settled e h.shows; stands = h.stands }
-
-  pub drawn_if_so : {b : Bool} (test : Progress → Bool) (f k : Phase) → test p ≡ true
-      → ShowsDrawn byte next width origin g parts events now b (f p) → ShowsDrawn byte next width origin g parts events now b (choose test f k p)
-  drawn_if_so test f k e h = rw (choose-true test f k p e) h
-
-  pub drawn_if_not : {b : Bool} (test : Progress → Bool) (f k : Phase) → test p ≡ false
-      → ShowsDrawn byte next width origin g parts events now b (k p) → ShowsDrawn byte next width origin g parts events now b (choose test f k p)
-  drawn_if_not test f k e h = rw (choose-false test f k p e) h
 
   -- an answer that does not stop is Go
   pub went : {answer : Gate} {q : Progress} → stopped_by answer ≡ false

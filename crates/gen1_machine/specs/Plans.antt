@@ -1,0 +1,68 @@
+-- What the sides plan in a turn. Bide, thrashing, trapping, charging, recharging and rage are explained by the move that began
+-- them, so a field stays valid through an action where more is known than the field tells: which move is about to be used, or
+-- is being used. Code whose bytes don't tell it takes what is planned as a premise, and its callers hand it on: of an offered
+-- choice (`PlanOf`, `Comes`), to the pick that it comes to (`FitsPick`), to the move that is then used.
+use Rattle.std.specs.Prelude.{List, length, suc, ℕ, ◌≡◌, ◌≢◌}
+use Rattle.gen1_tables.specs.declared.effect.Effect.{Effect}
+use Rattle.gen1_tables.specs.declared.effect.Effect.TheVariants as effects
+use Rattle.gen1_rolls.specs.Streams.{IsStream, Stream}
+use Rattle.gen1_stats.specs.declared.known_move.KnownMove.{KnownMove}
+use Rattle.gen1_stats.specs.Members.{IsBetween}
+use Rattle.gen1_machine.specs.declared.choice.Choice.{Choice}
+use Rattle.gen1_machine.specs.declared.choice.Choice.TheVariants as choices
+use Rattle.gen1_machine.specs.declared.picks.Pick.{Pick}
+use Rattle.gen1_machine.specs.declared.picks.Pick.TheVariants.{Continue, Use}
+use Rattle.gen1_machine.specs.declared.picks.Used.{Used}
+use Rattle.gen1_machine.specs.declared.picks.Used.TheVariants.{Slot, Unused}
+use Rattle.gen1_machine.specs.declared.side.Side.{Side}
+use Rattle.gen1_machine.specs.declared.side.Side.TheVariants.{One, Two}
+use Rattle.gen1_machine.specs.State.{active_in, member_in, party, Active, Field, Terms}
+use Rattle.gen1_machine.specs.Progress.{Action}
+use Rattle.gen1_machine.specs.Valid.{effect_of, IsCount, IsField, IsUnderway, IsUsed}
+
+-- a side plans nothing that is known; it is about to use a move, with an effect; or it is using the current move, with its effect
+pub data Plan : Type 0 where
+  Any : Plan
+  Plans : (used : Used) → (effect : Effect) → Plan
+  Doing : (effect : Effect) → Plan
+
+-- what a plan says of a member that is out and knows these moves; while a move is about to be used, nothing is underway
+abbrev pub HoldsPlan : Plan → List KnownMove → Active → Type 0
+HoldsPlan Any moves a = Unit {0}
+HoldsPlan (Plans used e) moves a = IsUsed (length moves) used × (effect_of used moves ≡ e) × IsUnderway effects.DamageOnly a.conditions.underway
+HoldsPlan (Doing e) moves a = effect_of a.current moves ≡ e
+
+-- a valid field in the middle of an update, of which each side's plan holds, beside what is known of the action, and the draws
+pub record IsPlanned (terms : Terms) (plan : Side → Plan) (f : Field) (a : Action) (w : Stream) : Type 0 where
+  pub field : IsField terms f
+  pub tested : IsCount 0 255 a.accuracy_tested
+  pub stream : IsStream w
+  pub holds : (s : Side) → HoldsPlan (plan s) (member_in s f).moves (active_in s f)
+
+-- plans with another for one side
+abbrev pub with_plan : Side → Plan → (Side → Plan) → Side → Plan
+with_plan One x plan One = x
+with_plan One x plan Two = plan Two
+with_plan Two x plan One = plan One
+with_plan Two x plan Two = x
+
+-- what a choice plans: a slot is about to be used, and nothing is known of any other choice
+abbrev pub PlanOf : Choice → Plan → Type 0
+PlanOf (choices.Move (suc k)) x = (e : Effect) × (x ≡ Plans (Slot (suc k)) e)
+PlanOf _ x = x ≡ Any
+
+-- what has to be planned where a pick is acted on: some move is about to be used; or the current move goes on, which has an
+-- effect that explains why
+abbrev pub FitsPick : Pick → Plan → Type 0
+FitsPick (Use used) x = (e : Effect) × (x ≡ Plans used e) × (used ≢ Unused)
+FitsPick Continue x = (e : Effect) × (x ≡ Doing e) × (e ≢ effects.DamageOnly)
+FitsPick _ x = Unit {0}
+
+-- a place of a side's party
+abbrev pub InRange : Side → ℕ → Field → Type 0
+InRange s place f = IsBetween 1 (length (party s f).members) place
+
+-- who is to come out stands in such a place
+abbrev pub Comes : Choice → Side → Field → Type 0
+Comes (choices.Switch place) s f = InRange s place f
+Comes _ s f = Unit {0}
