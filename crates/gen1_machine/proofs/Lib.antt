@@ -58,3 +58,6 @@ pub mod Fits
 -- Worked examples of single rules, computed.
 pub mod Computing
 pub mod WorkedRules
+pub mod WorkedHits
+pub mod WorkedTurns
+pub mod WorkedStatuses

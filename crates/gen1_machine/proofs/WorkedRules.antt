@@ -65,7 +65,7 @@ knowing move pp = record tauros { moves = record { id = move; pp = pp } ∷ [] }
 abbrev out_with : Member → (Active → Active) → Party
 out_with m change = record { members = m ∷ []; active = change (sent_out 1 m) }
 
-abbrev facing : Member → (Active → Active) → Member → (Active → Active) → Stream → Progress
+abbrev pub facing : Member → (Active → Active) → Member → (Active → Active) → Stream → Progress
 facing m f n g stream = record {
   field = record {
     one = out_with m f;
@@ -84,16 +84,16 @@ facing m f n g stream = record {
   action = new_action One;
 }
 
-abbrev as_is : Active → Active
+abbrev pub as_is : Active → Active
 as_is a = a
 
-abbrev set : (Conditions → Conditions) → Active → Active
+abbrev pub set : (Conditions → Conditions) → Active → Active
 set change a = record a { conditions = change a.conditions }
 
-abbrev hp_of : Side → Progress → ℕ
+abbrev pub hp_of : Side → Progress → ℕ
 hp_of s p = (member s p).hp
 
-abbrev usual : Ruling
+abbrev pub usual : Ruling
 usual = ruling_of usual_terms
 
 abbrev code_sent : Progress → List ℕ

@@ -1,0 +1,131 @@
+-- Worked examples of moves that deal damage, computed (docs/PROOFS.md, "Worked examples").
+use Rattle.std.proofs.Common.{Bool, List, None, Option, Some, [], false, map, refl, replicate, true, ℕ, ◌∷◌, ◌≡◌}
+use Rattle.gen1_machine.specs.declared.side.Side.{Side}
+use Rattle.gen1_machine.specs.declared.side.Side.TheVariants.{One, Two}
+use Rattle.gen1_machine.specs.declared.health.Kind.TheVariants as kinds
+use Rattle.gen1_machine.specs.declared.health.Who.{Who}
+use Rattle.gen1_machine.specs.declared.event.DamageSource.TheVariants as sources
+use Rattle.gen1_machine.specs.declared.event.Volatile.TheVariants as volatiles
+use Rattle.gen1_machine.specs.declared.event.Event.{Event}
+use Rattle.gen1_machine.specs.declared.event.Event.TheVariants as events
+use Rattle.gen1_machine.specs.declared.picks.Used.TheVariants.{Slot}
+use Rattle.gen1_machine.specs.declared.picks.Pick.TheVariants.{Use, Continue}
+use Rattle.gen1_rolls.specs.Streams.{Stream, Link}
+use Rattle.gen1_stats.specs.Members.{Member}
+use Rattle.gen1_machine.specs.Health.{Health}
+use Rattle.gen1_machine.specs.Conditions.{with_substitute}
+use Rattle.gen1_machine.specs.State.{known_in, Active}
+use Rattle.gen1_machine.specs.Progress.{active, member, underway, is_invulnerable, Progress}
+use Rattle.gen1_machine.specs.Action.{act}
+use Rattle.gen1_machine.proofs.Computing.{computing}
+use Rattle.gen1_machine.proofs.WorkedRules.{tauros, knowing, facing, as_is, set, hp_of, usual}
+
+-- events of two Tauros
+
+abbrev pub tauros_of : Side → Who
+tauros_of s = record { side = s; species = 128 }
+
+abbrev pub healthy_at : ℕ → Health
+healthy_at hp = record { hp = hp; max = 353; kind = None }
+
+abbrev pub hurt : Side → ℕ → Event
+hurt s hp = events.Damage (tauros_of s) (healthy_at hp) sources.Direct
+
+abbrev moves : ℕ → Event
+moves move = events.Move (tauros_of One) move (tauros_of Two)
+
+-- link numbers of which the first few are given
+abbrev pub drawing : ℕ → ℕ → ℕ → ℕ → ℕ → Stream
+drawing a b c d e = Link (a ∷ b ∷ c ∷ d ∷ e ∷ replicate 5 0)
+
+-- side 1 uses its only move; draws of 255, 255 and 0 are no critical hit, the factor 255 and a hit
+
+abbrev uses : ℕ → Member → (Active → Active) → ℕ → ℕ → Progress
+uses move foe change d e = act usual One (Use (Slot 1)) (facing (knowing move 10) as_is foe change (drawing 255 255 0 d e))
+
+abbrev left_with : ℕ → Member
+left_with hp = record tauros { hp = hp }
+
+-- many hits (docs/MECHANICS.md, "Many hits"). Double Slap: 42 * 15 * 74 / 72 is 647, / 50 is 12, + 2 is 14, with the own type
+-- 21. The count 3, drawn anew as 2, makes four hits of 21, told once
+
+abbrev slaps : Member → (Active → Active) → ℕ → ℕ → Progress
+slaps foe change = uses 3 foe change
+
+four_slaps : ((slaps tauros as_is 3 2).events
+    ≡ moves 3 ∷ hurt Two 332 ∷ hurt Two 311 ∷ hurt Two 290 ∷ hurt Two 269 ∷ events.HitCount (tauros_of Two) 4 ∷ [])
+    × ((slaps tauros as_is 3 2).drawn ≡ 5)
+unfolding computing
+four_slaps = (refl, refl)
+
+-- two to five hits: 0 and 1 are kept, 2 and 3 are drawn anew
+
+abbrev hits_by : ℕ → ℕ → ℕ
+hits_by d e = (slaps tauros as_is d e).action.hits_made
+
+numbers_of_slaps : hits_by 0 3 ∷ hits_by 1 3 ∷ hits_by 2 0 ∷ hits_by 2 1 ∷ hits_by 3 2 ∷ hits_by 3 3 ∷ []
+    ≡ 2 ∷ 3 ∷ 2 ∷ 3 ∷ 4 ∷ 5 ∷ []
+unfolding computing
+numbers_of_slaps = refl
+
+-- a fall ends the hits: of 30 HP the second takes 9, of 10 the first takes all, and the count is drawn all the same
+felled_by_slaps : ((slaps (left_with 30) as_is 3 2).events ≡ moves 3 ∷ hurt Two 9 ∷ hurt Two 0 ∷ events.HitCount (tauros_of Two) 2 ∷ [])
+    × ((slaps (left_with 10) as_is 3 2).events ≡ moves 3 ∷ hurt Two 0 ∷ events.HitCount (tauros_of Two) 1 ∷ [])
+    × ((slaps (left_with 10) as_is 3 2).drawn ≡ 5)
+unfolding computing
+felled_by_slaps = (refl, refl, refl)
+
+-- so does a substitute that breaks: one of 30 HP at the second hit, one of 20 at the first, and then no count is drawn or told
+
+abbrev slaps_substitute : ℕ → Progress
+slaps_substitute hp = slaps tauros (set (with_substitute hp)) 3 2
+
+slaps_on_substitute : ((slaps_substitute 30).events ≡ moves 3 ∷ events.Activate (tauros_of Two) volatiles.Substitute
+    ∷ events.End (tauros_of Two) volatiles.Substitute ∷ events.HitCount (tauros_of Two) 2 ∷ [])
+    × ((slaps_substitute 20).events ≡ moves 3 ∷ events.End (tauros_of Two) volatiles.Substitute ∷ [])
+    × ((slaps_substitute 20).drawn ≡ 3)
+unfolding computing
+slaps_on_substitute = (refl, refl, refl)
+
+-- Double Kick: 42 * 30 * 74 / 72 is 1295, / 50 is 25, + 2 is 27, and Fighting on Normal 54
+two_kicks : ((uses 24 tauros as_is 0 0).events ≡ moves 24 ∷ events.SuperEffective (tauros_of Two) ∷ hurt Two 299 ∷ hurt Two 245
+    ∷ events.HitCount (tauros_of Two) 2 ∷ [])
+    × ((uses 24 tauros as_is 0 0).drawn ≡ 3)
+unfolding computing
+two_kicks = (refl, refl)
+
+-- Twineedle: 42 * 25 * 74 / 72 is 1079, / 50 is 21, + 2 is 23; then 51 poisons, and 52 does not
+two_needles : ((uses 41 tauros as_is 51 0).events ≡ moves 41 ∷ hurt Two 330 ∷ hurt Two 307 ∷ events.HitCount (tauros_of Two) 2
+    ∷ events.Status (tauros_of Two) kinds.Poison ∷ [])
+    × ((uses 41 tauros as_is 52 0).events ≡ moves 41 ∷ hurt Two 330 ∷ hurt Two 307 ∷ events.HitCount (tauros_of Two) 2 ∷ [])
+unfolding computing
+two_needles = (refl, refl)
+
+-- charging (docs/MECHANICS.md, "Charging"): Razor Wind and Dig, with all of their first turn and of both
+
+abbrev charges : ℕ → Progress
+charges move = uses move tauros as_is 0 0
+
+abbrev strikes : ℕ → Progress
+strikes move = act usual One Continue (charges move)
+
+abbrev pp_left : Progress → ℕ
+pp_left p = (known_in 1 (member One p).moves).pp
+
+-- the first turn writes Prepare alone, and costs neither a draw nor PP
+begins_to_charge : ((charges 13).events ≡ events.Prepare (tauros_of One) 13 ∷ []) × ((charges 13).drawn ∷ pp_left (charges 13) ∷ [] ≡ 0 ∷ 10 ∷ [])
+    × ((active One (charges 13)).current ≡ Slot 1)
+    × ((underway One (charges 13)).charging ∷ is_invulnerable One (charges 13) ∷ (underway One (charges 91)).charging
+    ∷ is_invulnerable One (charges 91) ∷ [] ≡ true ∷ false ∷ true ∷ true ∷ [])
+unfolding computing
+begins_to_charge = (refl, refl, refl, refl)
+
+-- Razor Wind: 42 * 80 * 74 / 72 is 3453, / 50 is 69, + 2 is 71, with the own type 106. Dig: 42 * 100 * 74 / 72 is 4316, / 50 is
+-- 86, + 2 is 88
+charged_up : ((strikes 13).events ≡ events.Prepare (tauros_of One) 13 ∷ moves 13 ∷ hurt Two 247 ∷ [])
+    × ((strikes 13).drawn ∷ pp_left (strikes 13) ∷ [] ≡ 3 ∷ 9 ∷ [])
+    × ((strikes 91).events ≡ events.Prepare (tauros_of One) 91 ∷ moves 91 ∷ hurt Two 265 ∷ [])
+    × ((underway One (strikes 13)).charging ∷ (underway One (strikes 91)).charging ∷ is_invulnerable One (strikes 91) ∷ []
+    ≡ false ∷ false ∷ false ∷ [])
+unfolding computing
+charged_up = (refl, refl, refl, refl)

@@ -1,0 +1,181 @@
+-- Worked examples of statuses, conditions and stats, computed (docs/PROOFS.md, "Worked examples").
+use Rattle.std.proofs.Common.{Bool, List, None, Option, Some, [], false, map, refl, true, ℕ, ◌∷◌, ◌≡◌}
+use Rattle.gen1_tables.specs.declared.effect.Stat.TheVariants.{Attack, Speed}
+use Rattle.gen1_tables.specs.declared.effect.Effect.TheVariants as effects
+use Rattle.gen1_stats.specs.declared.status.Status.{Status}
+use Rattle.gen1_stats.specs.declared.status.Status.TheVariants.{Healthy, Poisoned, Burned, Paralysed}
+use Rattle.gen1_machine.specs.declared.side.Side.{Side}
+use Rattle.gen1_machine.specs.declared.side.Side.TheVariants.{One, Two}
+use Rattle.gen1_machine.specs.declared.health.Kind.TheVariants as kinds
+use Rattle.gen1_machine.specs.declared.event.DamageSource.TheVariants as sources
+use Rattle.gen1_machine.specs.declared.event.Volatile.TheVariants as volatiles
+use Rattle.gen1_machine.specs.declared.event.Event.{Event}
+use Rattle.gen1_machine.specs.declared.event.Event.TheVariants as events
+use Rattle.gen1_rolls.specs.Streams.{Sweep}
+use Rattle.gen1_stats.specs.Members.{Member}
+use Rattle.gen1_machine.specs.Conditions.{with_substitute, with_seed, Conditions}
+use Rattle.gen1_machine.specs.Moves.{move_at}
+use Rattle.gen1_machine.specs.State.{Active}
+use Rattle.gen1_machine.specs.Progress.{fail, stay, set_last_damage, active, conditions, status_of, stat_now, Progress}
+use Rattle.gen1_machine.specs.HitEffects.{drain}
+use Rattle.gen1_machine.specs.StageShift.{raise_stage, lower_stage}
+use Rattle.gen1_machine.specs.EarlyEffects.{early_effect, heal}
+use Rattle.gen1_machine.specs.LateEffects.{late_effect}
+use Rattle.gen1_machine.specs.Residual.{residual}
+use Rattle.gen1_machine.proofs.Computing.{computing}
+use Rattle.gen1_machine.proofs.WorkedRules.{tauros, facing, as_is, set, hp_of, usual}
+use Rattle.gen1_machine.proofs.WorkedHits.{tauros_of, healthy_at, hurt}
+
+abbrev alone : Member → (Active → Active) → Progress
+alone m change = facing m change tauros as_is (Sweep 0)
+
+abbrev left_with : ℕ → Member
+left_with hp = record tauros { hp = hp }
+
+abbrev fails : List Event
+fails = events.Fail (tauros_of One) ∷ []
+
+-- what a substitute costs (docs/MECHANICS.md, "Early effects"): of 353 a quarter is 88, and who has 88 makes one and falls
+
+abbrev substitutes : ℕ → Progress
+substitutes hp = early_effect One (move_at 164) effects.Substitute (alone (left_with hp) as_is)
+
+abbrev made_at : ℕ → List Event
+made_at hp = events.Start (tauros_of One) volatiles.Substitute ∷ hurt One hp ∷ []
+
+substitute_costs_a_quarter : ((substitutes 353).events ≡ made_at 265) × ((conditions One (substitutes 353)).substitute ≡ Some 88)
+    × ((substitutes 88).events ≡ made_at 0) × ((conditions One (substitutes 88)).substitute ≡ Some 88)
+    × ((substitutes 87).events ≡ fails) × ((conditions One (substitutes 87)).substitute ≡ None) × (hp_of One (substitutes 87) ≡ 87)
+unfolding computing
+substitute_costs_a_quarter = (refl, refl, refl, refl, refl, refl, refl)
+
+abbrev second_substitute : Progress
+second_substitute = early_effect One (move_at 164) effects.Substitute (alone tauros (set (with_substitute 5)))
+
+one_substitute_at_a_time : (second_substitute.events ≡ fails) × ((conditions One second_substitute).substitute ≡ Some 5)
+    × (hp_of One second_substitute ≡ 353)
+unfolding computing
+one_substitute_at_a_time = (refl, refl, refl)
+
+-- what is healed is told (docs/MECHANICS.md, "Early effects"): half of 353 is 176, as far as there is room; a loss of 0 fails
+
+abbrev recovers : ℕ → List Event
+recovers hp = (heal One (move_at 105) (alone (left_with hp) as_is)).events
+
+recovery_is_told : (recovers 100 ≡ events.Heal (tauros_of One) (healthy_at 276) ∷ []) × (recovers 300 ≡ events.Heal (tauros_of One) (healthy_at 353) ∷ [])
+    × (recovers 353 ≡ fails)
+unfolding computing
+recovery_is_told = (refl, refl, refl)
+
+-- Rest tells its sleep first
+rest_is_told : (heal One (move_at 156) (alone (record tauros { hp = 1; status = Burned }) as_is)).events
+    ≡ events.Status (tauros_of One) kinds.Sleep ∷ events.Heal (tauros_of One) (record { hp = 353; max = 353; kind = Some kinds.Sleep }) ∷ []
+unfolding computing
+rest_is_told = refl
+
+-- drain (docs/MECHANICS.md, "Recoil, drain and explosion"): of a last damage of 35 the user heals 17, and of 1 it heals 1; where it is
+-- unhurt, nothing is told
+
+abbrev drains : ℕ → ℕ → Progress
+drains hp damage = drain One (set_last_damage damage (alone (left_with hp) as_is))
+
+drain_is_told : ((drains 300 35).events ≡ events.Heal (tauros_of One) (healthy_at 317) ∷ []) × ((drains 300 35).field.last_damage ≡ 17)
+    × ((drains 300 1).events ≡ events.Heal (tauros_of One) (healthy_at 301) ∷ []) × ((drains 353 35).events ≡ [])
+unfolding computing
+drain_is_told = (refl, refl, refl, refl)
+
+-- confusion (docs/MECHANICS.md, "Early effects"): Confuse Ray hits by one draw, and the next, here one more, gives (draw & 3) + 2
+
+abbrev ray : ℕ → Progress
+ray b = early_effect One (move_at 109) effects.InflictConfusion (facing tauros as_is tauros as_is (Sweep b))
+
+abbrev confused_for : ℕ → Option ℕ
+confused_for b = (conditions Two (ray b)).confused
+
+confusion_counts : map confused_for (3 ∷ 4 ∷ 5 ∷ 6 ∷ 7 ∷ 254 ∷ 255 ∷ []) ≡ Some 2 ∷ Some 3 ∷ Some 4 ∷ Some 5 ∷ Some 2 ∷ Some 5 ∷ None ∷ []
+unfolding computing
+confusion_counts = refl
+
+-- the miss by a Ghost move is told as a Normal type's immunity
+confusion_is_told : ((ray 3).events ≡ events.Start (tauros_of Two) volatiles.Confusion ∷ []) × ((ray 3).drawn ≡ 2)
+    × ((ray 255).events ≡ events.Immune (tauros_of Two) ∷ []) × ((ray 255).drawn ≡ 1)
+unfolding computing
+confusion_is_told = (refl, refl, refl, refl)
+
+-- Toxic's counter (docs/MECHANICS.md, "Residual"): it rises by 1 with the poison and by 1 with the seed, to 64 at most; a sixteenth
+-- of 353 is 22, and so the first two take 22 and 44
+
+abbrev with_counter : ℕ → Conditions → Conditions
+with_counter n c = record c { bad_poison = Some n }
+
+abbrev ill : (Conditions → Conditions) → Progress
+ill change = residual One (alone (record tauros { status = Poisoned }) (set change))
+
+abbrev counter_after : (Conditions → Conditions) → Option ℕ
+counter_after change = (conditions One (ill change)).bad_poison
+
+toxic_counter : map (λ n. counter_after (with_counter n)) (0 ∷ 1 ∷ 62 ∷ 63 ∷ 64 ∷ []) ≡ Some 1 ∷ Some 2 ∷ Some 63 ∷ Some 64 ∷ Some 64 ∷ []
+unfolding computing
+toxic_counter = refl
+
+toxic_and_seed : map (λ n. counter_after λ c. with_seed (with_counter n c)) (0 ∷ 62 ∷ 63 ∷ 64 ∷ []) ≡ Some 2 ∷ Some 64 ∷ Some 64 ∷ Some 64 ∷ []
+unfolding computing
+toxic_and_seed = refl
+
+abbrev poisoned_at : ℕ → Event
+poisoned_at hp = events.Damage (tauros_of One) (record { hp = hp; max = 353; kind = Some kinds.Poison }) sources.Poison
+
+toxic_takes_more : ((ill (with_counter 0)).events ≡ poisoned_at 331 ∷ []) × ((ill (with_counter 1)).events ≡ poisoned_at 309 ∷ [])
+    × ((ill (with_counter 14)).events ≡ poisoned_at 23 ∷ []) × ((ill (with_counter 64)).events ≡ poisoned_at 0 ∷ [])
+unfolding computing
+toxic_takes_more = (refl, refl, refl, refl)
+
+-- penalties (docs/MECHANICS.md, "Penalties"): a Speed of 318 is quartered to 79 as paralysis comes. String Shot recomputes it at -1
+-- to 66 percent, 209, and lays the penalty again: 52; and once more for the shifter's own Swords Dance: 13
+
+abbrev paralysed_foe : Progress
+paralysed_foe = early_effect One (move_at 86) effects.InflictParalysis (alone tauros as_is)
+
+abbrev strung : Progress
+strung = lower_stage One Two Speed 1 stay paralysed_foe
+
+speed_of_the_paralysed : (status_of Two paralysed_foe ≡ Paralysed) × (stat_now Speed Two paralysed_foe ∷ stat_now Speed Two strung
+    ∷ stat_now Speed Two (raise_stage One One Attack 2 stay strung) ∷ [] ≡ 79 ∷ 52 ∷ 13 ∷ [])
+unfolding computing
+speed_of_the_paralysed = (refl, refl)
+
+-- its own shift forgets the penalty: at +1 Speed is 477, and the foe's Swords Dance quarters that to 119; at +2 it is 636
+
+abbrev quickened : ℕ → Progress
+quickened by = raise_stage Two Two Speed by stay paralysed_foe
+
+speed_recomputed : stat_now Speed Two (quickened 1) ∷ stat_now Speed Two (raise_stage One One Attack 2 stay (quickened 1))
+    ∷ stat_now Speed Two (quickened 2) ∷ [] ≡ 477 ∷ 119 ∷ 636 ∷ []
+unfolding computing
+speed_recomputed = refl
+
+-- stage shifts (docs/MECHANICS.md, "Stage shift"): from 999 up by 2 is up by 1 and a failure, and from 1 down by 1 is nothing and a
+-- failure; 5 at -5 is 5 * 28 / 100, so 1
+
+abbrev dances : Member → (Active → Active) → Progress
+dances m change = late_effect usual One (move_at 14) (effects.StatUp Attack 2) (alone m change)
+
+abbrev at_attack_stage : ℕ → Active → Active
+at_attack_stage n a = record a { stages = record a.stages { attack = n } }
+
+abbrev strongest : Progress
+strongest = dances (record tauros { attack = 999 }) as_is
+
+shift_at_999 : (strongest.events ≡ events.Boost (tauros_of One) Attack 1 ∷ fails) × (stat_now Attack One strongest ≡ 999)
+    × ((active One strongest).stages.attack ≡ 7) × ((dances tauros (at_attack_stage 12)).events ≡ fails)
+    × ((dances tauros as_is).events ≡ events.Boost (tauros_of One) Attack 2 ∷ []) × (stat_now Attack One (dances tauros as_is) ≡ 596)
+    × ((dances (record tauros { attack = 100 }) (at_attack_stage 11)).events ≡ events.Boost (tauros_of One) Attack 1 ∷ [])
+unfolding computing
+shift_at_999 = (refl, refl, refl, refl, refl, refl, refl)
+
+abbrev weakest : Progress
+weakest = lower_stage Two One Attack 1 (fail One) (alone (record tauros { attack = 5 }) (at_attack_stage 1))
+
+shift_at_1 : (weakest.events ≡ fails) × (stat_now Attack One weakest ≡ 1) × ((active One weakest).stages.attack ≡ 1)
+unfolding computing
+shift_at_1 = (refl, refl, refl)
