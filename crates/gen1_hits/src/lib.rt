@@ -9,8 +9,6 @@ mod formula;
 mod hp;
 mod landing;
 mod strength;
-#[cfg(test)]
-mod tests;
 mod type_rows;
 
 pub use accuracy::{Hit, hit_test, scaled_accuracy};

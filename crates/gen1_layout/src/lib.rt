@@ -36,8 +36,6 @@ mod member;
 mod packed;
 mod reading;
 mod telling;
-#[cfg(test)]
-mod tests;
 
 pub use conditions::Conditions;
 pub use packed::{Packed, in_two};

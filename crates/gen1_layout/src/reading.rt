@@ -10,8 +10,6 @@ pub mod laws;
 mod member;
 mod requests;
 mod stats;
-#[cfg(test)]
-mod tests;
 
 use crate::Packed;
 use thiserror::Error;

@@ -13,8 +13,6 @@ mod ranges;
 mod reading;
 mod side;
 mod terms;
-#[cfg(test)]
-mod tests;
 mod wrapping;
 mod writing;
 

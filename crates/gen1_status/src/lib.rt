@@ -11,8 +11,6 @@ mod picking;
 mod shifts;
 mod stage_writes;
 mod suffering;
-#[cfg(test)]
-mod tests;
 
 pub use gating::gate;
 pub use infliction::{inflict, inflict_status};

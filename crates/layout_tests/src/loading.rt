@@ -1,5 +1,5 @@
-use super::ReadFault;
-use crate::Packed;
+//! Each field at its least and its greatest value, and one past either (docs/LAYOUT.md, "Loading").
+use gen1_layout::{Packed, ReadFault};
 
 // A Tauros at level 100 with Strength, unhurt.
 static TAUROS: [u8; 24] = [

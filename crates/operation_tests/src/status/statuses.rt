@@ -1,11 +1,11 @@
 //! Statuses, stages and what poison, a burn and Leech Seed take.
 use super::{FOE, USER, facing, team_of, two_tauros};
-use crate::{
-    inflict, inflict_status, lower_stage, raise_stage, residual, shift_stage, take_penalty,
-};
 use gen1_layout::{Conditions, Packed};
 use gen1_machine::{DamageSource, Event, EventList, Health, Kind, StageCount};
 use gen1_stats::Status;
+use gen1_status::{
+    inflict, inflict_status, lower_stage, raise_stage, residual, shift_stage, take_penalty,
+};
 use gen1_tables::Stat;
 use std::test::Fail;
 

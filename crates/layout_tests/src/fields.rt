@@ -1,8 +1,8 @@
 //! A battle at turn 0 by docs/LAYOUT.md, and each reader and writer once.
 ghost use Rattle.std.specs.Prelude.{◌≡◌};
 
-use crate::{Conditions, Packed, in_two};
 use arrayvec::ArrayVec;
+use gen1_layout::{Conditions, Packed, in_two};
 use gen1_machine::{DisabledSlot, Kind, Outcome, Request, Rules, Side, TurnLimit, Used};
 use gen1_rolls::{LinkRandom, Rolls};
 use gen1_stats::{MemberSpec, Status, Team};

@@ -1,6 +1,6 @@
 //! Values worked out by hand (docs/MECHANICS.md, "Damage", "Types", "Factor").
 use super::{TAUROS, facing, named};
-use crate::{Numbers, damage, damage_list, factor, numbers, own_numbers, type_steps};
+use gen1_hits::{Numbers, damage, damage_list, factor, numbers, own_numbers, type_steps};
 use gen1_layout::Conditions;
 use gen1_machine::Side;
 use gen1_rolls::{LinkRandom, Sweep};

@@ -1,4 +1,5 @@
-use crate::{
+//! Ranges, bytes and numbers worked out by hand, and devices that fail.
+use gen1_machine::{
     CantReason, Choice, DamageSource, Device, Event, EventList, FaultCode, Health, HitCount,
     InputFault, Kind, Level, MoveSlot, Place, Rules, Side, Sink, Source, StageCount, TurnLimit,
     TurnNumber, Volatile, link, now, read_whole, send, send_all, stat_from_number, stat_number,

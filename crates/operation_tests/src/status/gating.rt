@@ -1,6 +1,5 @@
 //! Picks and the gate, with the numbers of docs/MECHANICS.md, "Picks", "Gate" and "Hit on itself".
 use super::{FOE, USER, two_tauros};
-use crate::{Gate, gate, pick};
 use gen1_layout::{Conditions, Packed};
 use gen1_machine::{
     CantReason, Choice, DamageSource, DisabledSlot, Event, EventList, Health, Kind, MoveSlot,
@@ -8,6 +7,7 @@ use gen1_machine::{
 };
 use gen1_rolls::{LinkRandom, Rolls, Sweep};
 use gen1_stats::Status;
+use gen1_status::{Gate, gate, pick};
 use std::test::Fail;
 
 // What tells that the user is confused.

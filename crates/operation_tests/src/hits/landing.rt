@@ -1,6 +1,6 @@
 //! HP, landings, critical draws and hit tests: side 1's Persian against side 2's Tauros.
 use super::{PERSIAN, facing, named, species};
-use crate::{
+use gen1_hits::{
     Hit, Landed, critical, critical_bound, gain_hp, hit_test, land, land_on_hp, land_on_substitute,
     lose_hp, scaled_accuracy,
 };

@@ -1,0 +1,8 @@
+//! Tests of `gen1_events` and `gen1_printer`, through their public functions. A crate with tests is
+//! proved twice, so they stand in a crate of their own.
+#![tactic(auto)]
+
+#[cfg(test)]
+mod events;
+#[cfg(test)]
+mod printing;

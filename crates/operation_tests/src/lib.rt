@@ -1,0 +1,8 @@
+//! Tests of `gen1_hits` and `gen1_status`, through their public functions. A crate with tests is
+//! proved twice, so they stand in a crate of their own.
+#![tactic(auto)]
+
+#[cfg(test)]
+mod hits;
+#[cfg(test)]
+mod status;

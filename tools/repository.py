@@ -1,0 +1,109 @@
+"""What the tools of this folder know of the repository: its crates, what stands on what, and its edits."""
+
+import os
+import re
+import shutil
+import subprocess
+import tempfile
+from pathlib import Path
+
+ROOT = Path(__file__).resolve().parent.parent
+
+
+def crates():
+    """Each crate of crates.txt with the crates of the repository that it names, lowest first."""
+    lines = [line.partition("#")[0].strip() for line in (ROOT / "crates.txt").read_text().splitlines()]
+    named = {name.split()[0]: used.split() for name, _, used in (line.partition(":") for line in lines if line)}
+    used = {name: [it for it in them if it in named] for name, them in named.items()}
+    ordered = {}
+
+    def place(name):
+        if name not in ordered:
+            for below in used[name]:
+                place(below)
+            ordered[name] = used[name]
+
+    for name in used:
+        place(name)
+    return ordered
+
+
+def below(names, all_crates):
+    """The crates that any of these stands on, and these, lowest first."""
+    wanted = set(names)
+    for name in reversed(all_crates):
+        if name in wanted:
+            wanted.update(all_crates[name])
+    return [name for name in all_crates if name in wanted]
+
+
+def above(names, all_crates):
+    """These crates and those that stand on any of them, lowest first."""
+    wanted = set(names)
+    for name, used in all_crates.items():
+        if wanted.intersection(used):
+            wanted.add(name)
+    return [name for name in all_crates if name in wanted]
+
+
+def is_program(name, root=ROOT):
+    return (root / "crates" / name / "src" / "main.rt").is_file()
+
+
+def has_tests(name):
+    files = (ROOT / "crates" / name / "src").rglob("*.rt")
+    return any(re.search(r"#\[test\]", file.read_text()) for file in files)
+
+
+def edits(name, folder="must-fail"):
+    """The edits of a crate that every gate tries, or with `planted` those that are tried now and then."""
+    place = ROOT / "crates" / name / "must-fail" if folder == "must-fail" else ROOT / folder / name
+    return sorted(place.glob("*.edit"))
+
+
+def processors():
+    return len(os.sched_getaffinity(0))
+
+
+def run(words, folder):
+    """The status of a command that is run in a folder, and what it printed, which is kept out of the way on disk."""
+    with tempfile.TemporaryFile("w+", errors="replace") as said:
+        status = subprocess.run(words, cwd=folder, stdin=subprocess.DEVNULL, stdout=said, stderr=subprocess.STDOUT).returncode
+        said.seek(0)
+        return status, said.read()
+
+
+def copied(room, names):
+    """Copies these crates, with what earlier checks kept of them, into a new folder that is a repository of its own."""
+    lines = (ROOT / "crates.txt").read_text().splitlines()
+    listed = [line for line in lines if line.partition(":")[0].strip().split(" ")[0] in names]
+    (room / "crates.txt").write_text("\n".join(listed) + "\n")
+    shutil.copy(ROOT / "HANDLES", room)
+    ignored = shutil.ignore_patterns("must-fail")
+    for name in names:
+        shutil.copytree(ROOT / "crates" / name, room / "crates" / name, ignore=ignored)
+
+
+def edited(crate, edit):
+    """The texts of the files that an edit changes in a crate's folder, before and after it; none where it cannot be applied."""
+    before, after, file = {}, {}, None
+    for line in edit.read_text().splitlines():
+        key, _, text = line.partition(": ") if ": " in line else line.partition(":")
+        if key == "file":
+            file = crate / text.strip()
+            if not file.is_file():
+                return None
+            before.setdefault(file, file.read_text())
+            after.setdefault(file, before[file])
+        elif key == "old":
+            old = text
+        elif key == "new":
+            if after[file].count(old) != 1:
+                return None
+            after[file] = after[file].replace(old, text)
+    return before, after
+
+
+def clock(seconds):
+    """Seconds as minutes and seconds."""
+    return f"{int(seconds) // 60}:{int(seconds) % 60:02d}"
