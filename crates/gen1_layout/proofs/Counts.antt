@@ -1,5 +1,6 @@
 -- The conditions in an active block: the bits as a number, and the numbers beside them.
 use Rattle.std.proofs.Common.{Bool, None, Option, Some, arith, false, is_some, refl, true, unwrap_or, ℕ, ◌+◌, ◌<◌, ◌≡◌, ◌≤◌}
+use Rattle.std.specs.Prelude.{if◌then◌else◌}
 use Rattle.gen1_machine.specs.declared.picks.DisabledSlot.{DisabledSlot}
 use Rattle.gen1_machine.specs.Rules.{bit_of}
 use Rattle.gen1_machine.specs.Conditions.{Conditions, Storing, Underway}
@@ -15,9 +16,9 @@ number_small c = let bits = condition_bits c in let e = bits_of-is bits in let s
 
 -- a number beside its bit
 
-pub some_back : (o : Option ℕ) → is_some o ≡ true → Some (unwrap_or o 0) ≡ o
-some_back None e = cc
-some_back (Some n) e = refl
+pub count_back : (o : Option ℕ) → (if is_some o then Some (unwrap_or o 0) else None) ≡ o
+count_back None = refl
+count_back (Some n) = refl
 
 pub disabled_back : (o : Option DisabledSlot) → is_some o ≡ true → Some (record { slot = disabled_slot o; turns = disabled_turns o }) ≡ o
 disabled_back None e = cc
@@ -25,30 +26,23 @@ disabled_back (Some d) e = refl
 
 -- Bide, thrashing and trapping, of which one at most is on
 
-pub bide_back : (u : Underway) → is_some u.bide ≡ true → Some (turns_byte u.bide u.thrash u.trapping) ≡ turns_stored u.bide
-bide_back u = both u.bide
-  where
-    both : (b : Option Storing) → is_some b ≡ true → Some (turns_byte b u.thrash u.trapping) ≡ turns_stored b
-    both None e = cc
-    both (Some x) e = refl
-
-pub bide_none : (b : Option Storing) → is_some b ≡ false → None ≡ turns_stored b
-bide_none None e = refl
-bide_none (Some x) e = cc
+pub bide_back : (b : Option Storing) (t r : Option ℕ) → (if is_some b then Some (turns_byte b t r) else None) ≡ turns_stored b
+bide_back None t r = refl
+bide_back (Some x) t r = refl
 
 abbrev Alone : Option Storing → Option ℕ → Option ℕ → Type 0
 Alone b t r = bit_of (is_some b) + bit_of (is_some t) + bit_of (is_some r) ≤ 1
 
-pub thrash_back : (b : Option Storing) (t r : Option ℕ) → Alone b t r → is_some t ≡ true → Some (turns_byte b t r) ≡ t
-thrash_back b None r h e = cc
-thrash_back None (Some n) r h e = refl
-thrash_back (Some x) (Some n) r h e = absurd (omega (arith, h))
+pub thrash_back : (b : Option Storing) (t r : Option ℕ) → Alone b t r → (if is_some t then Some (turns_byte b t r) else None) ≡ t
+thrash_back b None r h = refl
+thrash_back None (Some n) r h = refl
+thrash_back (Some x) (Some n) r h = absurd (omega (arith, h))
 
-pub trapping_back : (b : Option Storing) (t r : Option ℕ) → Alone b t r → is_some r ≡ true → Some (turns_byte b t r) ≡ r
-trapping_back b t None h e = cc
-trapping_back None None (Some n) h e = refl
-trapping_back (Some x) t (Some n) h e = absurd (omega (arith, h))
-trapping_back None (Some m) (Some n) h e = absurd (omega (arith, h))
+pub trapping_back : (b : Option Storing) (t r : Option ℕ) → Alone b t r → (if is_some r then Some (turns_byte b t r) else None) ≡ r
+trapping_back b t None h = refl
+trapping_back None None (Some n) h = refl
+trapping_back (Some x) t (Some n) h = absurd (omega (arith, h))
+trapping_back None (Some m) (Some n) h = absurd (omega (arith, h))
 
 -- the byte of turns once one of them is off: 0 where it was on, and else as it was
 

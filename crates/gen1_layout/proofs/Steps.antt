@@ -8,7 +8,7 @@ use Rattle.gen1_machine.specs.declared.side.Side.{Side}
 use Rattle.gen1_machine.specs.declared.side.Side.TheVariants.{One, Two}
 use Rattle.gen1_machine.specs.Rules.{Rules}
 use Rattle.gen1_machine.specs.Conditions.{Conditions}
-use Rattle.gen1_machine.specs.State.{active_in, changed_active, changed_conditions, changed_member, conditions_in, member_at, member_in, party, with_member as with_member_at, with_party, Active, Field, Party}
+use Rattle.gen1_machine.specs.State.{active_in, changed_active, changed_conditions, changed_member, conditions_in, member_at, member_in, party, with_member as with_member_at, with_party, Active, Field, Party, Terms}
 use Rattle.gen1_machine.specs.Layout.{active_block, active_block_of, header_block, member_block}
 use Rattle.gen1_machine.specs.Valid.{IsMemberUnder, IsOutcome, IsMembersUnder}
 use Rattle.gen1_layout.specs.Parts.{active_of, member_of, with_active, with_member, Parts}
@@ -16,23 +16,49 @@ use Rattle.gen1_layout.specs.Storable.{IsStorable, IsStorableActive, IsStorableC
 use Rattle.gen1_layout.specs.Within.{blocks_of, state_in, Setting, Within, Packs}
 use Rattle.gen1_layout.proofs.Blocks.{block_out, blocks_set, party_in}
 
+-- once a member is out on both sides
+pub within_packed : {g : Setting} {p : Parts} {f : Field} → Packs g p f → IsStorable g.terms f → Within g p f
+within_packed h storable = record { same = h.same; terms = h.terms; seed = h.seed; storable = storable }
+
+pub packed_of : {g : Setting} {p : Parts} {f : Field} → Within g p f → Packs g p f
+packed_of h = record {
+  same = h.same;
+  terms = h.terms;
+  seed = h.seed;
+  one = h.storable.one.members;
+  two = h.storable.two.members;
+  last_damage = h.storable.last_damage;
+  turn = h.storable.turn;
+  outcome = h.storable.outcome;
+}
+
 -- a write to the header
-pub header_step : {g : Setting} {p : Parts} {f : Field} (new : Field) (w : List ℕ) → Within g p f
+
+pub header_packed : {g : Setting} {p : Parts} {f : Field} (new : Field) (w : List ℕ) → Packs g p f
     → refill 24 p.header w ≡ header_block (state_in g new) → new.one ≡ f.one → new.two ≡ f.two
     → new.last_damage ≤ 65535 → new.turn ≤ g.terms.limit → IsOutcome new.outcome
-    → Within g (record p { header = refill 24 p.header w }) new
-header_step {g = g} {f = f} new w h e one two damage turn outcome = record {
+    → Packs g (record p { header = refill 24 p.header w }) new
+header_packed {g = g} {f = f} new w h e one two damage turn outcome = record {
   same = rw (e, h.same, sym one, sym two) refl;
   terms = h.terms;
   seed = h.seed;
-  storable = record {
-    one = subst (λ (x : Party). IsStorableParty g.terms.rules x) (sym one) h.storable.one;
-    two = subst (λ (x : Party). IsStorableParty g.terms.rules x) (sym two) h.storable.two;
-    last_damage = damage;
-    turn = turn;
-    outcome = outcome;
-  };
+  one = subst (λ (x : Party). IsMembersUnder g.terms.rules x.members) (sym one) h.one;
+  two = subst (λ (x : Party). IsMembersUnder g.terms.rules x.members) (sym two) h.two;
+  last_damage = damage;
+  turn = turn;
+  outcome = outcome;
 }
+
+-- who is out is still out
+pub still_within : {g g' : Setting} {p q : Parts} {f new : Field} → Within g p f → Packs g' q new → g'.terms ≡ g.terms
+    → new.one ≡ f.one → new.two ≡ f.two → Within g' q new
+still_within {g' = g'} {f = f} h k terms one two = within_packed k (record {
+  one = subst (λ (x : Party). IsStorableParty g'.terms.rules x) (sym one) (subst (λ (t : Terms). IsStorableParty t.rules f.one) (sym terms) h.storable.one);
+  two = subst (λ (x : Party). IsStorableParty g'.terms.rules x) (sym two) (subst (λ (t : Terms). IsStorableParty t.rules f.two) (sym terms) h.storable.two);
+  last_damage = k.last_damage;
+  turn = k.turn;
+  outcome = k.outcome;
+})
 
 -- a write to an active block
 
@@ -258,19 +284,3 @@ first_written {g = g} {p = p} {f = f} s change new w h makes low e =
     members_two : (s : Side) (a : Active) → IsMembersUnder g.terms.rules (with_party s (record (party s f) { active = a }) f).two.members
     members_two One a = h.two
     members_two Two a = h.two
-
--- once a member is out on both sides
-pub within_packed : {g : Setting} {p : Parts} {f : Field} → Packs g p f → IsStorable g.terms f → Within g p f
-within_packed h storable = record { same = h.same; terms = h.terms; seed = h.seed; storable = storable }
-
-pub packed_of : {g : Setting} {p : Parts} {f : Field} → Within g p f → Packs g p f
-packed_of h = record {
-  same = h.same;
-  terms = h.terms;
-  seed = h.seed;
-  one = h.storable.one.members;
-  two = h.storable.two.members;
-  last_damage = h.storable.last_damage;
-  turn = h.storable.turn;
-  outcome = h.storable.outcome;
-}

@@ -1,6 +1,7 @@
 -- A field read back from its bytes.
 use Rattle.std.proofs.Common.{Bool, List, None, Option, Some, [], ap, arith, cond, false, is_some, length, lit<, lit≤, map, min, max, nat_le, refl, replicate, slice_index, subst, suc, sym, true, zero, get_or, ℕ, ◌%◌, ◌*◌, ◌+◌, ◌++◌, ◌-◌, ◌/◌, ◌<◌, ◌==◌, ◌≡◌, ◌≤◌, ◌∙◌, ◌∷◌, inl, inr, ◌⊎◌}
 use Rattle.std.proofs.Math.Nat.{div-le_self}
+use Rattle.std.proofs.Math.Bool.{or-false}
 use Rattle.std.proofs.lemmas.List.{get_or-append_right, get_or-replicate, get_or-take, length-map}
 use Rattle.std.proofs.lemmas.List.Elements.{All-get_or}
 use Rattle.byteorder.specs.Endian.{little_number}
@@ -13,8 +14,9 @@ use Rattle.gen1_tables.specs.declared.effect.Stat.TheVariants.{Attack, Defense, 
 use Rattle.gen1_stats.specs.declared.status.Status.{Status}
 use Rattle.gen1_stats.specs.declared.status.Status.TheVariants.{Healthy, Asleep, Poisoned, Burned, Frozen, Paralysed}
 use Rattle.std.proofs.lemmas.Bool.Decides.{nat_tests}
-use Rattle.std.specs.Prelude.{if◌then◌else◌, ◌&&◌}
-use Rattle.gen1_stats.specs.Members.{is_marked, nobody, IsBetween, Member}
+use Rattle.std.specs.Prelude.{if◌then◌else◌, ◌&&◌, ◌||◌}
+use Rattle.gen1_tables.specs.Types.{any}
+use Rattle.gen1_stats.specs.Members.{is_living, is_marked, nobody, IsBetween, Member}
 use Rattle.gen1_machine.specs.declared.side.Side.{Side}
 use Rattle.gen1_machine.specs.declared.side.Side.TheVariants.{One, Two}
 use Rattle.gen1_machine.specs.declared.terms.Outcome.{Outcome}
@@ -23,7 +25,7 @@ use Rattle.gen1_machine.specs.declared.terms.Request.{Request}
 use Rattle.gen1_machine.specs.declared.terms.Request.TheVariants as requests
 use Rattle.gen1_machine.specs.declared.picks.Used.{Used}
 use Rattle.gen1_machine.specs.declared.picks.Used.TheVariants.{Unused, Slot, Struggle}
-use Rattle.gen1_machine.specs.Rules.{bit_of, bits_of_rules, Rules}
+use Rattle.gen1_machine.specs.Rules.{bit_of, bits_of_rules, rules_of, Rules}
 use Rattle.gen1_machine.specs.State.{known_in, member_at, member_in, party, Active, Field}
 use Rattle.gen1_machine.specs.CurrentStats.{now}
 use Rattle.gen1_machine.specs.Stages.{at_stage, divided_times, percent_at}
@@ -84,6 +86,15 @@ freeze_back r = both r.sleep_clause r.freeze_clause
     both false true = refl
     both false false = refl
 
+pub rules_back : (r : Rules) → (if nat_le (bits_of_rules r) 3 then Some (rules_of (bits_of_rules r)) else None) ≡ Some r
+rules_back r = both r.sleep_clause r.freeze_clause
+  where
+    both : (a b : Bool) → (if nat_le (bit_of a + 2 * bit_of b) 3 then Some (rules_of (bit_of a + 2 * bit_of b)) else None) ≡ Some (record { sleep_clause = a; freeze_clause = b })
+    both true true = refl
+    both true false = refl
+    both false true = refl
+    both false false = refl
+
 pub bits_small : (r : Rules) → bits_of_rules r ≤ 3
 bits_small r = both r.sleep_clause r.freeze_clause
   where
@@ -93,9 +104,12 @@ bits_small r = both r.sleep_clause r.freeze_clause
     both false true = omega arith
     both false false = omega arith
 
+pub bit_back : (b : Bool) → (bit_of b == 1) ≡ b
+bit_back true = refl
+bit_back false = refl
+
 mark_back : (n : ℕ) (marked : Bool) → Asleep n (bit_of marked == 1) ≡ Asleep n marked
-mark_back n true = refl
-mark_back n false = refl
+mark_back n marked = ap (Asleep n) (bit_back marked)
 
 pub status_back : (rules : Rules) (s : Status) → IsStatus rules s → status_of (status_byte s) (bit_of (is_marked s)) ≡ s
 status_back rules Healthy h = refl
@@ -173,7 +187,7 @@ module _ {g : Setting} {p : Parts} {f : Field} (h : Packs g p f) where
   pub header_packs : p.header ≡ header_block (state_in g f)
   header_packs = ap (λ (q : Parts). q.header) h.same
 
-  members_in : (s : Side) → IsMembersUnder g.terms.rules (party s f).members
+  pub members_in : (s : Side) → IsMembersUnder g.terms.rules (party s f).members
   members_in One = h.one
   members_in Two = h.two
 
@@ -205,6 +219,17 @@ module _ {g : Setting} {p : Parts} {f : Field} (h : Packs g p f) where
     | inr e ↦ subst (λ (m : Member). IsStatus g.terms.rules m.status) (sym e) tt
   ]
 
+  -- where there is one
+  pub ok_inside : (s : Side) (place : ℕ) → 1 ≤ place → place ≤ length (party s f).members → IsMemberUnder g.terms.rules (member_at place (party s f))
+  ok_inside s place low high = All-get_or (IsMemberUnder g.terms.rules) (party s f).members (place - 1) nobody (omega arith) (members_in s).each
+
+  pub stats_fit_at : (s : Side) (place : ℕ) → ((member_at place (party s f)).max < 65536) × ((member_at place (party s f)).attack < 65536)
+      × ((member_at place (party s f)).defense < 65536) × ((member_at place (party s f)).speed < 65536) × ((member_at place (party s f)).special < 65536)
+  stats_fit_at s place = elim (ok_at s place) [
+    | inl ok ↦ (let m = ok.numbers in (omega (arith, m.max.1), omega (arith, m.attack.1), omega (arith, m.defense.1), omega (arith, m.speed.1), omega (arith, m.special.1)))
+    | inr e ↦ subst (λ (m : Member). (m.max < 65536) × (m.attack < 65536) × (m.defense < 65536) × (m.speed < 65536) × (m.special < 65536)) (sym e) (lit< tt, lit< tt, lit< tt, lit< tt, lit< tt)
+  ]
+
   pub turn_packs : f.turn < 65536
   turn_packs = omega (arith, h.turn, h.terms.limit.1)
 
@@ -222,9 +247,6 @@ module _ {g : Setting} {p : Parts} {f : Field} (h : Within g p f) where
 
   pub max_fits : (s : Side) → (member_in s f).max < 65536
   max_fits s = let m = (member_ok s h).numbers in omega (arith, m.max.1)
-
-  pub damage_fits : f.last_damage < 65536
-  damage_fits = omega (arith, h.storable.last_damage)
 
 -- the bytes of a slot
 
@@ -278,3 +300,17 @@ health_taken hp most a h range = ap (λ (b : Bool). cond b (Some a) None) (fits 
   where
     fits : (hp most : ℕ) → hp ≤ most → 11 ≤ most → most ≤ 999 → nat_le hp most && nat_le 11 most && nat_le most 999 ≡ true
     fits hp most a b c = grind (arith, nat_tests)
+
+-- whether a member lives, place by place
+
+pub any_of_six : (ms : List Member) → length ms ≤ 6
+    → is_living (get_or ms 0 nobody) || (is_living (get_or ms 1 nobody) || (is_living (get_or ms 2 nobody) || (is_living (get_or ms 3 nobody) || (is_living (get_or ms 4 nobody) || is_living (get_or ms 5 nobody)))))
+    ≡ any is_living ms
+any_of_six [] few = refl
+any_of_six (a ∷ []) few = refl
+any_of_six (a ∷ b ∷ []) few = refl
+any_of_six (a ∷ b ∷ c ∷ []) few = refl
+any_of_six (a ∷ b ∷ c ∷ d ∷ []) few = refl
+any_of_six (a ∷ b ∷ c ∷ d ∷ e ∷ []) few = refl
+any_of_six (a ∷ b ∷ c ∷ d ∷ e ∷ h ∷ []) few = rw (or-false (is_living h)) refl
+any_of_six (a ∷ b ∷ c ∷ d ∷ e ∷ h ∷ i ∷ ms) few = absurd (omega arith)

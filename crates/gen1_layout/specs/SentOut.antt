@@ -19,3 +19,7 @@ sent_as place first second halved quartered = record nobody_out {
 -- the four stats as they stand
 abbrev pub stats_of : Member → Active → List ℕ
 stats_of m a = now Attack m a ∷ now Defense m a ∷ now Speed m a ∷ now Special m a ∷ []
+
+-- and a member's own
+abbrev pub own_stats_of : Member → List ℕ
+own_stats_of m = m.attack ∷ m.defense ∷ m.speed ∷ m.special ∷ []

@@ -6,7 +6,7 @@ use Rattle.gen1_rolls.specs.Streams.{Stream}
 use Rattle.gen1_machine.specs.declared.event.Event.{Event}
 use Rattle.gen1_machine.specs.Progress.{Action, Phase, Progress}
 use Rattle.gen1_layout.specs.Parts.{Parts}
-use Rattle.gen1_layout.specs.Within.{Setting, Within}
+use Rattle.gen1_layout.specs.Within.{Packs, Setting, Within}
 
 -- what is known beside the bytes and the events
 pub record Frame : Type 0 where
@@ -26,7 +26,17 @@ pub record Shows (g : Frame) (parts : Parts) (events : List Event) (stopped : Bo
   pub skips : p.skips ≡ g.skips
   pub action : p.action ≡ g.action
 
--- the same with a generator, which stands exactly where p has drawn to; what the frame says of draws is then of no account
+-- the same while a side may still have nobody out; nothing stops there
+pub record ShowsPacked (g : Frame) (parts : Parts) (events : List Event) (p : Progress) : Type 0 where
+  pub packs : Packs g.setting parts p.field
+  pub written : events ≡ p.events
+  pub ends : p.stopped ≡ false
+  pub stream : p.stream ≡ g.stream
+  pub drawn : p.drawn ≡ g.drawn
+  pub skips : p.skips ≡ g.skips
+  pub action : p.action ≡ g.action
+
+-- what is shown inside an update, with a generator, which stands exactly where p has drawn to; what the frame says of draws is then of no account
 pub record ShowsDrawn {A : Type 0} (byte : A → ℕ) (next : A → A) (width : ℕ) (origin : A) (g : Frame) (parts : Parts) (events : List Event) (now : A) (stopped : Bool) (p : Progress) : Type 0 where
   pub shows : Shows (record g { drawn = p.drawn }) parts events stopped p
   pub stands : StandsAt byte next width origin g.stream p.drawn now

@@ -1,5 +1,5 @@
 //! The fields of an active block (docs/LAYOUT.md, "Active block"), but for conditions.
-ghost use Rattle.std.specs.Prelude.{true, ℕ, ◌≡◌, ◌≤◌, length};
+ghost use Rattle.std.specs.Prelude.{false, true, ℕ, ◌≡◌, ◌≤◌, length};
 ghost use Rattle.gen1_tables.specs.declared.effect.Stat.TheVariants.{Attack, Defense, Special, Speed};
 ghost use Rattle.gen1_machine.specs.State.{Active, Field, active_in, changed_active, member_at, member_in, party};
 ghost use Rattle.gen1_machine.specs.CurrentStats.{has_number, now, now_in, stage_of, with_stage};
@@ -49,6 +49,7 @@ impl Packed {
     /// give 1.
     pub fn current_stat(&self, side: Side, stat: Stat) -> u16
         ensures stands { (g : Setting) (f : Field) → Within g self.now f → has_number stat ≡ true → result ≡ now_in stat side f }
+        ensures without_number { has_number stat ≡ false → result ≡ 1 }
     {
         match stat {
             Stat::Attack => word!(self.active(side), 9..11),

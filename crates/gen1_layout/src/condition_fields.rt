@@ -1,8 +1,8 @@
 //! The conditions of a member that is out, with their numbers (docs/LAYOUT.md, "Active block", "Condition bits").
-ghost use Rattle.std.specs.Prelude.{Bool, List, None, Option, Some, false, length, slice_index_or, slice_set, true, ℕ, ◌<◌, ◌^◌, ◌≡◌, ◌≤◌};
+ghost use Rattle.std.specs.Prelude.{Bool, List, None, Option, Some, false, if◌then◌else◌, length, slice_index, slice_index_or, slice_set, true, ℕ, ◌<◌, ◌^◌, ◌≡◌, ◌≤◌};
 ghost use Rattle.gen1_machine.specs.Conditions.{Conditions as Named, after_haze, broken_off};
-ghost use Rattle.gen1_machine.specs.State.{Field, changed_conditions, conditions_in, member_in, underway_in};
-ghost use Rattle.gen1_machine.specs.Layout.{condition_bits, conditions_number, energy_of, turns_byte};
+ghost use Rattle.gen1_machine.specs.State.{Field, active_in, changed_conditions, conditions_in, member_in, underway_in};
+ghost use Rattle.gen1_machine.specs.Layout.{active_block, condition_bits, conditions_number, energy_of, turns_byte};
 ghost use Rattle.gen1_machine.specs.Valid.{IsCount};
 ghost use Rattle.gen1_layout.specs.Decoding.{turns_stored};
 ghost use Rattle.gen1_layout.specs.Flags.{SameNumbers, any_at, set_at};
@@ -40,37 +40,39 @@ impl Packed {
         self.conditions(side).has_any(which)
     }
 
+    // The byte of the active block that belongs to a condition, where it is on.
+    fn count_of(&self, side: Side, which: Conditions, at: usize) -> Option<u8>
+        requires { at < 36 }
+        ensures stands { (k : ℕ) → which.0 ≡ 2 ^ k → (g : Setting) (f : Field) → Within g self.now f
+            → result ≡ (if slice_index_or (condition_bits (conditions_in side f)) k false
+            then Some (slice_index (active_block (member_in side f) (active_in side f)) at) else None) }
+    {
+        if self.is_on(side, which) {
+            Some(self.active(side)[at])
+        } else {
+            None
+        }
+    }
+
     /// The HP of its Substitute, from 0 to 249. `None` without one.
     pub fn substitute(&self, side: Side) -> Option<u8>
         ensures stands { (g : Setting) (f : Field) → Within g self.now f → result ≡ (conditions_in side f).substitute }
     {
-        if self.is_on(side, Conditions::SUBSTITUTE) {
-            Some(self.active(side)[21])
-        } else {
-            None
-        }
+        self.count_of(side, Conditions::SUBSTITUTE, 21)
     }
 
     /// For how many turns more it is confused, at most 5. `None` where it is not.
     pub fn confused(&self, side: Side) -> Option<u8>
         ensures stands { (g : Setting) (f : Field) → Within g self.now f → result ≡ (conditions_in side f).confused }
     {
-        if self.is_on(side, Conditions::CONFUSED) {
-            Some(self.active(side)[22])
-        } else {
-            None
-        }
+        self.count_of(side, Conditions::CONFUSED, 22)
     }
 
     /// The counter that Toxic begins, from 0 to 64. `None` without bad poison.
     pub fn bad_poison(&self, side: Side) -> Option<u8>
         ensures stands { (g : Setting) (f : Field) → Within g self.now f → result ≡ (conditions_in side f).bad_poison }
     {
-        if self.is_on(side, Conditions::BAD_POISON) {
-            Some(self.active(side)[25])
-        } else {
-            None
-        }
+        self.count_of(side, Conditions::BAD_POISON, 25)
     }
 
     /// The slot that Disable bars, from 1 to 4, and for how many turns more, at most 8. `None` where it bars none.
@@ -92,33 +94,21 @@ impl Packed {
     pub fn bide(&self, side: Side) -> Option<u8>
         ensures stands { (g : Setting) (f : Field) → Within g self.now f → result ≡ turns_stored (underway_in side f).bide }
     {
-        if self.is_on(side, Conditions::BIDE) {
-            Some(self.active(side)[26])
-        } else {
-            None
-        }
+        self.count_of(side, Conditions::BIDE, 26)
     }
 
     /// For how many turns more it thrashes, at most 3. `None` where it does not.
     pub fn thrash(&self, side: Side) -> Option<u8>
         ensures stands { (g : Setting) (f : Field) → Within g self.now f → result ≡ (underway_in side f).thrash }
     {
-        if self.is_on(side, Conditions::THRASH) {
-            Some(self.active(side)[26])
-        } else {
-            None
-        }
+        self.count_of(side, Conditions::THRASH, 26)
     }
 
     /// For how many turns more it traps the foe, at most 4. `None` where it does not.
     pub fn trapping(&self, side: Side) -> Option<u8>
         ensures stands { (g : Setting) (f : Field) → Within g self.now f → result ≡ (underway_in side f).trapping }
     {
-        if self.is_on(side, Conditions::TRAPPING) {
-            Some(self.active(side)[26])
-        } else {
-            None
-        }
+        self.count_of(side, Conditions::TRAPPING, 26)
     }
 
     /// The energy that Bide has stored, in HP of damage, from 0 to 65,535; 0 without Bide.

@@ -8,7 +8,7 @@ ghost use Rattle.gen1_layout.specs.Within.{Packs, Setting, Within};
 use crate::Packed;
 use crate::codes::{byte_of_outcome, byte_of_request, outcome_from, request_from};
 use byteorder::{ByteOrder, LittleEndian};
-use gen1_machine::{Outcome, Request, Side};
+use gen1_machine::{Outcome, Request, Rules, Side};
 use gen1_rolls::LinkRandom;
 
 impl Packed {
@@ -23,6 +23,7 @@ impl Packed {
     /// The last damage in HP, of either side, from 0 to 65,535.
     pub fn last_damage(&self) -> u16
         ensures stands { (g : Setting) (f : Field) → Within g self.now f → result ≡ f.last_damage }
+        ensures packs { (g : Setting) (f : Field) → Packs g self.now f → result ≡ f.last_damage }
     {
         word!(self.header(), 3..5)
     }
@@ -54,9 +55,21 @@ impl Packed {
         word!(self.header(), 20..22)
     }
 
+    /// The clauses that the battle is fought under.
+    pub fn rules(&self) -> Rules
+        ensures stands { (g : Setting) (f : Field) → Within g self.now f → result ≡ g.terms.rules }
+        ensures packs { (g : Setting) (f : Field) → Packs g self.now f → result ≡ g.terms.rules }
+    {
+        match Rules::new(self.header()[19]) {
+            Some(rules) => rules,
+            None => Rules::default(),
+        }
+    }
+
     /// Whether a sleep move fails while an earlier one keeps a living member of the foe's side asleep.
     pub fn sleep_clause(&self) -> bool
         ensures stands { (g : Setting) (f : Field) → Within g self.now f → result ≡ g.terms.rules.sleep_clause }
+        ensures packs { (g : Setting) (f : Field) → Packs g self.now f → result ≡ g.terms.rules.sleep_clause }
     {
         self.header()[19] % 2 == 1
     }
@@ -64,6 +77,7 @@ impl Packed {
     /// Whether a freeze does nothing while a living member of the foe's side is frozen.
     pub fn freeze_clause(&self) -> bool
         ensures stands { (g : Setting) (f : Field) → Within g self.now f → result ≡ g.terms.rules.freeze_clause }
+        ensures packs { (g : Setting) (f : Field) → Packs g self.now f → result ≡ g.terms.rules.freeze_clause }
     {
         self.header()[19] / 2 == 1
     }
@@ -71,6 +85,7 @@ impl Packed {
     /// Writes the last damage, in HP.
     pub fn put_last_damage(&mut self, damage: u16)
         ensures stands { (g : Setting) (f : Field) → Within g self.old f → Within g self.new (with_last_damage damage f) }
+        ensures packs { (g : Setting) (f : Field) → Packs g self.old f → Packs g self.new (with_last_damage damage f) }
     {
         put_word!(self.header_mut(), 3..5, damage);
     }
@@ -78,6 +93,7 @@ impl Packed {
     /// Writes how the battle stands.
     pub fn put_outcome(&mut self, outcome: Outcome)
         ensures stands { (g : Setting) (f : Field) → Within g self.old f → IsOutcome outcome → Within g self.new (with_outcome outcome f) }
+        ensures packs { (g : Setting) (f : Field) → Packs g self.old f → IsOutcome outcome → Packs g self.new (with_outcome outcome f) }
     {
         let byte = byte_of_outcome(outcome);
         self.header_mut()[16] = byte;
@@ -86,6 +102,7 @@ impl Packed {
     /// Writes what is asked of both sides.
     pub fn put_requests(&mut self, one: Request, two: Request)
         ensures stands { (g : Setting) (f : Field) → Within g self.old f → Within g self.new (with_requests one two f) }
+        ensures packs { (g : Setting) (f : Field) → Packs g self.old f → Packs g self.new (with_requests one two f) }
     {
         let one = byte_of_request(one);
         let two = byte_of_request(two);
@@ -97,6 +114,7 @@ impl Packed {
     /// Goes on to the next turn, which is the limit at most.
     pub fn put_next_turn(&mut self)
         ensures stands { (g : Setting) (f : Field) → Within g self.old f → f.turn < g.terms.limit → Within g self.new (with_next_turn f) }
+        ensures packs { (g : Setting) (f : Field) → Packs g self.old f → f.turn < g.terms.limit → Packs g self.new (with_next_turn f) }
     {
         let next = self.turn().wrapping_add(1);
         put_word!(self.header_mut(), 1..3, next);
@@ -106,6 +124,7 @@ impl Packed {
     /// battle.
     pub fn generator(&self) -> Option<LinkRandom>
         ensures stands { (g : Setting) (f : Field) → Within g self.now f → result ≡ Some (ring_at g.seed g.drawn) }
+        ensures packs { (g : Setting) (f : Field) → Packs g self.now f → result ≡ Some (ring_at g.seed g.drawn) }
     {
         let header = self.header();
         LinkRandom::from_parts(
@@ -121,6 +140,8 @@ impl Packed {
     pub fn put_generator(&mut self, generator: &LinkRandom)
         ensures stands { (g : Setting) (f : Field) (drawn : ℕ) → Within g self.old f → generator.now ≡ ring_at g.seed drawn
             → Within (record g { drawn = drawn }) self.new f }
+        ensures packs { (g : Setting) (f : Field) (drawn : ℕ) → Packs g self.old f → generator.now ≡ ring_at g.seed drawn
+            → Packs (record g { drawn = drawn }) self.new f }
     {
         let index = generator.index();
         let numbers = generator.numbers();

@@ -1,10 +1,12 @@
 //! The fields of a member (docs/LAYOUT.md, "Member"): of any by its place, and of the one that is out.
 ghost use Rattle.std.specs.Prelude.{length, slice_set, ℕ, ◌-◌, ◌≡◌, ◌≤◌};
-ghost use Rattle.gen1_stats.specs.Members.{Member};
+ghost use Rattle.gen1_tables.specs.Types.{any};
+ghost use Rattle.gen1_stats.specs.Members.{Member, is_living, is_marked};
+ghost use Rattle.gen1_stats.specs.declared.status.Status.TheVariants.{Healthy};
 ghost use Rattle.gen1_machine.specs.State.{Field, active_in, changed_member, known_in, member_at, member_in, party};
 ghost use Rattle.gen1_machine.specs.CurrentStats.{unmodified};
-ghost use Rattle.gen1_machine.specs.Layout.{member_block};
 ghost use Rattle.gen1_machine.specs.Valid.{IsStatus};
+ghost use Rattle.gen1_layout.specs.SentOut.{own_stats_of};
 ghost use Rattle.gen1_layout.specs.Within.{Packs, Setting, Within};
 
 use crate::Packed;
@@ -22,14 +24,6 @@ impl Packed {
         ensures stands { (g : Setting) (f : Field) → Within g self.now f → result ≡ (active_in side f).place }
     {
         (self.active(side)[0] as usize).max(1).min(6)
-    }
-
-    // The bytes of the member that is out.
-    pub(crate) fn member_out(&self, side: Side) -> &[u8]
-        ensures len { length result.now ≡ 24 }
-        ensures stands { (g : Setting) (f : Field) → Within g self.now f → result.now ≡ member_block (member_in side f) }
-    {
-        self.member(side, self.place(side))
     }
 
     /// The level of the member that is out, from 1 to 100.
@@ -125,6 +119,94 @@ impl Packed {
         status_from(member[14], member[23])
     }
 
+    /// The level of the member at a place from 1 to 6, from 1 to 100; 0 where there is none.
+    pub fn level_at(&self, side: Side, place: usize) -> u8
+        requires low { 1 ≤ place }
+        requires high { place ≤ 6 }
+        ensures packs { (g : Setting) (f : Field) → Packs g self.now f → result ≡ (member_at place (party side f)).level }
+    {
+        self.member(side, place)[1]
+    }
+
+    /// The most HP that the member at a place from 1 to 6 can have, from 11 to 999; 0 where there is none.
+    pub fn max_hp_at(&self, side: Side, place: usize) -> u16
+        requires low { 1 ≤ place }
+        requires high { place ≤ 6 }
+        ensures packs { (g : Setting) (f : Field) → Packs g self.now f → result ≡ (member_at place (party side f)).max }
+    {
+        word!(self.member(side, place), 2..4)
+    }
+
+    /// The own Attack, Defense, Speed and Special of the member at a place from 1 to 6, from 5 to 999; 0 where there is none.
+    pub fn own_stats_at(&self, side: Side, place: usize) -> [u16; 4]
+        requires low { 1 ≤ place }
+        requires high { place ≤ 6 }
+        ensures packs { (g : Setting) (f : Field) → Packs g self.now f → result ≡ own_stats_of (member_at place (party side f)) }
+    {
+        let member = self.member(side, place);
+        [
+            word!(member, 6..8),
+            word!(member, 8..10),
+            word!(member, 10..12),
+            word!(member, 12..14),
+        ]
+    }
+
+    /// The number of the move that the member at a place from 1 to 6 has in a slot from 1 to 4, itself from 1 to 164; 0 where
+    /// there is none.
+    pub fn move_at(&self, side: Side, place: usize, slot: usize) -> u8
+        requires low { 1 ≤ place }
+        requires high { place ≤ 6 }
+        requires low_slot { 1 ≤ slot }
+        requires high_slot { slot ≤ 4 }
+        ensures packs { (g : Setting) (f : Field) → Packs g self.now f
+            → result ≡ (known_in slot (member_at place (party side f)).moves).id }
+    {
+        self.member(side, place)[slot + 14]
+    }
+
+    /// The PP of that move, from 0 to 63; 0 where there is none.
+    pub fn pp_at(&self, side: Side, place: usize, slot: usize) -> u8
+        requires low { 1 ≤ place }
+        requires high { place ≤ 6 }
+        requires low_slot { 1 ≤ slot }
+        requires high_slot { slot ≤ 4 }
+        ensures packs { (g : Setting) (f : Field) → Packs g self.now f
+            → result ≡ (known_in slot (member_at place (party side f)).moves).pp }
+    {
+        self.member(side, place)[slot + 18]
+    }
+
+    /// Whether the member at a place from 1 to 6 sleeps by the foe's move, and the sleep clause counts it.
+    pub fn mark(&self, side: Side, place: usize) -> bool
+        requires low { 1 ≤ place }
+        requires high { place ≤ 6 }
+        ensures packs { (g : Setting) (f : Field) → Packs g self.now f → result ≡ is_marked (member_at place (party side f)).status }
+    {
+        self.member(side, place)[23] == 1
+    }
+
+    /// Whether a member of the side has HP left.
+    pub fn has_living(&self, side: Side) -> bool
+        ensures packs { (g : Setting) (f : Field) → Packs g self.now f → result ≡ any is_living (party side f).members }
+    {
+        let one = self.lives_at(side, 1);
+        let two = self.lives_at(side, 2);
+        let three = self.lives_at(side, 3);
+        let four = self.lives_at(side, 4);
+        let five = self.lives_at(side, 5);
+        let six = self.lives_at(side, 6);
+        one | (two | (three | (four | (five | six))))
+    }
+
+    fn lives_at(&self, side: Side, place: usize) -> bool
+        requires low { 1 ≤ place }
+        requires high { place ≤ 6 }
+        ensures packs { (g : Setting) (f : Field) → Packs g self.now f → result ≡ is_living (member_at place (party side f)) }
+    {
+        0 < self.hp_at(side, place)
+    }
+
     /// Writes the HP of the member that is out, at most its maximum.
     pub fn put_hp(&mut self, side: Side, hp: u16)
         ensures stands { (g : Setting) (f : Field) (change : Member → Member) → Within g self.old f
@@ -147,6 +229,20 @@ impl Packed {
         let member = self.member_mut(side, place);
         member[14] = byte;
         member[23] = mark;
+    }
+
+    /// Writes that the member that is out has fallen: it has no HP, and is healthy.
+    pub fn put_fallen(&mut self, side: Side)
+        ensures stands { (g : Setting) (f : Field) (change : Member → Member) → Within g self.old f
+            → change (member_in side f) ≡ record (member_in side f) { hp = 0; status = Healthy }
+            → Within g self.new (changed_member side change f) }
+    {
+        let place = self.place(side);
+        let member = self.member_mut(side, place);
+        member[4] = 0;
+        member[5] = 0;
+        member[14] = 0;
+        member[23] = 0;
     }
 
     /// Writes the PP of the move in a slot from 1 to 4, at most 63.

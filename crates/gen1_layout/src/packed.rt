@@ -1,11 +1,11 @@
 //! A packed battle, and the parts of it that are lent and read.
 ghost use Rattle.std.specs.Prelude.{◌≡◌, ◌+◌, ◌-◌, ◌≤◌, length};
 ghost use Rattle.std.specs.Borrow.{sem};
-ghost use Rattle.gen1_machine.specs.State.{State};
+ghost use Rattle.gen1_machine.specs.State.{Field, State, active_in, member_at, member_in, party};
 ghost use Rattle.gen1_machine.specs.Sides.{other};
-ghost use Rattle.gen1_machine.specs.Layout.{bytes_of};
-ghost use Rattle.gen1_layout.specs.Within.{blocks_of};
-ghost use Rattle.gen1_layout.specs.Parts.{active_of, bytes_of_side, bytes_of_sides, in_order, joined, member_at, member_of, part, parts_of, side_at, side_of};
+ghost use Rattle.gen1_machine.specs.Layout.{active_block, bytes_of, header_block, member_block};
+ghost use Rattle.gen1_layout.specs.Within.{Packs, Setting, Within, blocks_of, state_in};
+ghost use Rattle.gen1_layout.specs.Parts.{active_of, bytes_of_side, bytes_of_sides, in_order, joined, member_at as member_starts, member_of, part, parts_of, side_at, side_of};
 ghost use Rattle.gen1_layout.specs.Lending.{LendsActive, LendsBothSides, LendsHeader, LendsInTwo, LendsMember, LendsPart, LendsSide, LendsSides};
 
 use gen1_machine::Side;
@@ -121,6 +121,7 @@ impl Packed {
     /// The 24 bytes of the header.
     pub fn header(&self) -> &[u8]
         ensures value { result.now ≡ self.now.header }
+        ensures packs { (g : Setting) (f : Field) → Packs g self.now f → result.now ≡ header_block (state_in g f) }
         ensures len { length result.now ≡ 24 }
     {
         &self.0[..24]
@@ -138,6 +139,7 @@ impl Packed {
     /// The 36 bytes of a side's active block.
     pub fn active(&self, side: Side) -> &[u8]
         ensures value { result.now ≡ active_of side self.now }
+        ensures stands { (g : Setting) (f : Field) → Within g self.now f → result.now ≡ active_block (member_in side f) (active_in side f) }
         ensures len { length result.now ≡ 36 }
     {
         let from = start_of_side(side) + 144;
@@ -149,10 +151,22 @@ impl Packed {
         requires low { 1 ≤ place }
         requires high { place ≤ 6 }
         ensures value { result.now ≡ member_of side place self.now }
+        ensures packs { (g : Setting) (f : Field) → Packs g self.now f → result.now ≡ member_block (member_at place (party side f)) }
         ensures len { length result.now ≡ 24 }
     {
         let from = start_of_member(side, place);
         &self.0[from..from + 24]
+    }
+
+    // The bytes of the member that is out. Its place is from 1 to 6; whatever the byte is, a place below 8 stays inside the
+    // 384 bytes.
+    pub(crate) fn member_out(&self, side: Side) -> &[u8]
+        ensures len { length result.now ≡ 24 }
+        ensures stands { (g : Setting) (f : Field) → Within g self.now f → result.now ≡ member_block (member_in side f) }
+    {
+        let place = (self.active(side)[0] % 8) as usize;
+        let at = start_of_side(side) + 24 * place - 24;
+        &self.0[at..at + 24]
     }
 }
 
@@ -172,6 +186,7 @@ pub fn in_two(sides: &mut [u8], side: Side) -> (&mut [u8], &mut [u8])
 
 fn start_of_side(side: Side) -> usize
     ensures at { result ≡ side_at side }
+    ensures low { 24 ≤ result }
     ensures within { result + 180 ≤ 384 }
 {
     match side {
@@ -183,7 +198,7 @@ fn start_of_side(side: Side) -> usize
 fn start_of_member(side: Side, place: usize) -> usize
     requires low { 1 ≤ place }
     requires high { place ≤ 6 }
-    ensures at { result ≡ member_at side place }
+    ensures at { result ≡ member_starts side place }
     ensures within { result + 24 ≤ 384 }
 {
     start_of_side(side) + 24 * (place - 1)

@@ -6,3 +6,5 @@
 mod fields;
 #[cfg(test)]
 mod loading;
+#[cfg(test)]
+mod readers;

@@ -1,7 +1,6 @@
 use Rattle.std.proofs.Common.{[], ◌∙◌}
 use Rattle.gen1_machine.specs.Layout.{conditions_number}
 use Rattle.gen1_machine.specs.State.{conditions_in}
-use Rattle.gen1_layout.proofs.Blocks.{active_holds}
 use Rattle.gen1_layout.proofs.Counts.{number_small}
 use Rattle.gen1_layout.proofs.WaysBack.{long_back}
 use Rattle.gen1_layout.proofs.packed.Packed.conditions.Goals as goal
@@ -10,5 +9,5 @@ pub returns : goal.returns
 returns c =
     record {
       stands = λ g f h.
-          c.from_bits_retain.ensures tt ∙ rw (c.read_u32.ensures, c.active.ensures.value ∙ active_holds h c.args.side) (long_back (conditions_number (conditions_in c.args.side f)) [] (number_small (conditions_in c.args.side f)));
+          c.from_bits_retain.ensures tt ∙ rw (c.read_u32.ensures, c.active.ensures.stands g f h) (long_back (conditions_number (conditions_in c.args.side f)) [] (number_small (conditions_in c.args.side f)));
     }

@@ -1,6 +1,5 @@
 use Rattle.std.proofs.Common.{refl, sym, ◌∙◌}
 use Rattle.gen1_machine.specs.State.{conditions_in}
-use Rattle.gen1_layout.proofs.Blocks.{active_holds}
 use Rattle.gen1_layout.proofs.Counts.{disabled_back}
 use Rattle.gen1_layout.proofs.WaysBack.{none_back}
 use Rattle.gen1_layout.proofs.packed.Packed.disabled.Goals as goal
@@ -9,7 +8,7 @@ pub returns-then-is_on : goal.returns-then-is_on
 returns-then-is_on c =
     record {
       stands = λ g f h.
-          rw (c.active-active.ensures.value ∙ active_holds h c.args.side) (disabled_back (conditions_in c.args.side f).disabled (sym (c.is_on.ensures.stands 16 refl g f h) ∙ c.if-is_on.true));
+          rw (c.active-active.ensures.stands g f h) (disabled_back (conditions_in c.args.side f).disabled (sym (c.is_on.ensures.stands 16 refl g f h) ∙ c.if-is_on.true));
     }
 
 pub returns-else-is_on : goal.returns-else-is_on

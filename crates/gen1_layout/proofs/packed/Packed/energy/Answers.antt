@@ -1,7 +1,6 @@
-use Rattle.std.proofs.Common.{[], ◌∙◌}
+use Rattle.std.proofs.Common.{[]}
 use Rattle.gen1_machine.specs.Layout.{energy_of}
 use Rattle.gen1_machine.specs.State.{underway_in}
-use Rattle.gen1_layout.proofs.Blocks.{active_holds}
 use Rattle.gen1_layout.proofs.Counts.{energy_fits}
 use Rattle.gen1_layout.proofs.WaysBack.{word_back}
 use Rattle.gen1_layout.proofs.Steps.{active_ok}
@@ -11,5 +10,5 @@ pub returns : goal.returns
 returns c =
     record {
       stands = λ g f h.
-          rw (c.read_u16.ensures, c.active.ensures.value ∙ active_holds h c.args.side) (word_back (energy_of (underway_in c.args.side f).bide) [] (energy_fits (underway_in c.args.side f).bide (active_ok c.args.side h).conditions.underway.bide));
+          rw (c.read_u16.ensures, c.active.ensures.stands g f h) (word_back (energy_of (underway_in c.args.side f).bide) [] (energy_fits (underway_in c.args.side f).bide (active_ok c.args.side h).conditions.underway.bide));
     }

@@ -1,8 +1,9 @@
-use Rattle.std.proofs.Common.{◌∙◌}
-use Rattle.gen1_layout.proofs.Blocks.{header_holds}
 use Rattle.gen1_layout.proofs.WaysBack.{freeze_back}
+use Rattle.gen1_layout.proofs.Steps.{packed_of}
 use Rattle.gen1_layout.proofs.packed.Packed.freeze_clause.Goals as goal
 
-pub returns : goal.returns
-returns c =
-    record { stands = λ g f h. rw (c.header.ensures.value ∙ header_holds h) (freeze_back g.terms.rules) }
+pub returns-clause-packs : goal.returns-clause-packs
+returns-clause-packs c g f h = rw (c.header.ensures.packs g f h) (freeze_back g.terms.rules)
+
+pub returns-clause-stands : goal.returns-clause-stands
+returns-clause-stands c g f h = returns-clause-packs c g f (packed_of h)

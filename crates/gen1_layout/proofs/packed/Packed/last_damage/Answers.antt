@@ -1,8 +1,10 @@
-use Rattle.std.proofs.Common.{[], ◌∙◌}
-use Rattle.gen1_layout.proofs.Blocks.{header_holds}
-use Rattle.gen1_layout.proofs.WaysBack.{damage_fits, word_back}
+use Rattle.std.proofs.Common.{[], arith}
+use Rattle.gen1_layout.proofs.WaysBack.{word_back}
+use Rattle.gen1_layout.proofs.Steps.{packed_of}
 use Rattle.gen1_layout.proofs.packed.Packed.last_damage.Goals as goal
 
-pub returns : goal.returns
-returns c =
-    record { stands = λ g f h. rw (c.read_u16.ensures, c.header.ensures.value ∙ header_holds h) (word_back f.last_damage [] (damage_fits h)) }
+pub returns-clause-packs : goal.returns-clause-packs
+returns-clause-packs c g f h = rw (c.read_u16.ensures, c.header.ensures.packs g f h) (word_back f.last_damage [] (omega (arith, h.last_damage)))
+
+pub returns-clause-stands : goal.returns-clause-stands
+returns-clause-stands c g f h = returns-clause-packs c g f (packed_of h)

@@ -1,6 +1,5 @@
-use Rattle.std.proofs.Common.{length, ◌∙◌}
+use Rattle.std.proofs.Common.{length}
 use Rattle.gen1_machine.specs.State.{active_in, member_in}
-use Rattle.gen1_layout.proofs.Blocks.{active_holds}
 use Rattle.gen1_layout.proofs.WaysBack.{few_moves, used_back}
 use Rattle.gen1_layout.proofs.Steps.{active_ok}
 use Rattle.gen1_layout.proofs.packed.Packed.picked.Goals as goal
@@ -8,6 +7,6 @@ use Rattle.gen1_layout.proofs.packed.Packed.picked.Goals as goal
 pub returns : goal.returns
 returns c =
     record {
-      stands = λ g f h. rw (c.used_from.ensures, c.active.ensures.value ∙ active_holds h c.args.side)
+      stands = λ g f h. rw (c.used_from.ensures, c.active.ensures.stands g f h)
           (used_back (length (member_in c.args.side f).moves) (active_in c.args.side f).picked (few_moves h c.args.side) (active_ok c.args.side h).picked);
     }

@@ -1,24 +1,29 @@
 use Rattle.std.proofs.Common.{List, ap, refl, ℕ, ◌∙◌}
 use Rattle.gen1_rolls.specs.Link.{Ring}
 use Rattle.gen1_machine.specs.Layout.{header_block}
-use Rattle.gen1_layout.proofs.Blocks.{header_holds}
-use Rattle.gen1_layout.proofs.Numbers.{numbers_are}
 use Rattle.gen1_layout.specs.Parts.{Parts}
 use Rattle.gen1_layout.specs.Within.{state_in}
+use Rattle.gen1_layout.proofs.Numbers.{numbers_are}
+use Rattle.gen1_layout.proofs.WaysBack.{header_packs}
+use Rattle.gen1_layout.proofs.Steps.{packed_of, still_within}
 use Rattle.gen1_layout.proofs.packed.Packed.put_generator.Goals as goal
 
-pub returns : goal.returns
-returns c =
+pub returns-clause-packs : goal.returns-clause-packs
+returns-clause-packs c g f drawn h is =
+    let index = c.index-index.ensures.value ∙ ap (λ (r : Ring). r.index) is in
+    let numbers = c.numbers-numbers.ensures ∙ ap (λ (r : Ring). r.numbers) is ∙ numbers_are g.seed drawn h.seed.0 in
     record {
-      stands = λ g f drawn h is.
-          let index = c.index-index.ensures.value ∙ ap (λ (r : Ring). r.index) is in
-          let numbers = c.numbers-numbers.ensures ∙ ap (λ (r : Ring). r.numbers) is ∙ numbers_are g.seed drawn h.seed.0 in
-          record {
-            same = ap (λ (block : List ℕ). record c.args.self.now { header = block })
-                (rw (c.copy_from_slice.ensures.after, c.header_mut-header.ensures.value, header_holds h, index, numbers) refl)
-                ∙ ap (λ (q : Parts). record q { header = header_block (state_in (record g { drawn = drawn }) f) }) h.same;
-            terms = h.terms;
-            seed = h.seed;
-            storable = h.storable;
-          };
+      same = ap (λ (block : List ℕ). record c.args.self.now { header = block })
+          (rw (c.copy_from_slice.ensures.after, c.header_mut-header.ensures.value, header_packs h, index, numbers) refl)
+          ∙ ap (λ (q : Parts). record q { header = header_block (state_in (record g { drawn = drawn }) f) }) h.same;
+      terms = h.terms;
+      seed = h.seed;
+      one = h.one;
+      two = h.two;
+      last_damage = h.last_damage;
+      turn = h.turn;
+      outcome = h.outcome;
     }
+
+pub returns-clause-stands : goal.returns-clause-stands
+returns-clause-stands c g f drawn h is = still_within h (returns-clause-packs c g f drawn (packed_of h) is) refl refl refl

@@ -1,15 +1,16 @@
 use Rattle.std.proofs.Common.{refl, subst}
-use Rattle.gen1_machine.specs.State.{with_outcome}
 use Rattle.gen1_machine.specs.Valid.{IsOutcome}
-use Rattle.gen1_layout.proofs.Blocks.{header_holds}
-use Rattle.gen1_layout.proofs.Steps.{header_step}
+use Rattle.gen1_machine.specs.State.{with_outcome}
+use Rattle.gen1_layout.proofs.WaysBack.{header_packs}
+use Rattle.gen1_layout.proofs.Steps.{header_packed, packed_of, still_within}
 use Rattle.gen1_layout.proofs.packed.Packed.put_outcome.Goals as goal
 
-pub returns : goal.returns
+pub returns-clause-packs : goal.returns-clause-packs
 unfolding with_outcome
-returns c =
-    record {
-      stands = λ g f h ok.
-          let byte = c.byte_of_outcome-byte.ensures (λ code e. (subst IsOutcome e ok).1) in
-          header_step (with_outcome c.args.outcome f) _ h (rw (c.header_mut.ensures.value, header_holds h, byte) refl) refl refl h.storable.last_damage h.storable.turn ok;
-    }
+returns-clause-packs c g f h ok =
+    let byte = c.byte_of_outcome-byte.ensures (λ code e. (subst IsOutcome e ok).1) in
+    header_packed (with_outcome c.args.outcome f) _ h (rw (c.header_mut.ensures.value, header_packs h, byte) refl) refl refl h.last_damage h.turn ok
+
+pub returns-clause-stands : goal.returns-clause-stands
+unfolding with_outcome
+returns-clause-stands c g f h ok = still_within h (returns-clause-packs c g f (packed_of h) ok) refl refl refl

@@ -1,6 +1,5 @@
 use Rattle.std.proofs.Common.{sym, ◌∙◌}
 use Rattle.gen1_machine.specs.State.{underway_in}
-use Rattle.gen1_layout.proofs.Blocks.{active_holds}
 use Rattle.gen1_layout.proofs.Counts.{without_bide-off, without_bide-on, without_thrash-off, without_thrash-on, without_trapping-off, without_trapping-on}
 use Rattle.gen1_layout.proofs.Steps.{active_ok}
 use Rattle.gen1_layout.proofs.packed.Packed.turns_without.Goals as goal
@@ -16,7 +15,7 @@ returns-then-is_on c =
 pub returns-else-is_on : goal.returns-else-is_on
 returns-else-is_on c =
     record {
-      bide = λ g f h e. rw (c.active.ensures.value ∙ active_holds h c.args.side) (without_bide-off (underway_in c.args.side f).bide (underway_in c.args.side f).thrash (underway_in c.args.side f).trapping (sym (c.is_on.ensures.stands 0 e g f h) ∙ c.if-is_on.false));
-      thrash = λ g f h e. rw (c.active.ensures.value ∙ active_holds h c.args.side) (without_thrash-off (underway_in c.args.side f).bide (underway_in c.args.side f).thrash (underway_in c.args.side f).trapping (sym (c.is_on.ensures.stands 1 e g f h) ∙ c.if-is_on.false));
-      trapping = λ g f h e. rw (c.active.ensures.value ∙ active_holds h c.args.side) (without_trapping-off (underway_in c.args.side f).bide (underway_in c.args.side f).thrash (underway_in c.args.side f).trapping (sym (c.is_on.ensures.stands 2 e g f h) ∙ c.if-is_on.false));
+      bide = λ g f h e. rw (c.active.ensures.stands g f h) (without_bide-off (underway_in c.args.side f).bide (underway_in c.args.side f).thrash (underway_in c.args.side f).trapping (sym (c.is_on.ensures.stands 0 e g f h) ∙ c.if-is_on.false));
+      thrash = λ g f h e. rw (c.active.ensures.stands g f h) (without_thrash-off (underway_in c.args.side f).bide (underway_in c.args.side f).thrash (underway_in c.args.side f).trapping (sym (c.is_on.ensures.stands 1 e g f h) ∙ c.if-is_on.false));
+      trapping = λ g f h e. rw (c.active.ensures.stands g f h) (without_trapping-off (underway_in c.args.side f).bide (underway_in c.args.side f).thrash (underway_in c.args.side f).trapping (sym (c.is_on.ensures.stands 2 e g f h) ∙ c.if-is_on.false));
     }
