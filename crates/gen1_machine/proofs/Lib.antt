@@ -61,3 +61,4 @@ pub mod WorkedRules
 pub mod WorkedHits
 pub mod WorkedTurns
 pub mod WorkedStatuses
+pub mod WorkedMoves

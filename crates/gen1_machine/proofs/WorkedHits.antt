@@ -31,7 +31,7 @@ healthy_at hp = record { hp = hp; max = 353; kind = None }
 abbrev pub hurt : Side → ℕ → Event
 hurt s hp = events.Damage (tauros_of s) (healthy_at hp) sources.Direct
 
-abbrev moves : ℕ → Event
+abbrev pub moves : ℕ → Event
 moves move = events.Move (tauros_of One) move (tauros_of Two)
 
 -- link numbers of which the first few are given
@@ -40,10 +40,10 @@ drawing a b c d e = Link (a ∷ b ∷ c ∷ d ∷ e ∷ replicate 5 0)
 
 -- side 1 uses its only move; draws of 255, 255 and 0 are no critical hit, the factor 255 and a hit
 
-abbrev uses : ℕ → Member → (Active → Active) → ℕ → ℕ → Progress
+abbrev pub uses : ℕ → Member → (Active → Active) → ℕ → ℕ → Progress
 uses move foe change d e = act usual One (Use (Slot 1)) (facing (knowing move 10) as_is foe change (drawing 255 255 0 d e))
 
-abbrev left_with : ℕ → Member
+abbrev pub left_with : ℕ → Member
 left_with hp = record tauros { hp = hp }
 
 -- many hits (docs/MECHANICS.md, "Many hits"). Double Slap: 42 * 15 * 74 / 72 is 647, / 50 is 12, + 2 is 14, with the own type

@@ -13,6 +13,7 @@ use Rattle.gen1_machine.specs.declared.event.Event.{Event}
 use Rattle.gen1_machine.specs.declared.event.Event.TheVariants as events
 use Rattle.gen1_rolls.specs.Streams.{Sweep}
 use Rattle.gen1_stats.specs.Members.{Member}
+use Rattle.gen1_stats.specs.Stats.{full_pp, hp_dv, hp_stat, root, stat}
 use Rattle.gen1_machine.specs.Conditions.{with_substitute, with_seed, Conditions}
 use Rattle.gen1_machine.specs.Moves.{move_at}
 use Rattle.gen1_machine.specs.State.{Active}
@@ -24,16 +25,29 @@ use Rattle.gen1_machine.specs.LateEffects.{late_effect}
 use Rattle.gen1_machine.specs.Residual.{residual}
 use Rattle.gen1_machine.proofs.Computing.{computing}
 use Rattle.gen1_machine.proofs.WorkedRules.{tauros, facing, as_is, set, hp_of, usual}
-use Rattle.gen1_machine.proofs.WorkedHits.{tauros_of, healthy_at, hurt}
+use Rattle.gen1_machine.proofs.WorkedHits.{left_with, tauros_of, healthy_at, hurt}
 
 abbrev alone : Member → (Active → Active) → Progress
 alone m change = facing m change tauros as_is (Sweep 0)
 
-abbrev left_with : ℕ → Member
-left_with hp = record tauros { hp = hp }
-
 abbrev fails : List Event
 fails = events.Fail (tauros_of One) ∷ []
+
+-- stats (docs/MECHANICS.md, "Stats"): of Chansey's HP at level 100, with DVs 15 and experience 65535, (250 + 15) * 2 + 63 are 593, and
+-- with 110 they are 703; of Tauros, base 75, 100, 95, 110 and 70
+
+abbrev at_most : ℕ → ℕ
+at_most base = stat base 15 65535 100
+
+roots : map root (0 ∷ 1 ∷ 10 ∷ 65535 ∷ []) ≡ 0 ∷ 1 ∷ 4 ∷ 255 ∷ []
+unfolding computing
+roots = refl
+
+stats_of_tauros : (hp_stat 250 (hp_dv 15 15 15 15) 65535 100 ∷ hp_stat 75 15 65535 100 ∷ map at_most (100 ∷ 95 ∷ 110 ∷ 70 ∷ [])
+    ≡ 703 ∷ 353 ∷ 298 ∷ 288 ∷ 318 ∷ 238 ∷ [])
+    × (hp_dv 1 0 1 0 ∷ full_pp 15 3 ∷ full_pp 40 3 ∷ [] ≡ 10 ∷ 24 ∷ 61 ∷ [])
+unfolding computing
+stats_of_tauros = (refl, refl)
 
 -- what a substitute costs (docs/MECHANICS.md, "Early effects"): of 353 a quarter is 88, and who has 88 makes one and falls
 

@@ -1,5 +1,5 @@
--- Worked examples of turns, and of how a battle begins and ends, computed (docs/PROOFS.md, "Worked examples").
-use Rattle.std.proofs.Common.{Bool, List, None, Option, Some, [], false, map, refl, replicate, slice_index, true, ℕ, ◌++◌, ◌∷◌, ◌≡◌}
+-- Worked examples of turns, and of how a battle begins, ends and is told, computed (docs/PROOFS.md, "Worked examples").
+use Rattle.std.proofs.Common.{Bool, List, None, Option, Some, [], codes, false, map, refl, replicate, slice_index, true, ℕ, ◌++◌, ◌∷◌, ◌≡◌}
 use Rattle.gen1_tables.specs.declared.effect.Stat.TheVariants.{Attack, Speed}
 use Rattle.gen1_stats.specs.declared.status.Status.TheVariants.{Healthy, Asleep, Poisoned, Paralysed}
 use Rattle.gen1_machine.specs.declared.side.Side.{Side}
@@ -9,6 +9,7 @@ use Rattle.gen1_machine.specs.declared.terms.Outcome.TheVariants as outcomes
 use Rattle.gen1_machine.specs.declared.terms.Request.{Request}
 use Rattle.gen1_machine.specs.declared.terms.Request.TheVariants as requests
 use Rattle.gen1_machine.specs.declared.health.Kind.TheVariants as kinds
+use Rattle.gen1_machine.specs.declared.event.DamageSource.TheVariants as sources
 use Rattle.gen1_machine.specs.declared.event.Volatile.TheVariants as volatiles
 use Rattle.gen1_machine.specs.declared.event.Event.{Event}
 use Rattle.gen1_machine.specs.declared.event.Event.TheVariants as events
@@ -17,6 +18,8 @@ use Rattle.gen1_machine.specs.declared.choice.Choice.TheVariants as choices
 use Rattle.gen1_rolls.specs.Streams.{Sweep}
 use Rattle.gen1_stats.specs.Members.{Member}
 use Rattle.gen1_machine.specs.Sides.{other}
+use Rattle.gen1_machine.specs.Code.{codes_of}
+use Rattle.gen1_machine.specs.Lines.{line}
 use Rattle.gen1_machine.specs.Conditions.{with_recharge, with_trapping}
 use Rattle.gen1_machine.specs.State.{level_stages, party, with_party, usual_terms, first_state, Active, Field, State}
 use Rattle.gen1_machine.specs.Progress.{new_action, active, member, underway, status_of, stat_now, fault, Progress}
@@ -29,14 +32,11 @@ use Rattle.gen1_machine.specs.Layout.{bytes_of}
 use Rattle.gen1_machine.specs.View.{first_view, sees_all, SideView}
 use Rattle.gen1_machine.proofs.Computing.{computing}
 use Rattle.gen1_machine.proofs.WorkedRules.{tauros, knowing, facing, as_is, set, usual}
-use Rattle.gen1_machine.proofs.WorkedHits.{tauros_of, healthy_at}
+use Rattle.gen1_machine.proofs.WorkedHits.{left_with, tauros_of, healthy_at}
 
 -- a member more on a side
 abbrev joined_by : Side → Member → Progress → Progress
 joined_by s m p = record p { field = with_party s (record (party s p.field) { members = (party s p.field).members ++ m ∷ [] }) p.field }
-
-abbrev left_with : ℕ → Member
-left_with hp = record tauros { hp = hp }
 
 abbrev comes_out : Side → ℕ → Event
 comes_out s place = events.Switch (tauros_of s) place 100 (healthy_at 353)
@@ -212,3 +212,21 @@ view_after_a_switch : ((seen_after raised_and_hidden).stages ≡ record level_st
     × ((seen_after (raised_and_hidden ++ comes_out One 2 ∷ [])).place ≡ 2)
 unfolding computing
 view_after_a_switch = (refl, refl, refl, refl, refl)
+
+-- how it is told (docs/MECHANICS.md, "Log bytes", "Lines"): a Strength of side 1 that fells side 2, and a member that comes out hurt
+
+abbrev felled : List Event
+felled =
+    events.Move (tauros_of One) 70 (tauros_of Two) ∷ events.Crit (tauros_of Two)
+    ∷ events.Damage (tauros_of Two) (healthy_at 0) sources.Direct ∷ events.Faint (tauros_of Two) ∷ events.Win One ∷ []
+
+log_of_the_felled : codes_of felled ≡
+    0x03 ∷ 0x01 ∷ 0x80 ∷ 0x46 ∷ 0x02 ∷ 0x80 ∷ 0x07 ∷ 0x02 ∷ 0x80 ∷ 0x05 ∷ 0x02 ∷ 0x80 ∷ 0x00 ∷ 0x00 ∷ 0x61 ∷ 0x01 ∷ 0x00 ∷ 0x00
+    ∷ 0x19 ∷ 0x02 ∷ 0x80 ∷ 0x1A ∷ 0x01 ∷ []
+unfolding computing
+log_of_the_felled = refl
+
+line_of_a_switch : line (events.Switch (tauros_of One) 1 50 (record { hp = 120; max = 353; kind = Some kinds.Paralysis }))
+    ≡ codes "|switch|p1a: Tauros|Tauros, L50|120/353 par\n"
+unfolding computing
+line_of_a_switch = refl
