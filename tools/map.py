@@ -31,9 +31,9 @@ LEMMA = re.compile(r"([A-Za-z_][\w-]*) : ")
 HEAD = """# Where each rule stands
 
 Made by `tools/map.py` of what the files themselves cite; `.ci/run` refuses a map that is not up to date. For each section of
-[MECHANICS.md](MECHANICS.md) that has rules: the definition that contracts rest on, the public operation over the bytes of a
-battle, the worked examples (lemmas by computing), the edits that must be refused ("planted" are those that `tools/planted`
-tries), and the tests.
+[MECHANICS.md](MECHANICS.md) that has rules: the definition that contracts rest on, the public functions and types that do it,
+the worked examples (lemmas by computing), the edits that must be refused ("planted" are those that `tools/planted` tries),
+and the tests.
 """
 
 BESIDE = """Edits of what other documents fix: the rows of [TABLES.md](TABLES.md), the bytes of [LAYOUT.md](LAYOUT.md), the program of
