@@ -4,9 +4,10 @@
     tools/map.py           writes docs/MAP.md
     tools/map.py --check   writes nothing; fails where docs/MAP.md is not what it would write
 
-A file, a function, a lemma or a test belongs to the sections that its comment cites, as in (docs/MECHANICS.md, "Hit test"),
-or else to those that the comment at the head of its file does. `"Damage numbers" to "Factor"` cites each section between. An
-edit belongs to what it changes: to the function, the table or the definition that its first `old:` text stands in.
+A function, a type, a lemma or a test belongs to the sections that its comment cites, as in (docs/MECHANICS.md, "Hit test"). One
+that cites none belongs to those of the type that it is a method of, or of the functions of its file that call it, or else to
+those that the head of its file cites, or the head of the module around it. `"Damage numbers" to "Factor"` cites each section
+between. An edit belongs to what it changes: the function, the table or the definition that its first `old:` text stands in.
 """
 
 import argparse
@@ -25,6 +26,7 @@ CITED = re.compile(r'docs/MECHANICS\.md((?:(?:,| and| to|, and)? ?"[^"]+")+)')
 COMMENT = re.compile(r"\s*(?://[/!]?|--)\s?(.*)")
 # What a comment stands above, in code and in antt.
 PUBLIC = re.compile(r"\s*pub (?:const )?(fn|struct|enum|trait|type) (\w+)")
+FIELD = re.compile(r"    pub (\w+): ")
 FUNCTION = re.compile(r"\s*(?:pub(?:\([a-z]+\))? )?(?:const )?fn (\w+)")
 LEMMA = re.compile(r"([A-Za-z_][\w-]*) : ")
 
@@ -66,7 +68,12 @@ class Source:
     def __init__(self, file, order):
         self.file, self.order = file, order
         self.lines = file.read_text().splitlines()
-        self.head = self.sections_of(self.comment_at(0))
+        self.head = self.sections_of(self.comment_at(0)) or self.head_around()
+
+    def head_around(self):
+        """What the head of the module cites whose folder the file stands in."""
+        around = self.file.parent.with_suffix(".rt")
+        return Source(around, self.order).head if around.is_file() else []
 
     def sections_of(self, comment):
         return cited(" ".join(comment), self.order)
@@ -89,8 +96,33 @@ class Source:
         return [COMMENT.fullmatch(line)[1] for line in self.lines[at:end]] if at else []
 
     def own(self, at):
-        """The sections of an item, by its own comment, or that of the type it belongs to, or else by the head of the file."""
-        return self.sections_of(self.comment_above(at)) or self.type_around(at) or self.head
+        """The sections of an item."""
+        return self.cited_at(at) or self.callers_of(at) or self.head
+
+    def cited_at(self, at):
+        """The sections that the comment of an item cites, or that of the type whose method it is."""
+        return self.sections_of(self.comment_above(at)) or self.type_around(at)
+
+    def callers_of(self, at):
+        """The sections that the functions of the file cite which call this one, or whose helpers do."""
+        bodies, places, found = {}, {}, []
+        for place, line in enumerate(self.lines):
+            if name := FUNCTION.match(line):
+                current = name[1]
+                places[current], bodies[current] = place, set()
+            elif bodies and not COMMENT.fullmatch(line) and not line.lstrip().startswith(("ensures", "requires")):
+                bodies[current].update(re.findall(r"\w+", line))
+        named = FUNCTION.match(self.lines[at]) or re.match(r"(?:static|const) (\w+)", self.lines[at])
+        left, seen = [named[1]] if named else [], set()
+        while left:
+            name = left.pop()
+            seen.add(name)
+            callers = [caller for caller, words in bodies.items() if name in words and caller not in seen]
+            for caller in callers:
+                sections = self.cited_at(places[caller])
+                found += sections
+                left += [] if sections else [caller]
+        return found
 
     def type_around(self, at):
         """The sections of the type whose `impl` is around an item of the code."""
@@ -149,6 +181,8 @@ class Map:
             for at, line in enumerate(source.lines):
                 if found := PUBLIC.match(line):
                     self.add(source.own(at), "Operation", file, found[2])
+                elif found := FIELD.match(line):
+                    self.add(source.sections_of(source.comment_above(at)), "Operation", file, found[1])
 
     def tests(self, crate):
         for file in sorted((crate / "src").rglob("*.rt")):
@@ -159,11 +193,11 @@ class Map:
                     self.add(source.own(at), "Tests", file, name[1])
 
     def examples(self):
-        for file in ("gen1_machine/proofs/WorkedRules.antt", "gen1_machine/proofs/Rows.antt", "machine_battles/proofs/WorkedBattles.antt"):
-            source = Source(ROOT / "crates" / file, self.order)
+        for file in [*sorted((ROOT / "crates").glob("*/proofs/Worked*.antt")), ROOT / "crates/gen1_machine/proofs/Rows.antt"]:
+            source = Source(file, self.order)
             for at, line in enumerate(source.lines):
                 if found := LEMMA.match(line):
-                    self.add(source.block(at), "Worked example", source.file, found[1])
+                    self.add(source.block(at), "Worked example", file, found[1])
 
     def edits(self, name):
         for folder in ("must-fail", "planted"):

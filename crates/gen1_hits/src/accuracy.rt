@@ -20,7 +20,7 @@ use gen1_tables::{Effect, MoveId, Stat};
 // What the stages from -6 to +6 make of a number, in percent (docs/MECHANICS.md, "Stages").
 const PERCENTS: [u32; 13] = [25, 28, 33, 40, 50, 66, 100, 150, 200, 250, 300, 350, 400];
 
-/// What a hit test came to (docs/MECHANICS.md, "Hit test", "Kept accuracy").
+/// What a hit test came to.
 #[derive(Clone, Copy, Debug, PartialEq, Eq, Drop)]
 pub struct Hit {
     /// Whether the move hits.

@@ -1,4 +1,4 @@
-//! The numbers of a hit, out of a battle (docs/MECHANICS.md, "Damage numbers").
+//! The numbers of a hit, out of a battle.
 ghost use Rattle.std.specs.Prelude.{[], ◌∷◌, ◌≡◌};
 ghost use Rattle.gen1_machine.specs.CurrentStats.{now_in, unmodified};
 ghost use Rattle.gen1_machine.specs.Damage.{attacking, defending, doubled_if, fitted_attack, fitted_defense, is_screened, numbers_in, quartered};

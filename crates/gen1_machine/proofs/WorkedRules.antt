@@ -106,14 +106,13 @@ numbers_up (suc k) n = n ∷ numbers_up k (n + 1)
 abbrev zero_seed : Stream
 zero_seed = Link (replicate 10 0)
 
--- link numbers (docs/MECHANICS.md, "Link numbers"): seeds 1 to 10 draw 1 to 9, then 6, 11, 16
+-- link numbers: seeds 1 to 10 draw 1 to 9, then 6, 11, 16
 link_numbers : map (byte_at (Link (numbers_up 10 1))) (numbers_up 12 0)
     ≡ 1 ∷ 2 ∷ 3 ∷ 4 ∷ 5 ∷ 6 ∷ 7 ∷ 8 ∷ 9 ∷ 6 ∷ 11 ∷ 16 ∷ []
 unfolding computing
 link_numbers = refl
 
--- draws until a byte meets a test (docs/MECHANICS.md, "Link numbers"): the last of a sweep, a late one of a link, and none
--- at all
+-- draws until a byte meets a test: the last of a sweep, a late one of a link, and none at all
 
 abbrev until_late : Progress → Progress
 until_late p = draw_until (λ b. b == 51) set_last_damage p
@@ -129,7 +128,7 @@ draws_without_end : (until_never (Sweep 7)).drawn ∷ (until_never zero_seed).dr
 unfolding computing
 draws_without_end = refl
 
--- damage (docs/MECHANICS.md, "Damage numbers", "Damage", "Factor"): Body Slam between two Tauros, by all 39 factors
+-- damage: Body Slam between two Tauros, by all 39 factors
 
 abbrev body_slam : ℕ → Numbers
 body_slam level = record {
@@ -162,7 +161,7 @@ critical_body_slam_damage : slice_index critical_body_slam 0 ∷ slice_index cri
 unfolding computing
 critical_body_slam_damage = refl
 
--- ice on Gyarados (docs/MECHANICS.md, "Types"): 75, then 37, then 74
+-- ice on Gyarados: 75, then 37, then 74
 ice_on_gyarados : type_steps 75 (record {
   level = 100;
   power = 95;
@@ -178,7 +177,7 @@ ice_on_gyarados : type_steps 75 (record {
 unfolding computing
 ice_on_gyarados = refl
 
--- the factor (docs/MECHANICS.md, "Factor"): 217 after 180 draws, 255 after 2
+-- the factor: 217 after 180 draws, 255 after 2
 
 abbrev varied : ℕ → Progress
 varied start = vary 255 (facing tauros as_is tauros as_is (Sweep start))
@@ -187,13 +186,13 @@ factors : (varied 0).drawn ∷ (varied 0).field.last_damage ∷ (varied 254).dra
 unfolding computing
 factors = refl
 
--- critical hits of Persian (docs/MECHANICS.md, "Critical hits"): Slash, Strength, and both with Focus Energy
+-- critical hits of Persian: Slash, Strength, and both with Focus Energy
 persian : critical_bound 115 false true ∷ critical_bound 115 false false ∷ critical_bound 115 true true ∷ critical_bound 115 true false ∷ []
     ≡ 255 ∷ 57 ∷ 112 ∷ 14 ∷ []
 unfolding computing
 persian = refl
 
--- hit test (docs/MECHANICS.md, "Hit test"): of an accuracy of 255, 254 hits and 255 misses
+-- hit test: of an accuracy of 255, 254 hits and 255 misses
 
 abbrev strength_misses : ℕ → Bool
 strength_misses b = (hit_test One (move_at 70) 255 (facing tauros as_is tauros as_is (Sweep b))).action.missed
@@ -210,8 +209,7 @@ accuracy_bytes : scaled 76 (staged 0 6) level_stages ∷ scaled 76 (staged 0 6) 
 unfolding computing
 accuracy_bytes = refl
 
--- landing on a substitute of 88 (docs/MECHANICS.md, "Landing"): equal damage leaves it at 0, one more breaks it, more than a
--- byte breaks any
+-- landing on a substitute of 88: equal damage leaves it at 0, one more breaks it, more than a byte breaks any
 
 abbrev after_landing : ℕ → Option ℕ
 after_landing damage =
@@ -221,8 +219,7 @@ substitute_of_88 : after_landing 88 ∷ after_landing 89 ∷ after_landing 256 �
 unfolding computing
 substitute_of_88 = refl
 
--- explosion (docs/MECHANICS.md, "Recoil, drain and explosion"): on a substitute that breaks the user lives; on a hit and on
--- a miss it falls
+-- explosion: on a substitute that breaks the user lives; on a hit and on a miss it falls
 
 abbrev explodes_at : (Active → Active) → Progress
 explodes_at foe = act usual One (Use (Slot 1)) (facing (knowing 153 5) as_is tauros foe (Sweep 0))
@@ -235,8 +232,7 @@ explosion : hp_of One (explodes_at (set (with_substitute 1))) ∷ hp_of One (exp
 unfolding computing
 explosion = refl
 
--- a burned foe with Attack 149 (docs/MECHANICS.md, "Stage shift", "Penalties", "Stages"): Growl makes it 98, and the user's
--- Swords Dance 49
+-- a burned foe with Attack 149: Growl makes it 98, and the user's Swords Dance 49
 
 abbrev burned_foe : Progress
 burned_foe = facing tauros as_is (record tauros { status = Burned }) as_is (Sweep 0)
@@ -249,7 +245,7 @@ penalties : stat_now Attack Two burned_foe ∷ stat_now Attack Two growled
 unfolding computing
 penalties = refl
 
--- Recover at a maximum of 703 (docs/MECHANICS.md, "Early effects"): a loss of 0, 255 or 511 can't be healed
+-- Recover at a maximum of 703: a loss of 0, 255 or 511 can't be healed
 
 abbrev recovered_from : ℕ → ℕ
 recovered_from hp = hp_of One (heal One (move_at 105) (facing (record tauros { max = 703; hp = hp }) as_is tauros as_is (Sweep 0)))
@@ -258,7 +254,7 @@ recovery : map recovered_from (703 ∷ 448 ∷ 192 ∷ 449 ∷ 447 ∷ []) ≡ 7
 unfolding computing
 recovery = refl
 
--- the gate (docs/MECHANICS.md, "Gate"): sleep comes before a flinch, which stays
+-- the gate: sleep comes before a flinch, which stays
 
 abbrev drowsy : Progress
 drowsy = gate One (Use (Slot 1)) (facing (record tauros { status = Asleep 3 false }) (set with_flinch) tauros as_is (Sweep 0))
@@ -267,8 +263,7 @@ sleep_before_flinch : (code_sent drowsy ≡ 0x04 ∷ 1 ∷ 128 ∷ 1 ∷ []) × 
 unfolding computing
 sleep_before_flinch = (refl, refl)
 
--- Dig's second turn, paralysed (docs/MECHANICS.md, "Gate", "Charging"): 62 stops, and the user stays invulnerable; 63 does
--- not
+-- Dig's second turn, paralysed: 62 stops, and the user stays invulnerable; 63 does not
 
 abbrev digs : ℕ → Progress
 digs b = gate One Continue (facing (record (knowing 91 5) { status = Paralysed })
@@ -279,8 +274,7 @@ paralysed_dig : (digs 62).stopped ∷ is_invulnerable One (digs 62) ∷ (underwa
 unfolding computing
 paralysed_dig = refl
 
--- trapping (docs/MECHANICS.md, "Going on"): draws of 1 and of 2, 3 hold for 2 and 4; a hold that is gone is used anew, with
--- 63 PP for 0; a ghost is held for 0
+-- trapping: draws of 1 and of 2, 3 hold for 2 and 4; a hold that is gone is used anew, with 63 PP for 0; a ghost is held for 0
 
 abbrev wraps : ℕ → Option ℕ
 wraps b = (underway One (trap One (facing (knowing 35 20) as_is tauros as_is (Sweep b)))).trapping
@@ -303,8 +297,7 @@ wrap_on_ghost : (is_trapping One wraps_ghost ≡ true) × (hp_of Two wraps_ghost
 unfolding computing
 wrap_on_ghost = (refl, refl)
 
--- faults (docs/MECHANICS.md, "Damage", "Fixed damage and one-hit moves"): Strength on a Defense of 512 under Reflect;
--- Psywave at level 1. At level 2 Psywave deals 1 or 2
+-- faults: Strength on a Defense of 512 under Reflect; Psywave at level 1. At level 2 Psywave deals 1 or 2
 
 abbrev against_reflect : Progress
 against_reflect = roll_damage One (move_at 70) (facing tauros as_is (record tauros { defense = 512 }) (set with_reflect) (Sweep 0))
@@ -319,7 +312,7 @@ faults = (refl, refl)
 abbrev psywave_at_1 : Progress
 psywave_at_1 = fixed_damage One (move_at 149) (set_last_damage 7 (facing (record tauros { level = 1 }) as_is tauros as_is (Sweep 0)))
 
--- the last damage stays as it was (docs/MECHANICS.md, "Fixed damage and one-hit moves")
+-- the last damage stays as it was
 psywave_keeps_the_last_damage : (psywave_at_1.field.outcome ≡ outcomes.Fault 2) × (psywave_at_1.field.last_damage ≡ 7)
 unfolding computing
 psywave_keeps_the_last_damage = (refl, refl)
@@ -328,8 +321,7 @@ psywave_at_2 : any (λ b. not (nat_lt 0 (psywaved 2 b).field.last_damage && nat_
 unfolding computing
 psywave_at_2 = refl
 
--- residual (docs/MECHANICS.md, "Residual"): bad poison and a seed take 22 and 44 of 353; the foe heals 44, also where only
--- 20 HP were left
+-- residual: bad poison and a seed take 22 and 44 of 353; the foe heals 44, also where only 20 HP were left
 
 abbrev badly : ℕ → Progress
 badly hp = residual One (facing (record tauros { hp = hp; status = Poisoned }) (set λ c. with_seed (with_bad_poison c)) (record tauros { hp = 300 }) as_is (Sweep 0))
@@ -338,8 +330,7 @@ poison_and_seed : hp_of One (badly 353) ∷ hp_of Two (badly 353) ∷ hp_of One 
 unfolding computing
 poison_and_seed = refl
 
--- order of a turn (docs/MECHANICS.md, "Order of a turn"): a tie in Speed takes a draw; Quick Attack comes first without one,
--- Counter last
+-- order of a turn: a tie in Speed takes a draw; Quick Attack comes first without one, Counter last
 
 abbrev begins : Progress → List Event
 begins p = (in_order (λ s. note λ f. events.Win s) p).events
@@ -369,7 +360,7 @@ counter_against_counter : draws_for_order both_counter ≡ 1
 unfolding computing
 counter_against_counter = refl
 
--- Disable against one move (docs/MECHANICS.md, "Late effects"): 29 draws, slot 1, count 5
+-- Disable against one move: 29 draws, slot 1, count 5
 
 abbrev disabled_by_ones : Progress
 disabled_by_ones = side_effect usual One (move_at 50) effects.Disable (facing tauros as_is tauros as_is (Link (replicate 10 1)))
@@ -378,7 +369,7 @@ disable_draws : (disabled_by_ones.drawn ≡ 29) × ((conditions Two disabled_by_
 unfolding computing
 disable_draws = (refl, refl)
 
--- the sleep clause (docs/MECHANICS.md, "Rules (sleep clause, freeze clause)"): another living member sleeps
+-- the sleep clause: another living member sleeps
 
 abbrev under : ℕ → Ruling
 under bits = ruling_of (record { rules = rules_of bits; limit = 1000 })
@@ -409,13 +400,12 @@ sleep_clause_and_recharge : (spored_while_recharging.drawn ≡ 0) × (spored_whi
 unfolding computing
 sleep_clause_and_recharge = (refl, refl, refl)
 
--- Rest's sleep is not marked (docs/MECHANICS.md, "Rules (sleep clause, freeze clause)", "Early effects")
+-- Rest's sleep is not marked
 rest_is_not_marked : status_of One (heal One (move_at 156) (facing (record tauros { hp = 1 }) as_is tauros as_is (Sweep 0))) ≡ Asleep 2 false
 unfolding computing
 rest_is_not_marked = refl
 
--- the freeze clause (docs/MECHANICS.md, "Rules (sleep clause, freeze clause)", "Side effects"): another living member is
--- frozen; a refused freeze leaves the foe's recharging
+-- the freeze clause: another living member is frozen; a refused freeze leaves the foe's recharging
 
 abbrev chilled : ℕ → Progress
 chilled bits =
@@ -427,8 +417,7 @@ freeze_clause : ((chilled 2).events ≡ []) × ((chilled 2).drawn ≡ 1) × (sta
 unfolding computing
 freeze_clause = (refl, refl, refl, refl, refl, refl)
 
--- the last turn ends without a winner (docs/MECHANICS.md, "Turn limit", "Falls and requests"): a tie; a turn earlier the
--- battle goes on
+-- the last turn ends without a winner: a tie; a turn earlier the battle goes on
 
 abbrev settled_at : ℕ → Progress → Progress
 settled_at turn p = settle (ruling_of (record usual_terms { limit = 3 })) (record p { field = record p.field { turn = turn } })

@@ -1,4 +1,4 @@
-//! Teams (docs/MECHANICS.md, "Teams").
+//! Teams (docs/MECHANICS.md, "Stats").
 ghost use Rattle.std.specs.Prelude.{◌≡◌, ◌≤◌, All, IfErr, IfOk, None, OnOk, Some, length};
 ghost use Rattle.gen1_stats.specs.Members.{IsMember};
 ghost use Rattle.gen1_stats.specs.Teams.{team_of, team_refusal};

@@ -1,5 +1,4 @@
-//! The tests that rule out the move that was picked (docs/MECHANICS.md, "Gate"): confusion, Disable, paralysis, and that
-//! nothing was picked.
+//! The tests that rule out the move that was picked: confusion, Disable, paralysis, and that nothing was picked.
 ghost use Rattle.std.specs.Prelude.{Option, false, ◌+◌, ◌≡◌, ◌≤◌};
 ghost use Rattle.arrayvec.specs.ArrayVec.{array_vec_len};
 ghost use Rattle.gen1_stats.specs.Members.{is_paralysed};

@@ -1,4 +1,4 @@
-//! The tests that rule out any action (docs/MECHANICS.md, "Gate"): sleep, frost, and the foe's trapping.
+//! The tests that rule out any action: sleep, frost, and the foe's trapping.
 ghost use Rattle.std.specs.Prelude.{Bool, false, true, ℕ, ◌+◌, ◌≡◌, ◌≤◌};
 ghost use Rattle.arrayvec.specs.ArrayVec.{array_vec_len};
 ghost use Rattle.gen1_stats.specs.Members.{is_frozen};

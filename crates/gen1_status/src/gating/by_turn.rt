@@ -1,4 +1,4 @@
-//! The tests of what is to be waited for (docs/MECHANICS.md, "Gate"): flinching, recharging, and the count of Disable.
+//! The tests of what is to be waited for: flinching, recharging, and the count of Disable.
 ghost use Rattle.std.specs.Prelude.{Option, false, ◌+◌, ◌≡◌, ◌≤◌};
 ghost use Rattle.arrayvec.specs.ArrayVec.{array_vec_len};
 ghost use Rattle.gen1_machine.specs.Progress.{Progress, conditions};

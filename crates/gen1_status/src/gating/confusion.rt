@@ -1,4 +1,4 @@
-//! The test of confusion, which counts down and ends at 0; until then the member may hit itself (docs/MECHANICS.md, "Gate").
+//! The test of confusion, which counts down and ends at 0; until then the member may hit itself.
 ghost use Rattle.std.specs.Prelude.{Option, Some, false, ℕ, ◌+◌, ◌≡◌, ◌≤◌};
 ghost use Rattle.arrayvec.specs.ArrayVec.{array_vec_len};
 ghost use Rattle.gen1_machine.specs.declared.event.Volatile.TheVariants as volatiles;
