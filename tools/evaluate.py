@@ -2,7 +2,7 @@
 """Makes lemmas of recorded battles, each proved by computing with the definitions (docs/PROOFS.md, "Recorded battles").
 
 usage: evaluate.py battles TRACES [LINES]
-       evaluate.py unfold
+       evaluate.py unfold [--check]
 
 TRACES has a recorded battle in each line, LINES says which (as 0-9,12,40-; default all). Each becomes a lemma of a module
 of crates/machine_battles/proofs: what `Reports` makes of each of its updates is what was recorded (refusal, result,
@@ -11,7 +11,7 @@ replaced; those of other hands in proofs/Lib.antt are kept. Run it at the top of
 crates/machine_battles.
 
 With `unfold` it writes crates/gen1_machine/proofs/Computing.antt alone, which names all definitions that such a lemma
-unfolds: run it after a definition was added or renamed.
+unfolds: run it after a definition was added or renamed. With --check it writes nothing, and fails where the file differs.
 """
 import json
 import os
@@ -64,14 +64,20 @@ def unfoldable():
     return found
 
 
-def write_computing():
+def write_computing(check):
     """The one definition whose line opens all others."""
     found = unfoldable()
     uses = "\n".join("use Rattle.%s.specs.%s.{%s}" % (c, m, ", ".join(names)) for c, m, names in found)
     names = " ".join(name for _, _, names in found for name in names)
     path = os.path.join("crates", "gen1_machine", "proofs", "Computing.antt")
+    text = COMPUTING % (uses, names)
+    if check:
+        with open(path, encoding="utf-8") as file:
+            if file.read() != text:
+                sys.exit("%s does not name all definitions; run tools/evaluate.py unfold" % path)
+        return
     with open(path, "w", encoding="utf-8") as file:
-        file.write(COMPUTING % (uses, names))
+        file.write(text)
 
 
 def numbers(what):
@@ -169,8 +175,8 @@ def write_battles(traces, wanted):
 
 def main():
     words = sys.argv[1:]
-    if words == ["unfold"]:
-        write_computing()
+    if words in (["unfold"], ["unfold", "--check"]):
+        write_computing("--check" in words)
     elif words[:1] == ["battles"] and len(words) in (2, 3):
         write_battles(words[1], words[2] if len(words) == 3 else "-")
     else:

@@ -8,6 +8,9 @@ the phases that its clauses name.
     tools/walk.py free      writes crates/gen1_machine/proofs/Free.antt
     tools/walk.py sound     writes crates/gen1_machine/proofs/SoundWalk.antt, with the lemmas of tools/sound_lemmas.txt
     tools/walk.py steady    writes crates/gen1_machine/proofs/Steady.antt, with the lemmas of tools/steady_lemmas.txt
+    tools/walk.py --check   writes nothing; names each of the three that is not what would be written, and fails if one is not
+
+Once written, a file is tidied (`rt tidy`), which drops imports and lays out lines; the check looks past both.
 """
 import os
 import re
@@ -306,8 +309,8 @@ def vocabulary(places, aliases):
 
 
 def written(name, body, uses):
-    with open(os.path.join(CRATE, 'proofs', name + '.antt'), 'w', encoding='utf-8') as file:
-        file.write(body.replace('%s', '\n'.join(uses), 1))
+    """The file of a walk, and its text with its imports."""
+    return os.path.join(CRATE, 'proofs', name + '.antt'), body.replace('%s', '\n'.join(uses), 1)
 
 
 def free():
@@ -316,7 +319,7 @@ def free():
     for word in ('Free', 'LeavesPlace'):
         words.pop(word, None)
     body = FREE_HEAD + '\n'.join(lines) + '\n' + FREE_TAIL
-    written('Free', body, written_imports(body, words, aliases, {}))
+    return written('Free', body, written_imports(body, words, aliases, {}))
 
 
 SOUND_LEFT_OUT = COMBINATORS + '''start_bide bide_for late_effect trap_for trap thrash_less thrash_for thrash_about prelude
@@ -371,7 +374,7 @@ def sound():
     lines, _, places, aliases = walk(FILES, 'sound', ['sound_rules'], SOUND_LEFT_OUT, by_hand, extra)
     words = vocabulary(places, aliases)
     body = SOUND_HEAD + '\n'.join(lines) + '\n' + SOUND_TAIL
-    written('SoundWalk', body, written_imports(body, words, aliases, {}))
+    return written('SoundWalk', body, written_imports(body, words, aliases, {}))
 
 
 # what a phase asks of a fact beside, by what it may do: it hurts, it faults, it breaks off what goes on, it touches rage or
@@ -533,8 +536,43 @@ def steady():
     for word in ('Acts', 'Leaves', 'hurt', 'own', 'acts'):
         words.pop(word, None)
     body = STEADY_HEAD.replace('%LEAVES', '\n'.join(leaves).rstrip('\n')).replace('%RULES', rules) + '\n'.join(result) + '\n' + STEADY_TAIL
-    written('Steady', body, written_imports(body, words, aliases, {}))
+    return written('Steady', body, written_imports(body, words, aliases, {}))
+
+
+def imported(text):
+    """Each import of a text: a module with one of its words, or with the alias that it goes by."""
+    found = set()
+    for line in re.findall(r'^use (.*)$', text, re.M):
+        module, _, words = line.partition('.{')
+        found.update((module, word.strip()) for word in words.rstrip('}').split(','))
+    return found
+
+
+def is_made_so(file, text):
+    """Whether a file is this text, but for imports that it does without and for its layout."""
+    with open(file, encoding='utf-8') as it:
+        stands = it.read()
+    lemmas = [[line.split() for line in of.split('\n') if line.strip() and not line.startswith('use ')] for of in (stands, text)]
+    return lemmas[0] == lemmas[1] and imported(stands) <= imported(text)
+
+
+WALKS = {'free': free, 'sound': sound, 'steady': steady}
+
+
+def main():
+    words = sys.argv[1:]
+    if words == ['--check']:
+        differing = [name for name, make in WALKS.items() if not is_made_so(*make())]
+        if differing:
+            sys.exit('not what tools/walk.py writes: %s; run it, and then rt tidy in crates/gen1_machine' % ', '.join(differing))
+    elif len(words) == 1 and words[0] in WALKS:
+        file, text = WALKS[words[0]]()
+        with open(file, 'w', encoding='utf-8') as it:
+            it.write(text)
+    else:
+        print(__doc__, file=sys.stderr)
+        sys.exit(2)
 
 
 if __name__ == '__main__':
-    {'free': free, 'sound': sound, 'steady': steady}[sys.argv[1]]()
+    main()

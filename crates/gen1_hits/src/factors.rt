@@ -1,4 +1,4 @@
-//! The factor of a hit's damage: one that is drawn, and all of them.
+//! The factor of a hit's damage (docs/MECHANICS.md, "Factor"): one that is drawn, and all of them.
 ghost use Rattle.std.specs.Prelude.{map, ◌≡◌, ◌≤◌};
 ghost use Rattle.std.specs.List.{range_with_len};
 ghost use Rattle.gen1_machine.specs.Damage.{is_factor, rotated_right_1, times_factor};

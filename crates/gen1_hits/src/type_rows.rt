@@ -1,4 +1,4 @@
-//! What the types of a move, of its user and of the foe make of damage.
+//! What the types of a move, of its user and of the foe make of damage (docs/MECHANICS.md, "Types").
 ghost use Rattle.std.specs.Prelude.{IsTrue, filter, if◌then◌else◌, map, nat_le, slice_index_or, ◌+◌, ◌/◌, ◌||◌, ◌≡◌, ◌≤◌};
 ghost use Rattle.std.specs.List.{list_all};
 ghost use Rattle.gen1_tables.specs.declared.element.Element.TheVariants.{Normal as normal};

@@ -104,7 +104,8 @@ action_parts r s pick =
     gate_or_held s pick ▸ see_if_going_on s pick
     ▸ given (λ p. move_taken_in s pick p.field) (carry_out r s pick)
 
--- however an action ends, the accuracy of its hit test is kept while rage or thrashing is on
+-- however an action ends, the accuracy of its hit test is kept while rage or thrashing is on (docs/MECHANICS.md, "Kept
+-- accuracy")
 abbrev pub accuracy_after : Underway → Option ℕ → ℕ → ℕ
 accuracy_after u tested kept = if u.rage || is_some u.thrash then unwrap_or tested kept else 0
 
@@ -114,7 +115,7 @@ accuracy_to_keep s p = accuracy_after (underway s p) p.action.accuracy_tested (a
 unfoldable pub keep_accuracy : Side → Phase
 keep_accuracy s = given (accuracy_to_keep s) λ byte. on_active s (with_kept_accuracy byte)
 
--- a new action knows nothing of the last
+-- a new action knows nothing of the last (docs/MECHANICS.md, "Action")
 unfoldable pub begin : Side → Phase
 begin s = on_action λ a. new_action s
 

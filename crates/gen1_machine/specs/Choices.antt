@@ -1,4 +1,4 @@
--- The bytes that stand for choices.
+-- The bytes that stand for choices (docs/MECHANICS.md, "Offered choices").
 use Rattle.std.specs.Prelude.{ℕ, ◌+◌, ◌-◌, ◌==◌, ◌&&◌, nat_le, if◌then◌else◌, Option, Some, None}
 use Rattle.gen1_machine.specs.declared.choice.Choice.{Choice}
 use Rattle.gen1_machine.specs.declared.choice.Choice.TheVariants.{Pass, Move, Switch}

@@ -1,4 +1,5 @@
--- Damage (docs/MECHANICS.md, "Damage numbers", "Damage", "Types", "Factor"): its numbers, its formula, the types and the factor.
+-- Damage (docs/MECHANICS.md, "Damage numbers", "Damage", "Types", "Factor"): its numbers, its formula, the types and the
+-- factor.
 use Rattle.std.specs.Prelude.{Bool, List, None, Option, Some, [], count_by, false, filter, if◌then◌else◌, max, min, nat_le, nat_lt, suc, true, zero, ℕ, ◌%◌, ◌&&◌, ◌*◌, ◌+◌, ◌/◌, ◌==◌, ◌||◌, ◌∷◌}
 use Rattle.gen1_tables.specs.declared.element.Element.{Element}
 use Rattle.gen1_tables.specs.declared.effect.Stat.{Stat}
@@ -25,7 +26,7 @@ pub record Numbers : Type 0 where
   pub foe_second : Element
   pub halved : Bool  -- an explosion halves the defense
 
--- the numbers
+-- the numbers (docs/MECHANICS.md, "Damage numbers")
 
 -- two numbers that don't both fit a byte are divided by 4
 abbrev pub quartered : ℕ → ℕ → ℕ → ℕ
@@ -81,7 +82,7 @@ numbers_in s move critical f = if critical then critical_numbers s move f else p
 abbrev pub numbers : Side → Move → Progress → Numbers
 numbers s move p = numbers_in s move p.action.critical p.field
 
--- the formula
+-- the formula (docs/MECHANICS.md, "Damage")
 
 abbrev pub divided : ℕ → ℕ → ℕ → ℕ → Option ℕ
 divided level power attack zero = None
@@ -91,7 +92,7 @@ divided level power attack (suc d) = Some (min 997 ((2 * level / 5 + 2) * power 
 abbrev pub before_types : Numbers → Option ℕ
 before_types n = divided n.level n.power n.attack (if n.halved then max 1 (n.defense / 2) else n.defense)
 
--- the types
+-- the types (docs/MECHANICS.md, "Types")
 
 abbrev pub applies : Numbers → TypeRow → Bool
 applies n row = same_type row.attacker n.kind && (same_type row.defender n.foe_first || same_type row.defender n.foe_second)
@@ -114,7 +115,7 @@ type_steps d n = by_rows (rows_for n) (if is_own_type n then d + d / 2 else d)
 abbrev pub rows_of : ℕ → Numbers → ℕ
 rows_of tenths n = count_by (λ row. row.tenths == tenths) (rows_for n)
 
--- the factor
+-- the factor (docs/MECHANICS.md, "Factor")
 
 abbrev pub rotated_right_1 : ℕ → ℕ
 rotated_right_1 b = b / 2 + b % 2 * 128

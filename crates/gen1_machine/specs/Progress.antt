@@ -217,19 +217,20 @@ fail s = note (λ f. events.Fail (who_in s f)) ▸ stop
 unfoldable pub fails_if : Side → (Progress → Bool) → Phase
 fails_if s test = when test (fail s)
 
--- a member loses HP, as much as there is; the event is written where that changes something
+-- a member loses HP, as much as there is; the event is written where that changes something (docs/MECHANICS.md, "Order of
+-- events")
 unfoldable pub lose_hp : Side → DamageSource → ℕ → Phase
 lose_hp s source amount =
     when (λ p. nat_lt 0 amount && is_living (member s p))
     (told (changed_member s (hurt_by amount)) λ f. events.Damage (who_in s f) (health_in s f) source)
 
--- a member gains HP, up to its most
+-- a member gains HP, up to its most (docs/MECHANICS.md, "Order of events")
 unfoldable pub gain_hp : Side → ℕ → Phase
 gain_hp s amount =
     when (λ p. nat_lt 0 amount && nat_lt (member s p).hp (member s p).max)
     (told (changed_member s (healed_by amount)) λ f. events.Heal (who_in s f) (health_in s f))
 
--- a status is set, and its penalty taken
+-- a status is set, and its penalty taken (docs/MECHANICS.md, "Penalties")
 unfoldable pub inflict : Side → Status → Kind → Phase
 inflict s status kind =
     on_member s (with_status status)

@@ -1,4 +1,4 @@
--- The clauses that a battle is fought under.
+-- The clauses that a battle is fought under (docs/MECHANICS.md, "Rules (sleep clause, freeze clause)").
 use Rattle.std.specs.Prelude.{ℕ, ◌+◌, ◌*◌, ◌/◌, ◌%◌, ◌==◌, Bool, true, false}
 
 pub record Rules : Type 0 where

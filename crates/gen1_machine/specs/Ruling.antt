@@ -18,7 +18,8 @@ pub record Ruling : Type 0 where
   pub freezes : Side → Phase  -- what a freezing move of this side does once its draw was low enough
   pub last_turn : ℕ
 
--- sleep for one to seven turns; under the sleep clause it is marked as the foe's work
+-- sleep for one to seven turns; under the sleep clause it is marked as the foe's work (docs/MECHANICS.md, "Rules (sleep
+-- clause, freeze clause)")
 
 abbrev pub is_sleep_count : ℕ → Bool
 is_sleep_count b = nat_lt 0 (low_bits 3 b)
@@ -53,7 +54,7 @@ has_frozen_member s p = any_living (λ m. is_frozen m.status) (party s p.field)
 unfoldable pub freeze_only_one : Side → Phase
 freeze_only_one user = unless (has_frozen_member (other user)) (freeze_freely user)
 
--- by whether the clause holds
+-- by whether the clause holds (docs/MECHANICS.md, "Rules (sleep clause, freeze clause)", "Turn limit")
 
 unfoldable pub lulls_under : Bool → Side → Phase
 lulls_under true user = lull_only_one user

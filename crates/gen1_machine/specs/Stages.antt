@@ -3,7 +3,7 @@ use Rattle.std.specs.Prelude.{ℕ, zero, suc, ◌+◌, ◌-◌, ◌*◌, ◌/◌
 use Rattle.gen1_tables.specs.declared.effect.Stat.{Stat}
 use Rattle.gen1_tables.specs.declared.effect.Stat.TheVariants.{Attack, Speed}
 
--- a stage from -6 to 6 by its number; a stage beyond an end is that end's
+-- a stage from -6 to 6 by its number; a stage beyond an end is that end's (docs/MECHANICS.md, "Stages")
 abbrev pub stage_number : ℤ → ℕ
 stage_number (pos n) = min 12 (6 + n)
 stage_number (negsuc n) = 5 - n
@@ -20,7 +20,7 @@ abbrev pub divided_times : ℕ → ℕ → ℕ → ℕ
 divided_times divisor zero value = value
 divided_times divisor (suc k) value = max 1 (divided_times divisor k value / divisor)
 
--- a burn halves Attack, paralysis quarters Speed; other stats have no penalty
+-- a burn halves Attack, paralysis quarters Speed; other stats have no penalty (docs/MECHANICS.md, "Penalties")
 abbrev pub penalised_times : Stat → ℕ → ℕ → ℕ
 penalised_times Attack penalties value = divided_times 2 penalties value
 penalised_times Speed penalties value = divided_times 4 penalties value

@@ -171,11 +171,11 @@ hurt_by amount m = record m { hp = m.hp - amount }
 unfoldable pub healed_by : ℕ → Member → Member
 healed_by amount m = record m { hp = min m.max (m.hp + amount) }
 
--- who falls is ill no more
+-- who falls is ill no more (docs/MECHANICS.md, "Falls and requests")
 unfoldable pub fallen : Member → Member
 fallen m = record m { hp = 0; status = Healthy }
 
--- one turn of sleep is over; who has slept enough is awake
+-- one turn of sleep is over; who has slept enough is awake (docs/MECHANICS.md, "Gate")
 abbrev pub one_turn_less_asleep : Status → Status
 one_turn_less_asleep (Asleep turns marked) = if nat_le turns 1 then Healthy else Asleep (turns - 1) marked
 one_turn_less_asleep status = status
@@ -183,7 +183,7 @@ one_turn_less_asleep status = status
 unfoldable pub with_sleep_one_less : Member → Member
 with_sleep_one_less m = record m { status = one_turn_less_asleep m.status }
 
--- PP falls by one, and from 0 to 63
+-- PP falls by one, and from 0 to 63 (docs/MECHANICS.md, "Action")
 abbrev pub with_less_pp : KnownMove → KnownMove
 with_less_pp k = record k { pp = if k.pp == 0 then 63 else k.pp - 1 }
 
@@ -213,7 +213,7 @@ with_picked used a = record a { picked = used }
 unfoldable pub with_kept_accuracy : ℕ → Active → Active
 with_kept_accuracy byte a = record a { kept_accuracy = byte }
 
--- what is asked of a state
+-- what is asked of a state (docs/MECHANICS.md, "Falls and requests")
 
 abbrev pub has_type : Element → Active → Bool
 has_type t a = same_type t a.first_type || same_type t a.second_type
@@ -230,7 +230,7 @@ is_pass _ = false
 abbrev pub any_living : (Member → Bool) → Party → Bool
 any_living test t = any (λ m. is_living m && test m) t.members
 
--- the beginning of a battle
+-- the beginning of a battle (docs/MECHANICS.md, "Teams")
 
 abbrev pub level_stages : Stages
 level_stages = record { attack = 6; defense = 6; speed = 6; special = 6; accuracy = 6; evasion = 6 }

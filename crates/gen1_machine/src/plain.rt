@@ -34,7 +34,7 @@ pub fn now(unmodified: u16, stage: i8, stat: Stat, penalties: u8) -> u16
     }
 }
 
-/// A stat recomputed at a stage, from 1 to 999.
+/// A stat recomputed at a stage, from 1 to 999 (docs/MECHANICS.md, "Stages").
 fn at_stage(stat: u16, stage: i8) -> u16
     ensures { result ≡ at_stage (stage_number stage) stat }
 {

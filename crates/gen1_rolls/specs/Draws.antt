@@ -1,4 +1,4 @@
--- What a generator draws, what a search by draws finds, and where in a stream a generator stands.
+-- What a generator draws, what a search by draws finds, and where in a stream a generator stands (docs/MECHANICS.md, "Link numbers").
 --
 -- A generator of any type is spoken of by the byte that it draws next (`byte`), by what a draw leaves of it (`next`), and
 -- by how many draws in a row hold every byte (`width`). Under a bound `R: Rolls` these are `R.byte`, `R.next` and `R.SPAN`.

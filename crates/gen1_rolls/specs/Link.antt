@@ -1,4 +1,4 @@
--- The ring of numbers that a link battle draws from.
+-- The ring of numbers that a link battle draws from (docs/MECHANICS.md, "Link numbers").
 use Rattle.std.specs.Prelude.{ℕ, ◌+◌, ◌/◌, ◌%◌, List, ◌++◌, map, take, drop, slice_index, nat_lt, if◌then◌else◌}
 use Rattle.gen1_rolls.specs.Streams.{times_renewed}
 

@@ -1,4 +1,4 @@
--- Streams of bytes, and the first byte of a stream that meets a test.
+-- Streams of bytes, and the first byte of a stream that meets a test (docs/MECHANICS.md, "Link numbers").
 use Rattle.std.specs.Prelude.{◌≡◌, ℕ, zero, suc, ◌+◌, ◌*◌, ◌/◌, ◌%◌, ◌^◌, ◌<◌, ◌≤◌, Bool, true, false, IsTrue, IsFalse, List, length, All, Option, Some, None, slice_index}
 
 -- f applied n times

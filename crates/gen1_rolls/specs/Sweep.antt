@@ -1,4 +1,4 @@
--- A sweep, which is known by the byte that it draws next.
+-- A sweep, which is known by the byte that it draws next (docs/MECHANICS.md, "Link numbers").
 use Rattle.std.specs.Prelude.{ℕ, ◌+◌, ◌%◌}
 
 -- what a draw leaves of it

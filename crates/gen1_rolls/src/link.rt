@@ -1,3 +1,4 @@
+//! The generator of a link battle (docs/MECHANICS.md, "Link numbers").
 ghost use Rattle.std.specs.Prelude.{◌≡◌, ◌<◌, nat_lt, if◌then◌else◌, slice_index, length, IfSome};
 ghost use Rattle.gen1_rolls.specs.Draws.{stream_of, StandsAt};
 ghost use Rattle.gen1_rolls.specs.Link.{Ring, ring_of, byte_of, after_draw, turned};

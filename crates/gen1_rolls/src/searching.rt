@@ -1,3 +1,4 @@
+//! The first draw that meets a test (docs/MECHANICS.md, "Link numbers").
 ghost use Rattle.std.specs.Prelude.{ℕ, Bool, IfSome, IfNone};
 ghost use Rattle.gen1_rolls.specs.Draws.{Settles, FindsDraw, FindsNone};
 

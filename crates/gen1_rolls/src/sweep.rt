@@ -1,3 +1,4 @@
+//! A generator that counts up (docs/MECHANICS.md, "Link numbers").
 ghost use Rattle.std.specs.Prelude.{◌≡◌, ℕ};
 ghost use Rattle.gen1_rolls.specs.Draws.{stream_of, StandsAt};
 ghost use Rattle.gen1_rolls.specs.Streams.{IsStream, Sweep as SweepFrom};

@@ -1,3 +1,4 @@
+//! Worked draws (docs/MECHANICS.md, "Link numbers").
 ghost use Rattle.std.specs.Prelude.{◌≡◌, ℕ, ◌+◌, ◌%◌, Some, MatchOption, nat_lt};
 ghost use Rattle.gen1_rolls.specs.Draws.{StandsAt};
 ghost use Rattle.gen1_rolls.specs.Streams.{Stream, byte_at, span, first, low_bits, Link as LinkStream};

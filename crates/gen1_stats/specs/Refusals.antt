@@ -1,4 +1,5 @@
--- The refusals of a team: their numbers in the order of the tests, the member that is at fault, and their texts.
+-- The refusals of a team (docs/MECHANICS.md, "Teams"): their numbers in the order of the tests, the member that is at fault,
+-- and their texts.
 use Rattle.std.specs.Prelude.{List, codes, if◌then◌else◌, ℕ, ◌++◌, ◌==◌}
 use Rattle.std.specs.Fmt.{decimal}
 use Rattle.gen1_stats.specs.declared.refusal.TeamRefusal.{TeamRefusal}

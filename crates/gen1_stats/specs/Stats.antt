@@ -1,4 +1,4 @@
--- The stats of a member, by its species, level, DVs and experience.
+-- The stats of a member, by its species, level, DVs and experience (docs/MECHANICS.md, "Stats").
 use Rattle.std.specs.Prelude.{false, min, nat_le, suc, true, zero, ℕ, ◌%◌, ◌*◌, ◌+◌, ◌/◌, ◌<◌, ◌≤◌}
 
 -- the first number from r on whose square is not below n, looked for among k of them

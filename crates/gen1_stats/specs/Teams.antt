@@ -1,4 +1,4 @@
--- What a member is asked for as, what it becomes, and why a list of members is no team.
+-- What a member is asked for as, what it becomes, and why a list of members is no team (docs/MECHANICS.md, "Teams").
 use Rattle.std.specs.Prelude.{Bool, List, None, Option, Some, [], false, if◌then◌else◌, length, map, nat_lt, slice_index, ℕ, ◌+◌, ◌==◌, ◌||◌, ◌∷◌}
 use Rattle.std.specs.List.{list_any}
 use Rattle.std.specs.Option.{option_or}

@@ -1,4 +1,4 @@
-//! A member as it is asked for, and what may be wrong with it.
+//! A member as it is asked for, and what may be wrong with it (docs/MECHANICS.md, "Teams").
 ghost use Rattle.std.specs.Prelude.{◌≡◌, ◌==◌, nat_lt};
 ghost use Rattle.std.specs.List.{list_any};
 ghost use Rattle.gen1_stats.specs.Members.{is_left_out, struggle};

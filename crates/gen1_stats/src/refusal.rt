@@ -1,4 +1,4 @@
-//! Why a list of members is no team.
+//! Why a list of members is no team (docs/MECHANICS.md, "Teams").
 ghost use Rattle.std.specs.Prelude.{◌≡◌, ◌≤◌, Some};
 ghost use Rattle.gen1_stats.specs.Refusals.{fault_of, number_of, place_of, sentence_of};
 

@@ -1,4 +1,4 @@
-//! Worked stats, the order of the refusals, and their texts.
+//! Worked stats, the order of the refusals, and their texts (docs/MECHANICS.md, "Stats", "Teams").
 use crate::{KnownMove, Member, MemberSpec, Status, Team, TeamRefusal, hp_stat, stat};
 use arrayvec::ArrayVec;
 use gen1_tables::{MoveId, Species};

@@ -61,6 +61,7 @@ fn ranges_end_where_they_should(rt: HostRuntime) {
     }
 }
 
+// The rules' two bits (docs/MECHANICS.md, "Rules (sleep clause, freeze clause)").
 #[test]
 fn rules_are_two_bits(rt: HostRuntime) -> Result<(), Fail> {
     for (bits, sleep, freeze) in [
@@ -81,6 +82,7 @@ fn rules_are_two_bits(rt: HostRuntime) -> Result<(), Fail> {
     Ok(())
 }
 
+// The bytes of choices (docs/MECHANICS.md, "Offered choices").
 #[test]
 fn choices_are_bytes(rt: HostRuntime) {
     let last_slot = MoveSlot::new(4).map(Choice::Move);
@@ -99,6 +101,7 @@ fn choices_are_bytes(rt: HostRuntime) {
     }
 }
 
+// The numbers of fields (docs/MECHANICS.md, "Events").
 #[test]
 fn numbers_of_log_bytes(rt: HostRuntime) {
     assert_eq!(rt; Side::from_number(2), Some(Side::One.other()));
@@ -121,6 +124,7 @@ fn numbers_of_log_bytes(rt: HostRuntime) {
     assert_eq!(rt; (events.len(), events.capacity()), (1, 64));
 }
 
+// Worked draws (docs/MECHANICS.md, "Link numbers").
 #[test]
 fn link_numbers(rt: HostRuntime) {
     let seed = [1, 2, 3, 4, 5, 6, 7, 8, 9, 10];
@@ -129,6 +133,7 @@ fn link_numbers(rt: HostRuntime) {
     }
 }
 
+// Worked stats (docs/MECHANICS.md, "Stages", "Penalties").
 #[test]
 fn stats_at_stages(rt: HostRuntime) {
     for (unmodified, stage, stat, penalties, want) in [

@@ -7,6 +7,7 @@ use gen1_rolls::{LinkRandom, Sweep};
 use gen1_tables::Element;
 use std::test::Fail;
 
+// All 39 factors (docs/MECHANICS.md, "Damage numbers", "Damage", "Factor").
 #[test]
 fn body_slam(rt: HostRuntime) -> Result<(), Fail> {
     let battle = facing("Tauros", TAUROS)?;
@@ -39,6 +40,7 @@ fn body_slam(rt: HostRuntime) -> Result<(), Fail> {
     Ok(())
 }
 
+// 75, then 37, then 74 (docs/MECHANICS.md, "Types").
 #[test]
 fn ice_on_gyarados(rt: HostRuntime) {
     let ice = Numbers {
@@ -74,7 +76,7 @@ fn a_divisor_of_0(rt: HostRuntime) -> Result<(), Fail> {
     Ok(())
 }
 
-// 42 * 40 * 74 / 72 / 50 + 2 is 36; under the foe's Reflect the 72 are 144.
+// 42 * 40 * 74 / 72 / 50 + 2 is 36; under the foe's Reflect the 72 are 144 (docs/MECHANICS.md, "Hit on itself").
 #[test]
 fn a_hit_on_itself(rt: HostRuntime) -> Result<(), Fail> {
     let mut battle = facing("Tauros", TAUROS)?;
@@ -86,6 +88,7 @@ fn a_hit_on_itself(rt: HostRuntime) -> Result<(), Fail> {
     Ok(())
 }
 
+// Draws until 217 (docs/MECHANICS.md, "Factor").
 #[test]
 fn factors_are_drawn(rt: HostRuntime) {
     let mut sweep = Sweep::new(0);

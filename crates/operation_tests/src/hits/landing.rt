@@ -15,6 +15,7 @@ fn tauros_at(hp: u16) -> Result<Health, Fail> {
     Ok(Health::new(hp, 353, None).ok_or("no such health")?)
 }
 
+// HP (docs/MECHANICS.md, "Order of events").
 #[test]
 fn hp_is_lost_and_gained(rt: HostRuntime) -> Result<(), Fail> {
     let mut battle = facing("Persian", PERSIAN)?;
@@ -42,6 +43,7 @@ fn hp_is_lost_and_gained(rt: HostRuntime) -> Result<(), Fail> {
     Ok(())
 }
 
+// Landings (docs/MECHANICS.md, "Landing").
 #[test]
 fn damage_lands_on_hp(rt: HostRuntime) -> Result<(), Fail> {
     let mut battle = facing("Persian", PERSIAN)?;
@@ -71,6 +73,7 @@ fn damage_lands_on_hp(rt: HostRuntime) -> Result<(), Fail> {
     Ok(())
 }
 
+// Landings (docs/MECHANICS.md, "Landing").
 #[test]
 fn damage_lands_on_a_substitute(rt: HostRuntime) -> Result<(), Fail> {
     let mut battle = facing("Persian", PERSIAN)?;
@@ -115,6 +118,7 @@ fn criticals(battle: &Packed, id: MoveId, byte: u8) -> ([bool; 2], Sweep, u8) {
     (hits, sweep, link.index())
 }
 
+// Bounds and draws (docs/MECHANICS.md, "Critical hits").
 #[test]
 fn critical_hits(rt: HostRuntime) -> Result<(), Fail> {
     let persian = species("Persian")?;
@@ -155,6 +159,7 @@ fn critical_hits(rt: HostRuntime) -> Result<(), Fail> {
     Ok(())
 }
 
+// Accuracy bytes (docs/MECHANICS.md, "Hit test").
 #[test]
 fn accuracy_between_stages(rt: HostRuntime) -> Result<(), Fail> {
     let mut battle = facing("Persian", PERSIAN)?;
@@ -194,6 +199,7 @@ const MISSED: Hit = Hit {
     kept: 255,
 };
 
+// Draws of 254 and 255 (docs/MECHANICS.md, "Hit test").
 #[test]
 fn no_draw_is_sure_to_hit(rt: HostRuntime) -> Result<(), Fail> {
     let mut battle = facing("Persian", PERSIAN)?;
@@ -215,6 +221,7 @@ fn no_draw_is_sure_to_hit(rt: HostRuntime) -> Result<(), Fail> {
     Ok(())
 }
 
+// Without a draw (docs/MECHANICS.md, "Hit test").
 #[test]
 fn a_foe_out_of_reach(rt: HostRuntime) -> Result<(), Fail> {
     let mut battle = facing("Persian", PERSIAN)?;
@@ -233,6 +240,7 @@ fn a_foe_out_of_reach(rt: HostRuntime) -> Result<(), Fail> {
     Ok(())
 }
 
+// Without a draw (docs/MECHANICS.md, "Hit test").
 #[test]
 fn dreams_and_mist(rt: HostRuntime) -> Result<(), Fail> {
     let mut battle = facing("Persian", PERSIAN)?;
@@ -269,6 +277,7 @@ fn dreams_and_mist(rt: HostRuntime) -> Result<(), Fail> {
     Ok(())
 }
 
+// The byte that is kept (docs/MECHANICS.md, "Kept accuracy").
 #[test]
 fn what_is_kept(rt: HostRuntime) -> Result<(), Fail> {
     let mut battle = facing("Persian", PERSIAN)?;

@@ -30,6 +30,7 @@ fn picked(battle: &Packed, side: Side, slot: u8) -> Result<Pick, Fail> {
     Ok(pick(battle, side, Choice::Move(slot)))
 }
 
+// What choices come to (docs/MECHANICS.md, "Picks").
 #[test]
 fn picks(rt: HostRuntime) -> Result<(), Fail> {
     let mut battle = two_tauros()?;
@@ -60,6 +61,7 @@ fn picks(rt: HostRuntime) -> Result<(), Fail> {
     Ok(())
 }
 
+// Draws of 62 and 63 (docs/MECHANICS.md, "Gate").
 #[test]
 fn digging_while_paralysed(rt: HostRuntime) -> Result<(), Fail> {
     let mut battle = two_tauros()?;
@@ -82,6 +84,7 @@ fn digging_while_paralysed(rt: HostRuntime) -> Result<(), Fail> {
     Ok(())
 }
 
+// The count of sleep (docs/MECHANICS.md, "Gate").
 #[test]
 fn sleeping(rt: HostRuntime) -> Result<(), Fail> {
     let mut battle = two_tauros()?;
@@ -115,6 +118,7 @@ fn sleeping(rt: HostRuntime) -> Result<(), Fail> {
     Ok(())
 }
 
+// Frost, and the foe's trapping (docs/MECHANICS.md, "Gate").
 #[test]
 fn frozen_or_held(rt: HostRuntime) -> Result<(), Fail> {
     let mut battle = two_tauros()?;
@@ -138,6 +142,7 @@ fn frozen_or_held(rt: HostRuntime) -> Result<(), Fail> {
     Ok(())
 }
 
+// Each is waited for once (docs/MECHANICS.md, "Gate").
 #[test]
 fn flinching_and_recharging(rt: HostRuntime) -> Result<(), Fail> {
     let mut battle = two_tauros()?;
@@ -166,6 +171,7 @@ fn flinching_and_recharging(rt: HostRuntime) -> Result<(), Fail> {
     Ok(())
 }
 
+// Its count, and its end (docs/MECHANICS.md, "Gate").
 #[test]
 fn a_disabled_move(rt: HostRuntime) -> Result<(), Fail> {
     let mut battle = two_tauros()?;
@@ -202,7 +208,7 @@ fn a_disabled_move(rt: HostRuntime) -> Result<(), Fail> {
     Ok(())
 }
 
-// 42 * 40 * 74 / 72 / 50 + 2: a Tauros takes 36 from itself.
+// 42 * 40 * 74 / 72 / 50 + 2: a Tauros takes 36 from itself (docs/MECHANICS.md, "Hit on itself", "Gate").
 #[test]
 fn confused(rt: HostRuntime) -> Result<(), Fail> {
     let mut battle = two_tauros()?;
@@ -230,6 +236,7 @@ fn confused(rt: HostRuntime) -> Result<(), Fail> {
     Ok(())
 }
 
+// Own and foe's substitute (docs/MECHANICS.md, "Hit on itself").
 #[test]
 fn confused_behind_a_substitute(rt: HostRuntime) -> Result<(), Fail> {
     let mut battle = two_tauros()?;
@@ -257,7 +264,7 @@ fn confused_behind_a_substitute(rt: HostRuntime) -> Result<(), Fail> {
     Ok(())
 }
 
-// A Defense of 512 under Reflect is 1024, divided by 4 is 256, and its low byte is 0.
+// A Defense of 512 under Reflect is 1024, divided by 4 is 256, and its low byte is 0 (docs/MECHANICS.md, "Hit on itself").
 #[test]
 fn a_divisor_of_0(rt: HostRuntime) -> Result<(), Fail> {
     let mut battle = two_tauros()?;

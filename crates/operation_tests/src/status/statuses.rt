@@ -13,6 +13,7 @@ fn count(stages: u8) -> Result<StageCount, Fail> {
     Ok(StageCount::new(stages).ok_or("no such count")?)
 }
 
+// Speed and Attack (docs/MECHANICS.md, "Penalties").
 #[test]
 fn penalties(rt: HostRuntime) -> Result<(), Fail> {
     let mut battle = two_tauros()?;
@@ -36,6 +37,7 @@ fn penalties(rt: HostRuntime) -> Result<(), Fail> {
     Ok(())
 }
 
+// Unmarked, and marked (docs/MECHANICS.md, "Penalties", "Rules (sleep clause, freeze clause)").
 #[test]
 fn sleep(rt: HostRuntime) -> Result<(), Fail> {
     let mut battle = two_tauros()?;
@@ -56,7 +58,7 @@ fn sleep(rt: HostRuntime) -> Result<(), Fail> {
     Ok(())
 }
 
-// The foe is burned, with Attack 298, now 149.
+// The foe is burned, with Attack 298, now 149 (docs/MECHANICS.md, "Stage shift", "Penalties").
 #[test]
 fn growl_and_swords_dance(rt: HostRuntime) -> Result<(), Fail> {
     let mut battle = two_tauros()?;
@@ -83,6 +85,7 @@ fn growl_and_swords_dance(rt: HostRuntime) -> Result<(), Fail> {
     Ok(())
 }
 
+// At -6 and at +6 (docs/MECHANICS.md, "Stage shift", "Stages").
 #[test]
 fn ends_of_the_stages(rt: HostRuntime) -> Result<(), Fail> {
     let mut battle = two_tauros()?;
@@ -105,7 +108,8 @@ fn ends_of_the_stages(rt: HostRuntime) -> Result<(), Fail> {
     Ok(())
 }
 
-// An Electrode's Speed of 378 is 756 at +2 and 999 at +4, where 1,134 would be too much.
+// An Electrode's Speed of 378 is 756 at +2 and 999 at +4, where 1,134 would be too much (docs/MECHANICS.md, "Stage shift",
+// "Stages").
 #[test]
 fn a_stat_of_999(rt: HostRuntime) -> Result<(), Fail> {
     let mut battle = facing(&team_of("Electrode", 100, 15, 65535)?, [198, 238, 378, 258]);
@@ -134,7 +138,7 @@ fn a_stat_of_999(rt: HostRuntime) -> Result<(), Fail> {
     Ok(())
 }
 
-// A Magikarp's Attack at level 1 is 5: 2 at -2, and 1 at -4.
+// A Magikarp's Attack at level 1 is 5: 2 at -2, and 1 at -4 (docs/MECHANICS.md, "Stage shift", "Stages").
 #[test]
 fn a_stat_of_1(rt: HostRuntime) -> Result<(), Fail> {
     let mut battle = facing(&team_of("Magikarp", 1, 0, 0)?, [5, 6, 6, 5]);
@@ -169,6 +173,7 @@ fn health(hp: u16, kind: Option<Kind>) -> Result<Health, Fail> {
     Ok(Health::new(hp, 353, kind).ok_or("no such health")?)
 }
 
+// 22 and 44 of 353 (docs/MECHANICS.md, "Residual").
 #[test]
 fn bad_poison_and_a_seed(rt: HostRuntime) -> Result<(), Fail> {
     let mut battle = badly_poisoned(353)?;
@@ -197,7 +202,7 @@ fn bad_poison_and_a_seed(rt: HostRuntime) -> Result<(), Fail> {
     Ok(())
 }
 
-// From 20 HP it falls at once, and the seed still heals the full amount.
+// From 20 HP it falls at once, and the seed still heals the full amount (docs/MECHANICS.md, "Residual").
 #[test]
 fn a_seed_on_the_fallen(rt: HostRuntime) -> Result<(), Fail> {
     let mut battle = badly_poisoned(20)?;
