@@ -3,5 +3,4 @@ pub mod JsonLemmas
 pub mod Standing
 pub mod Outcomes
 pub mod Duels
-pub mod Freshness
 pub mod CalcOutcomes

@@ -10,7 +10,6 @@ mod striking;
 
 ghost use Rattle.std.specs.Prelude.{◌+◌, ◌≡◌, ◌≤◌};
 ghost use Rattle.arrayvec.specs.ArrayVec.{array_vec_len};
-ghost use Rattle.gen1_stats.specs.Members.{IsMember};
 ghost use Rattle.battle_tool.specs.Faults.{refusal_number};
 
 use self::acting::act;
@@ -66,10 +65,7 @@ pub struct Battle {
 
 impl Battle {
     /// A battle that has not begun.
-    pub fn new(one: &Member, two: &Member, seed: [u8; 10], limit: TurnLimit) -> Battle
-        requires one { IsMember one.now }
-        requires two { IsMember two.now }
-    {
+    pub fn new(one: &Member, two: &Member, seed: [u8; 10], limit: TurnLimit) -> Battle {
         Battle {
             one: Fighter::new(Side::One, one),
             two: Fighter::new(Side::Two, two),

@@ -3,7 +3,6 @@ ghost use Rattle.std.specs.Prelude.{[], ◌∷◌, ◌≡◌};
 ghost use Rattle.gen1_stats.specs.Sheets.{Sheet as MemberSheet};
 ghost use Rattle.gen1_stats.specs.Teams.{member_of, team_of};
 ghost use Rattle.gen1_machine.specs.Moves.{move_at};
-ghost use Rattle.gen1_machine.specs.Valid.{IsFresh};
 ghost use Rattle.battle_tool.specs.Calc.{damages_of, has_own_damage, has_usual_damage};
 
 use crate::duel::begin_duel;
@@ -34,7 +33,6 @@ fn has_own_damage(effect: Effect) -> bool
 /// uses it. `None` where the divisor is 0.
 pub fn damages(one: &Team, two: &Team, id: MoveId, critical: bool) -> Option<[u16; 39]>
     ensures { (a b : MemberSheet) → one.now ≡ team_of (a ∷ []) → two.now ≡ team_of (b ∷ [])
-        → IsFresh (member_of a) → IsFresh (member_of b)
         → result ≡ damages_of (record { attacker = a; defender = b; id = id; critical = critical }) }
 {
     let battle = begin_duel(one, two);

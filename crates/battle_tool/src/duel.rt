@@ -1,12 +1,10 @@
 //! Two members in a battle of their own, each just sent out.
 ghost use Rattle.std.specs.Prelude.{ℕ, [], ◌∷◌, ◌≡◌, ◌≤◌, length};
-ghost use Rattle.gen1_stats.specs.Members.{IsMember};
 ghost use Rattle.gen1_stats.specs.Sheets.{Sheet as MemberSheet};
 ghost use Rattle.gen1_stats.specs.Teams.{member_of, team_of};
 ghost use Rattle.gen1_stats.specs.declared.status.Status.TheVariants.{Healthy};
 ghost use Rattle.gen1_machine.specs.State.{Field, changed_active, member_at, party};
 ghost use Rattle.gen1_machine.specs.SwitchingIn.{with_sent_out};
-ghost use Rattle.gen1_machine.specs.Valid.{IsFresh};
 ghost use Rattle.gen1_layout.specs.Within.{Packs, Setting, Within};
 ghost use Rattle.battle_tool.specs.Duel.{duel};
 
@@ -18,7 +16,6 @@ use gen1_tables::Stat;
 /// A battle of two teams of one, whose members are both out (docs/MECHANICS.md, "Switching in").
 pub fn begin_duel(one: &Team, two: &Team) -> Packed
     ensures { (a b : MemberSheet) → one.now ≡ team_of (a ∷ []) → two.now ≡ team_of (b ∷ [])
-        → IsFresh (member_of a) → IsFresh (member_of b)
         → (g : Setting) × Within g result (duel (member_of a) (member_of b)) }
 {
     let mut battle = Packed::new(one, two, [0; 10]);

@@ -1,16 +1,17 @@
 -- A field of a battle is storable, and a packed battle that stands for a started state is within an update of it.
-use Rattle.std.proofs.Common.{Bool, None, Option, Some, arith, false, is_some, lit≤, refl, true, ℕ, ◌+◌, ◌≤◌, subst, sym}
+use Rattle.std.proofs.Common.{Bool, List, None, Option, Some, arith, false, inl, inr, is_some, lit≤, refl, true, ℕ, ◌+◌, ◌≤◌, subst, sym}
 use Rattle.gen1_tables.specs.declared.effect.Effect.{Effect}
 use Rattle.gen1_tables.specs.declared.effect.Effect.TheVariants.{Bide, Thrash, Trapping}
 use Rattle.gen1_machine.specs.declared.picks.DisabledSlot.{DisabledSlot}
 use Rattle.gen1_machine.specs.Rules.{bit_of, Rules}
 use Rattle.gen1_machine.specs.Conditions.{Storing, Underway}
 use Rattle.gen1_machine.specs.Moves.{bides, thrashes, traps}
-use Rattle.gen1_machine.specs.State.{Field, Party, State, Terms}
+use Rattle.gen1_stats.specs.Members.{Member}
+use Rattle.gen1_machine.specs.State.{first_state, Field, Party, State, Terms}
 use Rattle.gen1_machine.specs.Valid.{IsCount, IsDisabled, IsField, IsOutcome, IsParty, IsStoring, IsUnderway, IsUnstarted, OnlyWith}
 use Rattle.gen1_layout.specs.Parts.{Parts}
 use Rattle.gen1_layout.specs.Storable.{IsStorable, IsStorableBide, IsStorableDisabled, IsStorableParty, IsStorableUnderway}
-use Rattle.gen1_layout.specs.Within.{Packs, Setting, Stands, Within}
+use Rattle.gen1_layout.specs.Within.{Packs, setting_of, Stands, Within}
 
 -- no move bides, thrashes and traps at once
 alone : (e : Effect) → bit_of (bides e) + bit_of (thrashes e) + bit_of (traps e) ≤ 1
@@ -73,9 +74,6 @@ storable_of terms f h = record {
   outcome = h.outcome;
 }
 
-abbrev pub setting_of : State → Setting
-setting_of s = record { terms = s.terms; seed = s.seed; drawn = s.drawn }
-
 -- from turn 1 on
 pub within_of : (p : Parts) (s : State) → Stands p s → IsField s.terms s.field → Within (setting_of s) p s.field
 within_of p s h field = record { same = h.same; terms = h.valid.terms; seed = h.valid.seed; storable = storable_of s.terms s.field field }
@@ -92,3 +90,9 @@ packed_at p s h field = record {
   turn = omega (arith, field.turn);
   outcome = subst IsOutcome (sym field.outcome) tt;
 }
+
+-- as a battle of two teams is
+pub packed_first : (p : Parts) (terms : Terms) (one two : List Member) (seed : List ℕ) → Stands p (first_state terms one two seed)
+    → Packs (setting_of (first_state terms one two seed)) p (first_state terms one two seed).field
+packed_first p terms one two seed h =
+    elim h.valid.field [ inl unstarted ↦ packed_at p (first_state terms one two seed) h unstarted | inr started ↦ absurd (omega (arith, started.turn)) ]

@@ -27,6 +27,9 @@ pub record Setting : Type 0 where
   pub seed : List ℕ
   pub drawn : ℕ
 
+abbrev pub setting_of : State → Setting
+setting_of s = record { terms = s.terms; seed = s.seed; drawn = s.drawn }
+
 abbrev pub state_in : Setting → Field → State
 state_in g f = record { terms = g.terms; field = f; seed = g.seed; drawn = g.drawn }
 

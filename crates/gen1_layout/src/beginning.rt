@@ -1,13 +1,13 @@
 //! A battle before its first update, at turn 0.
-ghost use Rattle.std.specs.Prelude.{All, [], length, replicate, slice_index_or, ℕ, ◌-◌, ◌≡◌, ◌≤◌};
+ghost use Rattle.std.specs.Prelude.{[], length, replicate, slice_index_or, ℕ, ◌-◌, ◌≡◌, ◌≤◌};
 ghost use Rattle.gen1_rolls.specs.Streams.{IsStream, Link};
 ghost use Rattle.gen1_stats.specs.Members.{nobody};
 ghost use Rattle.gen1_machine.specs.Rules.{no_rules};
 ghost use Rattle.gen1_machine.specs.State.{first_state, known_in, usual_terms};
-ghost use Rattle.gen1_machine.specs.Valid.{IsFresh, IsTerms};
+ghost use Rattle.gen1_machine.specs.Valid.{IsTerms};
 ghost use Rattle.gen1_machine.specs.Layout.{header_block, high_byte, low_byte, member_block, member_blocks};
 ghost use Rattle.gen1_layout.specs.Parts.{active_of, side_of, with_side};
-ghost use Rattle.gen1_layout.specs.Within.{blocks_of, Stands};
+ghost use Rattle.gen1_layout.specs.Within.{Stands};
 
 use crate::Packed;
 use gen1_machine::{Rules, Side, TurnLimit};
@@ -15,21 +15,15 @@ use gen1_stats::{KnownMove, Member, Team};
 
 impl Packed {
     /// A battle of two teams before its first update, with the ten numbers of a seed, no rules and a turn limit of 1,000.
-    ///
-    /// It is valid where its members are fresh: unhurt and healthy, as a team has them.
     pub fn new(one: &Team, two: &Team, seed: [u8; 10]) -> Packed
-        ensures stands { result ≡ blocks_of (first_state usual_terms one.now two.now seed) }
-        ensures valid { IsStream (Link seed) → All IsFresh one.now → All IsFresh two.now
-            → Stands result (first_state usual_terms one.now two.now seed) }
+        ensures { Stands result (first_state usual_terms one.now two.now seed) }
     {
         Packed::with_rules(one, two, seed, Rules::default())
     }
 
     /// The same under rules.
     pub fn with_rules(one: &Team, two: &Team, seed: [u8; 10], rules: Rules) -> Packed
-        ensures stands { result ≡ blocks_of (first_state (record { rules = rules; limit = 1000 }) one.now two.now seed) }
-        ensures valid { IsStream (Link seed) → All IsFresh one.now → All IsFresh two.now
-            → Stands result (first_state (record { rules = rules; limit = 1000 }) one.now two.now seed) }
+        ensures { Stands result (first_state (record { rules = rules; limit = 1000 }) one.now two.now seed) }
     {
         Packed::with_limit(one, two, seed, rules, TurnLimit::default())
     }
@@ -42,12 +36,10 @@ impl Packed {
         rules: Rules,
         limit: TurnLimit,
     ) -> Packed
-        ensures stands { result ≡ blocks_of (first_state (record { rules = rules; limit = limit }) one.now two.now seed) }
-        ensures valid { IsStream (Link seed) → All IsFresh one.now → All IsFresh two.now
-            → Stands result (first_state (record { rules = rules; limit = limit }) one.now two.now seed) }
+        ensures { Stands result (first_state (record { rules = rules; limit = limit }) one.now two.now seed) }
     {
         let mut packed = Packed::blank();
-        packed.begin_header(&header_bytes(seed, rules, limit));
+        packed.begin_header(&header_bytes(&seed, rules, limit));
         packed.begin_side(Side::One, one.members());
         packed.begin_side(Side::Two, two.members());
         packed
@@ -80,9 +72,11 @@ impl Packed {
     }
 }
 
-fn header_bytes(seed: [u8; 10], rules: Rules, limit: TurnLimit) -> [u8; 24]
+fn header_bytes(seed: &[u8], rules: Rules, limit: TurnLimit) -> [u8; 24]
+    requires { length seed.now ≡ 10 }
     ensures terms { IsTerms (record { rules = rules; limit = limit }) }
-    ensures block { result ≡ header_block (first_state (record { rules = rules; limit = limit }) [] [] seed) }
+    ensures seed { IsStream (Link seed.now) }
+    ensures block { result ≡ header_block (first_state (record { rules = rules; limit = limit }) [] [] seed.now) }
 {
     let limit = limit.number();
     [

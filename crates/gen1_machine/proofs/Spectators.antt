@@ -1,12 +1,10 @@
 -- The spectator's law: after any run from the beginning, the view made of the events is what the battle shows.
 use Rattle.std.proofs.Common.{[], All, Bool, List, None, Option, ap, arith, false, flat_map, if◌then◌else◌, length, map, nat_lt, not, refl, sym, true, true≢false, ℕ, ◌&&◌, ◌++◌, ◌+◌, ◌==◌, ◌∙◌, ◌∷◌, ◌≡◌, ◌||◌, ◌≤◌}
 use Rattle.std.proofs.lemmas.Bool.{eqb-true}
-use Rattle.std.proofs.lemmas.List.Elements.{All-head, All-map, All-tail}
-use Rattle.std.proofs.lemmas.List.{length-map}
+use Rattle.std.proofs.lemmas.List.Elements.{All-head, All-tail}
 use Rattle.gen1_stats.specs.declared.known_move.KnownMove.{KnownMove}
 use Rattle.gen1_stats.specs.declared.status.Status.{Status}
-use Rattle.gen1_stats.specs.Members.{is_living, Member}
-use Rattle.gen1_stats.specs.Teams.{member_of}
+use Rattle.gen1_stats.specs.Members.{is_living, IsFresh, Member}
 use Rattle.gen1_machine.specs.declared.side.Side.{Side}
 use Rattle.gen1_machine.specs.declared.side.Side.TheVariants.{One, Two}
 use Rattle.gen1_machine.specs.declared.terms.Outcome.{Outcome}
@@ -23,7 +21,7 @@ use Rattle.gen1_machine.specs.Ruling.{ruling_of}
 use Rattle.gen1_machine.specs.OfferedChoices.{is_committed, has_no_slot_in, bars_slot, usable_from, or_struggle, moves_offered, others_living_from, switches_offered, offered_for, offered}
 use Rattle.gen1_machine.specs.Step.{same_choice, is_among, opened, update, events_of, answered, offers, step_by, step, run_by, run, Stepped}
 use Rattle.gen1_machine.specs.View.{side_view, first_view, sees, sees_all, shown, shows, Shown, View}
-use Rattle.gen1_machine.specs.Spectator.{IsUnhurt, TeamsAreUnhurt, WatcherKnows}
+use Rattle.gen1_machine.specs.Spectator.{WatcherKnows}
 use Rattle.gen1_machine.proofs.Showing.{BothOut}
 use Rattle.gen1_machine.proofs.WatchedEffects.{ruling_of-tells}
 use Rattle.gen1_machine.proofs.WatchedSwitches.{ChoiceFits, sized}
@@ -159,26 +157,20 @@ run-knows v s (pair ∷ pairs) e r =
 abbrev at_first : Member → Shown
 at_first m = record { hp = m.max; kind = None }
 
-unhurt-shown : (m : Member) → IsUnhurt m → at_first m ≡ shown m
-unhurt-shown m h = ap (λ n. record (at_first m) { hp = n }) (sym h.hp) ∙ ap (λ (status : Status). record (shown m) { kind = kind_of status }) (sym h.status)
+fresh-shown : (m : Member) → IsFresh m → at_first m ≡ shown m
+fresh-shown m h = ap (λ n. record (at_first m) { hp = n }) (sym h.unhurt) ∙ ap (λ (status : Status). record (shown m) { kind = kind_of status }) (sym h.healthy)
 
-team-shown : (team : List Member) → All IsUnhurt team → map at_first team ≡ map shown team
+team-shown : (team : List Member) → All IsFresh team → map at_first team ≡ map shown team
 team-shown [] h = refl
 team-shown (m ∷ ms) h =
-    ap (λ (k : Shown). k ∷ map at_first ms) (unhurt-shown m (All-head IsUnhurt m ms h))
-    ∙ ap (λ (ks : List Shown). shown m ∷ ks) (team-shown ms (All-tail IsUnhurt m ms h))
+    ap (λ (k : Shown). k ∷ map at_first ms) (fresh-shown m (All-head IsFresh m ms h))
+    ∙ ap (λ (ks : List Shown). shown m ∷ ks) (team-shown ms (All-tail IsFresh m ms h))
 
 pub watcher_knows : WatcherKnows
 watcher_knows t one two seed pairs a b =
     let s : State = first_state t one two seed in
     let w : View = first_view one two in
     let first : w ≡ shows s.field =
-    ap (λ (ms : List Shown). record w { one = record w.one { members = ms } }) (team-shown one a.unhurt)
-    ∙ ap (λ (ms : List Shown). record (shows s.field) { two = record (shows s.field).two { members = ms } }) (team-shown two b.unhurt) in
-    run-knows w s pairs first (Fresh refl refl a.somebody b.somebody)
-
-pub teams_are_unhurt : TeamsAreUnhurt
-teams_are_unhurt sheets some = record {
-  somebody = rw (length-map sheets member_of) some;
-  unhurt = All-map IsUnhurt member_of sheets (λ k d below. record { hp = refl; status = refl });
-}
+    ap (λ (ms : List Shown). record w { one = record w.one { members = ms } }) (team-shown one a.members)
+    ∙ ap (λ (ms : List Shown). record (shows s.field) { two = record (shows s.field).two { members = ms } }) (team-shown two b.members) in
+    run-knows w s pairs first (Fresh refl refl a.size.0 b.size.0)

@@ -7,7 +7,7 @@ use Rattle.gen1_machine.specs.State.{first_state, is_over, usual_terms, State, T
 use Rattle.gen1_machine.specs.Step.{events_of, step, step_before, step_two, run_by, run, Accepted, Answer, Refusal, Over, Refused}
 use Rattle.gen1_machine.specs.Room.{accepted_pairs, course_of, Submission, Course}
 use Rattle.gen1_machine.specs.Layout.{bytes_of}
-use Rattle.gen1_machine.specs.Valid.{IsField, IsFresh, IsState, IsTerms, IsUnstarted}
+use Rattle.gen1_machine.specs.Valid.{IsField, IsState, IsTerms, IsUnstarted}
 
 -- once a battle is over, every pair of choices is refused as that, and nothing changes
 abbrev pub OverStaysOver : Type 0
@@ -62,8 +62,7 @@ FirstExists = (s : Stream) → IsStream s → (n : ℕ) (test : ℕ → Bool) (b
 -- a battle of two teams is a valid one before its first update
 abbrev pub FirstStatesAreValid : Type 0
 FirstStatesAreValid = (terms : Terms) (one two : List Member) (seed : List ℕ)
-    → IsTerms terms → IsTeam one → IsTeam two → All IsFresh one → All IsFresh two → IsStream (Link seed)
-    → IsState (first_state terms one two seed)
+    → IsTerms terms → IsTeam one → IsTeam two → IsStream (Link seed) → IsState (first_state terms one two seed)
 
 abbrev pub is_accepted : Answer → Bool
 is_accepted (Refused why) = false

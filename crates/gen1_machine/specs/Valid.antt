@@ -217,10 +217,3 @@ pub record IsState (s : State) : Type 0 where
   pub terms : IsTerms s.terms
   pub seed : IsStream (Link s.seed)
   pub field : IsUnstarted s.terms s.field ⊎ IsStarted s.terms s.field
-
--- what a member of a team has beside the numbers of a member: the ranges of its types, and it is unhurt and healthy
-pub record IsFresh (m : Member) : Type 0 where
-  pub species : IsBetween 1 151 m.species
-  pub moves : All (λ (k : KnownMove). IsBetween 1 165 k.id) m.moves
-  pub unhurt : m.hp ≡ m.max
-  pub healthy : m.status ≡ Healthy

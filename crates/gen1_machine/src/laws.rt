@@ -2,7 +2,7 @@
 //! is the law.
 ghost use Rattle.gen1_machine.specs.Bounds.{ActIsBounded, EndIsBounded, OrderIsBounded, ResidualIsBounded, StepIsBounded, SwitchIsBounded, TurnIsBounded, UpdateIsBounded};
 ghost use Rattle.gen1_machine.specs.Laws.{OverStaysOver, RefusalChangesNothing, TermsStay, RunsAppend, SameAsBeforeRules, SameAsFixedLimit, RoomRuns, FirstIsLeast, FirstExists, FirstStatesAreValid, RunsEnd, FieldsStayValid, StatesFit, StatesStayValid};
-ghost use Rattle.gen1_machine.specs.Spectator.{TeamsAreUnhurt, WatcherKnows};
+ghost use Rattle.gen1_machine.specs.Spectator.{WatcherKnows};
 
 /// Once a battle is over, every pair of choices is refused and nothing changes.
 pub fn over_stays_over()
@@ -116,12 +116,7 @@ pub fn step_is_bounded()
     ensures { StepIsBounded }
 {}
 
-/// A team has somebody in it, and nobody is hurt as its battle begins.
-pub fn teams_are_unhurt()
-    ensures { TeamsAreUnhurt }
-{}
-
-/// Who has seen all events of a battle knows the active places, the HP, the kinds of status, the
+/// Who has seen all events of a battle of two teams knows the active places, the HP, the kinds of status, the
 /// stages, substitutes, confusion, screens, the turn and the outcome.
 pub fn watcher_knows()
     ensures { WatcherKnows }

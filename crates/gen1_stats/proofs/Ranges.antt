@@ -11,7 +11,7 @@ use Rattle.gen1_stats.proofs.Lists.{none_passes, only}
 use Rattle.gen1_stats.specs.declared.known_move.KnownMove.{KnownMove}
 use Rattle.gen1_stats.specs.declared.refusal.TeamRefusal.{TeamRefusal}
 use Rattle.gen1_stats.specs.declared.refusal.TeamRefusal.TheVariants.{Empty}
-use Rattle.gen1_stats.specs.Members.{IsBetween, IsKnown, IsMember, is_left_out, least_member, struggle}
+use Rattle.gen1_stats.specs.Members.{IsBetween, IsFresh, IsKnown, IsMember, is_left_out, least_member, struggle}
 use Rattle.gen1_stats.specs.Sheets.{Sheet}
 use Rattle.gen1_stats.specs.Stats.{full_pp}
 use Rattle.gen1_stats.specs.Teams.{first_failed, known_of, member_of, member_refusal, repeats, tests}
@@ -109,18 +109,23 @@ known_pound : IsKnown record { id = 1; pp = 35 }
 unfolding move_row move_rows
 known_pound = record { in_engine = refl; not_struggle = λ same. absurd (omega arith); pp = omega arith }
 
--- the least member keeps to the ranges, whatever its species
-pub least_member-ranges : (species : ℕ) (moves : List KnownMove) → moves ≡ least_member.moves
-    → IsMember (record least_member { species = species; moves = moves })
-least_member-ranges species moves is = rw is record {
-  level = (omega arith, omega arith);
-  max = (omega arith, omega arith);
-  hp = omega arith;
-  attack = (omega arith, omega arith);
-  defense = (omega arith, omega arith);
-  speed = (omega arith, omega arith);
-  special = (omega arith, omega arith);
-  slots = (omega arith, omega arith);
-  known = only IsKnown _ known_pound;
-  distinct = λ i j d before low same. absurd (omega arith);
+-- the least member begins so as well
+pub least_member-fresh : IsFresh least_member
+least_member-fresh = record {
+  member = record {
+    level = (omega arith, omega arith);
+    max = (omega arith, omega arith);
+    hp = omega arith;
+    attack = (omega arith, omega arith);
+    defense = (omega arith, omega arith);
+    speed = (omega arith, omega arith);
+    special = (omega arith, omega arith);
+    slots = (omega arith, omega arith);
+    known = only IsKnown _ known_pound;
+    distinct = λ i j d before low same. absurd (omega arith);
+  };
+  species = (omega arith, omega arith);
+  moves = only (λ (k : KnownMove). IsBetween 1 165 k.id) _ (omega arith, omega arith);
+  unhurt = refl;
+  healthy = refl;
 }

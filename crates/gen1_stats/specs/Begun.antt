@@ -1,7 +1,7 @@
 -- What the code's `Member` stands for: a member as a battle begins, unhurt and healthy.
 use Rattle.gen1_stats.specs.declared.member.Member.TheInside.{Inside}
 use Rattle.gen1_stats.specs.declared.status.Status.TheVariants.{Healthy}
-use Rattle.gen1_stats.specs.Members.{IsMember, Member}
+use Rattle.gen1_stats.specs.Members.{IsFresh, Member}
 
 abbrev pub begun : Inside → Member
 begun m = record {
@@ -18,4 +18,4 @@ begun m = record {
 }
 
 abbrev pub IsBegun : Inside → Type 0
-IsBegun m = IsMember (begun m)
+IsBegun m = IsFresh (begun m)

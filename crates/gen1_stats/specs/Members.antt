@@ -52,10 +52,18 @@ pub record IsMember (m : Member) : Type 0 where
   pub known : All IsKnown m.moves
   pub distinct : AllPairs (λ a b. a.id ≢ b.id) m.moves
 
--- what a list of members keeps to that is a team
+-- what a member of a team keeps to as a battle begins: it is of the tables, unhurt and healthy
+pub record IsFresh (m : Member) : Type 0 where
+  pub member : IsMember m
+  pub species : IsBetween 1 151 m.species
+  pub moves : All (λ (k : KnownMove). IsBetween 1 165 k.id) m.moves
+  pub unhurt : m.hp ≡ m.max
+  pub healthy : m.status ≡ Healthy
+
+-- what a list of members keeps to that is a team, as a battle begins
 pub record IsTeam (team : List Member) : Type 0 where
   pub size : IsBetween 1 6 (length team)
-  pub members : All IsMember team
+  pub members : All IsFresh team
 
 -- the least that a member can be, which fills the unused places of a list of members
 abbrev pub least_member : Member

@@ -1,7 +1,7 @@
 //! A member of a team as a battle begins (docs/MECHANICS.md, "Stats").
 ghost use Rattle.std.specs.Prelude.{◌≡◌, ◌≢◌, ◌≤◌, All, AllPairs, IfErr, IfOk, None, OnOk, Some, length, map};
 ghost use Rattle.gen1_stats.specs.declared.status.Status.TheVariants.{Healthy};
-ghost use Rattle.gen1_stats.specs.Members.{IsKnown, IsMember, least_member};
+ghost use Rattle.gen1_stats.specs.Members.{IsBetween, IsFresh, IsKnown, least_member};
 ghost use Rattle.gen1_stats.specs.Teams.{known_of, member_of, member_refusal};
 
 use crate::known_move::KnownMove;
@@ -77,11 +77,12 @@ impl Member {
         ensures made { IfOk result (λ member. member ≡ member_of spec.now) }
         ensures allowed { OnOk result (member_refusal place spec.now ≡ None) }
         ensures refused { IfErr result (λ refusal. member_refusal place spec.now ≡ Some refusal) }
-        ensures ranges { IfOk result (λ member. IsMember member) }
+        ensures fresh { IfOk result (λ member. IsFresh member) }
     {
         if let Some(refusal) = spec.refusal(place) {
             return Err(refusal);
         }
+        prove!(spec.species.number() <= 151);
         let level = spec.level;
         let base = spec.species.base();
         Ok(Member {
@@ -175,10 +176,12 @@ impl Member {
 fn known_moves(chosen: &[(MoveId, u8)]) -> ArrayVec<KnownMove, 4>
     requires room { length chosen.now ≤ 4 }
     requires ups { All (λ move. move.1 ≤ 3) chosen.now }
-    ensures { result.items ≡ map known_of chosen.now }
+    ensures made { result.items ≡ map known_of chosen.now }
+    ensures listed { All (λ known. IsBetween 1 165 known.id) result.items }
 {
     let mut moves = ArrayVec::new();
     for &(id, ups) in chosen {
+        prove!(id.number() <= 165);
         let pp = full_pp(id.pp(), ups);
         moves.push(KnownMove { id, pp });
     }

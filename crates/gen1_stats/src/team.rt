@@ -1,6 +1,6 @@
 //! Teams (docs/MECHANICS.md, "Stats").
-ghost use Rattle.std.specs.Prelude.{◌≡◌, ◌≤◌, All, IfErr, IfOk, None, OnOk, Some, length};
-ghost use Rattle.gen1_stats.specs.Members.{IsMember};
+ghost use Rattle.std.specs.Prelude.{◌≡◌, ◌≤◌, IfErr, IfOk, None, OnOk, Some, length};
+ghost use Rattle.gen1_stats.specs.Members.{IsTeam};
 ghost use Rattle.gen1_stats.specs.Teams.{team_of, team_refusal};
 
 use crate::member::Member;
@@ -9,7 +9,7 @@ use crate::refusal::TeamRefusal;
 use arrayvec::ArrayVec;
 use std::marker::Model;
 
-/// One to six members as a battle begins.
+/// One to six members as a battle begins: unhurt and healthy.
 #[derive(Debug, Clone, PartialEq, Eq, Drop)]
 pub struct Team {
     members: ArrayVec<Member, 6>,
@@ -52,12 +52,12 @@ impl Team {
         Ok(Team { members })
     }
 
-    /// The members in the order of their places: one to six.
+    /// The members in the order of their places: one to six, unhurt and healthy.
     pub fn members(&self) -> &[Member]
         ensures value { result.now ≡ self.now }
         ensures some { 1 ≤ length result.now }
         ensures few { length result.now ≤ 6 }
-        ensures ranges { All IsMember result.now }
+        ensures team { IsTeam self.now }
     {
         self.members.as_slice()
     }

@@ -1,6 +1,5 @@
 ghost use Rattle.std.specs.Prelude.{◌+◌, ◌≤◌};
 ghost use Rattle.arrayvec.specs.ArrayVec.{array_vec_len};
-ghost use Rattle.gen1_stats.specs.Members.{IsMember};
 
 use gen1_machine::{Choice, Event, EventList, Health, Level, Place, Side, Who};
 use gen1_stats::{KnownMove, Member};
@@ -54,9 +53,7 @@ pub struct Fighter {
 
 impl Fighter {
     /// The fighter that a member is as the battle begins.
-    pub fn new(side: Side, member: &Member) -> Fighter
-        requires { IsMember member.now }
-    {
+    pub fn new(side: Side, member: &Member) -> Fighter {
         let mut moves = [None; 4];
         for (slot, known) in member.moves().iter().enumerate() {
             if slot < 4 {

@@ -5,6 +5,6 @@ use Rattle.battle_tool.proofs.damages.damages.Goals as goal
 
 pub returns : goal.returns
 unfolding damages_of
-returns c a b one two fresh_a fresh_b =
-    let (g, within) = c.begin_duel-battle.ensures a b one two fresh_a fresh_b in
+returns c a b one two =
+    let (g, within) = c.begin_duel-battle.ensures a b one two in
     c.damage_list.ensures ∙ ap damages (c.numbers.ensures.stands g _ within)

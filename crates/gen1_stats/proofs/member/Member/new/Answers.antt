@@ -1,4 +1,4 @@
-use Rattle.std.proofs.Common.{None, length, rules, subst, sym, ◌≡◌, ◌≤◌}
+use Rattle.std.proofs.Common.{None, arith, length, refl, rules, subst, sym, ◌≡◌, ◌≤◌}
 use Rattle.gen1_stats.proofs.Ranges.{allowed, member_of-ranges, ups_allowed}
 use Rattle.gen1_stats.specs.Begun.{begun}
 use Rattle.gen1_stats.specs.Members.{IsMember}
@@ -25,7 +25,13 @@ invariant_of-result c =
       special = c.stat-4.result;
       moves = c.known_moves.result;
     } ≡ member_of c.args.spec.now = search rules in
-    subst IsMember (sym made) (member_of-ranges c.args.spec.now (allowed c.args.place c.args.spec.now none) few)
+    record {
+      member = subst IsMember (sym made) (member_of-ranges c.args.spec.now (allowed c.args.place c.args.spec.now none) few);
+      species = (omega (arith, c.number.ensures), omega (arith, c.number.ensures));
+      moves = c.known_moves.ensures.listed;
+      unhurt = refl;
+      healthy = refl;
+    }
 
-pub returns-clause-ranges : goal.returns-clause-ranges
-returns-clause-ranges c = invariant_of-result c
+pub returns-clause-fresh : goal.returns-clause-fresh
+returns-clause-fresh c = invariant_of-result c

@@ -1,7 +1,7 @@
 use Rattle.std.proofs.Common.{None, arith, length, map, rules, subst, sym, take, [], ℕ, ◌+◌, ◌++◌, ◌<◌, ◌≡◌, ◌∙◌, ◌∷◌}
 use Rattle.gen1_stats.proofs.Joining.{first_refusal-drop}
 use Rattle.gen1_stats.proofs.Lists.{All-push, map-take_more}
-use Rattle.gen1_stats.specs.Members.{IsMember}
+use Rattle.gen1_stats.specs.Members.{IsFresh}
 use Rattle.gen1_stats.specs.Teams.{member_of, member_refusal}
 use Rattle.gen1_stats.proofs.team.Team.new.Goals as goal
 
@@ -19,6 +19,6 @@ loop-spec-preserved c =
       made = rw (c.push.ensures.items, c.loop-spec.invariant.made, c.in_ok-new.ensures.made) (sym more);
       passed = sym (first_refusal-drop c.args.specs.now c.loop-spec.spec-index c.spec-item.result low c.spec-item.is none)
           ∙ c.loop-spec.invariant.passed;
-      ranges = All-push IsMember c.loop-spec.members.items _ c.in_ok-new.field-0 c.push.ensures.items
-          c.loop-spec.invariant.ranges c.in_ok-new.ensures.ranges;
+      fresh = All-push IsFresh c.loop-spec.members.items _ c.in_ok-new.field-0 c.push.ensures.items
+          c.loop-spec.invariant.fresh c.in_ok-new.ensures.fresh;
     }
