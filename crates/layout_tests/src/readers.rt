@@ -46,7 +46,7 @@ fn begun() -> Result<Packed, Fail> {
 #[test]
 fn members_by_their_places(rt: HostRuntime) -> Result<(), Fail> {
     let packed = at_turn_0()?;
-    for place in [1, 2] {
+    for place in 1..3 {
         let side = Side::Two;
         assert_eq!(rt;
             packed.species_from(side, place),
