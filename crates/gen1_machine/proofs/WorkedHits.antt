@@ -13,7 +13,9 @@ use Rattle.gen1_machine.specs.declared.picks.Pick.TheVariants.{Use, Continue}
 use Rattle.gen1_rolls.specs.Streams.{Stream, Link}
 use Rattle.gen1_stats.specs.Members.{Member}
 use Rattle.gen1_machine.specs.Health.{Health}
-use Rattle.gen1_machine.specs.Conditions.{with_substitute}
+use Rattle.gen1_machine.specs.Conditions.{with_light_screen, with_reflect, with_substitute}
+use Rattle.gen1_machine.specs.Damage.{numbers_in, Numbers}
+use Rattle.gen1_machine.specs.Moves.{move_at}
 use Rattle.gen1_machine.specs.State.{known_in, Active}
 use Rattle.gen1_machine.specs.Progress.{active, member, underway, is_invulnerable, Progress}
 use Rattle.gen1_machine.specs.Action.{act}
@@ -45,6 +47,46 @@ uses move foe change d e = act usual One (Use (Slot 1)) (facing (knowing move 10
 
 abbrev pub left_with : ℕ → Member
 left_with hp = record tauros { hp = hp }
+
+-- damage numbers (docs/MECHANICS.md, "Damage numbers"): level, attack and defense, divided by 4 where one is above 255, with the low
+-- byte of each. Reflect makes 288 into 576, and Light Screen 238 into 476; of 999 it makes 1998, a quarter of which is 499, 243 above 256
+
+abbrev with_attack_stage : ℕ → Active → Active
+with_attack_stage n a = record a { stages = record a.stages { attack = n } }
+
+abbrev fitted : Bool → ℕ → Member → (Active → Active) → Member → (Active → Active) → List ℕ
+fitted critical move user change foe changed =
+    let n = numbers_in One (move_at move) critical (facing user change foe changed (drawing 0 0 0 0 0)).field in
+    n.level ∷ n.attack ∷ n.defense ∷ []
+
+screens_double : (fitted false 70 tauros as_is tauros as_is ≡ 100 ∷ 74 ∷ 72 ∷ []) × (fitted false 57 tauros as_is tauros as_is ≡ 100 ∷ 238 ∷ 238 ∷ [])
+    × (fitted false 70 tauros as_is tauros (set with_reflect) ≡ 100 ∷ 74 ∷ 144 ∷ [])
+    × (fitted false 57 tauros as_is tauros (set with_light_screen) ≡ 100 ∷ 59 ∷ 119 ∷ [])
+    × (fitted false 70 tauros as_is (record tauros { defense = 999 }) (set with_reflect) ≡ 100 ∷ 74 ∷ 243 ∷ [])
+unfolding computing
+screens_double = (refl, refl, refl, refl, refl)
+
+-- a critical hit takes the own stats, twice the level and no screen; an attack of 3 beside 288 becomes 1, and a defense of 3 beside 298
+-- is 0
+critical_takes_own_stats : (fitted true 70 tauros (with_attack_stage 12) tauros (set with_reflect) ≡ 200 ∷ 74 ∷ 72 ∷ [])
+    × (fitted false 70 tauros (with_attack_stage 12) tauros as_is ≡ 100 ∷ 249 ∷ 72 ∷ [])
+    × (fitted false 70 (record tauros { attack = 3 }) as_is tauros as_is ≡ 100 ∷ 1 ∷ 72 ∷ [])
+    × (fitted false 70 tauros as_is (record tauros { defense = 3 }) as_is ≡ 100 ∷ 74 ∷ 0 ∷ [])
+unfolding computing
+critical_takes_own_stats = (refl, refl, refl, refl)
+
+-- a row of 0 (docs/MECHANICS.md, "Types"): the Ghost is missed and told as immune; the critical draw and the hit test are taken, and no
+-- draw for the factor
+
+abbrev on_a_ghost : Progress
+on_a_ghost = uses 70 (record tauros { species = 94 }) as_is 0 0
+
+abbrev ghost : Who
+ghost = record { side = Two; species = 94 }
+
+immune_ghost : (on_a_ghost.events ≡ events.Move (tauros_of One) 70 ghost ∷ events.Immune ghost ∷ []) × (on_a_ghost.drawn ≡ 2)
+unfolding computing
+immune_ghost = (refl, refl)
 
 -- many hits (docs/MECHANICS.md, "Many hits"). Double Slap: 42 * 15 * 74 / 72 is 647, / 50 is 12, + 2 is 14, with the own type
 -- 21. The count 3, drawn anew as 2, makes four hits of 21, told once

@@ -3,7 +3,7 @@ use Rattle.std.proofs.Common.{Bool, List, None, Option, Some, [], false, map, re
 use Rattle.gen1_tables.specs.declared.effect.Stat.TheVariants.{Attack, Speed}
 use Rattle.gen1_tables.specs.declared.effect.Effect.TheVariants as effects
 use Rattle.gen1_stats.specs.declared.status.Status.{Status}
-use Rattle.gen1_stats.specs.declared.status.Status.TheVariants.{Healthy, Poisoned, Burned, Paralysed}
+use Rattle.gen1_stats.specs.declared.status.Status.TheVariants.{Healthy, Asleep, Poisoned, Burned, Paralysed}
 use Rattle.gen1_machine.specs.declared.side.Side.{Side}
 use Rattle.gen1_machine.specs.declared.side.Side.TheVariants.{One, Two}
 use Rattle.gen1_machine.specs.declared.health.Kind.TheVariants as kinds
@@ -14,10 +14,11 @@ use Rattle.gen1_machine.specs.declared.event.Event.TheVariants as events
 use Rattle.gen1_rolls.specs.Streams.{Sweep}
 use Rattle.gen1_stats.specs.Members.{Member}
 use Rattle.gen1_stats.specs.Stats.{full_pp, hp_dv, hp_stat, root, stat}
-use Rattle.gen1_machine.specs.Conditions.{with_substitute, with_seed, Conditions}
+use Rattle.gen1_machine.specs.Conditions.{with_confusion, with_mist, with_recharge, with_substitute, with_seed, Conditions, Storing}
+use Rattle.gen1_machine.specs.Stages.{at_stage}
 use Rattle.gen1_machine.specs.Moves.{move_at}
 use Rattle.gen1_machine.specs.State.{Active}
-use Rattle.gen1_machine.specs.Progress.{fail, stay, set_last_damage, active, conditions, status_of, stat_now, Progress}
+use Rattle.gen1_machine.specs.Progress.{fail, stay, set_last_damage, active, conditions, status_of, stat_now, underway, Progress}
 use Rattle.gen1_machine.specs.HitEffects.{drain}
 use Rattle.gen1_machine.specs.StageShift.{raise_stage, lower_stage}
 use Rattle.gen1_machine.specs.EarlyEffects.{early_effect, heal}
@@ -48,6 +49,16 @@ stats_of_tauros : (hp_stat 250 (hp_dv 15 15 15 15) 65535 100 ∷ hp_stat 75 15 6
     × (hp_dv 1 0 1 0 ∷ full_pp 15 3 ∷ full_pp 40 3 ∷ [] ≡ 10 ∷ 24 ∷ 61 ∷ [])
 unfolding computing
 stats_of_tauros = (refl, refl)
+
+-- stages (docs/MECHANICS.md, "Stages"): 298 from -6 to +6, at most 999; and 3 at -6, at least 1
+stages_of_298 : map (λ stage. at_stage stage 298) (0 ∷ 1 ∷ 2 ∷ 3 ∷ 4 ∷ 5 ∷ 6 ∷ 7 ∷ 8 ∷ 9 ∷ 10 ∷ 11 ∷ 12 ∷ [])
+    ≡ 74 ∷ 83 ∷ 98 ∷ 119 ∷ 149 ∷ 196 ∷ 298 ∷ 447 ∷ 596 ∷ 745 ∷ 894 ∷ 999 ∷ 999 ∷ []
+unfolding computing
+stages_of_298 = refl
+
+stage_of_3 : at_stage 0 3 ≡ 1
+unfolding computing
+stage_of_3 = refl
 
 -- what a substitute costs (docs/MECHANICS.md, "Early effects"): of 353 a quarter is 88, and who has 88 makes one and falls
 
@@ -193,3 +204,45 @@ weakest = lower_stage Two One Attack 1 (fail One) (alone (record tauros { attack
 shift_at_1 : (weakest.events ≡ fails) × (stat_now Attack One weakest ≡ 1) × ((active One weakest).stages.attack ≡ 1)
 unfolding computing
 shift_at_1 = (refl, refl, refl)
+
+-- late effects (docs/MECHANICS.md, "Late effects"): Growl fails on a Substitute without a draw, misses under Mist without one, and else
+-- takes one; a foe with Recharge sleeps in place of its burn, where 0 is drawn and then the count 1; Bide draws (1 & 1) + 2
+
+abbrev growls : (Active → Active) → Progress
+growls foe = late_effect usual One (move_at 45) (effects.StatDown Attack 1) (facing tauros as_is tauros foe (Sweep 0))
+
+growl : ((growls as_is).events ≡ events.Unboost (tauros_of Two) Attack 1 ∷ []) × ((growls (set (with_substitute 9))).events ≡ fails)
+    × ((growls (set with_mist)).events ≡ events.Miss (tauros_of One) ∷ [])
+    × (map (λ change. (growls change).drawn) (as_is ∷ set (with_substitute 9) ∷ set with_mist ∷ []) ≡ 1 ∷ 0 ∷ 0 ∷ [])
+unfolding computing
+growl = (refl, refl, refl, refl)
+
+abbrev lulled : (Active → Active) → Progress
+lulled foe = late_effect usual One (move_at 147) effects.InflictSleep (facing tauros as_is (record tauros { status = Burned }) foe (Sweep 0))
+
+sleep_replaces_a_burn : ((lulled (set with_recharge)).events ≡ events.Status (tauros_of Two) kinds.Sleep ∷ [])
+    × (status_of Two (lulled (set with_recharge)) ≡ Asleep 1 false) × ((lulled as_is).events ≡ fails)
+    × ((lulled (set with_recharge)).drawn ∷ (lulled as_is).drawn ∷ [] ≡ 2 ∷ 0 ∷ [])
+unfolding computing
+sleep_replaces_a_burn = (refl, refl, refl, refl)
+
+abbrev begins_bide : Progress
+begins_bide = late_effect usual One (move_at 117) effects.Bide (facing tauros as_is tauros as_is (Sweep 1))
+
+bide_begins : (begins_bide.events ≡ events.Start (tauros_of One) volatiles.Bide ∷ []) × (begins_bide.drawn ≡ 1)
+    × ((underway One begins_bide).bide ≡ Some (record { turns = 3; energy = 0 }))
+unfolding computing
+bide_begins = (refl, refl, refl)
+
+-- Haze (docs/MECHANICS.md, "Early effects"): the burned user's Attack is 298 again, and its burn stays; the foe wakes, acts no more this
+-- turn, and keeps its Substitute but not its confusion
+
+abbrev hazed : Progress
+hazed = early_effect One (move_at 114) effects.Haze (facing (record tauros { status = Burned }) (at_attack_stage 3)
+    (record tauros { status = Asleep 3 false }) (set λ c. with_substitute 9 (with_confusion 3 c)) (Sweep 0))
+
+haze_clears : (hazed.events ≡ events.ClearAll ∷ events.Cure (tauros_of Two) kinds.Sleep ∷ []) × (hazed.skips ≡ true)
+    × (stat_now Attack One hazed ≡ 298) × (status_of One hazed ≡ Burned) × (status_of Two hazed ≡ Healthy)
+    × ((conditions Two hazed).substitute ≡ Some 9) × ((conditions Two hazed).confused ≡ None)
+unfolding computing
+haze_clears = (refl, refl, refl, refl, refl, refl, refl)
