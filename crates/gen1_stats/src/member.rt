@@ -82,6 +82,7 @@ impl Member {
         if let Some(refusal) = spec.refusal(place) {
             return Err(refusal);
         }
+        // The type knows that a species is of the tables; asked for its number, it says so.
         prove!(spec.species.number() <= 151);
         let level = spec.level;
         let base = spec.species.base();
