@@ -26,7 +26,7 @@ use Rattle.gen1_machine.specs.Plans.{with_plan, Any, Doing, HoldsPlan, IsPlanned
 use Rattle.gen1_machine.proofs.Keeps.{choose-keeps, given-keeps, note-keeps, on_active-keeps, on_conditions-keeps, on_member-keeps, stay-keeps, stop-keeps, then-keeps, Keeps}
 use Rattle.gen1_machine.proofs.Leads.{choose-false, keeps-leads, leads-weaker, then-leads, Leads}
 use Rattle.gen1_machine.proofs.Tame.{accuracy-tame, with_invulnerability-tame, without_charging-tame, without_invulnerability-tame, SameMoves, TameMember}
-use Rattle.gen1_machine.proofs.Sound.{choose-sees, given-sees, party-valid, replanned, taken-up, with_plan-is, planned-sound, planned-tied, Sound}
+use Rattle.gen1_machine.proofs.Sound.{choose-sees, given-sees, party-valid, planned-holds, replanned, taken-up, with_plan-is, planned-sound, planned-tied, Sound}
 use Rattle.gen1_machine.proofs.SoundFacts.{is-move, IsMove}
 use Rattle.gen1_machine.proofs.SoundWalk.{conditions-spared, early_effect-sound, gate_or_held-sound, ruling-sound, see_if_going_on-sound}
 use Rattle.gen1_machine.proofs.Explained.{bide_goes_on-keeps, charging-on, prelude-keeps, strikes-keeps}
@@ -306,7 +306,7 @@ module _ (terms : Terms) (plan : Side → Plan) (s : Side) (move : Move) (is : I
   unfolding bide_goes_on given bide_on stay
   bide-quiet = record {
     kept = λ p h.
-        let plans : HoldsPlan (Plans used move.effect) (member_in s p.field).moves (active_in s p.field) = subst (λ x. HoldsPlan x (member_in s p.field).moves (active_in s p.field)) planned (h.0.holds s) in
+        let plans = planned-holds s p.field p.action p.stream planned h.0 in
         let none : (underway_in s p.field).bide ≡ None = no-bide (underway_in s p.field).bide plans.2.bide_tied in
         subst (λ o. let q : Progress = bide_on s o (last_damage p) p in Quiet terms plan q.field q.action q.stream) (sym none) h;
   }
@@ -364,7 +364,7 @@ module _ (terms : Terms) (plan : Side → Plan) (s : Side) where
           IsPlanned terms (with_plan s Any plan) q.field q.action q.stream
       by p h =
           let moves = (member_in s p.field).moves in
-          let plans : HoldsPlan (Plans used e) moves (active_in s p.field) = subst (λ x. HoldsPlan x moves (active_in s p.field)) planned (h.0.holds s) in
+          let plans = planned-holds s p.field p.action p.stream planned h.0 in
           (carry_out-leads terms plan s (move_at (number_in used moves)) (is-move _) used (planned ∙ ap (λ x. Plans used x) (sym plans.1))).led p h
 
   act-from : (pick : Pick) → Leads (Quiet terms plan) (IsPlanned terms (with_plan s Any plan)) (action_parts (ruling_of terms) s pick)

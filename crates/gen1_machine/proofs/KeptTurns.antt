@@ -23,7 +23,7 @@ use Rattle.gen1_machine.specs.Valid.{rages, IsUnderway, KeepsAccuracy}
 use Rattle.gen1_machine.specs.Plans.{FitsPick, HoldsPlan, IsPlanned, Plan, Plans}
 use Rattle.gen1_machine.proofs.Keeps.{choose-keeps, given-keeps, note-keeps, on_active-keeps, on_conditions-keeps, stay-keeps, then-keeps, Keeps, Spares}
 use Rattle.gen1_machine.proofs.Leads.{choose-leads, keeps-leads, stay-leads, then-leads, Leads}
-use Rattle.gen1_machine.proofs.Sound.{party-valid, untied}
+use Rattle.gen1_machine.proofs.Sound.{party-valid, planned-holds, untied}
 use Rattle.gen1_machine.proofs.SoundWalk.{gate_or_held-sound, see_if_going_on-sound}
 use Rattle.gen1_machine.proofs.Acts.{begin-keeps, begin-quiet, either, leads-passes, no-bide, passes-leads, passes-then, quiet-sound, After, IfStopped, Quiet}
 use Rattle.gen1_machine.proofs.Steady as steadies
@@ -105,7 +105,7 @@ module _ (terms : Terms) (s : Side) (pick : Pick) where
     where
       by : (pick : Pick) → FitsPick pick (plan s) → IsUnderway (move_taken_in s pick f).effect (underway_in s f)
       by (Use used) fits =
-          let plans : HoldsPlan (Plans used fits.0) (member_in s f).moves (active_in s f) = subst (λ z. HoldsPlan z (member_in s f).moves (active_in s f)) fits.1 (h.holds s) in
+          let plans = planned-holds s f x w fits.1 h in
           untied _ (underway_in s f) plans.2
       by Continue fits = (party-valid s f h.field).active.conditions.underway
       by Idle fits = (party-valid s f h.field).active.conditions.underway

@@ -55,6 +55,11 @@ pub with-party : {terms : Terms} (s : Side) (t : Party) (f : Field) → IsParty 
 with-party One t f k h = record { one = k; two = h.two; last_damage = h.last_damage; turn = h.turn; outcome = h.outcome }
 with-party Two t f k h = record { one = h.one; two = k; last_damage = h.last_damage; turn = h.turn; outcome = h.outcome }
 
+-- what a side plans holds
+pub planned-holds : {terms : Terms} {plan : Side → Plan} {x : Plan} (s : Side) (f : Field) (a : Action) (w : Stream) → plan s ≡ x → IsPlanned terms plan f a w
+    → HoldsPlan x (member_in s f).moves (active_in s f)
+planned-holds s f a w is h = subst (λ x. HoldsPlan x (member_in s f).moves (active_in s f)) is (h.holds s)
+
 -- a change of the member that is out
 
 same-number : (used : Used) (before after : List KnownMove) → SameMoves before after → number_in used after ≡ number_in used before
@@ -228,7 +233,7 @@ module _ (terms : Terms) (plan : Side → Plan) where
   planned-tied s e is change f a w h k =
       let v = party-valid s f h.field in
       let moves = (member_in s f).moves in
-      let doing : effect_of (active_in s f).current moves ≡ e = subst (λ x. HoldsPlan x moves (active_in s f)) is (h.holds s) in
+      let doing = planned-holds s f a w is h in
       record {
         field = with-party s _ f (record {
           members = v.members;
@@ -340,7 +345,7 @@ taken-up {terms} {plan} s used e f a w is h =
     let v = party-valid s f h.field in
     let moves = (member_in s f).moves in
     let active = active_in s f in
-    let plans : HoldsPlan (Plans used e) moves active = subst (λ x. HoldsPlan x moves active) is (h.holds s) in
+    let plans = planned-holds s f a w is h in
     let next : Party = record (party s f) { active = record active { current = used } } in
     record {
       field = with-party s next f (record {

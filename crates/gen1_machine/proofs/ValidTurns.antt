@@ -32,7 +32,7 @@ use Rattle.gen1_machine.proofs.Tame.{penalty-tame, without_flinch-tame, without_
 use Rattle.gen1_machine.proofs.Bench.{between-free, Between, FreeParty}
 use Rattle.gen1_machine.proofs.Turns.{part-suffers, send_one, sent-place}
 use Rattle.gen1_machine.proofs.Free.{begin-free}
-use Rattle.gen1_machine.proofs.Sound.{holds-after, out_of, party-valid, replanned, with_plan-is, with-party, planned-sound}
+use Rattle.gen1_machine.proofs.Sound.{holds-after, out_of, party-valid, planned-holds, replanned, with_plan-is, with-party, planned-sound}
 use Rattle.gen1_machine.proofs.SoundFacts.{draw-leads}
 use Rattle.gen1_machine.proofs.SoundWalk.{conditions-spared, residual-sound}
 use Rattle.gen1_machine.proofs.Acts.{act-stays, act-takes, begin-keeps}
@@ -56,8 +56,7 @@ act-fits terms plan s Held fits = act-stays terms plan s Held (λ used. refl)
 picked-valid : {terms : Terms} (plan : Side → Plan) (s : Side) (pick : Pick) (f : Field) (a : Action) (w : Stream) → FitsPick pick (plan s) → IsPlanned terms plan f a w
     → IsUsed (length (member_in s f).moves) (picked_after pick (active_in s f).picked)
 picked-valid plan s (Use used) f a w fits h =
-    let plans : HoldsPlan (Plans used fits.0) (member_in s f).moves (active_in s f) = subst (λ x. HoldsPlan x (member_in s f).moves (active_in s f)) fits.1 (h.holds s) in
-    plans.0
+    (planned-holds s f a w fits.1 h).0
 picked-valid plan s Continue f a w fits h = (party-valid s f h.field).active.picked
 picked-valid plan s Idle f a w fits h = (party-valid s f h.field).active.picked
 picked-valid plan s Held f a w fits h = tt

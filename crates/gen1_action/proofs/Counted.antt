@@ -1,0 +1,39 @@
+-- A count that is drawn, by its one draw or its two.
+use Rattle.std.proofs.Common.{Bool, List, ap, false, nat_le, refl, sym, true, ℕ, ◌%◌, ◌+◌, ◌∙◌, ◌≡◌}
+use Rattle.gen1_rolls.specs.Streams.{byte_at, Stream}
+use Rattle.gen1_rolls.proofs.Standing.{byte_drawn, stands_after_draw}
+use Rattle.gen1_machine.specs.declared.event.Event.{Event}
+use Rattle.gen1_machine.specs.GoingOn.{count_again, count_by_draw, draw_count}
+use Rattle.gen1_machine.specs.Progress.{Phase, Progress, draw}
+use Rattle.gen1_layout.specs.Parts.{Parts}
+use Rattle.gen1_layout.specs.Shows.{Frame, ShowsDrawn}
+use Rattle.gen1_layout.proofs.Chain.{choose-false, choose-true}
+
+module _ {A : Type 0} {byte : A → ℕ} {next : A → A} {width : ℕ} {origin : A} {g : Frame} {parts : Parts} {events : List Event} {old : A} {b : Bool} {p : Progress} where
+  -- the byte that is drawn is the stream's
+  pub drawn_byte : (d : ℕ) → ShowsDrawn byte next width origin g parts events old b p → d ≡ byte old → d ≡ byte_at p.stream p.drawn
+  drawn_byte d a e = byte_drawn a.stands e ∙ ap (λ (s : Stream). byte_at s p.drawn) (sym a.shows.stream)
+
+  -- and the next stands behind it
+  pub drawn_next : {new : A} → ShowsDrawn byte next width origin g parts events old b p → new ≡ next old
+      → ShowsDrawn byte next width origin g parts events new b (record p { drawn = p.drawn + 1 })
+  drawn_next a left =
+      let h = a.shows in
+      record {
+        shows = record { within = h.within; written = h.written; ends = h.ends; stream = h.stream; drawn = refl; skips = h.skips; action = h.action };
+        stands = stands_after_draw a.stands left;
+      }
+
+pub counted_once : (f : ℕ → Phase) (p : Progress) (d : ℕ) → d ≡ byte_at p.stream p.drawn → nat_le (d % 4) 1 ≡ true → draw_count f p ≡ f (d % 4) (record p { drawn = p.drawn + 1 })
+unfolding draw_count draw count_by_draw
+counted_once f p d at small =
+    let q : Progress = record p { drawn = p.drawn + 1 } in
+    ap (λ (b : ℕ). count_by_draw f b q) (sym at) ∙ choose-true _ (f (d % 4)) (draw (count_again f)) q small
+
+pub counted_twice : (f : ℕ → Phase) (p : Progress) (d e : ℕ) → d ≡ byte_at p.stream p.drawn → nat_le (d % 4) 1 ≡ false → e ≡ byte_at p.stream (p.drawn + 1)
+    → draw_count f p ≡ f (e % 4) (record p { drawn = p.drawn + 1 + 1 })
+unfolding draw_count draw count_by_draw count_again
+counted_twice f p d e at large then =
+    let q : Progress = record p { drawn = p.drawn + 1 } in
+    let r : Progress = record p { drawn = p.drawn + 1 + 1 } in
+    ap (λ (b : ℕ). count_by_draw f b q) (sym at) ∙ choose-false _ (f (d % 4)) (draw (count_again f)) q large ∙ ap (λ (b : ℕ). f (b % 4) r) (sym then)

@@ -1,0 +1,18 @@
+use Rattle.std.proofs.Common.{ap, arith, refl, ◌%◌, ◌+◌}
+use Rattle.gen1_machine.specs.declared.health.Who.{Who}
+use Rattle.gen1_machine.specs.declared.event.Event.TheVariants as events
+use Rattle.gen1_machine.specs.declared.event.Volatile.TheVariants as volatiles
+use Rattle.gen1_machine.specs.Conditions.{with_confusion}
+use Rattle.gen1_machine.specs.State.{changed_conditions, who_in, Field}
+use Rattle.gen1_machine.specs.Progress.{starts}
+use Rattle.gen1_machine.specs.EarlyEffects.{confused_by}
+use Rattle.gen1_layout.proofs.Chain.{told_so}
+use Rattle.gen1_action.proofs.confusing.confuse_by.Goals as goal
+
+pub returns-clause-shown : goal.returns-clause-shown
+unfolding confused_by starts with_confusion
+returns-clause-shown c g p h =
+    let turns = c.args.byte % 4 + 2 in
+    let w = c.put_confused.ensures.stands _ p.field (with_confusion turns) h.within refl (omega arith, omega arith) in
+    told_so h (changed_conditions c.args.side (with_confusion turns)) (λ (f : Field). events.Start (who_in c.args.side f) volatiles.Confusion) w c.push.ensures.items
+    (ap (λ (who : Who). events.Start who volatiles.Confusion) (c.who.ensures.stands _ _ w))

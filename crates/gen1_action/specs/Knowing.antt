@@ -1,0 +1,75 @@
+-- What an action knows, as the code holds it: the machine's record of the action, and whether Haze met a sleeper. An operation
+-- that comes to know something is said by its phase, as every other: from what is shown before, beside what was known, follows
+-- what is shown after, beside what is known then.
+use Rattle.std.specs.Prelude.{Bool, List, None, false, ℕ, ◌≡◌}
+use Rattle.gen1_machine.specs.declared.side.Side.{Side}
+use Rattle.gen1_machine.specs.declared.side.Side.TheVariants.{One}
+use Rattle.gen1_machine.specs.declared.event.Event.{Event}
+use Rattle.gen1_machine.specs.Progress.{Action, Phase, Progress}
+use Rattle.gen1_layout.specs.Parts.{Parts}
+use Rattle.gen1_layout.specs.Shows.{Frame, Shows, ShowsDrawn}
+use Rattle.gen1_action.specs.declared.known.Known.{Known}
+
+abbrev pub action_of : Known → Action
+action_of k = record {
+  side = k.side;
+  going_on = k.going_on;
+  letting_go = k.letting_go;
+  missed = k.missed;
+  critical = k.critical;
+  through_types = k.through_types;
+  broke = k.broke;
+  hits_made = k.hits_made;
+  hits_planned = k.hits_planned;
+  accuracy_tested = k.accuracy_tested;
+}
+
+-- before the first action of an update
+abbrev pub nothing_yet : Known
+nothing_yet = record {
+  side = One;
+  going_on = false;
+  letting_go = false;
+  missed = false;
+  critical = false;
+  through_types = false;
+  broke = false;
+  hits_made = 0;
+  hits_planned = None;
+  accuracy_tested = None;
+  skips = false;
+}
+
+-- a new action knows nothing of the last, and who is skipped is known for the update
+abbrev pub begun : Side → Known → Known
+begun s k = record nothing_yet { side = s; skips = k.skips }
+
+-- a frame, with what is known in the place of what it says of the action
+abbrev pub knowing : Known → Frame → Frame
+knowing k g = record g { skips = k.skips; action = action_of k }
+
+-- code with no draws, from these parts, events and knowledge to those, does what a phase does
+abbrev pub DoesKnowing : Parts → List Event → Known → Parts → List Event → Known → Bool → Phase → Type 0
+DoesKnowing parts events k parts' events' k' stopped phase =
+    (g : Frame) (p : Progress) → Shows (knowing k g) parts events false p → Shows (knowing k' g) parts' events' stopped (phase p)
+
+-- code with draws, whatever generator it was handed
+abbrev pub ShowsKnown : {A : Type 0} → (A → ℕ) → (A → A) → ℕ → A → Known → Frame → Parts → List Event → A → Bool → Progress → Type 0
+ShowsKnown byte next width origin k g parts events now stopped p = ShowsDrawn byte next width origin (knowing k g) parts events now stopped p
+
+abbrev pub DoesKnowingDrawing : {A : Type 0} → (A → ℕ) → (A → A) → ℕ → Parts → List Event → A → Known → Parts → List Event → A → Known → Bool → Phase → Type 0
+DoesKnowingDrawing {A = A} byte next width parts events old k parts' events' new k' stopped phase =
+    (origin : A) (g : Frame) (p : Progress) → ShowsKnown byte next width origin k g parts events old false p
+    → ShowsKnown byte next width origin k' g parts' events' new stopped (phase p)
+
+-- once an action is over, nobody asks any more whether a substitute broke in it
+abbrev pub with_broke : Bool → Known → Known
+with_broke broke k = record k { broke = broke }
+
+abbrev pub ShowsOver : {A : Type 0} → (A → ℕ) → (A → A) → ℕ → A → Known → Frame → Parts → List Event → A → Bool → Progress → Type 0
+ShowsOver byte next width origin k g parts events now stopped p =
+    (broke : Bool) × ShowsKnown byte next width origin (with_broke broke k) g parts events now stopped p
+
+-- no hit was made yet, nor planned
+abbrev pub IsUncounted : Known → Type 0
+IsUncounted k = (k.hits_made ≡ 0) × (k.hits_planned ≡ None)

@@ -1,0 +1,10 @@
+-- What an action knows, and what its operations show beside it.
+pub mod Knowing
+-- What is planned by the side that acts.
+pub mod Planned
+-- What a call shows that stands for itself.
+pub mod Alone
+-- How often a move hits or holds.
+pub mod Counting
+-- Which types a move has no effect on.
+pub mod Immunity
