@@ -1,5 +1,5 @@
 -- Worked examples of moves that deal damage, computed (docs/PROOFS.md, "Worked examples").
-use Rattle.std.proofs.Common.{Bool, List, None, Option, Some, [], false, map, refl, replicate, true, ℕ, ◌∷◌, ◌≡◌}
+use Rattle.std.proofs.Common.{Bool, List, None, [], false, refl, replicate, true, ℕ, ◌∷◌, ◌≡◌}
 use Rattle.gen1_machine.specs.declared.side.Side.{Side}
 use Rattle.gen1_machine.specs.declared.side.Side.TheVariants.{One, Two}
 use Rattle.gen1_machine.specs.declared.health.Kind.TheVariants as kinds
@@ -14,13 +14,13 @@ use Rattle.gen1_rolls.specs.Streams.{Stream, Link}
 use Rattle.gen1_stats.specs.Members.{Member}
 use Rattle.gen1_machine.specs.Health.{Health}
 use Rattle.gen1_machine.specs.Conditions.{with_light_screen, with_reflect, with_substitute}
-use Rattle.gen1_machine.specs.Damage.{numbers_in, Numbers}
+use Rattle.gen1_machine.specs.Damage.{numbers_in}
 use Rattle.gen1_machine.specs.Moves.{move_at}
 use Rattle.gen1_machine.specs.State.{known_in, Active}
 use Rattle.gen1_machine.specs.Progress.{active, member, underway, is_invulnerable, Progress}
 use Rattle.gen1_machine.specs.Action.{act}
 use Rattle.gen1_machine.proofs.Computing.{computing}
-use Rattle.gen1_machine.proofs.WorkedRules.{tauros, knowing, facing, as_is, set, hp_of, usual}
+use Rattle.gen1_machine.proofs.WorkedRules.{tauros, knowing, facing, as_is, set, usual}
 
 -- events of two Tauros
 

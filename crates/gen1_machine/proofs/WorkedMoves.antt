@@ -1,8 +1,8 @@
 -- Worked examples of moves with rules of their own, computed (docs/PROOFS.md, "Worked examples").
-use Rattle.std.proofs.Common.{Bool, List, None, Option, Some, [], false, map, refl, true, ℕ, ◌∷◌, ◌≡◌}
+use Rattle.std.proofs.Common.{None, Some, [], false, map, refl, true, ℕ, ◌∷◌, ◌≡◌}
 use Rattle.gen1_tables.specs.declared.effect.Stat.TheVariants.{Attack}
 use Rattle.gen1_tables.specs.declared.effect.Effect.TheVariants as effects
-use Rattle.gen1_stats.specs.declared.status.Status.TheVariants.{Asleep, Burned, Frozen}
+use Rattle.gen1_stats.specs.declared.status.Status.TheVariants.{Asleep, Frozen}
 use Rattle.gen1_machine.specs.declared.side.Side.TheVariants.{One, Two}
 use Rattle.gen1_machine.specs.declared.health.Kind.TheVariants as kinds
 use Rattle.gen1_machine.specs.declared.event.CantReason.TheVariants as reasons
@@ -13,9 +13,9 @@ use Rattle.gen1_machine.specs.declared.event.Event.TheVariants as events
 use Rattle.gen1_machine.specs.declared.picks.Used.TheVariants.{Slot, Struggle}
 use Rattle.gen1_machine.specs.declared.picks.Pick.{Pick}
 use Rattle.gen1_machine.specs.declared.picks.Pick.TheVariants.{Use, Continue, Idle, Held}
-use Rattle.gen1_rolls.specs.Streams.{Stream, Sweep}
+use Rattle.gen1_rolls.specs.Streams.{Sweep}
 use Rattle.gen1_stats.specs.Members.{Member}
-use Rattle.gen1_machine.specs.Conditions.{with_confusion, with_rage, with_recharge, with_substitute, with_thrash, with_trapping, Conditions, Storing}
+use Rattle.gen1_machine.specs.Conditions.{with_confusion, with_rage, with_recharge, with_substitute, with_thrash, with_trapping}
 use Rattle.gen1_machine.specs.Moves.{move_at}
 use Rattle.gen1_machine.specs.State.{known_in, with_picked, Active}
 use Rattle.gen1_machine.specs.Progress.{active, conditions, member, set_last_damage, underway, Progress}

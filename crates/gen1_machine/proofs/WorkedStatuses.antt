@@ -1,10 +1,9 @@
 -- Worked examples of statuses, conditions and stats, computed (docs/PROOFS.md, "Worked examples").
-use Rattle.std.proofs.Common.{Bool, List, None, Option, Some, [], false, map, refl, true, ℕ, ◌∷◌, ◌≡◌}
+use Rattle.std.proofs.Common.{List, None, Option, Some, [], false, map, refl, true, ℕ, ◌∷◌, ◌≡◌}
 use Rattle.gen1_tables.specs.declared.effect.Stat.TheVariants.{Attack, Speed}
 use Rattle.gen1_tables.specs.declared.effect.Effect.TheVariants as effects
 use Rattle.gen1_stats.specs.declared.status.Status.{Status}
 use Rattle.gen1_stats.specs.declared.status.Status.TheVariants.{Healthy, Asleep, Poisoned, Burned, Paralysed}
-use Rattle.gen1_machine.specs.declared.side.Side.{Side}
 use Rattle.gen1_machine.specs.declared.side.Side.TheVariants.{One, Two}
 use Rattle.gen1_machine.specs.declared.health.Kind.TheVariants as kinds
 use Rattle.gen1_machine.specs.declared.event.DamageSource.TheVariants as sources
@@ -14,7 +13,7 @@ use Rattle.gen1_machine.specs.declared.event.Event.TheVariants as events
 use Rattle.gen1_rolls.specs.Streams.{Sweep}
 use Rattle.gen1_stats.specs.Members.{Member}
 use Rattle.gen1_stats.specs.Stats.{full_pp, hp_dv, hp_stat, root, stat}
-use Rattle.gen1_machine.specs.Conditions.{with_confusion, with_mist, with_recharge, with_substitute, with_seed, Conditions, Storing}
+use Rattle.gen1_machine.specs.Conditions.{with_confusion, with_mist, with_recharge, with_substitute, with_seed, Conditions}
 use Rattle.gen1_machine.specs.Stages.{at_stage}
 use Rattle.gen1_machine.specs.Moves.{move_at}
 use Rattle.gen1_machine.specs.State.{Active}

@@ -1,5 +1,5 @@
 -- Worked examples of turns, and of how a battle begins, ends and is told, computed (docs/PROOFS.md, "Worked examples").
-use Rattle.std.proofs.Common.{Bool, List, None, Option, Some, [], codes, false, map, refl, replicate, slice_index, true, ℕ, ◌++◌, ◌∷◌, ◌≡◌}
+use Rattle.std.proofs.Common.{Bool, List, None, Some, [], codes, false, map, refl, replicate, slice_index, true, ℕ, ◌++◌, ◌∷◌, ◌≡◌}
 use Rattle.gen1_tables.specs.declared.effect.Stat.TheVariants.{Attack, Speed}
 use Rattle.gen1_stats.specs.declared.status.Status.TheVariants.{Healthy, Asleep, Poisoned, Paralysed}
 use Rattle.gen1_machine.specs.declared.side.Side.{Side}
@@ -21,13 +21,13 @@ use Rattle.gen1_machine.specs.Sides.{other}
 use Rattle.gen1_machine.specs.Code.{codes_of}
 use Rattle.gen1_machine.specs.Lines.{line}
 use Rattle.gen1_machine.specs.Conditions.{with_recharge, with_trapping}
-use Rattle.gen1_machine.specs.State.{level_stages, party, with_party, usual_terms, first_state, Active, Field, State}
-use Rattle.gen1_machine.specs.Progress.{new_action, active, member, underway, status_of, stat_now, fault, Progress}
+use Rattle.gen1_machine.specs.State.{level_stages, party, with_party, usual_terms, first_state, Active, State}
+use Rattle.gen1_machine.specs.Progress.{new_action, underway, status_of, stat_now, fault, Progress}
 use Rattle.gen1_machine.specs.Ruling.{ruling_of}
 use Rattle.gen1_machine.specs.SwitchingIn.{send_out}
 use Rattle.gen1_machine.specs.Turn.{turn}
 use Rattle.gen1_machine.specs.OfferedChoices.{offered}
-use Rattle.gen1_machine.specs.Step.{close_update, step, Accepted, Refused, NotOffered, Over, Stepped}
+use Rattle.gen1_machine.specs.Step.{close_update, step, Accepted, Refused, NotOffered, Stepped}
 use Rattle.gen1_machine.specs.Layout.{bytes_of}
 use Rattle.gen1_machine.specs.View.{first_view, sees_all, SideView}
 use Rattle.gen1_machine.proofs.Computing.{computing}
