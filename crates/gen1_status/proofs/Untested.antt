@@ -8,13 +8,12 @@ use Rattle.gen1_machine.specs.declared.side.Side.{Side}
 use Rattle.gen1_machine.specs.declared.picks.DisabledSlot.{DisabledSlot}
 use Rattle.gen1_machine.specs.declared.picks.Pick.{Pick}
 use Rattle.gen1_machine.specs.declared.picks.Pick.TheVariants.{Continue, Held, Idle, Use}
-use Rattle.gen1_machine.specs.declared.picks.Used.{Used}
 use Rattle.gen1_machine.specs.Sides.{other}
 use Rattle.gen1_machine.specs.State.{Field, active_in, conditions_in, member_in, underway_in}
 use Rattle.gen1_machine.specs.Layout.{condition_bits}
 use Rattle.gen1_layout.specs.Flags.{any_at}
 use Rattle.gen1_machine.specs.Progress.{Phase, Progress, choose, given, only, status_of, stay, stop, when, ◌▸◌}
-use Rattle.gen1_machine.specs.Picks.{bars, is_disabled_in, is_idle, sleeps_or_freezes, used_by}
+use Rattle.gen1_machine.specs.Picks.{bars, is_disabled_in, is_idle, sleeps_or_freezes}
 use Rattle.gen1_machine.specs.Gate.{cant, confusion_test, disable_count, disabled_test, flinch_test, frozen_test, gate, gate_of_move, gate_of_status, gate_of_turn, paralysis_test, recharge_test, sleep_test, trapped_test}
 use Rattle.gen1_layout.proofs.Chain.{choose-false, then-goes}
 use Rattle.gen1_machine.specs.declared.event.CantReason.TheVariants as reasons
