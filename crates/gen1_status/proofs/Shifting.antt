@@ -1,5 +1,5 @@
 -- What a shift comes to: it fails at once, it fails once the stage has moved and moved back, or it succeeds.
-use Rattle.std.proofs.Common.{Bool, List, add-one, arith, false, nat_le, negsuc, pos, refl, subst, true, ℕ, ℤ, ◌+◌, ◌-◌, ◌≡◌, ◌∙◌}
+use Rattle.std.proofs.Common.{Bool, List, add-one, arith, false, negsuc, pos, refl, subst, true, ℕ, ℤ, ◌≡◌, ◌∙◌}
 use Rattle.std.proofs.lemmas.Bool.Decides.{nat_tests}
 use Rattle.gen1_stats.specs.Members.{IsBetween}
 use Rattle.gen1_layout.specs.Parts.{Parts}
@@ -11,9 +11,9 @@ use lib.Signed.{lt_z}
 use Rattle.gen1_tables.specs.declared.effect.Stat.{Stat}
 use Rattle.gen1_machine.specs.declared.side.Side.{Side}
 use Rattle.gen1_machine.specs.CurrentStats.{at_new_stage}
-use Rattle.gen1_machine.specs.Progress.{given, on_active, Phase, Progress, ◌▸◌}
-use Rattle.gen1_machine.specs.StageShift.{lower_from, lower_stage, note_boost, note_unboost, raise_from, raise_stage, raised, shift_to, stage_in, stands_at}
-use Rattle.gen1_layout.proofs.Chain.{choose-false, choose-true}
+use Rattle.gen1_machine.specs.Progress.{choose, on_active, Phase, Progress, ◌▸◌}
+use Rattle.gen1_machine.specs.StageShift.{lower_stage, shift_to}
+use Rattle.gen1_layout.proofs.Chain.{choose-false, choose-true, goes, then-goes}
 
 -- a shift by a number that is not above 0 goes down
 pub shift_stage-down : (user target : Side) (stat : Stat) (stages : ℕ) (by : ℤ) → IsShift by → lt_z (pos 0) by ≡ false → stages ≡ nat_abs by
@@ -21,41 +21,34 @@ pub shift_stage-down : (user target : Side) (stat : Stat) (stages : ℕ) (by : �
 shift_stage-down user target stat stages (pos n) is down e = absurd (grind (arith, nat_tests))
 shift_stage-down user target stat stages (negsuc n) is down e = ((omega arith, omega arith), rw (e, add-one) refl)
 
-module _ (user target : Side) (stat : Stat) (by : ℕ) (failing : Phase) (p : Progress) where
-  abbrev stage : ℕ
-  stage = stage_in stat target p.field
+-- a stage that moves, or moves back: at the last stage the shift fails; where the stat is stuck at its last value the stage
+-- moves back, and the shift fails; else it succeeds. This is `raise_stage` and `lower_stage` alike, by their numbers.
+module _ (user target : Side) (stat : Stat) (tell : ℕ → Phase) (last stuck : Bool) (back back_by new new_by : ℕ) where
+  abbrev moves : Phase → Phase
+  moves failing =
+      choose (λ _. last) failing
+      (choose (λ _. stuck)
+      (on_active target (at_new_stage stat back) ▸ tell back_by ▸ failing)
+      (shift_to user target stat new ▸ tell new_by))
 
-  pub raise_stage-highest : nat_le 12 stage ≡ true → raise_stage user target stat by failing p ≡ failing p
-  unfolding raise_stage raise_from given
-  raise_stage-highest e = choose-true _ _ _ p e
+  pub stays_last : {g : Frame} {parts : Parts} {events : List Event} (failing : Phase) (p : Progress) → last ≡ true → Shows g parts events false p
+      → ShowsShifted g parts events false moves failing p
+  stays_last failing p e h = (p, h, choose-true _ _ _ p e)
 
-  pub raise_stage-full : (back stages : ℕ) → nat_le 12 stage ≡ false → stands_at 999 stat target p.field ≡ true
-      → back ≡ raised by stage - 1 → stages ≡ raised by stage - 1 - stage
-      → raise_stage user target stat by failing p ≡ (on_active target (at_new_stage stat back) ▸ note_boost target stat stages ▸ failing) p
-  unfolding raise_stage raise_from given
-  raise_stage-full back stages low full at told = rw (at, told) (choose-false _ _ _ p low ∙ choose-true _ _ _ p full)
+  module _ {g : Frame} {parts parts' : Parts} {events events' : List Event} (failing : Phase) (p : Progress) where
+    pub moves_back : {stage stages : ℕ} → last ≡ false → stuck ≡ true → stage ≡ back → stages ≡ back_by
+        → Shows g parts events false (on_active target (at_new_stage stat stage) p)
+        → Shows g parts' events' false (tell stages (on_active target (at_new_stage stat stage) p)) → ShowsShifted g parts' events' false moves failing p
+    moves_back {stage = stage} {stages = stages} e full at by put told =
+        let is : moves failing p ≡ (on_active target (at_new_stage stat stage) ▸ tell stages ▸ failing) p = rw (at, by) (choose-false _ _ _ p e ∙ choose-true _ _ _ p full) in
+        (tell stages (on_active target (at_new_stage stat stage) p), told, is ∙ then-goes _ _ p put.ends ∙ then-goes _ failing _ told.ends)
 
-  pub raise_stage-succeeds : (new stages : ℕ) → nat_le 12 stage ≡ false → stands_at 999 stat target p.field ≡ false
-      → new ≡ raised by stage → stages ≡ raised by stage - stage
-      → raise_stage user target stat by failing p ≡ (shift_to user target stat new ▸ note_boost target stat stages) p
-  unfolding raise_stage raise_from given
-  raise_stage-succeeds new stages low less at told = rw (at, told) (choose-false _ _ _ p low ∙ choose-false _ _ _ p less)
-
-  pub lower_stage-lowest : nat_le stage 0 ≡ true → lower_stage user target stat by failing p ≡ failing p
-  unfolding lower_stage lower_from given
-  lower_stage-lowest e = choose-true _ _ _ p e
-
-  pub lower_stage-least : (back stages : ℕ) → nat_le stage 0 ≡ false → stands_at 1 stat target p.field ≡ true
-      → back ≡ stage - by + 1 → stages ≡ stage - (stage - by + 1)
-      → lower_stage user target stat by failing p ≡ (on_active target (at_new_stage stat back) ▸ note_unboost target stat stages ▸ failing) p
-  unfolding lower_stage lower_from given
-  lower_stage-least back stages high least at told = rw (at, told) (choose-false _ _ _ p high ∙ choose-true _ _ _ p least)
-
-  pub lower_stage-succeeds : (new stages : ℕ) → nat_le stage 0 ≡ false → stands_at 1 stat target p.field ≡ false
-      → new ≡ stage - by → stages ≡ stage - (stage - by)
-      → lower_stage user target stat by failing p ≡ (shift_to user target stat new ▸ note_unboost target stat stages) p
-  unfolding lower_stage lower_from given
-  lower_stage-succeeds new stages high more at told = rw (at, told) (choose-false _ _ _ p high ∙ choose-false _ _ _ p more)
+    pub moves_on : {stage stages : ℕ} → last ≡ false → stuck ≡ false → stage ≡ new → stages ≡ new_by
+        → Shows g parts events false (shift_to user target stat stage p)
+        → Shows g parts' events' false (tell stages (shift_to user target stat stage p)) → ShowsShifted g parts' events' true moves failing p
+    moves_on {stage = stage} {stages = stages} e free at by moved told =
+        let is : moves failing p ≡ (shift_to user target stat stage ▸ tell stages) p = rw (at, by) (choose-false _ _ _ p e ∙ choose-false _ _ _ p free) in
+        rw is (goes _ _ moved told)
 
 -- for a caller: what is shown once it knows whether the shift succeeded
 module _ {g : Frame} {parts : Parts} {events : List Event} {result : Bool} {failing : Phase} {p : Progress} where

@@ -2,7 +2,6 @@
 use Rattle.std.proofs.Common.{Bool, List, ap, false, nat_lt, refl, sym, true, ℕ, ◌∙◌, ◌≡◌}
 use Rattle.gen1_rolls.specs.Draws.{stream_of}
 use Rattle.gen1_rolls.specs.Streams.{byte_at, iterate}
-use Rattle.gen1_stats.specs.declared.status.Status.{Status}
 use Rattle.gen1_stats.specs.declared.status.Status.TheVariants.{Healthy, Paralysed}
 use Rattle.gen1_stats.specs.Members.{is_paralysed}
 use Rattle.gen1_machine.specs.declared.side.Side.{Side}
@@ -14,7 +13,7 @@ use Rattle.gen1_machine.specs.Conditions.{broken_off}
 use Rattle.gen1_machine.specs.Action.{gate_or_held}
 use Rattle.gen1_machine.specs.Gate.{cant, gate, may_be_paralysed, paralysis_test}
 use Rattle.gen1_machine.specs.Picks.{sleeps_or_freezes}
-use Rattle.gen1_machine.specs.Progress.{Phase, Progress, choose, draw, note, on_conditions, on_field, only, stay, stop, unless_stopped, ◌▸◌}
+use Rattle.gen1_machine.specs.Progress.{Progress, choose, draw, note, on_conditions, on_field, only, stay, stop, unless_stopped, ◌▸◌}
 use Rattle.gen1_machine.specs.State.{Field, status_in}
 use Rattle.gen1_layout.specs.Parts.{Parts}
 use Rattle.gen1_layout.specs.Within.{Setting}

@@ -1,24 +1,26 @@
 use Rattle.std.proofs.Common.{arith, false, nat_le, sym, true, ◌+◌, ◌-◌, ◌≡◌, ◌∙◌}
 use Rattle.std.proofs.lemmas.Bool.Decides.{nat_tests}
 use Rattle.gen1_machine.specs.CurrentStats.{at_new_stage, penalties_of, unmodified}
-use Rattle.gen1_machine.specs.Progress.{on_active}
+use Rattle.gen1_machine.specs.Progress.{given}
 use Rattle.gen1_machine.specs.State.{active_in, member_in}
-use Rattle.gen1_machine.specs.StageShift.{note_unboost, stage_in}
-use Rattle.gen1_layout.proofs.Chain.{goes, put_on_active, then-goes}
+use Rattle.gen1_machine.specs.StageShift.{lower_from, lower_stage, note_unboost, stage_in}
+use Rattle.gen1_layout.proofs.Chain.{put_on_active}
 use Rattle.gen1_layout.proofs.Steps.{active_ok}
 use Rattle.gen1_status.proofs.Fitting.{stage_of-fits}
 use Rattle.gen1_status.proofs.Restaging.{at_new_stage-is, now-at_new_stage, stands_at-now}
-use Rattle.gen1_status.proofs.Shifting.{lower_stage-least, lower_stage-lowest, lower_stage-succeeds}
+use Rattle.gen1_status.proofs.Shifting.{moves_back, moves_on, stays_last}
 use Rattle.gen1_status.proofs.Staying.{least_stays}
 use Rattle.gen1_status.proofs.shifts.lower_stage.Goals as goal
 
 pub returns-then-stage-eq-LOWEST_STAGE-clause-shown : goal.returns-then-stage-eq-LOWEST_STAGE-clause-shown
+unfolding lower_stage lower_from given
 returns-then-stage-eq-LOWEST_STAGE-clause-shown c by failing g p h =
     let at = c.stage-stage.ensures.stands _ _ h.within in
     let lowest : nat_le (stage_in c.args.stat c.args.target p.field) 0 ≡ true = grind (arith, nat_tests) in
-    (p, h, lower_stage-lowest _ _ _ _ failing p lowest)
+    stays_last c.args.user c.args.target c.args.stat (note_unboost c.args.target c.args.stat) _ _ _ _ _ _ failing p lowest h
 
 pub returns-then-stands_at-clause-shown : goal.returns-then-stands_at-clause-shown
+unfolding lower_stage lower_from given
 returns-then-stands_at-clause-shown c by failing g p h =
     let s = c.args.target in
     let stat = c.args.stat in
@@ -35,13 +37,10 @@ returns-then-stands_at-clause-shown c by failing g p h =
     let stays = least_stays stat (unmodified stat m) n back (penalties_of stat a) most (omega arith) (omega arith) (stands_at-now 1 stat s p.field least) in
     let put = put_on_active h s (at_new_stage stat back)
     (c.put_stage.ensures.stands _ _ (at_new_stage stat back) (penalties_of stat a) h.within (at_new_stage-is stat back a) (λ number. sym (now-at_new_stage stat back m a ∙ stays)) (omega arith)) in
-    let noted = c.note_unboost.ensures.shown (omega arith) g _ put in (
-      note_unboost s stat c.saturating_sub-net.result (on_active s (at_new_stage stat back) p),
-      noted,
-      lower_stage-least c.args.user s stat c.args.by failing p back _ high least is told ∙ then-goes _ _ p put.ends ∙ then-goes _ failing _ noted.ends,
-    )
+    moves_back c.args.user s stat (note_unboost s stat) _ _ _ _ _ _ failing p high least is told put (c.note_unboost.ensures.shown (omega arith) g _ put)
 
 pub returns-clause-shown : goal.returns-clause-shown
+unfolding lower_stage lower_from given
 returns-clause-shown c by failing g p h =
     let n = stage_in c.args.stat c.args.target p.field in
     let at = c.stage-stage.ensures.stands _ _ h.within in
@@ -51,5 +50,5 @@ returns-clause-shown c by failing g p h =
     let is : c.saturating_sub-lowered.result ≡ n - c.args.by = omega arith in
     let told : c.saturating_sub.result ≡ n - (n - c.args.by) = omega arith in
     let shifted = c.shift_to.ensures c.args.events.now.items (omega arith) g p h in
-    let noted = c.note_unboost-2.ensures.shown (omega arith) g _ shifted in
-    rw (lower_stage-succeeds c.args.user c.args.target c.args.stat c.args.by failing p _ _ high more is told) (goes _ _ shifted noted)
+    moves_on c.args.user c.args.target c.args.stat (note_unboost c.args.target c.args.stat) _ _ _ _ _ _ failing p high more is told shifted
+    (c.note_unboost-2.ensures.shown (omega arith) g _ shifted)

@@ -1,22 +1,24 @@
 use Rattle.std.proofs.Common.{arith, false, nat_le, sym, true, ◌-◌, ◌≡◌, ◌∙◌}
 use Rattle.std.proofs.lemmas.Bool.Decides.{nat_tests}
 use Rattle.gen1_machine.specs.CurrentStats.{at_new_stage, penalties_of, unmodified}
-use Rattle.gen1_machine.specs.Progress.{on_active}
+use Rattle.gen1_machine.specs.Progress.{given}
 use Rattle.gen1_machine.specs.State.{active_in, member_in}
-use Rattle.gen1_machine.specs.StageShift.{note_boost, raised, stage_in}
-use Rattle.gen1_layout.proofs.Chain.{goes, put_on_active, then-goes}
+use Rattle.gen1_machine.specs.StageShift.{note_boost, raise_from, raise_stage, raised, stage_in}
+use Rattle.gen1_layout.proofs.Chain.{put_on_active}
 use Rattle.gen1_status.proofs.Restaging.{at_new_stage-is, now-at_new_stage, stands_at-now}
-use Rattle.gen1_status.proofs.Shifting.{raise_stage-full, raise_stage-highest, raise_stage-succeeds}
+use Rattle.gen1_status.proofs.Shifting.{moves_back, moves_on, stays_last}
 use Rattle.gen1_status.proofs.Staying.{most_stays}
 use Rattle.gen1_status.proofs.shifts.raise_stage.Goals as goal
 
 pub returns-then-stage-ge-HIGHEST_STAGE-clause-shown : goal.returns-then-stage-ge-HIGHEST_STAGE-clause-shown
+unfolding raise_stage raise_from given
 returns-then-stage-ge-HIGHEST_STAGE-clause-shown c by failing g p h =
     let at = c.stage-stage.ensures.stands _ _ h.within in
     let highest : nat_le 12 (stage_in c.args.stat c.args.target p.field) ≡ true = grind (arith, nat_tests) in
-    (p, h, raise_stage-highest _ _ _ _ failing p highest)
+    stays_last c.args.user c.args.target c.args.stat (note_boost c.args.target c.args.stat) _ _ _ _ _ _ failing p highest h
 
 pub returns-then-stands_at-clause-shown : goal.returns-then-stands_at-clause-shown
+unfolding raise_stage raise_from given
 returns-then-stands_at-clause-shown c by failing g p h =
     let s = c.args.target in
     let stat = c.args.stat in
@@ -32,13 +34,10 @@ returns-then-stands_at-clause-shown c by failing g p h =
     let stays = most_stays stat (unmodified stat m) n back (penalties_of stat a) (omega arith) (omega arith) (omega arith) (stands_at-now 999 stat s p.field full) in
     let put = put_on_active h s (at_new_stage stat back)
     (c.put_stage.ensures.stands _ _ (at_new_stage stat back) (penalties_of stat a) h.within (at_new_stage-is stat back a) (λ number. sym (now-at_new_stage stat back m a ∙ stays)) (omega arith)) in
-    let noted = c.note_boost.ensures.shown (omega arith) g _ put in (
-      note_boost s stat c.saturating_sub-net.result (on_active s (at_new_stage stat back) p),
-      noted,
-      raise_stage-full c.args.user s stat c.args.by failing p back _ low full is told ∙ then-goes _ _ p put.ends ∙ then-goes _ failing _ noted.ends,
-    )
+    moves_back c.args.user s stat (note_boost s stat) _ _ _ _ _ _ failing p low full is told put (c.note_boost.ensures.shown (omega arith) g _ put)
 
 pub returns-clause-shown : goal.returns-clause-shown
+unfolding raise_stage raise_from given
 returns-clause-shown c by failing g p h =
     let n = stage_in c.args.stat c.args.target p.field in
     let at = c.stage-stage.ensures.stands _ _ h.within in
@@ -47,5 +46,5 @@ returns-clause-shown c by failing g p h =
     let is : c.min-raised.result ≡ raised c.args.by n = omega arith in
     let told : c.saturating_sub.result ≡ raised c.args.by n - n = omega arith in
     let shifted = c.shift_to.ensures c.args.events.now.items (omega arith) g p h in
-    let noted = c.note_boost-2.ensures.shown (omega arith) g _ shifted in
-    rw (raise_stage-succeeds c.args.user c.args.target c.args.stat c.args.by failing p _ _ low less is told) (goes _ _ shifted noted)
+    moves_on c.args.user c.args.target c.args.stat (note_boost c.args.target c.args.stat) _ _ _ _ _ _ failing p low less is told shifted
+    (c.note_boost-2.ensures.shown (omega arith) g _ shifted)

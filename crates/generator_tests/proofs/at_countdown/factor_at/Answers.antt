@@ -1,6 +1,6 @@
 use Rattle.std.proofs.Common.{Bool, Option, Some, ap, false, true, ℕ, ◌+◌, ◌≡◌}
 use Rattle.gen1_rolls.specs.Draws.{stream_of}
-use Rattle.gen1_rolls.specs.Streams.{byte_at, first, first_within, span}
+use Rattle.gen1_rolls.specs.Streams.{byte_at, first, first_within}
 use Rattle.gen1_machine.specs.Damage.{is_factor}
 use Rattle.generator_tests.specs.Countdown.{one_down}
 use Rattle.generator_tests.proofs.at_countdown.factor_at.Goals as goal
