@@ -1,16 +1,10 @@
 -- A shift of a stage, whose failure is left to its caller (docs/MECHANICS.md, "Stage shift").
-use Rattle.std.specs.Prelude.{Bool, List, false, true, ℕ, ℤ, negsuc, pos, ◌+◌, ◌≡◌, ◌≤◌}
+use Rattle.gen1_layout.specs.Words.{Active, Bool, Event, Frame, IsBetween, List, Phase, Progress, Shows, Side, false, true, with_stage, ℕ, ◌+◌, ◌≡◌, ◌≤◌}
+use Rattle.std.specs.Prelude.{ℤ, negsuc, pos}
 use Rattle.gen1_tables.specs.declared.effect.Stat.{Stat}
 use Rattle.gen1_tables.specs.declared.effect.Stat.TheVariants.{Accuracy, Attack, Defense, Evasion, Special, Speed}
-use Rattle.gen1_stats.specs.Members.{IsBetween}
-use Rattle.gen1_machine.specs.declared.side.Side.{Side}
-use Rattle.gen1_machine.specs.declared.event.Event.{Event}
-use Rattle.gen1_machine.specs.State.{Active}
-use Rattle.gen1_machine.specs.CurrentStats.{with_stage}
-use Rattle.gen1_machine.specs.Progress.{Phase, Progress}
 use Rattle.gen1_machine.specs.StageShift.{lower_stage, raise_stage}
 use Rattle.gen1_layout.specs.Parts.{Parts}
-use Rattle.gen1_layout.specs.Shows.{Frame, Shows}
 
 -- a stage, and so many penalties since its stat was last recomputed; Attack and Speed alone have any
 abbrev pub with_stage_after : Stat → ℕ → ℕ → Active → Active

@@ -1,11 +1,7 @@
 //! What can keep a member from acting (docs/MECHANICS.md, "Gate"): tests in their order, of which the first that stops decides.
-ghost use Rattle.std.specs.Prelude.{true, ◌+◌, ◌≡◌, ◌≤◌};
-ghost use Rattle.arrayvec.specs.ArrayVec.{array_vec_len};
+ghost use Rattle.gen1_layout.specs.Words.{AddsAtMost, Does, Field, HasRoom, Setting, Within, true, ◌≡◌};
 ghost use Rattle.gen1_machine.specs.Action.{gate_or_held};
 ghost use Rattle.gen1_machine.specs.Gate.{cant, gate};
-ghost use Rattle.gen1_machine.specs.State.{Field};
-ghost use Rattle.gen1_layout.specs.Shows.{Does};
-ghost use Rattle.gen1_layout.specs.Within.{Setting, Within};
 ghost use Rattle.gen1_status.specs.Gating.{ActsAtOnce, is_held, keeps_from_acting};
 ghost use Rattle.gen1_status.specs.Telling.{DoesTelling};
 
@@ -33,9 +29,9 @@ pub fn gate<R: Rolls>(
     random: &mut R,
     events: &mut EventList,
 ) -> Gate
-    requires { array_vec_len events.old + 3 ≤ 64 }
+    requires { HasRoom 3 events.old }
     ensures shown { DoesTelling R.byte R.next R.SPAN battle.old events.old.items random.old battle.new events.new.items random.new result (gate_or_held side pick) }
-    ensures room { array_vec_len events.new ≤ array_vec_len events.old + 3 }
+    ensures room { AddsAtMost 3 events.old events.new }
 {
     if is_held(pick) {
         cant(battle, side, CantReason::PartiallyTrapped, events);
@@ -85,9 +81,9 @@ fn take_tests<R: Rolls>(
     random: &mut R,
     events: &mut EventList,
 ) -> Gate
-    requires { array_vec_len events.old + 3 ≤ 64 }
+    requires { HasRoom 3 events.old }
     ensures shown { DoesTelling R.byte R.next R.SPAN battle.old events.old.items random.old battle.new events.new.items random.new result (gate side pick) }
-    ensures room { array_vec_len events.new ≤ array_vec_len events.old + 3 }
+    ensures room { AddsAtMost 3 events.old events.new }
 {
     if gate_of_status(battle, side, events) {
         return Gate::Stop;
@@ -100,9 +96,9 @@ fn take_tests<R: Rolls>(
 
 // The member does not act, for a reason that is told.
 fn cant(battle: &Packed, side: Side, why: CantReason, events: &mut EventList)
-    requires { array_vec_len events.old + 1 ≤ 64 }
+    requires { HasRoom 1 events.old }
     ensures shown { Does battle.now events.old.items battle.now events.new.items true (cant side why) }
-    ensures room { array_vec_len events.new ≤ array_vec_len events.old + 1 }
+    ensures room { AddsAtMost 1 events.old events.new }
 {
     events.push(Event::Cant(battle.who(side), why));
 }

@@ -1,10 +1,6 @@
 //! The hit of a confused member on itself (docs/MECHANICS.md, "Hit on itself").
-ghost use Rattle.std.specs.Prelude.{Option, false, ◌+◌, ◌≡◌, ◌≢◌, ◌≤◌};
-ghost use Rattle.arrayvec.specs.ArrayVec.{array_vec_len};
-ghost use Rattle.gen1_machine.specs.Sides.{other};
-ghost use Rattle.gen1_machine.specs.Progress.{Progress, conditions, stop, ◌▸◌};
+ghost use Rattle.gen1_layout.specs.Words.{AddsAtMost, Frame, HasRoom, Progress, Shows, conditions, false, other, stop, ◌≡◌, ◌≢◌, ◌▸◌};
 ghost use Rattle.gen1_machine.specs.HitOnItself.{hurt_itself, hurt_itself_by, land_on_foes_substitute};
-ghost use Rattle.gen1_layout.specs.Shows.{Frame, Shows};
 ghost use Rattle.gen1_status.specs.Telling.{Tells, frame_after};
 
 use crate::Gate;
@@ -15,10 +11,10 @@ use gen1_machine::{DamageSource, EventList, Outcome, Side};
 /// Breaks off what the member was about, and takes from it what it has the strength of: 40 in power, its own Attack against
 /// its own Defense. Writes one event at most (docs/MECHANICS.md, "Hit on itself").
 pub(crate) fn hurt_itself(battle: &mut Packed, side: Side, events: &mut EventList) -> Gate
-    requires { array_vec_len events.old + 1 ≤ 64 }
+    requires { HasRoom 1 events.old }
     ensures shown { (g : Frame) (p : Progress) → Shows g battle.old events.old.items false p
         → Tells g battle.new events.new.items result p (hurt_itself side p) }
-    ensures room { array_vec_len events.new ≤ array_vec_len events.old + 1 }
+    ensures room { AddsAtMost 1 events.old events.new }
     ensures stops { result ≢ Gate.Go }
 {
     battle.break_off(side);
@@ -35,10 +31,10 @@ fn hurt_itself_by(
     damage: Option<u16>,
     events: &mut EventList,
 ) -> Gate
-    requires { array_vec_len events.old + 1 ≤ 64 }
+    requires { HasRoom 1 events.old }
     ensures shown { (g : Frame) (p : Progress) → Shows g battle.old events.old.items false p
         → Tells g battle.new events.new.items result p ((hurt_itself_by side damage ▸ stop) p) }
-    ensures room { array_vec_len events.new ≤ array_vec_len events.old + 1 }
+    ensures room { AddsAtMost 1 events.old events.new }
     ensures stops { result ≢ Gate.Go }
 {
     let Some(damage) = damage else {
@@ -63,10 +59,10 @@ fn land_on_foes_substitute(
     substitute: Option<u8>,
     events: &mut EventList,
 )
-    requires { array_vec_len events.old + 1 ≤ 64 }
+    requires { HasRoom 1 events.old }
     ensures shown { (g : Frame) (p : Progress) → (conditions (other side) p).substitute ≡ substitute → Shows g battle.old events.old.items false p
         → Shows (frame_after Gate.Stop (land_on_foes_substitute side damage substitute p) g) battle.new events.new.items false (land_on_foes_substitute side damage substitute p) }
-    ensures room { array_vec_len events.new ≤ array_vec_len events.old + 1 }
+    ensures room { AddsAtMost 1 events.old events.new }
 {
     let Some(hp) = substitute else {
         return;

@@ -1,13 +1,7 @@
 //! What poison, a burn and Leech Seed take (docs/MECHANICS.md, "Residual").
-ghost use Rattle.std.specs.Prelude.{List, false, ◌+◌, ◌||◌, ◌≡◌, ◌≤◌};
-ghost use Rattle.arrayvec.specs.ArrayVec.{array_vec_len};
-ghost use Rattle.gen1_stats.specs.Members.{is_living};
-ghost use Rattle.gen1_machine.specs.declared.event.Event.{Event};
+ghost use Rattle.gen1_layout.specs.Words.{AddsAtMost, Does, Event, HasRoom, List, Reads, conditions_in, false, is_living, member_in, status_in, ◌||◌, ◌≡◌, ◌≤◌};
 ghost use Rattle.gen1_machine.specs.Conditions.{one_more};
 ghost use Rattle.gen1_machine.specs.Residual.{residual, residual_in, suffer, suffer_seed, suffer_status, times_poisoned, worsen};
-ghost use Rattle.gen1_machine.specs.State.{Field, conditions_in, member_in, status_in};
-ghost use Rattle.gen1_layout.specs.Shows.{Does};
-ghost use Rattle.gen1_layout.specs.Within.{Setting, Within};
 ghost use Rattle.gen1_status.specs.Hurting.{takes_hp};
 
 use gen1_hits::{gain_hp, lose_hp};
@@ -22,9 +16,9 @@ use gen1_stats::Status;
 /// The seed heals the foe the full amount, also where less was left to take. `Damage` is written for what either takes, and
 /// `Heal` for what the foe gains: three places in `events` are to be free for them.
 pub fn residual(battle: &mut Packed, side: Side, events: &mut EventList)
-    requires { array_vec_len events.old + 3 ≤ 64 }
+    requires { HasRoom 3 events.old }
     ensures shown { Does battle.old events.old.items battle.new events.new.items false (residual side) }
-    ensures room { array_vec_len events.new ≤ array_vec_len events.old + 3 }
+    ensures room { AddsAtMost 3 events.old events.new }
 {
     if !suffers(battle, side) {
         return;
@@ -41,7 +35,7 @@ pub fn residual(battle: &mut Packed, side: Side, events: &mut EventList)
 
 // Most members have neither poison nor a burn nor a seed.
 fn suffers(battle: &Packed, side: Side) -> bool
-    ensures stands { (g : Setting) (f : Field) → Within g battle.now f → result ≡ (takes_hp (status_in side f) || (conditions_in side f).seeded) }
+    ensures stands { Reads battle.now result λ f. (takes_hp (status_in side f) || (conditions_in side f).seeded) }
 {
     if takes_hp(battle.status(side)) {
         return true;
@@ -56,16 +50,16 @@ fn takes_hp(status: Status) -> bool
 }
 
 fn is_living(battle: &Packed, side: Side) -> bool
-    ensures stands { (g : Setting) (f : Field) → Within g battle.now f → result ≡ is_living (member_in side f) }
+    ensures stands { Reads battle.now result λ f. is_living (member_in side f) }
 {
     0 < battle.hp(side)
 }
 
 // What a status takes: poison and a burn alone do.
 fn suffer_status(battle: &mut Packed, side: Side, status: Status, events: &mut EventList)
-    requires { array_vec_len events.old + 1 ≤ 64 }
+    requires { HasRoom 1 events.old }
     ensures shown { Does battle.old events.old.items battle.new events.new.items false (suffer_status side status) }
-    ensures room { array_vec_len events.new ≤ array_vec_len events.old + 1 }
+    ensures room { AddsAtMost 1 events.old events.new }
 {
     match status {
         Status::Poisoned => suffer(battle, side, DamageSource::Poison, events),
@@ -78,9 +72,9 @@ fn suffer_status(battle: &mut Packed, side: Side, status: Status, events: &mut E
 }
 
 fn suffer(battle: &mut Packed, side: Side, source: DamageSource, events: &mut EventList)
-    requires { array_vec_len events.old + 1 ≤ 64 }
+    requires { HasRoom 1 events.old }
     ensures shown { Does battle.old events.old.items battle.new events.new.items false (suffer side source) }
-    ensures room { array_vec_len events.new ≤ array_vec_len events.old + 1 }
+    ensures room { AddsAtMost 1 events.old events.new }
 {
     worsen(battle, side);
     let amount = residual_amount(battle, side);
@@ -89,9 +83,9 @@ fn suffer(battle: &mut Packed, side: Side, source: DamageSource, events: &mut Ev
 
 // The foe is healed the full amount, also where less was left to take.
 fn suffer_seed(battle: &mut Packed, side: Side, events: &mut EventList)
-    requires { array_vec_len events.old + 2 ≤ 64 }
+    requires { HasRoom 2 events.old }
     ensures shown { Does battle.old events.old.items battle.new events.new.items false (suffer_seed side) }
-    ensures room { array_vec_len events.new ≤ array_vec_len events.old + 2 }
+    ensures room { AddsAtMost 2 events.old events.new }
 {
     worsen(battle, side);
     let amount = residual_amount(battle, side);
@@ -118,7 +112,7 @@ fn one_more(count: Option<u8>) -> Option<u8>
 
 // A 16th of the maximum HP, or of that so many times as the member was badly poisoned.
 fn residual_amount(battle: &Packed, side: Side) -> u16
-    ensures stands { (g : Setting) (f : Field) → Within g battle.now f → result ≡ residual_in side f }
+    ensures stands { Reads battle.now result (residual_in side) }
 {
     let sixteenth = (battle.max_hp(side) / 16).max(1);
     sixteenth.saturating_mul(times_poisoned(battle.bad_poison(side)))

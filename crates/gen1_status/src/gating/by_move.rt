@@ -1,12 +1,7 @@
 //! The tests that rule out the move that was picked: confusion, Disable, paralysis, and that nothing was picked.
-ghost use Rattle.std.specs.Prelude.{Option, false, ◌+◌, ◌≡◌, ◌≤◌};
-ghost use Rattle.arrayvec.specs.ArrayVec.{array_vec_len};
-ghost use Rattle.gen1_stats.specs.Members.{is_paralysed};
-ghost use Rattle.gen1_machine.specs.State.{Field};
+ghost use Rattle.gen1_layout.specs.Words.{AddsAtMost, AddsNone, Does, DoesDrawing, HasRoom, Reads, false, is_paralysed, ◌≡◌};
 ghost use Rattle.gen1_machine.specs.Picks.{bars, is_disabled_in, is_idle, used_by};
 ghost use Rattle.gen1_machine.specs.Gate.{disabled_test, gate_of_move, paralysis_test};
-ghost use Rattle.gen1_layout.specs.Within.{Setting, Within};
-ghost use Rattle.gen1_layout.specs.Shows.{Does, DoesDrawing};
 ghost use Rattle.gen1_status.specs.Telling.{DoesTelling};
 
 use super::cant;
@@ -24,9 +19,9 @@ pub(super) fn gate_of_move<R: Rolls>(
     random: &mut R,
     events: &mut EventList,
 ) -> Gate
-    requires { array_vec_len events.old + 2 ≤ 64 }
+    requires { HasRoom 2 events.old }
     ensures shown { DoesTelling R.byte R.next R.SPAN battle.old events.old.items random.old battle.new events.new.items random.new result (gate_of_move side pick) }
-    ensures room { array_vec_len events.new ≤ array_vec_len events.old + 2 }
+    ensures room { AddsAtMost 2 events.old events.new }
 {
     let confused = confusion_test(battle, side, battle.confused(side), random, events);
     if confused.stops() {
@@ -46,10 +41,10 @@ pub(super) fn gate_of_move<R: Rolls>(
 
 // A move that is disabled is not used, and its charge is lost.
 fn disabled_test(battle: &mut Packed, side: Side, pick: Pick, events: &mut EventList) -> bool
-    requires { array_vec_len events.old + 1 ≤ 64 }
+    requires { HasRoom 1 events.old }
     ensures shown { Does battle.old events.old.items battle.new events.new.items result (disabled_test side pick) }
-    ensures room { array_vec_len events.new ≤ array_vec_len events.old + 1 }
-    ensures quiet { result ≡ false → array_vec_len events.new ≡ array_vec_len events.old }
+    ensures room { AddsAtMost 1 events.old events.new }
+    ensures quiet { result ≡ false → AddsNone events.old events.new }
 {
     if !is_disabled(battle, side, pick) {
         return false;
@@ -68,10 +63,10 @@ fn paralysis_test<R: Rolls>(
     random: &mut R,
     events: &mut EventList,
 ) -> bool
-    requires { array_vec_len events.old + 1 ≤ 64 }
+    requires { HasRoom 1 events.old }
     ensures shown { DoesDrawing R.byte R.next R.SPAN battle.old events.old.items random.old battle.new events.new.items random.new result (paralysis_test side) }
-    ensures room { array_vec_len events.new ≤ array_vec_len events.old + 1 }
-    ensures quiet { result ≡ false → array_vec_len events.new ≡ array_vec_len events.old }
+    ensures room { AddsAtMost 1 events.old events.new }
+    ensures quiet { result ≡ false → AddsNone events.old events.new }
 {
     if !is_paralysed(battle.status(side)) {
         return false;
@@ -86,7 +81,7 @@ fn paralysis_test<R: Rolls>(
 
 // Struggle is in no slot, and who is idle uses none.
 fn is_disabled(battle: &Packed, side: Side, pick: Pick) -> bool
-    ensures stands { (g : Setting) (f : Field) → Within g battle.now f → result ≡ is_disabled_in side pick f }
+    ensures stands { Reads battle.now result (is_disabled_in side pick) }
 {
     if is_idle(pick) {
         return false;

@@ -1,10 +1,6 @@
 //! The tests that rule out any action: sleep, frost, and the foe's trapping.
-ghost use Rattle.std.specs.Prelude.{Bool, false, true, ℕ, ◌+◌, ◌≡◌, ◌≤◌};
-ghost use Rattle.arrayvec.specs.ArrayVec.{array_vec_len};
-ghost use Rattle.gen1_stats.specs.Members.{is_frozen};
-ghost use Rattle.gen1_machine.specs.Progress.{Progress, status_of};
+ghost use Rattle.gen1_layout.specs.Words.{AddsAtMost, AddsNone, Does, DoesSeeing, HasRoom, false, is_frozen, status_of, true, ◌≡◌};
 ghost use Rattle.gen1_machine.specs.Gate.{frozen_test, gate_of_status, sleep_test, trapped_test};
-ghost use Rattle.gen1_layout.specs.Shows.{Does, Frame, Shows};
 
 use super::cant;
 use gen1_layout::{Conditions, Packed};
@@ -12,10 +8,10 @@ use gen1_machine::{CantReason, Event, EventList, Kind, Side};
 use gen1_stats::Status;
 
 pub(super) fn gate_of_status(battle: &mut Packed, side: Side, events: &mut EventList) -> bool
-    requires { array_vec_len events.old + 1 ≤ 64 }
+    requires { HasRoom 1 events.old }
     ensures shown { Does battle.old events.old.items battle.new events.new.items result (gate_of_status side) }
-    ensures room { array_vec_len events.new ≤ array_vec_len events.old + 1 }
-    ensures quiet { result ≡ false → array_vec_len events.new ≡ array_vec_len events.old }
+    ensures room { AddsAtMost 1 events.old events.new }
+    ensures quiet { result ≡ false → AddsNone events.old events.new }
 {
     if sleep_test(battle, side, battle.status(side), events) {
         return true;
@@ -27,11 +23,10 @@ pub(super) fn gate_of_status(battle: &mut Packed, side: Side, events: &mut Event
 }
 
 fn sleep_test(battle: &mut Packed, side: Side, status: Status, events: &mut EventList) -> bool
-    requires { array_vec_len events.old + 1 ≤ 64 }
-    ensures shown { (g : Frame) (p : Progress) → status_of side p ≡ status → Shows g battle.old events.old.items false p
-        → Shows g battle.new events.new.items result (sleep_test side status p) }
-    ensures room { array_vec_len events.new ≤ array_vec_len events.old + 1 }
-    ensures quiet { result ≡ false → array_vec_len events.new ≡ array_vec_len events.old }
+    requires { HasRoom 1 events.old }
+    ensures shown { DoesSeeing (status_of side) status battle.old events.old.items battle.new events.new.items result (sleep_test side status) }
+    ensures room { AddsAtMost 1 events.old events.new }
+    ensures quiet { result ≡ false → AddsNone events.old events.new }
 {
     match status {
         Status::Asleep { turns, marked } => {
@@ -48,10 +43,9 @@ fn sleep_test(battle: &mut Packed, side: Side, status: Status, events: &mut Even
 
 // A turn of sleep is over, and who wakes up does nothing either.
 fn sleep_turn(battle: &mut Packed, side: Side, turns: u8, marked: bool, events: &mut EventList)
-    requires { array_vec_len events.old + 1 ≤ 64 }
-    ensures shown { (g : Frame) (p : Progress) → status_of side p ≡ Status.Asleep turns marked → Shows g battle.old events.old.items false p
-        → Shows g battle.new events.new.items true (sleep_test side (Status.Asleep turns marked) p) }
-    ensures room { array_vec_len events.new ≤ array_vec_len events.old + 1 }
+    requires { HasRoom 1 events.old }
+    ensures shown { DoesSeeing (status_of side) (Status.Asleep turns marked) battle.old events.old.items battle.new events.new.items true (sleep_test side (Status.Asleep turns marked)) }
+    ensures room { AddsAtMost 1 events.old events.new }
 {
     if turns <= 1 {
         battle.put_status(side, Status::Healthy);
@@ -64,10 +58,10 @@ fn sleep_turn(battle: &mut Packed, side: Side, turns: u8, marked: bool, events: 
 }
 
 fn frozen_test(battle: &Packed, side: Side, events: &mut EventList) -> bool
-    requires { array_vec_len events.old + 1 ≤ 64 }
+    requires { HasRoom 1 events.old }
     ensures shown { Does battle.now events.old.items battle.now events.new.items result (frozen_test side) }
-    ensures room { array_vec_len events.new ≤ array_vec_len events.old + 1 }
-    ensures quiet { result ≡ false → array_vec_len events.new ≡ array_vec_len events.old }
+    ensures room { AddsAtMost 1 events.old events.new }
+    ensures quiet { result ≡ false → AddsNone events.old events.new }
 {
     if !is_frozen(battle.status(side)) {
         return false;
@@ -77,10 +71,10 @@ fn frozen_test(battle: &Packed, side: Side, events: &mut EventList) -> bool
 }
 
 fn trapped_test(battle: &Packed, side: Side, events: &mut EventList) -> bool
-    requires { array_vec_len events.old + 1 ≤ 64 }
+    requires { HasRoom 1 events.old }
     ensures shown { Does battle.now events.old.items battle.now events.new.items result (trapped_test side) }
-    ensures room { array_vec_len events.new ≤ array_vec_len events.old + 1 }
-    ensures quiet { result ≡ false → array_vec_len events.new ≡ array_vec_len events.old }
+    ensures room { AddsAtMost 1 events.old events.new }
+    ensures quiet { result ≡ false → AddsNone events.old events.new }
 {
     if !battle.is_on(side.other(), Conditions::TRAPPING) {
         return false;

@@ -1,18 +1,15 @@
 //! The tests of what is to be waited for: flinching, recharging, and the count of Disable.
-ghost use Rattle.std.specs.Prelude.{Option, false, ◌+◌, ◌≡◌, ◌≤◌};
-ghost use Rattle.arrayvec.specs.ArrayVec.{array_vec_len};
-ghost use Rattle.gen1_machine.specs.Progress.{Progress, conditions};
+ghost use Rattle.gen1_layout.specs.Words.{AddsAtMost, AddsNone, Does, DoesSeeing, HasRoom, conditions, false, ◌≡◌};
 ghost use Rattle.gen1_machine.specs.Gate.{disable_count, flinch_test, gate_of_turn, recharge_test};
-ghost use Rattle.gen1_layout.specs.Shows.{Does, Frame, Shows};
 
 use super::cant;
 use gen1_layout::{Conditions, Packed};
 use gen1_machine::{CantReason, DisabledSlot, Event, EventList, Side, Volatile};
 
 pub(super) fn gate_of_turn(battle: &mut Packed, side: Side, events: &mut EventList) -> bool
-    requires { array_vec_len events.old + 1 ≤ 64 }
+    requires { HasRoom 1 events.old }
     ensures shown { Does battle.old events.old.items battle.new events.new.items result (gate_of_turn side) }
-    ensures room { array_vec_len events.new ≤ array_vec_len events.old + 1 }
+    ensures room { AddsAtMost 1 events.old events.new }
 {
     if flinch_test(battle, side, events) {
         return true;
@@ -25,10 +22,10 @@ pub(super) fn gate_of_turn(battle: &mut Packed, side: Side, events: &mut EventLi
 }
 
 fn flinch_test(battle: &mut Packed, side: Side, events: &mut EventList) -> bool
-    requires { array_vec_len events.old + 1 ≤ 64 }
+    requires { HasRoom 1 events.old }
     ensures shown { Does battle.old events.old.items battle.new events.new.items result (flinch_test side) }
-    ensures room { array_vec_len events.new ≤ array_vec_len events.old + 1 }
-    ensures quiet { result ≡ false → array_vec_len events.new ≡ array_vec_len events.old }
+    ensures room { AddsAtMost 1 events.old events.new }
+    ensures quiet { result ≡ false → AddsNone events.old events.new }
 {
     if !battle.is_on(side, Conditions::FLINCH) {
         return false;
@@ -39,10 +36,10 @@ fn flinch_test(battle: &mut Packed, side: Side, events: &mut EventList) -> bool
 }
 
 fn recharge_test(battle: &mut Packed, side: Side, events: &mut EventList) -> bool
-    requires { array_vec_len events.old + 1 ≤ 64 }
+    requires { HasRoom 1 events.old }
     ensures shown { Does battle.old events.old.items battle.new events.new.items result (recharge_test side) }
-    ensures room { array_vec_len events.new ≤ array_vec_len events.old + 1 }
-    ensures quiet { result ≡ false → array_vec_len events.new ≡ array_vec_len events.old }
+    ensures room { AddsAtMost 1 events.old events.new }
+    ensures quiet { result ≡ false → AddsNone events.old events.new }
 {
     if !battle.is_on(side, Conditions::RECHARGE) {
         return false;
@@ -59,10 +56,9 @@ fn disable_count(
     disabled: Option<DisabledSlot>,
     events: &mut EventList,
 )
-    requires { array_vec_len events.old + 1 ≤ 64 }
-    ensures shown { (g : Frame) (p : Progress) → (conditions side p).disabled ≡ disabled → Shows g battle.old events.old.items false p
-        → Shows g battle.new events.new.items false (disable_count side disabled p) }
-    ensures room { array_vec_len events.new ≤ array_vec_len events.old + 1 }
+    requires { HasRoom 1 events.old }
+    ensures shown { DoesSeeing (λ p. (conditions side p).disabled) disabled battle.old events.old.items battle.new events.new.items false (disable_count side disabled) }
+    ensures room { AddsAtMost 1 events.old events.new }
 {
     let Some(DisabledSlot { slot, turns }) = disabled else {
         return;

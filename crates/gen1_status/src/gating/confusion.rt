@@ -1,11 +1,9 @@
 //! The test of confusion, which counts down and ends at 0; until then the member may hit itself.
-ghost use Rattle.std.specs.Prelude.{Option, Some, false, ℕ, ◌+◌, ◌≡◌, ◌≤◌};
-ghost use Rattle.arrayvec.specs.ArrayVec.{array_vec_len};
+ghost use Rattle.gen1_layout.specs.Words.{AddsAtMost, Does, Frame, HasRoom, Progress, ShowsDrawn, Some, conditions, draw, false, ◌≡◌, ◌▸◌};
 ghost use Rattle.gen1_machine.specs.declared.event.Volatile.TheVariants as volatiles;
 ghost use Rattle.gen1_machine.specs.Conditions.{with_confusion_one_less, without_confusion};
-ghost use Rattle.gen1_machine.specs.Progress.{Phase, Progress, conditions, draw, ends, goes_on, ◌▸◌};
+ghost use Rattle.gen1_machine.specs.Progress.{ends, goes_on};
 ghost use Rattle.gen1_machine.specs.Gate.{confusion_test, may_hurt_itself};
-ghost use Rattle.gen1_layout.specs.Shows.{Does, Frame, ShowsDrawn};
 ghost use Rattle.gen1_status.specs.Telling.{TellsDrawn};
 
 use crate::Gate;
@@ -21,12 +19,12 @@ pub(super) fn confusion_test<R: Rolls>(
     random: &mut R,
     events: &mut EventList,
 ) -> Gate
-    requires { array_vec_len events.old + 2 ≤ 64 }
+    requires { HasRoom 2 events.old }
     ensures shown { (origin : R) (g : Frame) (p : Progress) → (conditions side p).confused ≡ confused
         → ShowsDrawn R.byte R.next R.SPAN origin g battle.old events.old.items random.old false p
         → TellsDrawn R.byte R.next R.SPAN origin g battle.new events.new.items random.new result p (confusion_test side confused p) }
-    ensures room { array_vec_len events.new ≤ array_vec_len events.old + 2 }
-    ensures quiet { result ≡ Gate.Go → array_vec_len events.new ≤ array_vec_len events.old + 1 }
+    ensures room { AddsAtMost 2 events.old events.new }
+    ensures quiet { result ≡ Gate.Go → AddsAtMost 1 events.old events.new }
 {
     let Some(turns) = confused else {
         return Gate::Go;
@@ -39,9 +37,9 @@ pub(super) fn confusion_test<R: Rolls>(
 }
 
 fn confusion_ends(battle: &mut Packed, side: Side, events: &mut EventList)
-    requires { array_vec_len events.old + 1 ≤ 64 }
+    requires { HasRoom 1 events.old }
     ensures shown { Does battle.old events.old.items battle.new events.new.items false (ends side volatiles.Confusion without_confusion) }
-    ensures room { array_vec_len events.new ≤ array_vec_len events.old + 1 }
+    ensures room { AddsAtMost 1 events.old events.new }
 {
     battle.put_confused(side, None);
     events.push(Event::End(battle.who(side), Volatile::Confusion));
@@ -57,13 +55,13 @@ fn confusion_goes_on<R: Rolls>(
     random: &mut R,
     events: &mut EventList,
 ) -> Gate
-    requires { array_vec_len events.old + 2 ≤ 64 }
+    requires { HasRoom 2 events.old }
     ensures shown { (origin : R) (g : Frame) (p : Progress) → (conditions side p).confused ≡ Some turns
         → ShowsDrawn R.byte R.next R.SPAN origin g battle.old events.old.items random.old false p
         → TellsDrawn R.byte R.next R.SPAN origin g battle.new events.new.items random.new result p
         ((goes_on side volatiles.Confusion with_confusion_one_less ▸ draw (may_hurt_itself side)) p) }
-    ensures room { array_vec_len events.new ≤ array_vec_len events.old + 2 }
-    ensures quiet { result ≡ Gate.Go → array_vec_len events.new ≤ array_vec_len events.old + 1 }
+    ensures room { AddsAtMost 2 events.old events.new }
+    ensures quiet { result ≡ Gate.Go → AddsAtMost 1 events.old events.new }
 {
     battle.put_confused(side, Some(turns.saturating_sub(1)));
     events.push(Event::Activate(battle.who(side), Volatile::Confusion));
