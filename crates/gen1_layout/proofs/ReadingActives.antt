@@ -1,6 +1,6 @@
 -- An active block passes its test exactly where, but for its current stats, it is that of a valid active.
-use Rattle.std.proofs.Common.{Bool, List, None, Option, Some, [], ap, arith, drop, false, if◌then◌else◌, inl, inr, is_some, length, nat_le, refl, slice_index, slice_index_or, subst, suc, sym, true, unwrap_or, zero, ℕ, ◌%◌, ◌&&◌, ◌*◌, ◌+◌, ◌-◌, ◌/◌, ◌<◌, ◌==◌, ◌||◌, ◌∙◌, ◌∷◌, ◌≡◌, ◌≤◌}
-use Rattle.std.proofs.lemmas.Bool.Decides.{nat_tests}
+use Rattle.gen1_layout.proofs.Words.{Active, Bool, Conditions, DisabledSlot, IsBetween, List, Member, None, Option, Some, [], ap, arith, false, inl, inr, is_some, known_in, length, nat_le, nat_tests, nobody, refl, slice_index, slice_index_or, subst, suc, sym, true, zero, ℕ, ◌%◌, ◌&&◌, ◌*◌, ◌+◌, ◌-◌, ◌/◌, ◌<◌, ◌==◌, ◌||◌, ◌∙◌, ◌∷◌, ◌≡◌, ◌≤◌}
+use Rattle.std.proofs.Common.{drop, if◌then◌else◌, unwrap_or}
 use Rattle.std.proofs.lemmas.List.{get_or-drop, get_or-take}
 use Rattle.std.specs.Int.{bit_at}
 use Rattle.gen1_tables.specs.declared.element.Element.{Element}
@@ -8,13 +8,10 @@ use Rattle.gen1_tables.specs.declared.element.Element.TheVariants.{Normal, Fight
 use Rattle.gen1_tables.specs.declared.effect.Effect.TheVariants as effects
 use Rattle.gen1_tables.specs.Moves.{move_row, move_rows}
 use Rattle.gen1_tables.specs.Types.{number_of}
-use Rattle.gen1_stats.specs.Members.{nobody, IsBetween, Member}
 use Rattle.gen1_machine.specs.declared.picks.Used.{Used}
 use Rattle.gen1_machine.specs.declared.picks.Used.TheVariants.{Unused, Slot, Struggle}
-use Rattle.gen1_machine.specs.declared.picks.DisabledSlot.{DisabledSlot}
 use Rattle.gen1_machine.specs.Rules.{rules_of}
-use Rattle.gen1_machine.specs.Conditions.{Storing, Conditions}
-use Rattle.gen1_machine.specs.State.{known_in, Active}
+use Rattle.gen1_machine.specs.Conditions.{Storing}
 use Rattle.gen1_machine.specs.Layout.{active_block, condition_bits, conditions_number, disabled_slot, disabled_turns, energy_of, high_byte, low_byte, member_block, member_blocks, turns_byte, turns_of, used_byte}
 use Rattle.gen1_machine.specs.Valid.{effect_of, IsActive, IsCount, IsDisabled, IsKept, IsMemberUnder, IsMembersUnder, IsStoring, IsUsed, KeepsAccuracy}
 use Rattle.gen1_layout.specs.ReadingBytes.{active_bytes, long, member_bytes, word, places_of}

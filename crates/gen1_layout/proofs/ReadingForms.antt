@@ -1,13 +1,12 @@
 -- Exactly the packings of valid states pass all tests.
-use Rattle.std.proofs.Common.{All, Bool, List, ap, arith, false, inl, inr, length, refl, replicate, slice_index, subst, sym, ℕ, ◌*◌, ◌++◌, ◌+◌, ◌-◌, ◌<◌, ◌==◌, ◌∙◌, ◌≡◌, ◌≤◌, if◌then◌else◌}
+use Rattle.gen1_layout.proofs.Words.{Active, Bool, IsBetween, List, Member, ap, arith, false, inl, inr, length, nat_tests, nobody, refl, slice_index, subst, sym, ℕ, ◌*◌, ◌++◌, ◌+◌, ◌-◌, ◌<◌, ◌==◌, ◌∙◌, ◌≡◌, ◌≤◌}
+use Rattle.std.proofs.Common.{All, replicate, if◌then◌else◌}
 use Rattle.std.proofs.lemmas.Bool.{cases_lt}
-use Rattle.std.proofs.lemmas.Bool.Decides.{nat_tests}
 use Rattle.std.proofs.lemmas.List.{get_or-take}
 use Rattle.std.proofs.lemmas.List.Elements.{All-replicate}
-use Rattle.gen1_stats.specs.Members.{nobody, IsBetween, Member}
 use Rattle.gen1_rolls.specs.Streams.{IsStream, Link}
 use Rattle.gen1_machine.specs.Rules.{rules_of, Rules}
-use Rattle.gen1_machine.specs.State.{member_at, nobody_out, not_sent_out, Active, Party, State}
+use Rattle.gen1_machine.specs.State.{member_at, nobody_out, not_sent_out, Party, State}
 use Rattle.gen1_machine.specs.Layout.{active_block, active_block_of, bytes_of, header_block, member_block, member_blocks, party_bytes}
 use Rattle.gen1_machine.specs.Valid.{FallenAreHealthy, IsActive, IsField, IsMembersUnder, IsOutcome, IsParty, IsStarted, IsTerms, IsUnstarted, KeepsAccuracy}
 use Rattle.gen1_layout.specs.ReadingBytes.{active_bytes, header_of, member_bytes, places_of, side_one, side_two, word}

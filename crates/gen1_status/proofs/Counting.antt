@@ -1,7 +1,6 @@
 -- What a turn makes of a count.
-use Rattle.std.proofs.Common.{Some, refl, ℕ, ◌-◌, ◌≡◌}
-use Rattle.gen1_machine.specs.declared.picks.DisabledSlot.{DisabledSlot}
-use Rattle.gen1_machine.specs.Conditions.{with_confusion_one_less, with_disable_one_less, Conditions}
+use Rattle.gen1_layout.proofs.Words.{Conditions, DisabledSlot, Some, refl, ℕ, ◌-◌, ◌≡◌}
+use Rattle.gen1_machine.specs.Conditions.{with_confusion_one_less, with_disable_one_less}
 
 pub less_disabled : (c : Conditions) (d : DisabledSlot) → c.disabled ≡ Some d
     → with_disable_one_less c ≡ record c { disabled = Some (record { slot = d.slot; turns = d.turns - 1 }) }

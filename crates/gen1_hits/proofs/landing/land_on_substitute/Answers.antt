@@ -1,12 +1,9 @@
-use Rattle.std.proofs.Common.{Option, ap, arith, refl, sym, true, ℕ, ◌∙◌}
+use Rattle.gen1_layout.proofs.Words.{Action, Option, acted, active_ok, ap, arith, changed_conditions, conditions_in, ends, goes, if_not, if_so, refl, sym, told_so, true, who_in, ℕ, ◌∙◌}
 use Rattle.gen1_machine.specs.declared.event.Event.TheVariants as events
 use Rattle.gen1_machine.specs.declared.event.Volatile.TheVariants as volatiles
 use Rattle.gen1_machine.specs.Conditions.{less_by, with_substitute_hurt, without_substitute}
-use Rattle.gen1_machine.specs.State.{changed_conditions, conditions_in, who_in}
-use Rattle.gen1_machine.specs.Progress.{ends, goes_on, Action}
+use Rattle.gen1_machine.specs.Progress.{goes_on}
 use Rattle.gen1_machine.specs.Landing.{land_on_substitute, set_broke}
-use Rattle.gen1_layout.proofs.Chain.{acted, goes, if_not, if_so, told_so}
-use Rattle.gen1_layout.proofs.Steps.{active_ok}
 use Rattle.gen1_hits.proofs.landing.land_on_substitute.Goals as goal
 
 pub returns-then-breaks-clause-shown : goal.returns-then-breaks-clause-shown

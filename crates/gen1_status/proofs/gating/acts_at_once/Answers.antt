@@ -1,6 +1,5 @@
-use Rattle.std.proofs.Common.{[], Bool, ap, false, is_some, not, refl, sym, true, ◌∙◌, ◌∷◌, ◌≡◌}
-use Rattle.gen1_machine.specs.declared.side.Side.{Side}
-use Rattle.gen1_machine.specs.State.{underway_in}
+use Rattle.gen1_layout.proofs.Words.{Bool, Side, [], ap, false, is_some, refl, sym, true, underway_in, ◌∙◌, ◌∷◌, ◌≡◌}
+use Rattle.std.proofs.Common.{not}
 use Rattle.gen1_status.specs.Gating.{keeps_from_acting}
 use Rattle.gen1_status.proofs.Untested.{free-is}
 use Rattle.gen1_status.proofs.gating.acts_at_once.Goals as goal

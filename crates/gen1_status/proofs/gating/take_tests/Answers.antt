@@ -1,7 +1,6 @@
-use Rattle.std.proofs.Common.{refl}
+use Rattle.gen1_layout.proofs.Words.{refl, settled}
 use Rattle.gen1_machine.specs.Gate.{gate, gate_of_status, gate_of_turn}
 use Rattle.gen1_machine.proofs.Steady.{gate_of_status-steady, gate_of_turn-steady}
-use Rattle.gen1_layout.proofs.Chain.{settled}
 use Rattle.gen1_status.specs.declared.passing.Gate.TheVariants.{Go, Stop}
 use Rattle.gen1_status.proofs.Told.{outcome-steady, still_tells, tells, tells_goes, tells_stops}
 use Rattle.gen1_status.proofs.gating.take_tests.Goals as goal

@@ -1,10 +1,8 @@
-use Rattle.std.proofs.Common.{lit<, refl}
+use Rattle.gen1_layout.proofs.Words.{lit<, put_on_conditions, refl, stop}
 use Rattle.gen1_machine.specs.Conditions.{broken_off, without_flinch, without_invulnerability}
 use Rattle.gen1_machine.specs.Damage.{before_types, Numbers}
-use Rattle.gen1_machine.specs.Progress.{stop}
 use Rattle.gen1_machine.specs.HitOnItself.{hurt_itself, hurt_itself_by}
 use Rattle.gen1_machine.proofs.Keeps.{on_conditions-keeps}
-use Rattle.gen1_layout.proofs.Chain.{put_on_conditions}
 use Rattle.gen1_status.proofs.Clearing.{flinch-same, invulnerability-same}
 use Rattle.gen1_status.proofs.Told.{conditions-spare, tells_given, then_tells}
 use Rattle.gen1_status.proofs.own_hit.hurt_itself.Goals as goal

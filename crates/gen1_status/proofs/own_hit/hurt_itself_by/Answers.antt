@@ -1,11 +1,9 @@
-use Rattle.std.proofs.Common.{Some, ap, lit≤, refl, sym, ◌∙◌}
-use Rattle.gen1_machine.specs.declared.side.Side.{Side}
+use Rattle.gen1_layout.proofs.Words.{Progress, Side, Some, ap, conditions_in, goes, halted, if_not, if_so, lit≤, on_field, put, put_damage, refl, seeing, set_last_damage, stop, stops, sym, then-goes, then-stops, ◌∙◌, ◌▸◌}
 use Rattle.gen1_machine.specs.declared.terms.Outcome.TheVariants as outcomes
-use Rattle.gen1_machine.specs.State.{conditions_in, with_outcome}
-use Rattle.gen1_machine.specs.Progress.{fault, on_field, set_last_damage, stop, Progress, ◌▸◌}
+use Rattle.gen1_machine.specs.State.{with_outcome}
+use Rattle.gen1_machine.specs.Progress.{fault}
 use Rattle.gen1_machine.specs.HitOnItself.{hurt_itself_by, land_on_foes_substitute}
 use Rattle.gen1_machine.proofs.Keeps.{stop-keeps, then-keeps}
-use Rattle.gen1_layout.proofs.Chain.{goes, halted, if_not, if_so, put, put_damage, seeing, stops, then-goes, then-stops}
 use Rattle.gen1_status.specs.declared.passing.Gate.TheVariants.{Fault, Stop}
 use Rattle.gen1_status.proofs.Told.{hit-keeps, known_so, tells, tells_broken}
 use Rattle.gen1_status.proofs.own_hit.hurt_itself_by.Goals as goal

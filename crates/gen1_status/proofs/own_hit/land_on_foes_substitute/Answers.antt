@@ -1,6 +1,5 @@
-use Rattle.std.proofs.Common.{◌||◌, ◌∙◌}
+use Rattle.gen1_layout.proofs.Words.{stays, ◌||◌, ◌∙◌}
 use Rattle.gen1_machine.specs.HitOnItself.{land_on_foes_substitute}
-use Rattle.gen1_layout.proofs.Chain.{stays}
 use Rattle.gen1_status.proofs.Told.{broken_so}
 use Rattle.gen1_status.proofs.own_hit.land_on_foes_substitute.Goals as goal
 

@@ -1,9 +1,8 @@
-use Rattle.std.proofs.Common.{add-one, arith, max, refl, ℕ, ◌+◌, ◌/◌, ◌≡◌}
+use Rattle.gen1_layout.proofs.Words.{active_in, active_ok, add-one, arith, member_in, refl, ℕ, ◌+◌, ◌/◌, ◌≡◌}
+use Rattle.std.proofs.Common.{max}
 use Rattle.gen1_stats.specs.declared.status.Status.TheVariants.{Asleep, Burned, Frozen, Healthy, Paralysed, Poisoned}
 use Rattle.gen1_machine.specs.CurrentStats.{with_penalty_of}
 use Rattle.gen1_machine.specs.Stages.{at_stage, divided_times}
-use Rattle.gen1_machine.specs.State.{active_in, member_in}
-use Rattle.gen1_layout.proofs.Steps.{active_ok}
 use Rattle.gen1_status.proofs.Unchanged.{changed_active-same}
 use Rattle.gen1_status.proofs.penalties.take_penalty.Goals as goal
 

@@ -1,10 +1,6 @@
-use Rattle.std.proofs.Common.{arith, false, nat_le, sym, true, ◌-◌, ◌≡◌, ◌∙◌}
-use Rattle.std.proofs.lemmas.Bool.Decides.{nat_tests}
+use Rattle.gen1_layout.proofs.Words.{active_in, arith, false, goes, member_in, nat_le, nat_tests, on_active, put_on_active, sym, then-goes, true, ◌-◌, ◌∙◌, ◌≡◌}
 use Rattle.gen1_machine.specs.CurrentStats.{at_new_stage, penalties_of, unmodified}
-use Rattle.gen1_machine.specs.Progress.{on_active}
-use Rattle.gen1_machine.specs.State.{active_in, member_in}
 use Rattle.gen1_machine.specs.StageShift.{note_boost, raised, stage_in}
-use Rattle.gen1_layout.proofs.Chain.{goes, put_on_active, then-goes}
 use Rattle.gen1_status.proofs.Restaging.{at_new_stage-is, now-at_new_stage, stands_at-now}
 use Rattle.gen1_status.proofs.Shifting.{raise_stage-full, raise_stage-highest, raise_stage-succeeds}
 use Rattle.gen1_status.proofs.Staying.{most_stays}

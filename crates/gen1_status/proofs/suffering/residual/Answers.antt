@@ -1,6 +1,5 @@
-use Rattle.std.proofs.Common.{refl, sym, ◌∙◌}
+use Rattle.gen1_layout.proofs.Words.{goes, if_not, if_so, refl, seeing, stays, sym, ◌∙◌}
 use Rattle.gen1_machine.specs.Residual.{residual, suffer_status}
-use Rattle.gen1_layout.proofs.Chain.{goes, if_not, if_so, seeing, stays}
 use Rattle.gen1_status.proofs.Untested.{residual-spares}
 use Rattle.gen1_status.proofs.suffering.residual.Goals as goal
 

@@ -1,7 +1,6 @@
-use Rattle.std.proofs.Common.{refl}
+use Rattle.gen1_layout.proofs.Words.{put_on_conditions, refl}
 use Rattle.gen1_machine.specs.Conditions.{with_worse_poison}
 use Rattle.gen1_machine.specs.Residual.{worsen}
-use Rattle.gen1_layout.proofs.Chain.{put_on_conditions}
 use Rattle.gen1_status.proofs.Fitting.{one_more-fits}
 use Rattle.gen1_status.proofs.suffering.worsen.Goals as goal
 

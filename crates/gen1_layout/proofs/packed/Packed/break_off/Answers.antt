@@ -1,11 +1,6 @@
-use Rattle.std.proofs.Common.{arith, false, lit<, lit≤, refl, slice_set, ◌∙◌, ◌≡◌}
-use Rattle.gen1_machine.specs.Conditions.{Conditions, broken_off}
+use Rattle.gen1_layout.proofs.Words.{Conditions, active_holds, active_ok, arith, conditions_in, conditions_written, false, lit<, lit≤, number_small, refl, slice_set, top_byte, ◌∙◌, ◌≡◌}
+use Rattle.gen1_machine.specs.Conditions.{broken_off}
 use Rattle.gen1_machine.specs.Layout.{condition_bits, conditions_number}
-use Rattle.gen1_machine.specs.State.{conditions_in}
-use Rattle.gen1_layout.proofs.Blocks.{active_holds}
-use Rattle.gen1_layout.proofs.Counts.{number_small}
-use Rattle.gen1_layout.proofs.WaysBack.{top_byte}
-use Rattle.gen1_layout.proofs.Steps.{active_ok, conditions_written}
 use Rattle.gen1_layout.proofs.packed.Packed.break_off.Goals as goal
 
 pub returns : goal.returns

@@ -1,7 +1,5 @@
-use Rattle.std.proofs.Common.{length}
-use Rattle.gen1_machine.specs.State.{active_in, member_in}
+use Rattle.gen1_layout.proofs.Words.{active_in, active_ok, length, member_in}
 use Rattle.gen1_layout.proofs.WaysBack.{few_moves, used_back}
-use Rattle.gen1_layout.proofs.Steps.{active_ok}
 use Rattle.gen1_layout.proofs.packed.Packed.current.Goals as goal
 
 pub returns : goal.returns

@@ -1,11 +1,6 @@
-use Rattle.std.proofs.Common.{None, arith, lit<, refl, ◌∙◌, ◌≡◌}
-use Rattle.gen1_machine.specs.Conditions.{Conditions}
+use Rattle.gen1_layout.proofs.Words.{Conditions, None, active_holds, active_ok, arith, conditions_in, conditions_written, lit<, number_small, refl, top_byte, underway_in, ◌∙◌, ◌≡◌}
 use Rattle.gen1_machine.specs.Layout.{condition_bits, conditions_number}
-use Rattle.gen1_machine.specs.State.{conditions_in, underway_in}
-use Rattle.gen1_layout.proofs.Blocks.{active_holds}
-use Rattle.gen1_layout.proofs.Counts.{less_alone, number_small}
-use Rattle.gen1_layout.proofs.WaysBack.{top_byte}
-use Rattle.gen1_layout.proofs.Steps.{active_ok, conditions_written}
+use Rattle.gen1_layout.proofs.Counts.{less_alone}
 use Rattle.gen1_layout.proofs.packed.Packed.end_thrash.Goals as goal
 
 pub returns : goal.returns

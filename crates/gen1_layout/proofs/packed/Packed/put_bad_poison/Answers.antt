@@ -1,11 +1,5 @@
-use Rattle.std.proofs.Common.{Bool, ap, arith, lit<, refl, slice_set, ◌∙◌, ◌≡◌}
-use Rattle.gen1_machine.specs.Conditions.{Conditions}
+use Rattle.gen1_layout.proofs.Words.{Bool, Conditions, active_holds, active_ok, ap, arith, conditions_in, conditions_written, lit<, number_small, refl, slice_set, top_byte, ◌∙◌, ◌≡◌}
 use Rattle.gen1_machine.specs.Layout.{condition_bits, conditions_number, number_of_bits}
-use Rattle.gen1_machine.specs.State.{conditions_in}
-use Rattle.gen1_layout.proofs.Blocks.{active_holds}
-use Rattle.gen1_layout.proofs.Counts.{number_small}
-use Rattle.gen1_layout.proofs.WaysBack.{top_byte}
-use Rattle.gen1_layout.proofs.Steps.{active_ok, conditions_written}
 use Rattle.gen1_layout.proofs.packed.Packed.put_bad_poison.Goals as goal
 
 pub returns : goal.returns

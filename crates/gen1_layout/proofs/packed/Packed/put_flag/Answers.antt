@@ -1,11 +1,6 @@
-use Rattle.std.proofs.Common.{ap, arith, length, refl, sym, ◌∙◌, ◌≡◌}
-use Rattle.gen1_machine.specs.Conditions.{Conditions}
+use Rattle.gen1_layout.proofs.Words.{Conditions, active_holds, active_ok, ap, arith, conditions_in, conditions_written, length, member_in, number_small, refl, sym, top_byte, ◌∙◌, ◌≡◌}
 use Rattle.gen1_machine.specs.Layout.{condition_bits, conditions_number, number_of_bits}
-use Rattle.gen1_machine.specs.State.{conditions_in, member_in}
-use Rattle.gen1_layout.proofs.Blocks.{active_holds}
-use Rattle.gen1_layout.proofs.Counts.{number_small, same_storable}
-use Rattle.gen1_layout.proofs.WaysBack.{top_byte}
-use Rattle.gen1_layout.proofs.Steps.{active_ok, conditions_written}
+use Rattle.gen1_layout.proofs.Counts.{same_storable}
 use Rattle.gen1_layout.proofs.packed.Packed.put_flag.Goals as goal
 
 pub returns : goal.returns

@@ -1,6 +1,4 @@
-use Rattle.std.proofs.Common.{arith, refl, ◌∙◌}
-use Rattle.gen1_layout.proofs.Blocks.{active_holds}
-use Rattle.gen1_layout.proofs.Steps.{active_ok, active_written}
+use Rattle.gen1_layout.proofs.Words.{active_holds, active_ok, active_written, arith, refl, ◌∙◌}
 use Rattle.gen1_layout.proofs.packed.Packed.put_kept_accuracy.Goals as goal
 
 pub returns : goal.returns

@@ -1,9 +1,6 @@
-use Rattle.std.proofs.Common.{ap, refl, ◌∙◌}
+use Rattle.gen1_layout.proofs.Words.{Active, active_holds, active_ok, active_written, ap, member_in, refl, ◌∙◌}
 use Rattle.gen1_tables.specs.declared.effect.Stat.TheVariants.{Special}
 use Rattle.gen1_machine.specs.CurrentStats.{now}
-use Rattle.gen1_machine.specs.State.{Active, member_in}
-use Rattle.gen1_layout.proofs.Blocks.{active_holds}
-use Rattle.gen1_layout.proofs.Steps.{active_ok, active_written}
 use Rattle.gen1_layout.proofs.packed.Packed.put_special.Goals as goal
 
 pub returns : goal.returns

@@ -1,11 +1,5 @@
-use Rattle.std.proofs.Common.{Some, arith, lit<, lit≤, refl, ◌∙◌, ◌≡◌}
-use Rattle.gen1_machine.specs.Conditions.{Conditions}
+use Rattle.gen1_layout.proofs.Words.{Conditions, Some, active_holds, active_ok, arith, conditions_in, conditions_written, lit<, lit≤, number_small, refl, top_byte, underway_in, ◌∙◌, ◌≡◌}
 use Rattle.gen1_machine.specs.Layout.{condition_bits, conditions_number}
-use Rattle.gen1_machine.specs.State.{conditions_in, underway_in}
-use Rattle.gen1_layout.proofs.Blocks.{active_holds}
-use Rattle.gen1_layout.proofs.Counts.{number_small}
-use Rattle.gen1_layout.proofs.WaysBack.{top_byte}
-use Rattle.gen1_layout.proofs.Steps.{active_ok, conditions_written}
 use Rattle.gen1_layout.proofs.packed.Packed.put_trapping.Goals as goal
 
 pub returns : goal.returns

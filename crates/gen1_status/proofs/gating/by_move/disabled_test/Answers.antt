@@ -1,8 +1,6 @@
-use Rattle.std.proofs.Common.{lit<, refl, sym, ◌∙◌}
+use Rattle.gen1_layout.proofs.Words.{conditions_in, goes, if_not, if_so, lit<, put_on_conditions, refl, stays, sym, ◌∙◌}
 use Rattle.gen1_machine.specs.Conditions.{without_charging}
-use Rattle.gen1_machine.specs.State.{conditions_in}
 use Rattle.gen1_machine.specs.Gate.{disabled_test}
-use Rattle.gen1_layout.proofs.Chain.{goes, if_not, if_so, put_on_conditions, stays}
 use Rattle.gen1_status.proofs.Clearing.{charging-same}
 use Rattle.gen1_status.proofs.gating.by_move.disabled_test.Goals as goal
 

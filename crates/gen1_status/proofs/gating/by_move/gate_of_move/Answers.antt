@@ -1,9 +1,7 @@
-use Rattle.std.proofs.Common.{refl, sym, ◌∙◌}
-use Rattle.gen1_machine.specs.Progress.{stay, stop}
+use Rattle.gen1_layout.proofs.Words.{drawn_settled, halted, refl, settled, stay, stays, still, stop, sym, ◌∙◌}
 use Rattle.gen1_machine.specs.Gate.{confusion_test, disabled_test, gate_of_move, paralysis_test}
 use Rattle.gen1_machine.proofs.Keeps.{stay-keeps, stop-keeps}
 use Rattle.gen1_machine.proofs.Steady.{disabled_test-steady, paralysis_test-steady}
-use Rattle.gen1_layout.proofs.Chain.{drawn_settled, halted, settled, stays, still}
 use Rattle.gen1_status.specs.declared.passing.Gate.TheVariants.{Go, Stop}
 use Rattle.gen1_status.proofs.Told.{drawn_tells, outcome-breaks, outcome-steady, still_tells, tells, tells_goes, tells_if_not, tells_if_so, tells_seeing, tells_stops, went}
 use Rattle.gen1_status.proofs.gating.by_move.gate_of_move.Goals as goal

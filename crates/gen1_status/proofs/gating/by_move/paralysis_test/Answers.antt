@@ -1,8 +1,7 @@
-use Rattle.std.proofs.Common.{ap, arith, refl, sym, ◌∙◌}
+use Rattle.gen1_layout.proofs.Words.{ap, arith, drawing, drawn_if_not, drawn_if_so, goes, if_not, if_so, put_on_conditions, refl, stays, still, sym, ◌∙◌}
 use Rattle.gen1_stats.specs.Members.{is_paralysed}
 use Rattle.gen1_machine.specs.Conditions.{broken_off}
 use Rattle.gen1_machine.specs.Gate.{may_be_paralysed, paralysis_test}
-use Rattle.gen1_layout.proofs.Chain.{drawing, drawn_if_not, drawn_if_so, goes, if_not, if_so, put_on_conditions, stays, still}
 use Rattle.gen1_status.proofs.Comparing.{below, not_below}
 use Rattle.gen1_status.proofs.gating.by_move.paralysis_test.Goals as goal
 

@@ -1,7 +1,6 @@
-use Rattle.std.proofs.Common.{ap, sym, ◌∙◌}
+use Rattle.gen1_layout.proofs.Words.{ap, if_not, if_so, stays, sym, ◌∙◌}
 use Rattle.gen1_stats.specs.Members.{is_frozen}
 use Rattle.gen1_machine.specs.Gate.{frozen_test}
-use Rattle.gen1_layout.proofs.Chain.{if_not, if_so, stays}
 use Rattle.gen1_status.proofs.gating.by_status.frozen_test.Goals as goal
 
 pub returns-then-not-is_frozen-clause-shown : goal.returns-then-not-is_frozen-clause-shown

@@ -1,6 +1,5 @@
-use Rattle.std.proofs.Common.{sym}
+use Rattle.gen1_layout.proofs.Words.{goes, seeing, settled, stops, sym}
 use Rattle.gen1_machine.specs.Gate.{gate_of_status, sleep_test}
-use Rattle.gen1_layout.proofs.Chain.{goes, seeing, settled, stops}
 use Rattle.gen1_status.proofs.gating.by_status.gate_of_status.Goals as goal
 
 pub returns-then-sleep_test-clause-shown : goal.returns-then-sleep_test-clause-shown

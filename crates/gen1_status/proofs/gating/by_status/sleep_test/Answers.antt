@@ -1,6 +1,5 @@
-use Rattle.std.proofs.Common.{◌∙◌}
+use Rattle.gen1_layout.proofs.Words.{stays, ◌∙◌}
 use Rattle.gen1_machine.specs.Gate.{sleep_test}
-use Rattle.gen1_layout.proofs.Chain.{stays}
 use Rattle.gen1_status.proofs.gating.by_status.sleep_test.Goals as goal
 
 pub returns-in-Asleep-clause-shown : goal.returns-in-Asleep-clause-shown

@@ -1,13 +1,10 @@
-use Rattle.std.proofs.Common.{ap, arith, subst}
+use Rattle.gen1_layout.proofs.Words.{Field, Who, ap, arith, changed_member, goes, halted, if_not, if_so, member_in, member_ok, put_on_member, subst, told_so, who_in}
 use Rattle.gen1_stats.specs.declared.status.Status.{Status}
 use Rattle.gen1_machine.specs.declared.health.Kind.TheVariants as kinds
-use Rattle.gen1_machine.specs.declared.health.Who.{Who}
 use Rattle.gen1_machine.specs.declared.event.Event.TheVariants as events
-use Rattle.gen1_machine.specs.State.{changed_member, member_in, who_in, with_sleep_one_less, Field}
+use Rattle.gen1_machine.specs.State.{with_sleep_one_less}
 use Rattle.gen1_machine.specs.Valid.{IsStatus}
 use Rattle.gen1_machine.specs.Gate.{sleep_on, sleep_test, wake}
-use Rattle.gen1_layout.proofs.Chain.{goes, halted, if_not, if_so, put_on_member, told_so}
-use Rattle.gen1_layout.proofs.Steps.{member_ok}
 use Rattle.gen1_status.proofs.Comparing.{at_most, not_at_most}
 use Rattle.gen1_status.proofs.Sleeping.{one_turn_less, sleeps_on, wakes}
 use Rattle.gen1_status.proofs.gating.by_status.sleep_turn.Goals as goal

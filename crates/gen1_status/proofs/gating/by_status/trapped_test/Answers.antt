@@ -1,8 +1,5 @@
-use Rattle.std.proofs.Common.{ap, is_some, refl, sym, ◌∙◌}
-use Rattle.gen1_machine.specs.declared.side.Side.{Side}
-use Rattle.gen1_machine.specs.State.{underway_in}
+use Rattle.gen1_layout.proofs.Words.{Side, ap, if_not, if_so, is_some, refl, stays, sym, underway_in, ◌∙◌}
 use Rattle.gen1_machine.specs.Gate.{trapped_test}
-use Rattle.gen1_layout.proofs.Chain.{if_not, if_so, stays}
 use Rattle.gen1_status.proofs.gating.by_status.trapped_test.Goals as goal
 
 pub returns-then-not-is_on-clause-shown : goal.returns-then-not-is_on-clause-shown

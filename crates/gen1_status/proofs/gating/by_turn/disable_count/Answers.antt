@@ -1,15 +1,9 @@
-use Rattle.std.proofs.Common.{Option, ap, arith, length, refl, subst, ◌∙◌}
-use Rattle.gen1_machine.specs.declared.picks.DisabledSlot.{DisabledSlot}
-use Rattle.gen1_machine.specs.declared.health.Who.{Who}
+use Rattle.gen1_layout.proofs.Words.{DisabledSlot, Field, Option, Who, active_ok, ap, arith, changed_conditions, conditions_in, ends, if_not, if_so, length, member_in, put_on_conditions, refl, stays, subst, told_so, who_in, ◌∙◌}
 use Rattle.gen1_machine.specs.declared.event.Event.TheVariants as events
 use Rattle.gen1_machine.specs.declared.event.Volatile.TheVariants as volatiles
 use Rattle.gen1_machine.specs.Conditions.{with_disable_one_less, without_disable}
-use Rattle.gen1_machine.specs.State.{changed_conditions, conditions_in, member_in, who_in, Field}
-use Rattle.gen1_machine.specs.Progress.{ends}
 use Rattle.gen1_machine.specs.Gate.{disable_count}
 use Rattle.gen1_layout.specs.Storable.{IsStorableDisabled}
-use Rattle.gen1_layout.proofs.Chain.{if_not, if_so, put_on_conditions, stays, told_so}
-use Rattle.gen1_layout.proofs.Steps.{active_ok}
 use Rattle.gen1_status.proofs.Counting.{less_disabled}
 use Rattle.gen1_status.proofs.Comparing.{at_most, not_at_most}
 use Rattle.gen1_status.proofs.gating.by_turn.disable_count.Goals as goal

@@ -1,6 +1,5 @@
-use Rattle.std.proofs.Common.{sym}
+use Rattle.gen1_layout.proofs.Words.{goes, seeing, settled, stops, sym}
 use Rattle.gen1_machine.specs.Gate.{disable_count, gate_of_turn}
-use Rattle.gen1_layout.proofs.Chain.{goes, seeing, settled, stops}
 use Rattle.gen1_status.proofs.gating.by_turn.gate_of_turn.Goals as goal
 
 pub returns-then-flinch_test-clause-shown : goal.returns-then-flinch_test-clause-shown

@@ -1,11 +1,7 @@
-use Rattle.std.proofs.Common.{ap, refl}
-use Rattle.gen1_machine.specs.declared.health.Who.{Who}
+use Rattle.gen1_layout.proofs.Words.{Field, Who, ap, changed_conditions, ends, refl, told_so, who_in}
 use Rattle.gen1_machine.specs.declared.event.Event.TheVariants as events
 use Rattle.gen1_machine.specs.declared.event.Volatile.TheVariants as volatiles
 use Rattle.gen1_machine.specs.Conditions.{without_confusion}
-use Rattle.gen1_machine.specs.State.{changed_conditions, who_in, Field}
-use Rattle.gen1_machine.specs.Progress.{ends}
-use Rattle.gen1_layout.proofs.Chain.{told_so}
 use Rattle.gen1_status.proofs.gating.confusion.confusion_ends.Goals as goal
 
 pub returns-clause-shown : goal.returns-clause-shown

@@ -1,15 +1,11 @@
-use Rattle.std.proofs.Common.{Option, Some, ap, arith, refl, subst, sym, ℕ, ◌∙◌}
-use Rattle.gen1_machine.specs.declared.health.Who.{Who}
+use Rattle.gen1_layout.proofs.Words.{Field, Option, Some, Who, active_ok, ap, arith, changed_conditions, conditions_in, refl, stay, stays, still, subst, sym, told_so, who_in, ℕ, ◌∙◌}
 use Rattle.gen1_machine.specs.declared.event.Event.TheVariants as events
 use Rattle.gen1_machine.specs.declared.event.Volatile.TheVariants as volatiles
 use Rattle.gen1_machine.specs.Conditions.{with_confusion_one_less}
-use Rattle.gen1_machine.specs.State.{changed_conditions, conditions_in, who_in, Field}
-use Rattle.gen1_machine.specs.Progress.{goes_on, stay}
+use Rattle.gen1_machine.specs.Progress.{goes_on}
 use Rattle.gen1_machine.specs.Gate.{may_hurt_itself}
 use Rattle.gen1_machine.specs.Valid.{IsCount}
 use Rattle.gen1_machine.proofs.Keeps.{goes_on-keeps, stay-keeps}
-use Rattle.gen1_layout.proofs.Chain.{stays, still, told_so}
-use Rattle.gen1_layout.proofs.Steps.{active_ok}
 use Rattle.gen1_status.specs.declared.passing.Gate.TheVariants.{Go}
 use Rattle.gen1_status.proofs.Comparing.{at_most, not_at_most}
 use Rattle.gen1_status.proofs.Counting.{less_confused}

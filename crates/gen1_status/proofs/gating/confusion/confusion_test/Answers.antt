@@ -1,10 +1,8 @@
-use Rattle.std.proofs.Common.{refl, ◌∙◌}
+use Rattle.gen1_layout.proofs.Words.{ends, refl, stay, stays, still, ◌∙◌}
 use Rattle.gen1_machine.specs.declared.event.Volatile.TheVariants as volatiles
 use Rattle.gen1_machine.specs.Conditions.{without_confusion}
-use Rattle.gen1_machine.specs.Progress.{ends, stay}
 use Rattle.gen1_machine.specs.Gate.{confusion_test}
 use Rattle.gen1_machine.proofs.Keeps.{ends-keeps, stay-keeps}
-use Rattle.gen1_layout.proofs.Chain.{stays, still}
 use Rattle.gen1_status.specs.declared.passing.Gate.TheVariants.{Go}
 use Rattle.gen1_status.proofs.Comparing.{at_most, not_at_most}
 use Rattle.gen1_status.proofs.Told.{conditions-spare, drawn_tells, still_tells, tells, tells_if_not, tells_if_so}
