@@ -57,12 +57,12 @@ party_of byte side members full fit valid same passes stats =
     let st = (stats_law m a (active_bytes side) block_full (part_bytes 144 36 side fit) known.numbers s.same).0
     (subst (λ (l : List ℕ). PassesStats l (active_bytes side)) (out_is byte side members a valid same s.place at) stats) in
     record {
-      active = record a { attack_halved = st.halved; speed_quartered = st.quartered };
+      active = record a { attack_penalties = st.halved; speed_penalties = st.quartered };
       place = s.place;
       valid = record {
         stages = s.valid.stages;
-        current = s.valid.current;
-        picked = s.valid.picked;
+        current_move = s.valid.current_move;
+        picked_move = s.valid.picked_move;
         kept_accuracy = s.valid.kept_accuracy;
         conditions = s.valid.conditions;
       };
@@ -242,7 +242,7 @@ party_back byte rules t side full fit is valid kept parts =
           record { active = a; place = valid.place; valid = valid.active; kept = kept; same = ap beside_stats block },
       subst (λ (l : List ℕ). PassesStats l (active_bytes side)) (sym (out_is byte side t.members a known_all parts.places valid.place at))
           ((stats_law m a (active_bytes side) block_full (part_bytes 144 36 side fit) known.numbers (ap beside_stats block)).1
-          record { halved = a.attack_halved; quartered = a.speed_quartered; same = block }),
+          record { halved = a.attack_penalties; quartered = a.speed_penalties; same = block }),
       at,
     )
 

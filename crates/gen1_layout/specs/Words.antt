@@ -6,7 +6,7 @@ pub use Rattle.gen1_stats.specs.Members.{IsBetween, Member, is_asleep, is_frozen
 pub use Rattle.gen1_machine.specs.declared.side.Side.{Side}
 pub use Rattle.gen1_machine.specs.declared.event.Event.{Event}
 pub use Rattle.gen1_machine.specs.Sides.{other}
-pub use Rattle.gen1_machine.specs.Conditions.{Conditions}
+pub use Rattle.gen1_machine.specs.Conditions.{ActiveConditions}
 pub use Rattle.gen1_machine.specs.State.{Active, Field, active_in, changed_active, changed_conditions, changed_member, conditions_in, health_in, healed_by, hurt_by, kind_of, known_in, member_at, member_in, party, request_of, status_in, underway_in, who_in, with_last_damage, with_next_turn, with_outcome, with_requests}
 pub use Rattle.gen1_machine.specs.CurrentStats.{has_number, now, now_in, stage_of, unmodified, with_penalty_of, with_stage}
 pub use Rattle.gen1_machine.specs.Moves.{move_at}
@@ -61,14 +61,14 @@ WritesActiveIf s old new written fits =
     (g : Setting) (f : Field) (change : Active → Active) → Within g old f
     → change (active_in s f) ≡ written (active_in s f) → fits g f → Within g new (changed_active s change f)
 
-abbrev pub WritesConditions : Side → Parts → Parts → (Conditions → Conditions) → Type 0
+abbrev pub WritesConditions : Side → Parts → Parts → (ActiveConditions → ActiveConditions) → Type 0
 WritesConditions s old new written =
-    (g : Setting) (f : Field) (change : Conditions → Conditions) → Within g old f
+    (g : Setting) (f : Field) (change : ActiveConditions → ActiveConditions) → Within g old f
     → change (conditions_in s f) ≡ written (conditions_in s f) → Within g new (changed_conditions s change f)
 
-abbrev pub WritesConditionsIf : Side → Parts → Parts → (Conditions → Conditions) → (Setting → Field → Type 0) → Type 0
+abbrev pub WritesConditionsIf : Side → Parts → Parts → (ActiveConditions → ActiveConditions) → (Setting → Field → Type 0) → Type 0
 WritesConditionsIf s old new written fits =
-    (g : Setting) (f : Field) (change : Conditions → Conditions) → Within g old f
+    (g : Setting) (f : Field) (change : ActiveConditions → ActiveConditions) → Within g old f
     → change (conditions_in s f) ≡ written (conditions_in s f) → fits g f → Within g new (changed_conditions s change f)
 
 -- doing: what a phase does that depends on what there is, where code was handed this

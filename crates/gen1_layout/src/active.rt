@@ -1,7 +1,7 @@
 //! The fields of an active block (docs/LAYOUT.md, "Active block"), but for conditions.
 ghost use Rattle.gen1_layout.specs.Words.{Active, Field, Member, Packs, Reads, Setting, Within, WritesActive, WritesActiveIf, active_in, changed_active, false, has_number, length, member_at, member_in, now, now_in, party, stage_of, true, ℕ, ◌≡◌, ◌≤◌};
 ghost use Rattle.gen1_tables.specs.declared.effect.Stat.TheVariants.{Attack, Defense, Special, Speed};
-ghost use Rattle.gen1_machine.specs.Valid.{IsUsed};
+ghost use Rattle.gen1_machine.specs.Valid.{IsUsedMove};
 ghost use Rattle.gen1_machine.specs.Layout.{active_block};
 ghost use Rattle.gen1_layout.specs.SentOut.{sent_as, stats_of};
 
@@ -9,7 +9,7 @@ use crate::Packed;
 use crate::beginning::{high, low};
 use crate::codes::{byte_of_used, element_from, used_from};
 use byteorder::{ByteOrder, LittleEndian};
-use gen1_machine::{Side, Used};
+use gen1_machine::{Side, UsedMove};
 use gen1_tables::{Element, Stat};
 
 impl Packed {
@@ -58,15 +58,15 @@ impl Packed {
     }
 
     /// The move that was used last: none, a slot from 1 to 4, or Struggle.
-    pub fn current(&self, side: Side) -> Used
-        ensures stands { Reads self.now result λ f. (active_in side f).current }
+    pub fn current_move(&self, side: Side) -> UsedMove
+        ensures stands { Reads self.now result λ f. (active_in side f).current_move }
     {
         used_from(self.active(side)[29])
     }
 
     /// The move that was picked last: none, a slot from 1 to 4, or Struggle.
-    pub fn picked(&self, side: Side) -> Used
-        ensures stands { Reads self.now result λ f. (active_in side f).picked }
+    pub fn picked_move(&self, side: Side) -> UsedMove
+        ensures stands { Reads self.now result λ f. (active_in side f).picked_move }
     {
         used_from(self.active(side)[30])
     }
@@ -90,16 +90,16 @@ impl Packed {
     }
 
     /// Writes the move that was used last: none, Struggle, or a slot that holds a move.
-    pub fn put_current(&mut self, side: Side, used: Used)
-        ensures stands { WritesActiveIf side self.old self.new (λ a. record a { current = used }) λ g f. IsUsed (length (member_in side f).moves) used }
+    pub fn put_current_move(&mut self, side: Side, used: UsedMove)
+        ensures stands { WritesActiveIf side self.old self.new (λ a. record a { current_move = used }) λ g f. IsUsedMove (length (member_in side f).moves) used }
     {
         let byte = byte_of_used(used);
         self.active_mut(side)[29] = byte;
     }
 
     /// Writes the move that was picked last: none, Struggle, or a slot that holds a move.
-    pub fn put_picked(&mut self, side: Side, used: Used)
-        ensures stands { WritesActiveIf side self.old self.new (λ a. record a { picked = used }) λ g f. IsUsed (length (member_in side f).moves) used }
+    pub fn put_picked_move(&mut self, side: Side, used: UsedMove)
+        ensures stands { WritesActiveIf side self.old self.new (λ a. record a { picked_move = used }) λ g f. IsUsedMove (length (member_in side f).moves) used }
     {
         let byte = byte_of_used(used);
         self.active_mut(side)[30] = byte;
@@ -129,7 +129,7 @@ impl Packed {
     /// Writes the stage of Attack, and the Attack that it gives, after any number of halvings.
     pub fn put_attack(&mut self, side: Side, stage: u8, value: u16)
         ensures stands { (g : Setting) (f : Field) (change : Active → Active) (penalties : ℕ) → Within g self.old f
-            → change (active_in side f) ≡ record (active_in side f) { stages = record (active_in side f).stages { attack = stage }; attack_halved = penalties }
+            → change (active_in side f) ≡ record (active_in side f) { stages = record (active_in side f).stages { attack = stage }; attack_penalties = penalties }
             → value ≡ now Attack (member_in side f) (change (active_in side f)) → stage ≤ 12
             → Within g self.new (changed_active side change f) }
     {
@@ -141,7 +141,7 @@ impl Packed {
     /// Writes the stage of Speed, and the Speed that it gives, after any number of quarterings.
     pub fn put_speed(&mut self, side: Side, stage: u8, value: u16)
         ensures stands { (g : Setting) (f : Field) (change : Active → Active) (penalties : ℕ) → Within g self.old f
-            → change (active_in side f) ≡ record (active_in side f) { stages = record (active_in side f).stages { speed = stage }; speed_quartered = penalties }
+            → change (active_in side f) ≡ record (active_in side f) { stages = record (active_in side f).stages { speed = stage }; speed_penalties = penalties }
             → value ≡ now Speed (member_in side f) (change (active_in side f)) → stage ≤ 12
             → Within g self.new (changed_active side change f) }
     {

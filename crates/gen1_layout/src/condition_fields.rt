@@ -1,7 +1,7 @@
 //! The conditions of a member that is out, with their numbers (docs/LAYOUT.md, "Active block", "Condition bits").
 ghost use Rattle.gen1_layout.specs.Words.{Changes, Field, List, None, Reads, Setting, Some, Within, WritesConditions, WritesConditionsIf, active_in, changed_conditions, conditions_in, false, length, member_in, slice_index_or, slice_set, underway_in, ℕ, ◌<◌, ◌^◌, ◌≡◌, ◌≤◌};
 ghost use Rattle.std.specs.Prelude.{if◌then◌else◌, slice_index};
-ghost use Rattle.gen1_machine.specs.Conditions.{Conditions as Named, after_haze, broken_off};
+ghost use Rattle.gen1_machine.specs.Conditions.{ActiveConditions, after_haze, broken_off};
 ghost use Rattle.gen1_machine.specs.Layout.{active_block, condition_bits, conditions_number, energy_of, turns_byte};
 ghost use Rattle.gen1_machine.specs.Valid.{IsCount};
 ghost use Rattle.gen1_layout.specs.Decoding.{turns_stored};
@@ -131,7 +131,7 @@ impl Packed {
 
     /// Sets or clears a condition that has no number. The place of its bit is k.
     pub fn put_flag(&mut self, side: Side, which: Conditions, on: bool)
-        ensures stands { (k : ℕ) → which.0 ≡ 2 ^ k → k < 17 → (g : Setting) (f : Field) (change : Named → Named) → Within g self.old f
+        ensures stands { (k : ℕ) → which.0 ≡ 2 ^ k → k < 17 → (g : Setting) (f : Field) (change : ActiveConditions → ActiveConditions) → Within g self.old f
             → condition_bits (change (conditions_in side f)) ≡ slice_set (condition_bits (conditions_in side f)) k on
             → SameNumbers (change (conditions_in side f)) (conditions_in side f)
             → Within g self.new (changed_conditions side change f) }
@@ -192,7 +192,7 @@ impl Packed {
 
     /// Writes that Bide stores, for so many turns more, at most 3, and with so much energy. Neither thrashing nor trapping is on.
     pub fn put_bide(&mut self, side: Side, turns: u8, energy: u16)
-        ensures stands { (g : Setting) (f : Field) (change : Named → Named) → Within g self.old f
+        ensures stands { (g : Setting) (f : Field) (change : ActiveConditions → ActiveConditions) → Within g self.old f
             → change (conditions_in side f) ≡ record (conditions_in side f) { underway = record (underway_in side f) { bide = Some (record { turns = turns; energy = energy }) } }
             → turns ≤ 3 → (underway_in side f).thrash ≡ None → (underway_in side f).trapping ≡ None
             → Within g self.new (changed_conditions side change f) }
@@ -218,7 +218,7 @@ impl Packed {
 
     /// Writes that it thrashes for so many turns more, at most 3. Neither Bide nor trapping is on.
     pub fn put_thrash(&mut self, side: Side, turns: u8)
-        ensures stands { (g : Setting) (f : Field) (change : Named → Named) → Within g self.old f
+        ensures stands { (g : Setting) (f : Field) (change : ActiveConditions → ActiveConditions) → Within g self.old f
             → change (conditions_in side f) ≡ record (conditions_in side f) { underway = record (underway_in side f) { thrash = Some turns } }
             → turns ≤ 3 → (underway_in side f).bide ≡ None → (underway_in side f).trapping ≡ None
             → Within g self.new (changed_conditions side change f) }
@@ -242,7 +242,7 @@ impl Packed {
 
     /// Writes that it traps the foe for so many turns more, at most 4. Neither Bide nor thrashing is on.
     pub fn put_trapping(&mut self, side: Side, turns: u8)
-        ensures stands { (g : Setting) (f : Field) (change : Named → Named) → Within g self.old f
+        ensures stands { (g : Setting) (f : Field) (change : ActiveConditions → ActiveConditions) → Within g self.old f
             → change (conditions_in side f) ≡ record (conditions_in side f) { underway = record (underway_in side f) { trapping = Some turns } }
             → turns ≤ 4 → (underway_in side f).bide ≡ None → (underway_in side f).thrash ≡ None
             → Within g self.new (changed_conditions side change f) }

@@ -6,7 +6,7 @@ use Rattle.gen1_stats.specs.declared.status.Status.TheVariants.{Asleep, Burned, 
 use Rattle.gen1_stats.specs.Members.{is_frozen, is_living, is_paralysed}
 use Rattle.gen1_machine.specs.declared.picks.Pick.{Pick}
 use Rattle.gen1_machine.specs.declared.picks.Pick.TheVariants.{Continue, Held, Idle, Use}
-use Rattle.gen1_machine.specs.declared.picks.Used.{Used}
+use Rattle.gen1_machine.specs.declared.picks.UsedMove.{UsedMove}
 use Rattle.gen1_machine.specs.Sides.{other}
 use Rattle.gen1_machine.specs.Layout.{condition_bits}
 use Rattle.gen1_layout.specs.Flags.{any_at}
@@ -68,8 +68,8 @@ able-is Burned e = (refl, refl)
 unbarred : (s : Side) (pick : Pick) (p : Progress) → (conditions_in s p.field).disabled ≡ None → is_disabled_in s pick p.field ≡ false
 unbarred s Idle p e = refl
 unbarred s (Use used) p e = ap (λ (d : Option DisabledSlot). bars d used) e
-unbarred s Continue p e = ap (λ (d : Option DisabledSlot). bars d (active_in s p.field).current) e
-unbarred s Held p e = ap (λ (d : Option DisabledSlot). bars d (active_in s p.field).current) e
+unbarred s Continue p e = ap (λ (d : Option DisabledSlot). bars d (active_in s p.field).current_move) e
+unbarred s Held p e = ap (λ (d : Option DisabledSlot). bars d (active_in s p.field).current_move) e
 
 module _ (s : Side) (p : Progress) (free : IsFree s p.field) (goes : p.stopped ≡ false) where
   by_status : sleeps_or_freezes (status_of s p) ≡ false → gate_of_status s p ≡ p

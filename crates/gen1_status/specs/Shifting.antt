@@ -8,8 +8,8 @@ use Rattle.gen1_layout.specs.Parts.{Parts}
 
 -- a stage, and so many penalties since its stat was last recomputed; Attack and Speed alone have any
 abbrev pub with_stage_after : Stat → ℕ → ℕ → Active → Active
-with_stage_after Attack stage penalties a = record a { stages = with_stage Attack stage a.stages; attack_halved = penalties }
-with_stage_after Speed stage penalties a = record a { stages = with_stage Speed stage a.stages; speed_quartered = penalties }
+with_stage_after Attack stage penalties a = record a { stages = with_stage Attack stage a.stages; attack_penalties = penalties }
+with_stage_after Speed stage penalties a = record a { stages = with_stage Speed stage a.stages; speed_penalties = penalties }
 with_stage_after Defense stage penalties a = record a { stages = with_stage Defense stage a.stages }
 with_stage_after Special stage penalties a = record a { stages = with_stage Special stage a.stages }
 with_stage_after Accuracy stage penalties a = record a { stages = with_stage Accuracy stage a.stages }

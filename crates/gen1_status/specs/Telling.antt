@@ -4,8 +4,8 @@ use Rattle.gen1_machine.specs.declared.terms.Outcome.{Outcome}
 use Rattle.gen1_machine.specs.declared.terms.Outcome.TheVariants as outcomes
 use Rattle.gen1_machine.specs.Progress.{Action}
 use Rattle.gen1_layout.specs.Parts.{Parts}
-use Rattle.gen1_status.specs.declared.passing.Gate.{Gate}
-use Rattle.gen1_status.specs.declared.passing.Gate.TheVariants.{Go, Fault}
+use Rattle.gen1_status.specs.declared.gate_answer.Gate.{Gate}
+use Rattle.gen1_status.specs.declared.gate_answer.Gate.TheVariants.{Go, Fault}
 
 abbrev pub stopped_by : Gate → Bool
 stopped_by Go = false

@@ -3,7 +3,7 @@ ghost use Rattle.gen1_layout.specs.Words.{Reads, underway_in, zero, ℕ, ◌≡�
 ghost use Rattle.gen1_machine.specs.Picks.{must_continue, pick_in, sleeps_or_freezes};
 
 use gen1_layout::{Conditions, Packed};
-use gen1_machine::{Choice, Pick, Side, Used};
+use gen1_machine::{Choice, Pick, Side, UsedMove};
 use gen1_stats::Status;
 
 /// What a choice of a move comes to (docs/MECHANICS.md, "Picks"): slots 1 to 4 are picked as they are, and what slot 0 means
@@ -24,7 +24,7 @@ fn pick_of(battle: &Packed, side: Side, slot: u8) -> Pick
     if slot == 0 {
         return pick_without_slot(battle, side);
     }
-    Pick::Use(Used::Slot(slot))
+    Pick::Use(UsedMove::Slot(slot))
 }
 
 fn pick_without_slot(battle: &Packed, side: Side) -> Pick
@@ -39,7 +39,7 @@ fn pick_without_slot(battle: &Packed, side: Side) -> Pick
     if battle.is_on(side.other(), Conditions::TRAPPING) {
         return Pick::Held;
     }
-    Pick::Use(Used::Struggle)
+    Pick::Use(UsedMove::Struggle)
 }
 
 // Whether something keeps the member at its current move.

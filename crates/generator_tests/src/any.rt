@@ -11,7 +11,7 @@ ghost use Rattle.gen1_status.specs.Gating.{IsFree};
 
 use gen1_hits::{Hit, critical, factor, hit_test};
 use gen1_layout::Packed;
-use gen1_machine::{EventList, Pick, Side, Used};
+use gen1_machine::{EventList, Pick, Side, UsedMove};
 use gen1_rolls::Rolls;
 use gen1_status::{Gate, gate};
 use gen1_tables::MoveId;
@@ -54,7 +54,7 @@ pub fn hit_test_by<R: Rolls>(
 pub fn gate_by<R: Rolls>(
     battle: &mut Packed,
     side: Side,
-    used: Used,
+    used: UsedMove,
     random: &mut R,
     events: &mut EventList,
 ) -> Gate

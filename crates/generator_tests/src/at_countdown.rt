@@ -12,7 +12,7 @@ ghost use Rattle.gen1_status.specs.Gating.{IsFree};
 use crate::any::{critical_by, factor_by, gate_by, hit_test_by};
 use crate::countdown::Countdown;
 use gen1_layout::Packed;
-use gen1_machine::{EventList, Side, Used};
+use gen1_machine::{EventList, Side, UsedMove};
 use gen1_rolls::draws_a_stream;
 use gen1_tables::MoveId;
 
@@ -53,7 +53,7 @@ pub fn hit_test_at(battle: &mut Packed, side: Side, id: MoveId, base: u8, number
 pub fn gate_at(
     battle: &mut Packed,
     side: Side,
-    used: Used,
+    used: UsedMove,
     number: u8,
     events: &mut EventList,
 ) -> bool
