@@ -122,7 +122,7 @@ def lemma(word, arguments, clauses, fact, known, rules, depth, extra, asked=()):
         listed = rules + ['%s-%s' % (w, fact) for w in used]
         for premise, fact_of in premises:
             if premise == 'ruling':
-                listed += [premise + field for field in ('.lulls', '.freezes') if field in body]
+                listed += [premise + field for field in ('.sleeps', '.freezes') if field in body]
             elif '→' in fact_of:
                 listed.append(premise)
         left = list(patterns) + names[len(patterns):] + [p for p, _ in premises]
@@ -157,7 +157,7 @@ FILES = '''Progress CriticalHits Damage HitTest Landing HitOnItself Gate Residua
 SideEffects GoingOn Charging FixedDamage Counter HitEffects ManyHits Action'''.split()
 
 COMBINATORS = '''stay unless_stopped choose given stop draw draw_until on_field note told on_active on_conditions on_member
-set_last_damage starts goes_on ends on_action set_missed'''.split()
+set_last_damage starts lasts ends on_action set_missed'''.split()
 
 FREE_HEAD = '''-- What no phase of an action touches: turn number, places, members that are not out, and the length of a party. A fact of
 -- these alone is free, and every phase of an action keeps it. Below its head this file is written by tools/walk.py.
@@ -172,12 +172,12 @@ types-leave : (foe : Active) → LeavesPlace (with_types_of foe)
 unfolding with_types_of
 types-leave foe = record { left = λ a. refl }
 
-current-leaves : (used : Used) → LeavesPlace (with_current used)
-unfolding with_current
+current-leaves : (used : UsedMove) → LeavesPlace (with_current_move used)
+unfolding with_current_move
 current-leaves used = record { left = λ a. refl }
 
-pub picked-leaves : (used : Used) → LeavesPlace (with_picked used)
-unfolding with_picked
+pub picked-leaves : (used : UsedMove) → LeavesPlace (with_picked_move used)
+unfolding with_picked_move
 picked-leaves used = record { left = λ a. refl }
 
 accuracy-leaves : (byte : ℕ) → LeavesPlace (with_kept_accuracy byte)
@@ -220,7 +220,7 @@ pub record Free (P : Field → Action → Stream → Type 0) : Type 0 where
   pub action : (change : Action → Action) → SparesAction P change
 
 module _ {P : Field → Action → Stream → Type 0} (free : Free P) where
-  pub conditions-spared : (s : Side) (change : Conditions → Conditions) → Spares P (changed_conditions s change)
+  pub conditions-spared : (s : Side) (change : ActiveConditions → ActiveConditions) → Spares P (changed_conditions s change)
   unfolding changed_conditions
   conditions-spared s change = free.active s _ (record { left = λ a. refl })
 
@@ -243,7 +243,7 @@ module _ {P : Field → Action → Stream → Type 0} (free : Free P) where
 
 '''
 
-FREE_WORDS = '''changed_member changed_active changed_conditions with_last_damage with_outcome with_types_of with_current with_picked
+FREE_WORDS = '''changed_member changed_active changed_conditions with_last_damage with_outcome with_types_of with_current_move with_picked_move
 with_kept_accuracy at_new_stage recomputed_at with_penalty_of with_levelled_stats'''.split()
 
 FREE_BY_HAND = {
@@ -260,7 +260,7 @@ FREE_BY_HAND = {
 }
 
 FREE_TAIL = '''  pub ruling-free : (terms : Terms) → KeepsRuling P (ruling_of terms)
-  ruling-free terms = record { lulls = lulls_under-free terms.rules.sleep_clause; freezes = freezes_under-free terms.rules.freeze_clause }
+  ruling-free terms = record { sleeps = sleeps_under-free terms.rules.sleep_clause; freezes = freezes_under-free terms.rules.freeze_clause }
 '''
 
 
@@ -341,7 +341,7 @@ one-least : 1 ≤ 1
 one-least = omega arith
 
 module _ {terms : Terms} {P : Field → Action → Stream → Type 0} (sound : Sound terms P) where
-  pub conditions-spared : (s : Side) (change : Conditions → Conditions) → TameConditions change → Spares P (changed_conditions s change)
+  pub conditions-spared : (s : Side) (change : ActiveConditions → ActiveConditions) → TameConditions change → Spares P (changed_conditions s change)
   conditions-spared s change tame = record { spared = λ f a w h. sound.conditions s change f a w h (λ e k. tame.valid e _ _ k) }
 
   member-spared : (s : Side) (change : Member → Member) → TameMember terms.rules change → Spares P (changed_member s change)
@@ -361,7 +361,7 @@ module _ {terms : Terms} {P : Field → Action → Stream → Type 0} (sound : S
 '''
 
 SOUND_TAIL = '''  pub ruling-sound : KeepsRuling P (ruling_of terms)
-  ruling-sound = record { lulls = λ user. lulls_under-sound terms.rules.sleep_clause user (λ e. e); freezes = λ user. freezes_under-sound terms.rules.freeze_clause user }
+  ruling-sound = record { sleeps = λ user. sleeps_under-sound terms.rules.sleep_clause user (λ e. e); freezes = λ user. freezes_under-sound terms.rules.freeze_clause user }
 '''
 
 
@@ -394,8 +394,8 @@ pub record LeavesKept (change : Active → Active) : Type 0 where
   pub conditions : (a : Active) → (change a).conditions ≡ a.conditions
   pub place : (a : Active) → (change a).place ≡ a.place
 
-pub record Leaves (change : Conditions → Conditions) : Type 0 where
-  pub left : (c : Conditions) → keeps_accuracy (change c).underway ≡ keeps_accuracy c.underway
+pub record Leaves (change : ActiveConditions → ActiveConditions) : Type 0 where
+  pub left : (c : ActiveConditions) → keeps_accuracy (change c).underway ≡ keeps_accuracy c.underway
 
 -- a change that leaves a fallen member healthy
 pub record Softens (change : Member → Member) : Type 0 where
@@ -420,7 +420,7 @@ softens-sleep : Softens with_sleep_one_less
 unfolding with_sleep_one_less
 softens-sleep = record { healthy = λ m h e. rw (h e) refl }
 
-softens-pp : (used : Used) → Softens (with_pp_spent used)
+softens-pp : (used : UsedMove) → Softens (with_pp_spent used)
 unfolding with_pp_spent
 softens-pp used = record { healthy = λ m h. h }
 
@@ -431,7 +431,7 @@ ruleset leaves_rules = (%RULES, softens-status, softens-fallen, softens-sleep, s
 pub record Steady (P : Field → Action → Stream → Type 0) : Type 0 where
   pub member : (s : Side) (change : Member → Member) → Softens change → Spares P (changed_member s change)
   pub active : (s : Side) (change : Active → Active) → LeavesKept change → Spares P (changed_active s change)
-  pub conditions : (s : Side) (change : Conditions → Conditions) → Leaves change → Spares P (changed_conditions s change)
+  pub conditions : (s : Side) (change : ActiveConditions → ActiveConditions) → Leaves change → Spares P (changed_conditions s change)
   pub damage : (n : ℕ) → Spares P (with_last_damage n)
   pub action : (change : Action → Action) → LeavesAction change → SparesAction P change
 
@@ -447,7 +447,7 @@ pub record Breaks (P : Field → Action → Stream → Type 0) (s : Side) : Type
   pub broken : Spares P (changed_conditions s broken_off)
 
 pub record Own (P : Field → Action → Stream → Type 0) (s : Side) : Type 0 where
-  pub conditions : (change : Conditions → Conditions) → Spares P (changed_conditions s change)
+  pub conditions : (change : ActiveConditions → ActiveConditions) → Spares P (changed_conditions s change)
   pub kept : (byte : ℕ) → Spares P (changed_active s (with_kept_accuracy byte))
 
 pub record Acts (P : Field → Action → Stream → Type 0) : Type 0 where
@@ -460,7 +460,7 @@ module _ {P : Field → Action → Stream → Type 0} (steady : Steady P) where
   pub active-spared : (s : Side) (change : Active → Active) → LeavesKept change → Spares P (changed_active s change)
   active-spared = steady.active
 
-  pub conditions-spared : (s : Side) (change : Conditions → Conditions) → Leaves change → Spares P (changed_conditions s change)
+  pub conditions-spared : (s : Side) (change : ActiveConditions → ActiveConditions) → Leaves change → Spares P (changed_conditions s change)
   conditions-spared = steady.conditions
 
   pub damage-spared : (n : ℕ) → Spares P (with_last_damage n)
@@ -474,11 +474,11 @@ module _ {P : Field → Action → Stream → Type 0} (steady : Steady P) where
 '''
 
 STEADY_TAIL = '''  pub ruling-steady : (terms : Terms) → Hurts P → KeepsRuling P (ruling_of terms)
-  ruling-steady terms hurts = record { lulls = λ user. lulls_under-steady terms.rules.sleep_clause user hurts; freezes = λ user. freezes_under-steady terms.rules.freeze_clause user hurts }
+  ruling-steady terms hurts = record { sleeps = λ user. sleeps_under-steady terms.rules.sleep_clause user hurts; freezes = λ user. freezes_under-steady terms.rules.freeze_clause user hurts }
 '''
 
 # changes of a member that is out, with their arguments, and changes of conditions
-LEFT_ACTIVES = ['with_types_of (foe : Active)', 'with_current (used : Used)', 'with_picked (used : Used)', 'at_new_stage (stat : Stat) (n : ℕ)',
+LEFT_ACTIVES = ['with_types_of (foe : Active)', 'with_current_move (used : UsedMove)', 'with_picked_move (used : UsedMove)', 'at_new_stage (stat : Stat) (n : ℕ)',
                 'with_levelled_stats']
 LEFT_CONDITIONS = ['with_bide (turns : ℕ)', 'with_bide_storing (damage : ℕ)', 'without_bide', 'with_trapping (turns : ℕ)', 'with_trapping_one_less',
                    'without_trapping', 'with_charging', 'without_charging', 'with_invulnerability', 'without_invulnerability', 'with_recharge',

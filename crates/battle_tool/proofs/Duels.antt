@@ -47,8 +47,8 @@ storable_alone a h = record {
   place = (lit≤ tt, lit≤ tt);
   active = record {
     stages = record { attack = lit≤ tt; defense = lit≤ tt; speed = lit≤ tt; special = lit≤ tt; accuracy = lit≤ tt; evasion = lit≤ tt };
-    current = tt;
-    picked = tt;
+    current_move = tt;
+    picked_move = tt;
     kept_accuracy = lit≤ tt;
     conditions = record { underway = record { bide = tt; thrash = tt; trapping = tt; alone = lit≤ tt }; confused = tt; substitute = tt; bad_poison = tt; disabled = tt };
   };

@@ -1,13 +1,8 @@
 -- A count that is drawn, by its one draw or its two.
-use Rattle.std.proofs.Common.{Bool, List, ap, false, nat_le, refl, sym, true, ℕ, ◌%◌, ◌+◌, ◌∙◌, ◌≡◌}
+use Rattle.gen1_layout.proofs.Words.{Bool, Event, Frame, List, Parts, Phase, Progress, ShowsDrawn, ap, choose-false, choose-true, draw, false, nat_le, refl, sym, true, ℕ, ◌%◌, ◌+◌, ◌∙◌, ◌≡◌}
 use Rattle.gen1_rolls.specs.Streams.{byte_at, Stream}
 use Rattle.gen1_rolls.proofs.Standing.{byte_drawn, stands_after_draw}
-use Rattle.gen1_machine.specs.declared.event.Event.{Event}
 use Rattle.gen1_machine.specs.GoingOn.{count_again, count_by_draw, draw_count}
-use Rattle.gen1_machine.specs.Progress.{Phase, Progress, draw}
-use Rattle.gen1_layout.specs.Parts.{Parts}
-use Rattle.gen1_layout.specs.Shows.{Frame, ShowsDrawn}
-use Rattle.gen1_layout.proofs.Chain.{choose-false, choose-true}
 
 module _ {A : Type 0} {byte : A → ℕ} {next : A → A} {width : ℕ} {origin : A} {g : Frame} {parts : Parts} {events : List Event} {old : A} {b : Bool} {p : Progress} where
   -- the byte that is drawn is the stream's

@@ -1,10 +1,9 @@
 -- A foe is immune where a row of 0 has one of its types.
-use Rattle.std.proofs.Common.{Bool, List, [], ap, false, refl, true, ◌&&◌, ◌||◌, ◌==◌, ◌∙◌, ◌∷◌, ◌≡◌}
+use Rattle.gen1_layout.proofs.Words.{Active, Bool, List, [], ap, false, refl, true, ◌&&◌, ◌==◌, ◌||◌, ◌∙◌, ◌∷◌, ◌≡◌}
 use Rattle.gen1_tables.specs.declared.element.Element.{Element}
 use Rattle.gen1_tables.specs.declared.element.Element.TheVariants.{Normal}
 use Rattle.gen1_tables.specs.Types.{TypeRow, any, same_type, type_rows}
 use Rattle.gen1_machine.specs.HitTest.{is_immune}
-use Rattle.gen1_machine.specs.State.{Active}
 use Rattle.gen1_action.specs.Immunity.{has_no_effect}
 
 no-effect : (t u : Element) → any (λ (row : TypeRow). row.tenths == 0 && same_type row.attacker t && same_type row.defender u) type_rows ≡ has_no_effect t u

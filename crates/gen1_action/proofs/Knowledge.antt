@@ -1,13 +1,9 @@
 -- How what is shown, beside what is known of the action, goes through phases. What gen1_layout's Chain says of a frame holds of
 -- `knowing k g`: a change of what is known is one of that frame, by computation.
-use Rattle.std.proofs.Common.{Bool, List, false, refl, true, ℕ, ◌≡◌}
-use Rattle.gen1_machine.specs.declared.side.Side.{Side}
-use Rattle.gen1_machine.specs.declared.event.Event.{Event}
-use Rattle.gen1_machine.specs.Progress.{Phase, Progress, on_action, unless_stopped, ◌▸◌}
+use Rattle.gen1_layout.proofs.Words.{Bool, Event, Frame, List, Parts, Phase, Progress, Side, drawn_stops, false, refl, still, true, ℕ, ◌≡◌, ◌▸◌}
+use Rattle.gen1_machine.specs.Progress.{on_action, unless_stopped}
 use Rattle.gen1_machine.specs.Action.{begin}
-use Rattle.gen1_layout.specs.Parts.{Parts}
-use Rattle.gen1_layout.specs.Shows.{Does, Frame}
-use Rattle.gen1_layout.proofs.Chain.{drawn_stops, still}
+use Rattle.gen1_layout.specs.Shows.{Does}
 use Rattle.gen1_action.specs.declared.known.Known.{Known}
 use Rattle.gen1_action.specs.Alone.{Leaves}
 use Rattle.gen1_action.specs.Knowing.{begun, knowing, DoesKnowing, ShowsKnown, ShowsOver}

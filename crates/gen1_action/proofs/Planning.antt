@@ -11,10 +11,10 @@ use Rattle.gen1_stats.specs.Members.{nobody, nothing_known, IsBetween}
 use Rattle.gen1_machine.specs.declared.event.CantReason.{CantReason}
 use Rattle.gen1_machine.specs.declared.picks.Pick.{Pick}
 use Rattle.gen1_machine.specs.declared.picks.Pick.TheVariants.{Continue, Held, Idle, Use}
-use Rattle.gen1_machine.specs.declared.picks.Used.{Used}
-use Rattle.gen1_machine.specs.declared.picks.Used.TheVariants.{Slot, Struggle, Unused}
+use Rattle.gen1_machine.specs.declared.picks.UsedMove.{UsedMove}
+use Rattle.gen1_machine.specs.declared.picks.UsedMove.TheVariants.{Nothing, Slot, Struggle}
 use Rattle.gen1_machine.specs.declared.side.Side.{Side}
-use Rattle.gen1_machine.specs.State.{active_in, changed_active, member_in, underway_in, with_current, Field, Terms}
+use Rattle.gen1_machine.specs.State.{active_in, changed_active, member_in, underway_in, with_current_move, Field, Terms}
 use Rattle.gen1_machine.specs.Moves.{bides, thrashes, traps, Move}
 use Rattle.gen1_machine.specs.Picks.{number_in, used_by}
 use Rattle.gen1_machine.specs.Progress.{choose, given, on_active, on_field, only, stay, stop, unless, Action, Phase, Progress, ◌▸◌}
@@ -23,7 +23,7 @@ use Rattle.gen1_machine.specs.EarlyEffects.{early_effect, is_early}
 use Rattle.gen1_machine.specs.GoingOn.{bide_goes_on}
 use Rattle.gen1_machine.specs.Charging.{begin_charge, charge, make_current}
 use Rattle.gen1_machine.specs.Action.{damage_of, gate_or_held, lands_at_once, lead_up, lets_energy_go, move_taken_in, prelude, see_if_going_on, use_move}
-use Rattle.gen1_machine.specs.Valid.{effect_of, IsField, IsUnderway, IsUsed}
+use Rattle.gen1_machine.specs.Valid.{effect_of, IsField, IsUnderway, IsUsedMove}
 use Rattle.gen1_machine.specs.Plans.{with_plan, Doing, FitsPick, HoldsPlan, IsPlanned, Plan, Plans}
 use Rattle.gen1_machine.proofs.Keeps.{choose-keeps, note-keeps, stay-keeps, stop-keeps, then-keeps, Keeps}
 use Rattle.gen1_machine.proofs.Leads.{choose-false, keeps-leads, then-leads, Leads}
@@ -38,11 +38,11 @@ use Rattle.gen1_action.proofs.Knowledge.{stops-then}
 -- which move a pick takes
 
 pub used-fits : (terms : Terms) (plan : Side → Plan) (s : Side) (pick : Pick) (e : Effect) (f : Field) (a : Action) (w : Stream) → Takes pick e (plan s)
-    → IsPlanned terms plan f a w → IsUsed (length (member_in s f).moves) (used_by pick (active_in s f).current)
+    → IsPlanned terms plan f a w → IsUsedMove (length (member_in s f).moves) (used_by pick (active_in s f).current_move)
 used-fits terms plan s (Use used) e f a w is h = (planned-holds s f a w is h).0
-used-fits terms plan s Continue e f a w is h = (party-valid s f h.field).active.current
-used-fits terms plan s Idle e f a w is h = (party-valid s f h.field).active.current
-used-fits terms plan s Held e f a w is h = (party-valid s f h.field).active.current
+used-fits terms plan s Continue e f a w is h = (party-valid s f h.field).active.current_move
+used-fits terms plan s Idle e f a w is h = (party-valid s f h.field).active.current_move
+used-fits terms plan s Held e f a w is h = (party-valid s f h.field).active.current_move
 
 abbrev pub Trivial : Field → Action → Stream → Type 0
 Trivial f a w = Unit {0}
@@ -61,12 +61,12 @@ module _ (terms : Terms) (plan : Side → Plan) (s : Side) (move : Move) (is : I
   unfolding next
   doing = with_plan-is s (Doing move.effect) plan
 
-  stays-leads : (pick : Pick) → ((used : Used) → used_by pick used ≡ used) → plan s ≡ Doing move.effect → Leads (IsPlanned terms plan) (IsPlanned terms next) (make_current s pick)
+  stays-leads : (pick : Pick) → ((used : UsedMove) → used_by pick used ≡ used) → plan s ≡ Doing move.effect → Leads (IsPlanned terms plan) (IsPlanned terms next) (make_current s pick)
   unfolding make_current given on_active on_field next
   stays-leads pick stays e = record {
     led = λ p h.
         let now = planned-holds s p.field p.action p.stream e h in
-        subst (λ u. IsPlanned terms (with_plan s (Doing move.effect) plan) (changed_active s (with_current u) p.field) p.action p.stream) (sym (stays (active_in s p.field).current))
+        subst (λ u. IsPlanned terms (with_plan s (Doing move.effect) plan) (changed_active s (with_current_move u) p.field) p.action p.stream) (sym (stays (active_in s p.field).current_move))
         (subst (λ f. IsPlanned terms (with_plan s (Doing move.effect) plan) f p.action p.stream) (sym (unchanged s p.field))
         (replanned s (Doing move.effect) p.field p.action p.stream now h));
   }
@@ -152,24 +152,24 @@ member-moves s f h =
     let v = party-valid s f h in
     (v.members.each ((active_in s f).place - 1) nobody (omega (arith, v.place.0, v.place.1))).moves
 
-used-number : (used : Used) (moves : List KnownMove) → All (λ (m : KnownMove). IsBetween 1 165 m.id) moves → IsUsed (length moves) used → used ≢ Unused → IsBetween 1 165 (number_in used moves)
+used-number : (used : UsedMove) (moves : List KnownMove) → All (λ (m : KnownMove). IsBetween 1 165 m.id) moves → IsUsedMove (length moves) used → used ≢ Nothing → IsBetween 1 165 (number_in used moves)
 used-number (Slot k) moves all h some = slot-number moves k all h
 used-number Struggle moves all h some = (omega arith, omega arith)
-used-number Unused moves all h some = absurd (some refl)
+used-number Nothing moves all h some = absurd (some refl)
 
-nothing-used : (moves : List KnownMove) → effect_of Unused moves ≡ effects.DamageOnly
+nothing-used : (moves : List KnownMove) → effect_of Nothing moves ≡ effects.DamageOnly
 unfolding move_row move_rows
 nothing-used moves = refl
 
 pub taken-number : (terms : Terms) (plan : Side → Plan) (s : Side) (pick : Pick) (f : Field) (a : Action) (w : Stream) → is_awake pick ≡ true → FitsPick pick (plan s)
-    → IsPlanned terms plan f a w → IsBetween 1 165 (number_in (used_by pick (active_in s f).current) (member_in s f).moves)
+    → IsPlanned terms plan f a w → IsBetween 1 165 (number_in (used_by pick (active_in s f).current_move) (member_in s f).moves)
 taken-number terms plan s (Use used) f a w awake begins h =
     let plans = planned-holds s f a w begins.1 h in
     used-number used (member_in s f).moves (member-moves s f h.field) plans.0 begins.2
 taken-number terms plan s Continue f a w awake begins h =
     let plans = planned-holds s f a w begins.1 h in
     let moves = (member_in s f).moves in
-    used-number (active_in s f).current moves (member-moves s f h.field) (party-valid s f h.field).active.current
+    used-number (active_in s f).current_move moves (member-moves s f h.field) (party-valid s f h.field).active.current_move
     (λ none. begins.2 (sym plans ∙ ap (λ u. effect_of u moves) none ∙ nothing-used moves))
 taken-number terms plan s Idle f a w awake begins h = cc
 taken-number terms plan s Held f a w awake begins h = cc

@@ -1,16 +1,11 @@
 -- What a call shows that stands for itself: an operation of an action that has just begun, of which nothing is known yet. It
 -- leaves the bytes, the events and the generator of its phase; what the phase comes to know besides is of no account.
-use Rattle.std.specs.Prelude.{List, false, ℕ, ◌≡◌}
+use Rattle.gen1_layout.specs.Words.{Event, Frame, List, Phase, Progress, Side, Within, false, ℕ, ◌≡◌}
 use Rattle.gen1_tables.specs.declared.effect.Effect.{Effect}
 use Rattle.gen1_rolls.specs.Draws.{StandsAt}
-use Rattle.gen1_machine.specs.declared.side.Side.{Side}
-use Rattle.gen1_machine.specs.declared.event.Event.{Event}
-use Rattle.gen1_machine.specs.Progress.{Phase, Progress}
 use Rattle.gen1_machine.specs.Ruling.{Ruling, ruling_of}
 use Rattle.gen1_machine.specs.Plans.{Doing, Plan}
 use Rattle.gen1_layout.specs.Parts.{Parts}
-use Rattle.gen1_layout.specs.Shows.{Frame}
-use Rattle.gen1_layout.specs.Within.{Within}
 use Rattle.gen1_action.specs.declared.known.Known.{Known}
 use Rattle.gen1_action.specs.Knowing.{begun, nothing_yet, ShowsKnown}
 use Rattle.gen1_action.specs.Planned.{Follows}

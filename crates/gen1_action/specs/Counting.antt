@@ -1,10 +1,7 @@
 -- How often a move hits or holds, as it is drawn (docs/MECHANICS.md, "Many hits", "Going on").
-use Rattle.std.specs.Prelude.{List, false, ℕ, ◌≡◌}
-use Rattle.gen1_machine.specs.declared.event.Event.{Event}
+use Rattle.gen1_layout.specs.Words.{Event, Frame, List, Phase, Progress, ShowsDrawn, false, ℕ, ◌≡◌}
 use Rattle.gen1_machine.specs.GoingOn.{draw_count}
-use Rattle.gen1_machine.specs.Progress.{Phase, Progress}
 use Rattle.gen1_layout.specs.Parts.{Parts}
-use Rattle.gen1_layout.specs.Shows.{Frame, ShowsDrawn}
 
 -- a count was drawn: nothing changes but the draws, and whatever follows in the machine follows with this count
 abbrev pub DrawsCount : {A : Type 0} → (A → ℕ) → (A → A) → ℕ → A → A → ℕ → Type 0

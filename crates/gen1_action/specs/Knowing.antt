@@ -1,13 +1,10 @@
 -- What an action knows, as the code holds it: the machine's record of the action, and whether Haze met a sleeper. An operation
 -- that comes to know something is said by its phase, as every other: from what is shown before, beside what was known, follows
 -- what is shown after, beside what is known then.
-use Rattle.std.specs.Prelude.{Bool, List, None, false, ℕ, ◌≡◌}
-use Rattle.gen1_machine.specs.declared.side.Side.{Side}
+use Rattle.gen1_layout.specs.Words.{Bool, Event, Frame, List, None, Phase, Progress, Shows, ShowsDrawn, Side, false, ℕ, ◌≡◌}
 use Rattle.gen1_machine.specs.declared.side.Side.TheVariants.{One}
-use Rattle.gen1_machine.specs.declared.event.Event.{Event}
-use Rattle.gen1_machine.specs.Progress.{Action, Phase, Progress}
+use Rattle.gen1_machine.specs.Progress.{Action}
 use Rattle.gen1_layout.specs.Parts.{Parts}
-use Rattle.gen1_layout.specs.Shows.{Frame, Shows, ShowsDrawn}
 use Rattle.gen1_action.specs.declared.known.Known.{Known}
 
 abbrev pub action_of : Known → Action

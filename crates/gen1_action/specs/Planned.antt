@@ -1,17 +1,13 @@
 -- What operations show for a side that plans a move: which move it is about to use, or is using, so that what the move begins
 -- is explained by it (gen1_machine, `Plans.antt`). What they ask for is a premise, which their callers hand on.
-use Rattle.std.specs.Prelude.{Bool, List, false, ℕ, ◌≡◌}
+use Rattle.gen1_layout.specs.Words.{Bool, Event, Frame, List, Phase, Progress, Side, false, ℕ, ◌≡◌}
 use Rattle.gen1_tables.specs.declared.effect.Effect.{Effect}
-use Rattle.gen1_machine.specs.declared.side.Side.{Side}
-use Rattle.gen1_machine.specs.declared.event.Event.{Event}
 use Rattle.gen1_machine.specs.declared.picks.Pick.{Pick}
 use Rattle.gen1_machine.specs.declared.picks.Pick.TheVariants.{Use}
 use Rattle.gen1_machine.specs.State.{Terms}
-use Rattle.gen1_machine.specs.Progress.{Phase, Progress}
 use Rattle.gen1_machine.specs.Ruling.{Ruling, ruling_of}
 use Rattle.gen1_machine.specs.Plans.{Doing, IsPlanned, Plan, Plans}
 use Rattle.gen1_layout.specs.Parts.{Parts}
-use Rattle.gen1_layout.specs.Shows.{Frame}
 use Rattle.gen1_action.specs.declared.known.Known.{Known}
 use Rattle.gen1_action.specs.Knowing.{ShowsKnown}
 

@@ -1,8 +1,6 @@
 //! Which types a move has no effect on (docs/MECHANICS.md, "Types").
-ghost use Rattle.std.specs.Prelude.{◌≡◌};
+ghost use Rattle.gen1_layout.specs.Words.{Reads, active_in, ◌≡◌};
 ghost use Rattle.gen1_machine.specs.HitTest.{is_immune};
-ghost use Rattle.gen1_machine.specs.State.{Field, active_in};
-ghost use Rattle.gen1_layout.specs.Within.{Setting, Within};
 ghost use Rattle.gen1_action.specs.Immunity.{has_no_effect};
 
 use gen1_layout::Packed;
@@ -11,7 +9,7 @@ use gen1_tables::Element::{self, Electric, Fighting, Flying, Ghost, Ground, Norm
 
 // Whether a type row of 0 has the type of a move and a type of the member of `side` that is out.
 pub(crate) fn is_immune(battle: &Packed, side: Side, kind: Element) -> bool
-    ensures stands { (g : Setting) (f : Field) → Within g battle.now f → result ≡ is_immune kind (active_in side f) }
+    ensures stands { Reads battle.now result λ f. is_immune kind (active_in side f) }
 {
     if has_no_effect(kind, battle.first_type(side)) {
         return true;

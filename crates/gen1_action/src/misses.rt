@@ -1,12 +1,8 @@
 //! The hit test of an action, and how a miss is told (docs/MECHANICS.md, "Hit test", "Action").
-ghost use Rattle.std.specs.Prelude.{List, false, if◌then◌else◌, true, ◌+◌, ◌≡◌, ◌≤◌};
-ghost use Rattle.arrayvec.specs.ArrayVec.{array_vec_len};
-ghost use Rattle.gen1_machine.specs.declared.event.Event.{Event};
-ghost use Rattle.gen1_machine.specs.Moves.{accuracy_byte, move_at};
-ghost use Rattle.gen1_machine.specs.State.{Field, active_in};
+ghost use Rattle.gen1_layout.specs.Words.{Adds, AddsAtMost, Does, Event, HasRoom, List, Reads, active_in, false, move_at, true, ◌≡◌};
+ghost use Rattle.std.specs.Prelude.{if◌then◌else◌};
+ghost use Rattle.gen1_machine.specs.Moves.{accuracy_byte};
 ghost use Rattle.gen1_machine.specs.HitTest.{hit_or_miss, miss_event, must_hit, note_miss};
-ghost use Rattle.gen1_layout.specs.Shows.{Does};
-ghost use Rattle.gen1_layout.specs.Within.{Setting, Within};
 ghost use Rattle.gen1_action.specs.Knowing.{DoesKnowingDrawing, IsUncounted};
 
 use crate::Known;
@@ -47,10 +43,10 @@ pub fn must_hit<R: Rolls>(
     random: &mut R,
     events: &mut EventList,
 ) -> bool
-    requires { array_vec_len events.old + 1 ≤ 64 }
+    requires { HasRoom 1 events.old }
     ensures shown { DoesKnowingDrawing R.byte R.next R.SPAN battle.old events.old.items random.old known.old battle.new events.new.items random.new known.new result (must_hit side (move_at id)) }
     ensures counts { IsUncounted known.old → IsUncounted known.new }
-    ensures room { array_vec_len events.new ≤ array_vec_len events.old + 1 }
+    ensures room { AddsAtMost 1 events.old events.new }
 {
     hit_or_miss(battle, side, id, known, random);
     if !known.missed {
@@ -63,15 +59,15 @@ pub fn must_hit<R: Rolls>(
 /// Tells of a miss of `side`: `Immune` of the foe, where a type row of 0 has the move's type and a type of the foe, else
 /// `Miss` of the user (docs/MECHANICS.md, "Action", step 9). A place in `events` is to be free for it. Nothing else changes.
 pub fn note_miss(battle: &Packed, side: Side, id: MoveId, events: &mut EventList)
-    requires { array_vec_len events.old + 1 ≤ 64 }
+    requires { HasRoom 1 events.old }
     ensures shown { Does battle.now events.old.items battle.now events.new.items false (note_miss side (move_at id)) }
-    ensures room { array_vec_len events.new ≡ array_vec_len events.old + 1 }
+    ensures room { Adds 1 events.old events.new }
 {
     events.push(miss_event(battle, side, id));
 }
 
 fn miss_event(battle: &Packed, side: Side, id: MoveId) -> Event
-    ensures stands { (g : Setting) (f : Field) → Within g battle.now f → result ≡ miss_event side (move_at id) f }
+    ensures stands { Reads battle.now result (miss_event side (move_at id)) }
 {
     let foe = side.other();
     if is_immune(battle, foe, id.kind()) {
@@ -82,8 +78,7 @@ fn miss_event(battle: &Packed, side: Side, id: MoveId) -> Event
 
 // What the test is made at.
 fn base_of(battle: &Packed, side: Side, id: MoveId, going_on: bool) -> u8
-    ensures stands { (g : Setting) (f : Field) → Within g battle.now f
-        → result ≡ (if going_on then (active_in side f).kept_accuracy else accuracy_byte (move_at id)) }
+    ensures stands { Reads battle.now result λ f. (if going_on then (active_in side f).kept_accuracy else accuracy_byte (move_at id)) }
 {
     if going_on {
         return battle.kept_accuracy(side);

@@ -1,11 +1,7 @@
 -- The landing of the last damage, for who calls `land` with it.
-use Rattle.std.proofs.Common.{Bool, List, nat_lt, refl, subst, ℕ, ◌≡◌}
-use Rattle.gen1_machine.specs.declared.side.Side.{Side}
-use Rattle.gen1_machine.specs.declared.event.Event.{Event}
-use Rattle.gen1_machine.specs.Progress.{choose, given, last_damage, only, Progress}
+use Rattle.gen1_layout.proofs.Words.{Bool, Event, Frame, List, Parts, Progress, Shows, Side, choose, given, nat_lt, refl, subst, ℕ, ◌≡◌}
+use Rattle.gen1_machine.specs.Progress.{last_damage, only}
 use Rattle.gen1_machine.specs.Landing.{land, land_damage}
-use Rattle.gen1_layout.specs.Parts.{Parts}
-use Rattle.gen1_layout.specs.Shows.{Frame, Shows}
 
 pub land-last : (target : Side) (p : Progress) → land target p ≡ only (nat_lt 0 (last_damage p)) (land_damage target (last_damage p)) p
 unfolding land choose given

@@ -8,15 +8,15 @@ use Rattle.std.proofs.lemmas.List.Sums.{AllPass-from_list_all}
 use Rattle.gen1_tables.specs.declared.element.Element.{Element}
 use Rattle.gen1_tables.specs.declared.element.Element.TheVariants.{Normal}
 use Rattle.gen1_tables.specs.Types.{TypeRow, same_type, type_rows}
-use Rattle.gen1_machine.specs.Damage.{Numbers, by_rows, rows_for}
+use Rattle.gen1_machine.specs.Damage.{DamageNumbers, by_rows, rows_for}
 use Rattle.gen1_hits.specs.TypeRows.{after_row, row_against}
 
 -- whether the foe has the type of a row
-abbrev pub meets : Numbers → TypeRow → Bool
+abbrev pub meets : DamageNumbers → TypeRow → Bool
 meets n row = same_type row.defender n.foe_first || same_type row.defender n.foe_second
 
 -- the rows that are still to be applied, once the first so many of the code's rows were gone through
-abbrev pub rows_left : Numbers → List (Element × ℕ) → ℕ → List TypeRow
+abbrev pub rows_left : DamageNumbers → List (Element × ℕ) → ℕ → List TypeRow
 rows_left n rows gone = filter (meets n) (map (row_against n.kind) (drop gone rows))
 
 -- at first these are the rows of the hit
@@ -30,7 +30,7 @@ filter_both p q (x ∷ xs) =
       | false ↦ filter_both p q xs
     ]
 
-pub rows_left-all : (n : Numbers) (rows : List (Element × ℕ)) → map (row_against n.kind) rows ≡ filter (λ row. same_type row.attacker n.kind) type_rows
+pub rows_left-all : (n : DamageNumbers) (rows : List (Element × ℕ)) → map (row_against n.kind) rows ≡ filter (λ row. same_type row.attacker n.kind) type_rows
     → rows_left n rows 0 ≡ rows_for n
 rows_left-all n rows same =
     ap (filter (meets n)) same ∙ sym (filter_both (λ row. same_type row.attacker n.kind) (meets n) type_rows)
@@ -58,7 +58,7 @@ one_row Normal Normal = refl
 one_row t Normal = refl
 one_row t u = refl
 
-pub few_rows : (n : Numbers) → length (rows_for n) ≤ 2
+pub few_rows : (n : DamageNumbers) → length (rows_for n) ≤ 2
 few_rows n =
     let first = leb-true _ 1 (one_row n.kind n.foe_first) in let second = leb-true _ 1 (one_row n.kind n.foe_second) in
     omega (
@@ -89,7 +89,7 @@ most_two (a ∷ b ∷ c ∷ rows) d few small = absurd (omega arith)
 
 -- one of the code's rows
 
-pub rows_left-more : (n : Numbers) (rows : List (Element × ℕ)) (i d : ℕ) (row : Element × ℕ) → i < length rows → row ≡ get_or rows i row
+pub rows_left-more : (n : DamageNumbers) (rows : List (Element × ℕ)) (i d : ℕ) (row : Element × ℕ) → i < length rows → row ≡ get_or rows i row
     → by_rows (rows_left n rows (i + 1)) (after_row n row d) ≡ by_rows (rows_left n rows i) d
 rows_left-more n rows i d row inside is =
     let more = rows_left n rows (i + 1) in
@@ -100,7 +100,7 @@ rows_left-more n rows i d row inside is =
 scaled-le : (d t : ℕ) → t ≤ 20 → d * t / 10 ≤ 2 * d
 scaled-le d t h = omega (arith, mul-le-mul_left d h)
 
-pub most-more : (n : Numbers) (rows : List (Element × ℕ)) (i d : ℕ) (row : Element × ℕ) → i < length rows → row ≡ get_or rows i row
+pub most-more : (n : DamageNumbers) (rows : List (Element × ℕ)) (i d : ℕ) (row : Element × ℕ) → i < length rows → row ≡ get_or rows i row
     → IsTrue (list_all (λ r. nat_le r.1 20) rows) → most (rows_left n rows i) d ≤ 5992 → most (rows_left n rows (i + 1)) (after_row n row d) ≤ 5992
 most-more n rows i d row inside is small so_far =
     let more = rows_left n rows (i + 1) in

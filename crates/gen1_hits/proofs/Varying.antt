@@ -1,14 +1,8 @@
 -- The machine's factor, and what is shown of it once `factor` has drawn and its result was written as the last damage.
-use Rattle.std.proofs.Common.{Bool, List, None, Option, Some, ap, false, nat_le, refl, true, ℕ, ◌+◌, ◌∙◌, ◌≡◌}
+use Rattle.gen1_layout.proofs.Words.{Bool, Event, Frame, List, None, Option, Parts, Phase, Progress, Shows, ShowsDrawn, Some, Within, ap, choose-false, choose-true, false, nat_le, on_field, put_damage, refl, set_last_damage, true, with_last_damage, ℕ, ◌+◌, ◌∙◌, ◌≡◌}
 use Rattle.gen1_rolls.specs.Streams.{Stream, byte_at, first, span}
-use Rattle.gen1_machine.specs.declared.event.Event.{Event}
 use Rattle.gen1_machine.specs.Damage.{is_factor, rotated_right_1, times_factor, varied_by, vary}
-use Rattle.gen1_machine.specs.Progress.{Phase, Progress, draw_until, on_field, set_last_damage}
-use Rattle.gen1_machine.specs.State.{with_last_damage}
-use Rattle.gen1_layout.specs.Parts.{Parts}
-use Rattle.gen1_layout.specs.Shows.{Frame, Shows, ShowsDrawn}
-use Rattle.gen1_layout.specs.Within.{Within}
-use Rattle.gen1_layout.proofs.Chain.{choose-false, choose-true, put_damage}
+use Rattle.gen1_machine.specs.Progress.{draw_until}
 use Rattle.gen1_hits.specs.Factors.{Varies}
 
 -- the machine's factor, where none is drawn, and where one is found at m

@@ -3,7 +3,7 @@ use Rattle.std.specs.Prelude.{List, Option, if◌then◌else◌, map, nat_le, op
 use Rattle.std.specs.List.{range_with_len}
 use Rattle.gen1_rolls.specs.Draws.{StandsAt}
 use Rattle.gen1_rolls.specs.Streams.{Stream}
-use Rattle.gen1_machine.specs.Damage.{Numbers, before_types, times_factor, type_steps, vary}
+use Rattle.gen1_machine.specs.Damage.{DamageNumbers, before_types, times_factor, type_steps, vary}
 use Rattle.gen1_machine.specs.Progress.{Progress, set_last_damage}
 
 -- what the machine's phase does to damage is to draw up to where the generator now stands, and to set the last damage to the result
@@ -23,5 +23,5 @@ abbrev pub varied : ℕ → ℕ → ℕ
 varied factor damage = if nat_le damage 1 then damage else times_factor factor damage
 
 -- the damage of a hit at each factor from 217 to 255; none where the divisor is 0
-abbrev pub damages : Numbers → Option (List ℕ)
+abbrev pub damages : DamageNumbers → Option (List ℕ)
 damages n = option_map (λ damage. map (λ factor. varied factor (type_steps damage n)) (range_with_len 217 39)) (before_types n)

@@ -4,10 +4,10 @@ use Rattle.std.proofs.Common.{sym}
 use Rattle.std.proofs.lemmas.List.FromFn.{fill_by_all}
 use Rattle.gen1_tables.specs.declared.element.Element.{Element}
 use Rattle.gen1_tables.specs.declared.element.Element.TheVariants.{Normal}
-use Rattle.gen1_machine.specs.Damage.{Numbers}
+use Rattle.gen1_machine.specs.Damage.{DamageNumbers}
 use Rattle.gen1_hits.specs.declared.formula.Numbers.TheInside.{Inside}
 
-abbrev pub numbers_of : Inside → Numbers
+abbrev pub numbers_of : Inside → DamageNumbers
 numbers_of n = record {
   level = n.level;
   power = n.power;
@@ -22,7 +22,7 @@ numbers_of n = record {
 }
 
 -- and back
-abbrev pub parts_of : Numbers → Inside
+abbrev pub parts_of : DamageNumbers → Inside
 parts_of n = record {
   level = n.level;
   power = n.power;

@@ -1,14 +1,8 @@
 //! The hit test (docs/MECHANICS.md, "Hit test").
-ghost use Rattle.std.specs.Prelude.{List, false, max, not, ◌&&◌, ◌*◌, ◌+◌, ◌/◌, ◌≡◌, ◌≤◌};
-ghost use Rattle.gen1_stats.specs.Members.{is_asleep};
-ghost use Rattle.gen1_machine.specs.declared.event.Event.{Event};
-ghost use Rattle.gen1_machine.specs.Moves.{move_at};
+ghost use Rattle.gen1_layout.specs.Words.{Event, Frame, List, Progress, Reads, Shows, ShowsDrawn, draw, false, is_asleep, move_at, not, status_in, ◌&&◌, ◌*◌, ◌+◌, ◌/◌, ◌≡◌, ◌≤◌};
+ghost use Rattle.std.specs.Prelude.{max};
 ghost use Rattle.gen1_machine.specs.Stages.{percent_at};
-ghost use Rattle.gen1_machine.specs.State.{Field, status_in};
-ghost use Rattle.gen1_machine.specs.Progress.{Progress, draw};
 ghost use Rattle.gen1_machine.specs.HitTest.{eats_dreams, hit_test, hits_below, lowers, miss, never_misses, scaled_in, settled_hit_in};
-ghost use Rattle.gen1_layout.specs.Shows.{Frame, Shows, ShowsDrawn};
-ghost use Rattle.gen1_layout.specs.Within.{Setting, Within};
 ghost use Rattle.gen1_hits.specs.Tested.{with_miss_unless, with_test};
 
 use gen1_layout::{Conditions, Packed};
@@ -69,7 +63,7 @@ pub fn hit_test<R: Rolls>(
 
 // Whether a move hits, where that is settled without a draw.
 fn settled_hit(battle: &Packed, side: Side, id: MoveId) -> Option<bool>
-    ensures stands { (g : Setting) (f : Field) → Within g battle.now f → result ≡ settled_hit_in side (move_at id) f }
+    ensures stands { Reads battle.now result (settled_hit_in side (move_at id)) }
 {
     let foe = side.other();
     let effect = id.effect();
@@ -90,7 +84,7 @@ fn settled_hit(battle: &Packed, side: Side, id: MoveId) -> Option<bool>
 
 // Only Dream Eater asks for the foe's status.
 fn finds_no_dream(battle: &Packed, foe: Side, effect: Effect) -> bool
-    ensures stands { (g : Setting) (f : Field) → Within g battle.now f → result ≡ (eats_dreams effect && not (is_asleep (status_in foe f))) }
+    ensures stands { Reads battle.now result λ f. (eats_dreams effect && not (is_asleep (status_in foe f))) }
 {
     if !eats_dreams(effect) {
         return false;
@@ -125,7 +119,7 @@ fn is_misted(effect: Effect, mist: bool) -> bool
 /// The byte that a draw must be below for a hit: `base` scaled by the accuracy stage of `side`, and by the evasion stage of
 /// its foe with its sign turned, from 1 to 255 (docs/MECHANICS.md, "Hit test").
 pub fn scaled_accuracy(battle: &Packed, side: Side, base: u8) -> u8
-    ensures stands { (g : Setting) (f : Field) → Within g battle.now f → result ≡ scaled_in side base f }
+    ensures stands { Reads battle.now result (scaled_in side base) }
 {
     let accuracy = battle.stage(side, Stat::Accuracy);
     let evasion = battle.stage(side.other(), Stat::Evasion);

@@ -1,11 +1,8 @@
 //! Critical hits (docs/MECHANICS.md, "Critical hits").
-ghost use Rattle.std.specs.Prelude.{List, false, ◌≡◌};
+ghost use Rattle.gen1_layout.specs.Words.{Event, Frame, List, Progress, ShowsDrawn, false, move_at, ◌≡◌};
 ghost use Rattle.gen1_tables.specs.Species.{species_row};
-ghost use Rattle.gen1_machine.specs.declared.event.Event.{Event};
-ghost use Rattle.gen1_machine.specs.Moves.{is_often_critical, move_at};
-ghost use Rattle.gen1_machine.specs.Progress.{Progress};
+ghost use Rattle.gen1_machine.specs.Moves.{is_often_critical};
 ghost use Rattle.gen1_machine.specs.CriticalHits.{critical_bound, roll_critical, rotated_left_3};
-ghost use Rattle.gen1_layout.specs.Shows.{Frame, ShowsDrawn};
 
 use gen1_layout::{Conditions, Packed};
 use gen1_machine::Side;

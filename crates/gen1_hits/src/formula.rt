@@ -28,9 +28,9 @@ pub struct Numbers {
 
 impl Model for Numbers {
     ghost use Rattle.std.specs.Prelude.{length, ◌≡◌};
-    ghost use Rattle.gen1_machine.specs.Damage.{Numbers as Named};
+    ghost use Rattle.gen1_machine.specs.Damage.{DamageNumbers};
 
-    ghost Value = { Named };
+    ghost Value = { DamageNumbers };
 
     ghost use Rattle.gen1_hits.specs.Numbers.{numbers_of, parts_of, parts_of-numbers_of};
 

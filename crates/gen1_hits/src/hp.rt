@@ -1,11 +1,6 @@
 //! HP that the member that is out loses and gains, and the events that tell of it (docs/MECHANICS.md, "Order of events").
-ghost use Rattle.std.specs.Prelude.{false, nat_lt, ◌&&◌, ◌+◌, ◌≡◌, ◌≤◌};
-ghost use Rattle.arrayvec.specs.ArrayVec.{array_vec_len};
-ghost use Rattle.gen1_stats.specs.Members.{is_living};
-ghost use Rattle.gen1_machine.specs.State.{Field, changed_member, healed_by, hurt_by, member_in};
+ghost use Rattle.gen1_layout.specs.Words.{AddsAtMost, Changes, Does, HasRoom, Reads, changed_member, false, healed_by, hurt_by, is_living, member_in, nat_lt, ◌&&◌};
 ghost use Rattle.gen1_machine.specs.Progress.{gain_hp, lose_hp};
-ghost use Rattle.gen1_layout.specs.Shows.{Does};
-ghost use Rattle.gen1_layout.specs.Within.{Setting, Within};
 
 use gen1_layout::Packed;
 use gen1_machine::{DamageSource, Event, EventList, Side};
@@ -20,9 +15,9 @@ pub fn lose_hp(
     amount: u16,
     events: &mut EventList,
 )
-    requires { array_vec_len events.old + 1 ≤ 64 }
+    requires { HasRoom 1 events.old }
     ensures shown { Does battle.old events.old.items battle.new events.new.items false (lose_hp side source amount) }
-    ensures room { array_vec_len events.new ≤ array_vec_len events.old + 1 }
+    ensures room { AddsAtMost 1 events.old events.new }
 {
     if !loses(battle, side, amount) {
         return;
@@ -35,15 +30,13 @@ pub fn lose_hp(
 
 // Whether taking so many HP takes any.
 fn loses(battle: &Packed, side: Side, amount: u16) -> bool
-    ensures stands { (g : Setting) (f : Field) → Within g battle.now f
-        → result ≡ (nat_lt 0 amount && is_living (member_in side f)) }
+    ensures stands { Reads battle.now result λ f. (nat_lt 0 amount && is_living (member_in side f)) }
 {
     0 < amount && 0 < battle.hp(side)
 }
 
 fn hurt(battle: &mut Packed, side: Side, amount: u16)
-    ensures stands { (g : Setting) (f : Field) → Within g battle.old f
-        → Within g battle.new (changed_member side (hurt_by amount) f) }
+    ensures stands { Changes battle.old battle.new (changed_member side (hurt_by amount)) }
 {
     let left = battle.hp(side).saturating_sub(amount);
     battle.put_hp(side, left);
@@ -53,9 +46,9 @@ fn hurt(battle: &mut Packed, side: Side, amount: u16)
 /// written where that gives any, and one place in `events` is to be free for it (docs/MECHANICS.md, "Recoil, drain and
 /// explosion", "Residual"). Nothing else changes.
 pub fn gain_hp(battle: &mut Packed, side: Side, amount: u16, events: &mut EventList)
-    requires { array_vec_len events.old + 1 ≤ 64 }
+    requires { HasRoom 1 events.old }
     ensures shown { Does battle.old events.old.items battle.new events.new.items false (gain_hp side amount) }
-    ensures room { array_vec_len events.new ≤ array_vec_len events.old + 1 }
+    ensures room { AddsAtMost 1 events.old events.new }
 {
     if !gains(battle, side, amount) {
         return;
@@ -68,15 +61,13 @@ pub fn gain_hp(battle: &mut Packed, side: Side, amount: u16, events: &mut EventL
 
 // Whether giving so many HP gives any.
 fn gains(battle: &Packed, side: Side, amount: u16) -> bool
-    ensures stands { (g : Setting) (f : Field) → Within g battle.now f
-        → result ≡ (nat_lt 0 amount && nat_lt (member_in side f).hp (member_in side f).max) }
+    ensures stands { Reads battle.now result λ f. (nat_lt 0 amount && nat_lt (member_in side f).hp (member_in side f).max) }
 {
     0 < amount && battle.hp(side) < battle.max_hp(side)
 }
 
 fn heal(battle: &mut Packed, side: Side, amount: u16)
-    ensures stands { (g : Setting) (f : Field) → Within g battle.old f
-        → Within g battle.new (changed_member side (healed_by amount) f) }
+    ensures stands { Changes battle.old battle.new (changed_member side (healed_by amount)) }
 {
     let healed = battle.hp(side).saturating_add(amount);
     let most = battle.max_hp(side);

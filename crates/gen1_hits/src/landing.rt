@@ -1,12 +1,7 @@
 //! Where damage lands (docs/MECHANICS.md, "Landing"): on the HP, or on a Substitute.
-ghost use Rattle.std.specs.Prelude.{Some, false, nat_lt, ◌+◌, ◌≡◌, ◌≤◌};
-ghost use Rattle.arrayvec.specs.ArrayVec.{array_vec_len};
-ghost use Rattle.gen1_machine.specs.Sides.{other};
-ghost use Rattle.gen1_machine.specs.State.{Field, conditions_in};
-ghost use Rattle.gen1_machine.specs.Progress.{Progress, only};
+ghost use Rattle.gen1_layout.specs.Words.{AddsAtMost, Does, Frame, HasRoom, Progress, Reads, Shows, Some, conditions_in, false, nat_lt, other, ◌≡◌};
+ghost use Rattle.gen1_machine.specs.Progress.{only};
 ghost use Rattle.gen1_machine.specs.Landing.{breaks, land_damage, land_on_hp, land_on_substitute};
-ghost use Rattle.gen1_layout.specs.Shows.{Does, Frame, Shows};
-ghost use Rattle.gen1_layout.specs.Within.{Setting, Within};
 ghost use Rattle.gen1_hits.specs.Landed.{has_broken, landed_on, with_break};
 
 use gen1_layout::Packed;
@@ -27,12 +22,11 @@ pub enum Landed {
 /// what was there. Damage 0 changes nothing. At most one event is written, and one place in `events` is to be free for it
 /// (docs/MECHANICS.md, "Landing").
 pub fn land(battle: &mut Packed, user: Side, damage: u16, events: &mut EventList) -> Landed
-    requires { array_vec_len events.old + 1 ≤ 64 }
+    requires { HasRoom 1 events.old }
     ensures shown { (g : Frame) (p : Progress) → Shows g battle.old events.old.items false p
         → Shows (with_break (has_broken result) g) battle.new events.new.items false (only (nat_lt 0 damage) (land_damage (other user) damage) p) }
-    ensures landed { (g : Setting) (f : Field) → Within g battle.old f
-        → result ≡ landed_on damage (conditions_in (other user) f).substitute }
-    ensures room { array_vec_len events.new ≤ array_vec_len events.old + 1 }
+    ensures landed { Reads battle.old result λ f. landed_on damage (conditions_in (other user) f).substitute }
+    ensures room { AddsAtMost 1 events.old events.new }
 {
     if damage == 0 {
         return Landed::Hp;
@@ -63,12 +57,12 @@ pub fn land_on_substitute(
     hp: u8,
     events: &mut EventList,
 ) -> bool
-    requires { array_vec_len events.old + 1 ≤ 64 }
+    requires { HasRoom 1 events.old }
     ensures shown { (g : Frame) (p : Progress) → Shows g battle.old events.old.items false p
         → (conditions_in target p.field).substitute ≡ Some hp
         → Shows (with_break result g) battle.new events.new.items false (land_on_substitute target damage hp p) }
     ensures broken { result ≡ breaks damage hp }
-    ensures room { array_vec_len events.new ≤ array_vec_len events.old + 1 }
+    ensures room { AddsAtMost 1 events.old events.new }
 {
     if breaks(damage, hp) {
         battle.put_substitute(target, None);
@@ -96,9 +90,9 @@ pub fn land_on_hp(
     damage: u16,
     events: &mut EventList,
 )
-    requires { array_vec_len events.old + 1 ≤ 64 }
+    requires { HasRoom 1 events.old }
     ensures shown { Does battle.old events.old.items battle.new events.new.items false (land_on_hp target source damage) }
-    ensures room { array_vec_len events.new ≤ array_vec_len events.old + 1 }
+    ensures room { AddsAtMost 1 events.old events.new }
 {
     let taken = damage.min(battle.hp(target));
     battle.put_last_damage(taken);

@@ -1,12 +1,8 @@
 //! The numbers of a hit, out of a battle.
-ghost use Rattle.std.specs.Prelude.{[], ◌∷◌, ◌≡◌};
-ghost use Rattle.gen1_machine.specs.CurrentStats.{now_in, unmodified};
+ghost use Rattle.gen1_layout.specs.Words.{Reads, [], active_in, conditions_in, member_in, move_at, now_in, other, unmodified, ◌∷◌, ◌≡◌};
 ghost use Rattle.gen1_machine.specs.Damage.{attacking, defending, doubled_if, fitted_attack, fitted_defense, is_screened, numbers_in, quartered};
 ghost use Rattle.gen1_machine.specs.HitOnItself.{own_numbers_in};
-ghost use Rattle.gen1_machine.specs.Moves.{explodes, move_at};
-ghost use Rattle.gen1_machine.specs.Sides.{other};
-ghost use Rattle.gen1_machine.specs.State.{Field, active_in, conditions_in, member_in};
-ghost use Rattle.gen1_layout.specs.Within.{Setting, Within};
+ghost use Rattle.gen1_machine.specs.Moves.{explodes};
 
 use crate::formula::Numbers;
 use gen1_layout::{Conditions, Packed};
@@ -16,7 +12,7 @@ use gen1_tables::{Effect, Element, MoveId, Stat};
 /// The numbers of a hit on the foe (docs/MECHANICS.md, "Damage numbers"). A critical hit doubles the level and takes the
 /// own stats, past stages, penalties and screens.
 pub fn numbers(battle: &Packed, side: Side, id: MoveId, critical: bool) -> Numbers
-    ensures stands { (g : Setting) (f : Field) → Within g battle.now f → result ≡ numbers_in side (move_at id) critical f }
+    ensures stands { Reads battle.now result (numbers_in side (move_at id) critical) }
 {
     let foe = side.other();
     let kind = id.kind();
@@ -40,7 +36,7 @@ pub fn numbers(battle: &Packed, side: Side, id: MoveId, critical: bool) -> Numbe
 /// The numbers of a confused user's hit on itself (docs/MECHANICS.md, "Hit on itself"): power 40, its Attack against its
 /// own Defense, which the foe's Reflect doubles.
 pub fn own_numbers(battle: &Packed, side: Side) -> Numbers
-    ensures stands { (g : Setting) (f : Field) → Within g battle.now f → result ≡ own_numbers_in side f }
+    ensures stands { Reads battle.now result (own_numbers_in side) }
 {
     let foe = side.other();
     let attack = u32::from(battle.current_stat(side, Stat::Attack));
@@ -60,24 +56,21 @@ pub fn own_numbers(battle: &Packed, side: Side) -> Numbers
 
 // A level is at most 100, so nothing is cut here.
 fn level(battle: &Packed, side: Side, critical: bool) -> u8
-    ensures stands { (g : Setting) (f : Field) → Within g battle.now f → result ≡ doubled_if critical (member_in side f).level }
+    ensures stands { Reads battle.now result λ f. doubled_if critical (member_in side f).level }
 {
     doubled_if(critical, u16::from(battle.level(side))).min(255) as u8
 }
 
 fn types(battle: &Packed, side: Side) -> [Element; 2]
-    ensures stands { (g : Setting) (f : Field) → Within g battle.now f
-        → result ≡ (active_in side f).first_type ∷ (active_in side f).second_type ∷ [] }
+    ensures stands { Reads battle.now result λ f. (active_in side f).first_type ∷ (active_in side f).second_type ∷ [] }
 {
     [battle.first_type(side), battle.second_type(side)]
 }
 
 // The user's own stat and the foe's.
 fn own_stats(battle: &Packed, side: Side, kind: Element) -> (u32, u32)
-    ensures attack { (g : Setting) (f : Field) → Within g battle.now f
-        → result.0 ≡ unmodified (attacking kind) (member_in side f) }
-    ensures defense { (g : Setting) (f : Field) → Within g battle.now f
-        → result.1 ≡ unmodified (defending kind) (member_in (other side) f) }
+    ensures attack { Reads battle.now result.0 λ f. unmodified (attacking kind) (member_in side f) }
+    ensures defense { Reads battle.now result.1 λ f. unmodified (defending kind) (member_in (other side) f) }
 {
     let foe = side.other();
     let attack = u32::from(battle.unmodified(side, attacking(kind)));
@@ -87,9 +80,8 @@ fn own_stats(battle: &Packed, side: Side, kind: Element) -> (u32, u32)
 
 // The same as they stand, with the foe's screen.
 fn current_stats(battle: &Packed, side: Side, kind: Element) -> (u32, u32)
-    ensures attack { (g : Setting) (f : Field) → Within g battle.now f → result.0 ≡ now_in (attacking kind) side f }
-    ensures defense { (g : Setting) (f : Field) → Within g battle.now f
-        → result.1 ≡ doubled_if (is_screened kind (conditions_in (other side) f)) (now_in (defending kind) (other side) f) }
+    ensures attack { Reads battle.now result.0 (now_in (attacking kind) side) }
+    ensures defense { Reads battle.now result.1 λ f. doubled_if (is_screened kind (conditions_in (other side) f)) (now_in (defending kind) (other side) f) }
 {
     let foe = side.other();
     let attack = battle.current_stat(side, attacking(kind));
@@ -122,7 +114,7 @@ fn defending(kind: Element) -> Stat
 
 // Whether the side has the screen against a type.
 fn is_screened(battle: &Packed, side: Side, kind: Element) -> bool
-    ensures stands { (g : Setting) (f : Field) → Within g battle.now f → result ≡ is_screened kind (conditions_in side f) }
+    ensures stands { Reads battle.now result λ f. is_screened kind (conditions_in side f) }
 {
     if kind.is_special() {
         battle.is_on(side, Conditions::LIGHT_SCREEN)

@@ -1,12 +1,11 @@
 -- The parts of a battle that is made from zeros.
-use Rattle.std.proofs.Common.{List, [], ap, arith, get_or, length, map, refl, replicate, set, suc, sym, take, zero, ℕ, ◌+◌, ◌++◌, ◌-◌, ◌<◌, ◌≡◌, ◌≤◌, ◌∙◌, ◌∷◌, length-append}
+use Rattle.gen1_layout.proofs.Words.{List, Member, Parts, Side, [], ap, arith, length, map, nobody, refl, suc, sym, zero, ℕ, ◌++◌, ◌+◌, ◌-◌, ◌<◌, ◌∙◌, ◌∷◌, ◌≡◌, ◌≤◌}
+use Rattle.std.proofs.Common.{get_or, replicate, set, take, length-append}
 use Rattle.std.proofs.lemmas.List.{length-replicate, length-take-le}
-use Rattle.gen1_stats.specs.Members.{Member, nobody}
-use Rattle.gen1_machine.specs.declared.side.Side.{Side}
 use Rattle.gen1_machine.specs.declared.side.Side.TheVariants.{One, Two}
 use Rattle.gen1_machine.specs.Layout.{member_block, member_blocks}
 use Rattle.std.specs.List.{refill}
-use Rattle.gen1_layout.specs.Parts.{active_of, member_of, with_member, with_side, Parts}
+use Rattle.gen1_layout.specs.Parts.{active_of, member_of, with_member, with_side}
 use Rattle.gen1_layout.proofs.WaysBack.{blocks_any}
 
 abbrev pub no_member : List ℕ

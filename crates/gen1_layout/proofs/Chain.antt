@@ -7,7 +7,7 @@ use Rattle.gen1_rolls.proofs.Standing.{byte_drawn, stands_after_draw, stands_the
 use Rattle.gen1_stats.specs.Members.{Member}
 use Rattle.gen1_machine.specs.declared.side.Side.{Side}
 use Rattle.gen1_machine.specs.declared.event.Event.{Event}
-use Rattle.gen1_machine.specs.Conditions.{Conditions}
+use Rattle.gen1_machine.specs.Conditions.{ActiveConditions}
 use Rattle.gen1_machine.specs.State.{changed_active, changed_conditions, changed_member, with_last_damage, Active, Field}
 use Rattle.gen1_machine.specs.Progress.{Action, Phase, Progress, choose, draw, given, new_action, note, on_action, on_active, on_conditions, on_field, on_member, set_last_damage, stay, stop, told, unless_stopped, when, ◌▸◌}
 use Rattle.gen1_layout.specs.Parts.{Parts}
@@ -103,7 +103,7 @@ module _ {g : Frame} {parts : Parts} {events : List Event} {b : Bool} {p : Progr
   unfolding on_active
   put_on_active s f w = put (changed_active s f) w
 
-  pub put_on_conditions : {parts' : Parts} (s : Side) (f : Conditions → Conditions) → Within g.setting parts' (changed_conditions s f p.field) → Shows g parts' events b (on_conditions s f p)
+  pub put_on_conditions : {parts' : Parts} (s : Side) (f : ActiveConditions → ActiveConditions) → Within g.setting parts' (changed_conditions s f p.field) → Shows g parts' events b (on_conditions s f p)
   unfolding on_conditions
   put_on_conditions s f w = put (changed_conditions s f) w
 

@@ -3,7 +3,7 @@ use Rattle.std.proofs.Common.{Bool, None, Option, Some, arith, false, is_some, r
 use Rattle.std.specs.Prelude.{if◌then◌else◌}
 use Rattle.gen1_machine.specs.declared.picks.DisabledSlot.{DisabledSlot}
 use Rattle.gen1_machine.specs.Rules.{bit_of}
-use Rattle.gen1_machine.specs.Conditions.{Conditions, Storing, Underway}
+use Rattle.gen1_machine.specs.Conditions.{ActiveConditions, Storing, Underway}
 use Rattle.gen1_machine.specs.Layout.{condition_bits, conditions_number, disabled_slot, disabled_turns, energy_of, turns_byte}
 use Rattle.gen1_layout.specs.Decoding.{turns_stored}
 use Rattle.gen1_layout.specs.Flags.{SameNumbers}
@@ -11,7 +11,7 @@ use Rattle.gen1_layout.specs.Storable.{IsStorableConditions, IsStorableUnderway,
 use Rattle.gen1_layout.proofs.Bits.{bits_of-is, bits_of-lt}
 
 -- 17 bits
-pub number_small : (c : Conditions) → conditions_number c < 131072
+pub number_small : (c : ActiveConditions) → conditions_number c < 131072
 number_small c = let bits = condition_bits c in let e = bits_of-is bits in let small = bits_of-lt bits in omega (arith, e, small)
 
 -- a number beside its bit
@@ -89,7 +89,7 @@ bits-bound false = omega arith
 pub less_alone : (u : Underway) → IsStorableUnderway u → Alone None u.thrash u.trapping × Alone u.bide None u.trapping × Alone u.bide u.thrash None
 less_alone u h = (omega (arith, h.alone), omega (arith, h.alone), omega (arith, h.alone))
 
-pub same_storable : (count : ℕ) (c d : Conditions) → SameNumbers c d → IsStorableConditions count d → IsStorableConditions count c
+pub same_storable : (count : ℕ) (c d : ActiveConditions) → SameNumbers c d → IsStorableConditions count d → IsStorableConditions count c
 same_storable count c d e h = record {
   underway = record {
     bide = rw e.bide h.underway.bide;

@@ -9,6 +9,7 @@ pub mod Counts
 pub mod Steps
 pub mod WaysBack
 pub mod Chain
+pub mod Words
 pub mod Storing
 pub mod Begun
 pub mod Packing

@@ -1,6 +1,6 @@
 -- An active block passes its test exactly where, but for its current stats, it is that of a valid active.
-use Rattle.std.proofs.Common.{Bool, List, None, Option, Some, [], ap, arith, drop, false, if◌then◌else◌, inl, inr, is_some, length, nat_le, refl, slice_index, slice_index_or, subst, suc, sym, true, unwrap_or, zero, ℕ, ◌%◌, ◌&&◌, ◌*◌, ◌+◌, ◌-◌, ◌/◌, ◌<◌, ◌==◌, ◌||◌, ◌∙◌, ◌∷◌, ◌≡◌, ◌≤◌}
-use Rattle.std.proofs.lemmas.Bool.Decides.{nat_tests}
+use Rattle.gen1_layout.proofs.Words.{Active, ActiveConditions, Bool, DisabledSlot, IsBetween, List, Member, None, Option, Some, [], ap, arith, false, inl, inr, is_some, known_in, length, nat_le, nat_tests, nobody, refl, slice_index, slice_index_or, subst, suc, sym, true, zero, ℕ, ◌%◌, ◌&&◌, ◌*◌, ◌+◌, ◌-◌, ◌/◌, ◌<◌, ◌==◌, ◌||◌, ◌∙◌, ◌∷◌, ◌≡◌, ◌≤◌}
+use Rattle.std.proofs.Common.{drop, if◌then◌else◌, unwrap_or}
 use Rattle.std.proofs.lemmas.List.{get_or-drop, get_or-take}
 use Rattle.std.specs.Int.{bit_at}
 use Rattle.gen1_tables.specs.declared.element.Element.{Element}
@@ -8,15 +8,12 @@ use Rattle.gen1_tables.specs.declared.element.Element.TheVariants.{Normal, Fight
 use Rattle.gen1_tables.specs.declared.effect.Effect.TheVariants as effects
 use Rattle.gen1_tables.specs.Moves.{move_row, move_rows}
 use Rattle.gen1_tables.specs.Types.{number_of}
-use Rattle.gen1_stats.specs.Members.{nobody, IsBetween, Member}
-use Rattle.gen1_machine.specs.declared.picks.Used.{Used}
-use Rattle.gen1_machine.specs.declared.picks.Used.TheVariants.{Unused, Slot, Struggle}
-use Rattle.gen1_machine.specs.declared.picks.DisabledSlot.{DisabledSlot}
+use Rattle.gen1_machine.specs.declared.picks.UsedMove.{UsedMove}
+use Rattle.gen1_machine.specs.declared.picks.UsedMove.TheVariants.{Nothing, Slot, Struggle}
 use Rattle.gen1_machine.specs.Rules.{rules_of}
-use Rattle.gen1_machine.specs.Conditions.{Storing, Conditions}
-use Rattle.gen1_machine.specs.State.{known_in, Active}
+use Rattle.gen1_machine.specs.Conditions.{Storing}
 use Rattle.gen1_machine.specs.Layout.{active_block, condition_bits, conditions_number, disabled_slot, disabled_turns, energy_of, high_byte, low_byte, member_block, member_blocks, turns_byte, turns_of, used_byte}
-use Rattle.gen1_machine.specs.Valid.{effect_of, IsActive, IsCount, IsDisabled, IsKept, IsMemberUnder, IsMembersUnder, IsStoring, IsUsed, KeepsAccuracy}
+use Rattle.gen1_machine.specs.Valid.{effect_of, IsActive, IsCount, IsDisabled, IsKept, IsMemberUnder, IsMembersUnder, IsStoring, IsUsedMove, KeepsAccuracy}
 use Rattle.gen1_layout.specs.ReadingBytes.{active_bytes, long, member_bytes, word, places_of}
 use Rattle.gen1_layout.specs.ReadingActive.{effect_in, effect_of_number, has, CountFits, DisabledFits, HoldsMove, PassesActive, PassesOut, PassesUnderway, TurnsFit, UsedFits}
 use Rattle.gen1_layout.specs.ReadingLaws.{ActivesStand}
@@ -313,14 +310,14 @@ slot_effect rules m slot valid range =
     ap effect_of_number is ∙ known
 
 record HasUsed (m : Member) (byte : ℕ) : Type 0 where
-  pub used : Used
-  pub valid : IsUsed (length m.moves) used
+  pub used : UsedMove
+  pub valid : IsUsedMove (length m.moves) used
   pub same : byte ≡ used_byte used
   pub ties : (block : List ℕ) → PassesUnderway (effect_in (member_block m) byte) block → PassesUnderway (effect_of used m.moves) block
 
 used_of : (rules : ℕ) (m : Member) (byte : ℕ) → IsMemberUnder (rules_of rules) m → UsedFits (member_block m) byte → HasUsed m byte
 used_of rules m byte valid (inl is) = record {
-  used = Unused;
+  used = Nothing;
   valid = tt;
   same = is;
   ties = λ block p.
@@ -341,15 +338,15 @@ used_of rules m byte valid (inr (inr holds)) = record {
   ties = λ block p. subst (λ e. PassesUnderway e block) (slot_effect rules m byte valid (holds_from m byte holds)) p;
 }
 
-used_back : (rules : ℕ) (m : Member) (used : Used) → IsMemberUnder (rules_of rules) m → IsUsed (length m.moves) used
+used_back : (rules : ℕ) (m : Member) (used : UsedMove) → IsMemberUnder (rules_of rules) m → IsUsedMove (length m.moves) used
     → UsedFits (member_block m) (used_byte used)
-used_back rules m Unused valid is = inl refl
+used_back rules m Nothing valid is = inl refl
 used_back rules m (Slot k) valid is = inr (inr (holds_back rules m k valid is))
 used_back rules m Struggle valid is = inr (inl refl)
 
-ties_back : (rules : ℕ) (m : Member) (used : Used) (block : List ℕ) → IsMemberUnder (rules_of rules) m → IsUsed (length m.moves) used
+ties_back : (rules : ℕ) (m : Member) (used : UsedMove) (block : List ℕ) → IsMemberUnder (rules_of rules) m → IsUsedMove (length m.moves) used
     → PassesUnderway (effect_of used m.moves) block → PassesUnderway (effect_in (member_block m) (used_byte used)) block
-ties_back rules m Unused block valid is p = subst (λ e. PassesUnderway e block) no_effect p
+ties_back rules m Nothing block valid is p = subst (λ e. PassesUnderway e block) no_effect p
 ties_back rules m (Slot k) block valid is p = subst (λ e. PassesUnderway e block) (sym (slot_effect rules m k valid is)) p
 ties_back rules m Struggle block valid is p = no_ties_back block (subst (λ e. PassesUnderway e block) struggle_effect p)
 
@@ -378,29 +375,29 @@ disabled_back rules m (Some d) known valid = (holds_back rules m d.slot known va
 -- the block
 
 -- an active, from its parts
-abbrev active_with : ℕ → Element → Element → ℕ → ℕ → ℕ → ℕ → ℕ → ℕ → Used → Used → ℕ → Conditions → Active
-active_with place first second attack defense speed special accuracy evasion current picked kept conditions = record {
+abbrev active_with : ℕ → Element → Element → ℕ → ℕ → ℕ → ℕ → ℕ → ℕ → UsedMove → UsedMove → ℕ → ActiveConditions → Active
+active_with place first second attack defense speed special accuracy evasion current_move picked_move kept conditions = record {
   place = place;
   first_type = first;
   second_type = second;
   stages = record { attack = attack; defense = defense; speed = speed; special = special; accuracy = accuracy; evasion = evasion };
-  attack_halved = 0;
-  speed_quartered = 0;
-  current = current;
-  picked = picked;
+  attack_penalties = 0;
+  speed_penalties = 0;
+  current_move = current_move;
+  picked_move = picked_move;
   kept_accuracy = kept;
   conditions = conditions;
 }
 
-beside_same : (m : Member) (first second : Element) (current picked : Used) (c : Conditions) (x0 x1 x2 x3 x4 x5 x6 x7 x8 x17 x18 x19 x20 x21 x22 x23 x24 x25 x26 x27 x28 x29 x30 x31 x32 x33 x34 x35 : ℕ)
+beside_same : (m : Member) (first second : Element) (current_move picked_move : UsedMove) (c : ActiveConditions) (x0 x1 x2 x3 x4 x5 x6 x7 x8 x17 x18 x19 x20 x21 x22 x23 x24 x25 x26 x27 x28 x29 x30 x31 x32 x33 x34 x35 : ℕ)
     → x1 ≡ number_of first → x2 ≡ number_of second
     → x17 ≡ low_byte (conditions_number c) → x18 ≡ high_byte (conditions_number c)
     → x19 ≡ low_byte (conditions_number c / 65536) → x20 ≡ high_byte (conditions_number c / 65536)
     → x21 ≡ unwrap_or c.substitute 0 → x22 ≡ unwrap_or c.confused 0 → x23 ≡ disabled_slot c.disabled → x24 ≡ disabled_turns c.disabled
     → x25 ≡ unwrap_or c.bad_poison 0 → x26 ≡ turns_of c.underway → x27 ≡ low_byte (energy_of c.underway.bide) → x28 ≡ high_byte (energy_of c.underway.bide)
-    → x29 ≡ used_byte current → x30 ≡ used_byte picked → x32 ≡ 0 → x33 ≡ 0 → x34 ≡ 0 → x35 ≡ 0
-    → x0 ∷ x1 ∷ x2 ∷ x3 ∷ x4 ∷ x5 ∷ x6 ∷ x7 ∷ x8 ∷ x17 ∷ x18 ∷ x19 ∷ x20 ∷ x21 ∷ x22 ∷ x23 ∷ x24 ∷ x25 ∷ x26 ∷ x27 ∷ x28 ∷ x29 ∷ x30 ∷ x31 ∷ x32 ∷ x33 ∷ x34 ∷ x35 ∷ [] ≡ beside_stats (active_block m (active_with x0 first second x3 x4 x5 x6 x7 x8 current picked x31 c))
-beside_same m first second current picked c x0 x1 x2 x3 x4 x5 x6 x7 x8 x17 x18 x19 x20 x21 x22 x23 x24 x25 x26 x27 x28 x29 x30 x31 x32 x33 x34 x35 e1 e2 e17 e18 e19 e20 e21 e22 e23 e24 e25 e26 e27 e28 e29 e30 e32 e33 e34 e35 =
+    → x29 ≡ used_byte current_move → x30 ≡ used_byte picked_move → x32 ≡ 0 → x33 ≡ 0 → x34 ≡ 0 → x35 ≡ 0
+    → x0 ∷ x1 ∷ x2 ∷ x3 ∷ x4 ∷ x5 ∷ x6 ∷ x7 ∷ x8 ∷ x17 ∷ x18 ∷ x19 ∷ x20 ∷ x21 ∷ x22 ∷ x23 ∷ x24 ∷ x25 ∷ x26 ∷ x27 ∷ x28 ∷ x29 ∷ x30 ∷ x31 ∷ x32 ∷ x33 ∷ x34 ∷ x35 ∷ [] ≡ beside_stats (active_block m (active_with x0 first second x3 x4 x5 x6 x7 x8 current_move picked_move x31 c))
+beside_same m first second current_move picked_move c x0 x1 x2 x3 x4 x5 x6 x7 x8 x17 x18 x19 x20 x21 x22 x23 x24 x25 x26 x27 x28 x29 x30 x31 x32 x33 x34 x35 e1 e2 e17 e18 e19 e20 e21 e22 e23 e24 e25 e26 e27 e28 e29 e30 e32 e33 e34 e35 =
     rw (e1, e2, e17, e18, e19, e20, e21, e22, e23, e24, e25, e26, e27, e28, e29, e30, e32, e33, e34, e35) refl
 
 long_0 : (a b c d : ℕ) → a < 256 → (a + 256 * b + 65536 * (c + 256 * d)) % 256 ≡ a
@@ -436,9 +433,9 @@ out_made rules m block full fit known q =
     let cf = count_of (has 6 block) 1 5 (b 22) q.counts.confused in
     let bp = count_of (has 13 block) 0 64 (b 25) q.counts.bad_poison in
     let ds = disabled_of (has 16 block) m (b 23) (b 24) q.counts.disabled in
-    let cu = used_of rules m (b 29) known q.current in
-    let pk = used_of rules m (b 30) known q.picked in
-    let c : Conditions = record {
+    let cu = used_of rules m (b 29) known q.current_move in
+    let pk = used_of rules m (b 30) known q.picked_move in
+    let c : ActiveConditions = record {
       underway = record {
         bide = pr.storing;
         thrash = pr.thrashing;
@@ -482,8 +479,8 @@ out_made rules m block full fit known q =
           accuracy = q.fixed.stages.accuracy;
           evasion = q.fixed.stages.evasion;
         };
-        current = cu.valid;
-        picked = pk.valid;
+        current_move = cu.valid;
+        picked_move = pk.valid;
         kept_accuracy = omega arith;
         conditions = record {
           underway = record {
@@ -550,7 +547,7 @@ out_back : (rules : ℕ) (m : Member) (a : Active) (s9 s10 s11 s12 s13 s14 s15 s
     → KeepsAccuracy a → PassesOut (member_block m) (with_stats (beside_stats (active_block m a)) s9 s10 s11 s12 s13 s14 s15 s16)
 out_back rules m a s9 s10 s11 s12 s13 s14 s15 s16 known valid kept =
     let block : List ℕ = with_stats (beside_stats (active_block m a)) s9 s10 s11 s12 s13 s14 s15 s16 in
-    let c : Conditions = a.conditions in
+    let c : ActiveConditions = a.conditions in
     let u = valid.conditions.underway in
     let n : ℕ = conditions_number c in
     let small : n < 131072 = bits_17-low (condition_bits c) refl in
@@ -598,10 +595,10 @@ out_back rules m a s9 s10 s11 s12 s13 s14 s15 s16 known valid kept =
             (subst (λ (on : Bool). CountFits (c.underway.rage || on) 1 255 a.kept_accuracy) (sym (flag 1))
             (kept_back (c.underway.rage || is_some c.underway.thrash) a.kept_accuracy valid.kept_accuracy kept));
       };
-      current = used_back rules m a.current known valid.current;
-      picked = used_back rules m a.picked known valid.picked;
+      current_move = used_back rules m a.current_move known valid.current_move;
+      picked_move = used_back rules m a.picked_move known valid.picked_move;
       underway =
-          ties_back rules m a.current block known valid.current
+          ties_back rules m a.current_move block known valid.current_move
           record {
             bide = λ on. u.bide_tied (sym (flag 0) ∙ on);
             thrash = λ on. u.thrash_tied (sym (flag 1) ∙ on);

@@ -1,13 +1,12 @@
 -- Exactly the packings of valid states pass all tests.
-use Rattle.std.proofs.Common.{All, Bool, List, ap, arith, false, inl, inr, length, refl, replicate, slice_index, subst, sym, ℕ, ◌*◌, ◌++◌, ◌+◌, ◌-◌, ◌<◌, ◌==◌, ◌∙◌, ◌≡◌, ◌≤◌, if◌then◌else◌}
+use Rattle.gen1_layout.proofs.Words.{Active, Bool, IsBetween, List, Member, ap, arith, false, inl, inr, length, nat_tests, nobody, refl, slice_index, subst, sym, ℕ, ◌*◌, ◌++◌, ◌+◌, ◌-◌, ◌<◌, ◌==◌, ◌∙◌, ◌≡◌, ◌≤◌}
+use Rattle.std.proofs.Common.{All, replicate, if◌then◌else◌}
 use Rattle.std.proofs.lemmas.Bool.{cases_lt}
-use Rattle.std.proofs.lemmas.Bool.Decides.{nat_tests}
 use Rattle.std.proofs.lemmas.List.{get_or-take}
 use Rattle.std.proofs.lemmas.List.Elements.{All-replicate}
-use Rattle.gen1_stats.specs.Members.{nobody, IsBetween, Member}
 use Rattle.gen1_rolls.specs.Streams.{IsStream, Link}
 use Rattle.gen1_machine.specs.Rules.{rules_of, Rules}
-use Rattle.gen1_machine.specs.State.{member_at, nobody_out, not_sent_out, Active, Party, State}
+use Rattle.gen1_machine.specs.State.{member_at, nobody_out, not_sent_out, Party, State}
 use Rattle.gen1_machine.specs.Layout.{active_block, active_block_of, bytes_of, header_block, member_block, member_blocks, party_bytes}
 use Rattle.gen1_machine.specs.Valid.{FallenAreHealthy, IsActive, IsField, IsMembersUnder, IsOutcome, IsParty, IsStarted, IsTerms, IsUnstarted, KeepsAccuracy}
 use Rattle.gen1_layout.specs.ReadingBytes.{active_bytes, header_of, member_bytes, places_of, side_one, side_two, word}
@@ -58,12 +57,12 @@ party_of byte side members full fit valid same passes stats =
     let st = (stats_law m a (active_bytes side) block_full (part_bytes 144 36 side fit) known.numbers s.same).0
     (subst (λ (l : List ℕ). PassesStats l (active_bytes side)) (out_is byte side members a valid same s.place at) stats) in
     record {
-      active = record a { attack_halved = st.halved; speed_quartered = st.quartered };
+      active = record a { attack_penalties = st.halved; speed_penalties = st.quartered };
       place = s.place;
       valid = record {
         stages = s.valid.stages;
-        current = s.valid.current;
-        picked = s.valid.picked;
+        current_move = s.valid.current_move;
+        picked_move = s.valid.picked_move;
         kept_accuracy = s.valid.kept_accuracy;
         conditions = s.valid.conditions;
       };
@@ -243,7 +242,7 @@ party_back byte rules t side full fit is valid kept parts =
           record { active = a; place = valid.place; valid = valid.active; kept = kept; same = ap beside_stats block },
       subst (λ (l : List ℕ). PassesStats l (active_bytes side)) (sym (out_is byte side t.members a known_all parts.places valid.place at))
           ((stats_law m a (active_bytes side) block_full (part_bytes 144 36 side fit) known.numbers (ap beside_stats block)).1
-          record { halved = a.attack_halved; quartered = a.speed_quartered; same = block }),
+          record { halved = a.attack_penalties; quartered = a.speed_penalties; same = block }),
       at,
     )
 

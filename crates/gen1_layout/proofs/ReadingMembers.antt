@@ -1,15 +1,14 @@
 -- The bytes of a side pass the test of its members exactly where they are those of valid members.
-use Rattle.std.proofs.Common.{All, AllPairs, Bool, List, [], ap, arith, drop, false, inl, inr, length, nat_le, not, refl, replicate, slice_index, slice_index_or, subst, suc, sym, take, true, zero, ℕ, ◌%◌, ◌&&◌, ◌*◌, ◌+◌, ◌-◌, ◌<◌, ◌==◌, ◌∙◌, ◌∷◌, ◌≡◌, ◌≢◌, ◌≤◌, ◌⊎◌, ◌++◌, map}
-use Rattle.std.proofs.lemmas.Bool.Decides.{nat_tests}
+use Rattle.gen1_layout.proofs.Words.{Bool, IsBetween, List, Member, [], ap, arith, false, inl, inr, known_in, length, map, nat_le, nat_tests, refl, slice_index, slice_index_or, subst, suc, sym, true, zero, ℕ, ◌%◌, ◌&&◌, ◌*◌, ◌++◌, ◌+◌, ◌-◌, ◌<◌, ◌==◌, ◌∙◌, ◌∷◌, ◌≡◌, ◌≤◌, ◌⊎◌}
+use Rattle.std.proofs.Common.{All, AllPairs, drop, not, replicate, take, ◌≢◌}
 use Rattle.std.proofs.lemmas.Bool.{eqb-true}
 use Rattle.std.proofs.lemmas.List.{take-replicate}
 use Rattle.std.proofs.lemmas.List.Elements.{All-cons, All-head, All-nil, All-replicate, All-tail}
 use Rattle.gen1_stats.specs.declared.known_move.KnownMove.{KnownMove}
 use Rattle.gen1_stats.specs.declared.status.Status.{Status}
 use Rattle.gen1_stats.specs.declared.status.Status.TheVariants.{Healthy, Asleep, Poisoned, Burned, Frozen, Paralysed}
-use Rattle.gen1_stats.specs.Members.{is_left_out, is_marked, IsBetween, IsKnown, Member}
+use Rattle.gen1_stats.specs.Members.{is_left_out, is_marked, IsKnown}
 use Rattle.gen1_machine.specs.Rules.{bit_of, rules_of}
-use Rattle.gen1_machine.specs.State.{known_in}
 use Rattle.gen1_machine.specs.Layout.{high_byte, low_byte, member_block, member_blocks, status_byte}
 use Rattle.gen1_machine.specs.Valid.{FallenAreHealthy, IsMemberUnder, IsMembersUnder, IsStatus}
 use Rattle.gen1_layout.specs.ReadingBytes.{member_bytes, places_of}

@@ -112,7 +112,7 @@ stats_from member a block long fit is same p =
     let defense_high = is.defense.1 in
     let speed_high = is.speed.1 in
     let special_high = is.special.1 in
-    let a' : Active = record a { attack_halved = p.attack.times; speed_quartered = p.speed.times } in
+    let a' : Active = record a { attack_penalties = p.attack.times; speed_penalties = p.speed.times } in
     let attack : word block 9 ≡ now Attack member a' = rw (two_back member.attack (omega arith), at 3) at p.attack.same in
     let defense : word block 11 ≡ now Defense member a' = rw (two_back member.defense (omega arith), at 4) at p.defense.same in
     let speed : word block 13 ≡ now Speed member a' = rw (two_back member.speed (omega arith), at 5) at p.speed.same in
@@ -142,10 +142,10 @@ stats_back member a is =
     let special_high = is.special.1 in
     let attack : ℕ = at_stage a.stages.attack member.attack in
     let speed : ℕ = at_stage a.stages.speed member.speed in
-    let few = halved_few a.attack_halved attack (at_stage-low a.stages.attack member.attack) in
-    let slow = quartered_few a.speed_quartered speed (at_stage-low a.stages.speed member.speed) in
-    let attack_low = halved-low a.attack_halved attack (at_stage-low a.stages.attack member.attack) in
-    let speed_low = quartered-low a.speed_quartered speed (at_stage-low a.stages.speed member.speed) in
+    let few = halved_few a.attack_penalties attack (at_stage-low a.stages.attack member.attack) in
+    let slow = quartered_few a.speed_penalties speed (at_stage-low a.stages.speed member.speed) in
+    let attack_low = halved-low a.attack_penalties attack (at_stage-low a.stages.attack member.attack) in
+    let speed_low = quartered-low a.speed_penalties speed (at_stage-low a.stages.speed member.speed) in
     let defense_low = at_stage-low a.stages.defense member.defense in
     let special_low = at_stage-low a.stages.special member.special in
     record {
@@ -175,5 +175,5 @@ pub stats_law : StatsStand
 stats_law member a block long fit is same = (
   stats_from member a block long fit is same,
   λ s. subst (PassesStats (member_block member)) (sym s.same)
-      (stats_back member (record a { attack_halved = s.halved; speed_quartered = s.quartered }) is),
+      (stats_back member (record a { attack_penalties = s.halved; speed_penalties = s.quartered }) is),
 )

@@ -7,7 +7,7 @@ use Rattle.gen1_stats.specs.Members.{Member, nobody}
 use Rattle.gen1_machine.specs.declared.side.Side.{Side}
 use Rattle.gen1_machine.specs.declared.side.Side.TheVariants.{One, Two}
 use Rattle.gen1_machine.specs.Rules.{Rules}
-use Rattle.gen1_machine.specs.Conditions.{Conditions}
+use Rattle.gen1_machine.specs.Conditions.{ActiveConditions}
 use Rattle.gen1_machine.specs.State.{active_in, changed_active, changed_conditions, changed_member, conditions_in, member_at, member_in, party, with_member as with_member_at, with_party, Active, Field, Party, Terms}
 use Rattle.gen1_machine.specs.Layout.{active_block, active_block_of, header_block, member_block}
 use Rattle.gen1_machine.specs.Valid.{IsMemberUnder, IsOutcome, IsMembersUnder}
@@ -99,7 +99,7 @@ active_step {g = g} {p = p} {f = f} s change w h e place storable =
       });
     }
 
-pub conditions_step : {g : Setting} {p : Parts} {f : Field} (s : Side) (change : Conditions → Conditions) (w : List ℕ) → Within g p f
+pub conditions_step : {g : Setting} {p : Parts} {f : Field} (s : Side) (change : ActiveConditions → ActiveConditions) (w : List ℕ) → Within g p f
     → refill 36 (active_of s p) w ≡ active_block (member_in s f) (record (active_in s f) { conditions = change (conditions_in s f) })
     → IsStorableConditions (length (member_in s f).moves) (change (conditions_in s f))
     → Within g (with_active s (refill 36 (active_of s p) w) p) (changed_conditions s change f)
@@ -108,8 +108,8 @@ conditions_step {g = g} {f = f} s change w h e storable =
     let v = (party_in g f s h.storable).active in
     active_step s (λ a. record a { conditions = change a.conditions }) w h e refl (record {
       stages = v.stages;
-      current = v.current;
-      picked = v.picked;
+      current_move = v.current_move;
+      picked_move = v.picked_move;
       kept_accuracy = v.kept_accuracy;
       conditions = storable;
     })
@@ -208,14 +208,14 @@ active_written {f = f} s change new w h makes e place ok =
     active_step s change w h (e ∙ ap (active_block (member_in s f)) is) (ap (λ (a : Active). a.place) makes ∙ place)
     (subst (IsStorableActive (length (member_in s f).moves)) is ok)
 
-pub conditions_written : {g : Setting} {p : Parts} {f : Field} (s : Side) (change : Conditions → Conditions) (new : Conditions) (w : List ℕ) → Within g p f
+pub conditions_written : {g : Setting} {p : Parts} {f : Field} (s : Side) (change : ActiveConditions → ActiveConditions) (new : ActiveConditions) (w : List ℕ) → Within g p f
     → change (conditions_in s f) ≡ new
     → refill 36 (active_of s p) w ≡ active_block (member_in s f) (record (active_in s f) { conditions = new })
     → IsStorableConditions (length (member_in s f).moves) new
     → Within g (with_active s (refill 36 (active_of s p) w) p) (changed_conditions s change f)
 conditions_written {f = f} s change new w h makes e ok =
     let is = sym makes in
-    conditions_step s change w h (e ∙ ap (λ (c : Conditions). active_block (member_in s f) (record (active_in s f) { conditions = c })) is)
+    conditions_step s change w h (e ∙ ap (λ (c : ActiveConditions). active_block (member_in s f) (record (active_in s f) { conditions = c })) is)
     (subst (IsStorableConditions (length (member_in s f).moves)) is ok)
 
 -- what is known of the conditions of who is out

@@ -1,17 +1,14 @@
 -- A field of a battle is storable, and a packed battle that stands for a started state is within an update of it.
-use Rattle.std.proofs.Common.{Bool, List, None, Option, Some, arith, false, inl, inr, is_some, lit≤, refl, true, ℕ, ◌+◌, ◌≤◌, subst, sym}
+use Rattle.gen1_layout.proofs.Words.{Bool, DisabledSlot, Field, List, Member, None, Option, Parts, Some, Within, arith, false, inl, inr, is_some, lit≤, refl, subst, sym, true, ℕ, ◌+◌, ◌≤◌}
 use Rattle.gen1_tables.specs.declared.effect.Effect.{Effect}
 use Rattle.gen1_tables.specs.declared.effect.Effect.TheVariants.{Bide, Thrash, Trapping}
-use Rattle.gen1_machine.specs.declared.picks.DisabledSlot.{DisabledSlot}
 use Rattle.gen1_machine.specs.Rules.{bit_of, Rules}
 use Rattle.gen1_machine.specs.Conditions.{Storing, Underway}
 use Rattle.gen1_machine.specs.Moves.{bides, thrashes, traps}
-use Rattle.gen1_stats.specs.Members.{Member}
-use Rattle.gen1_machine.specs.State.{first_state, Field, Party, State, Terms}
+use Rattle.gen1_machine.specs.State.{first_state, Party, State, Terms}
 use Rattle.gen1_machine.specs.Valid.{IsCount, IsDisabled, IsField, IsOutcome, IsParty, IsStoring, IsUnderway, IsUnstarted, OnlyWith}
-use Rattle.gen1_layout.specs.Parts.{Parts}
 use Rattle.gen1_layout.specs.Storable.{IsStorable, IsStorableBide, IsStorableDisabled, IsStorableParty, IsStorableUnderway}
-use Rattle.gen1_layout.specs.Within.{Packs, setting_of, Stands, Within}
+use Rattle.gen1_layout.specs.Within.{Packs, setting_of, Stands}
 
 -- no move bides, thrashes and traps at once
 alone : (e : Effect) → bit_of (bides e) + bit_of (thrashes e) + bit_of (traps e) ≤ 1
@@ -52,8 +49,8 @@ party rules t h =
       place = h.place;
       active = record {
         stages = a.stages;
-        current = a.current;
-        picked = a.picked;
+        current_move = a.current_move;
+        picked_move = a.picked_move;
         kept_accuracy = a.kept_accuracy;
         conditions = record {
           underway = underway _ d.underway c.underway;

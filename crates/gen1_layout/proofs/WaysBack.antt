@@ -23,14 +23,14 @@ use Rattle.gen1_machine.specs.declared.terms.Outcome.{Outcome}
 use Rattle.gen1_machine.specs.declared.terms.Outcome.TheVariants as outcomes
 use Rattle.gen1_machine.specs.declared.terms.Request.{Request}
 use Rattle.gen1_machine.specs.declared.terms.Request.TheVariants as requests
-use Rattle.gen1_machine.specs.declared.picks.Used.{Used}
-use Rattle.gen1_machine.specs.declared.picks.Used.TheVariants.{Unused, Slot, Struggle}
+use Rattle.gen1_machine.specs.declared.picks.UsedMove.{UsedMove}
+use Rattle.gen1_machine.specs.declared.picks.UsedMove.TheVariants.{Nothing, Slot, Struggle}
 use Rattle.gen1_machine.specs.Rules.{bit_of, bits_of_rules, rules_of, Rules}
 use Rattle.gen1_machine.specs.State.{known_in, member_at, member_in, party, Active, Field}
 use Rattle.gen1_machine.specs.CurrentStats.{now}
 use Rattle.gen1_machine.specs.Stages.{at_stage, divided_times, percent_at}
 use Rattle.gen1_machine.specs.Layout.{high_byte, low_byte, member_block, member_blocks, outcome_byte, request_byte, status_byte, used_byte, header_block}
-use Rattle.gen1_machine.specs.Valid.{IsMembersUnder, IsMemberUnder, IsOutcome, IsStatus, IsUsed}
+use Rattle.gen1_machine.specs.Valid.{IsMembersUnder, IsMemberUnder, IsOutcome, IsStatus, IsUsedMove}
 use Rattle.gen1_layout.specs.Parts.{member_of, Parts}
 use Rattle.gen1_layout.specs.Decoding.{element_of, outcome_of, request_of_byte, status_of, used_of}
 use Rattle.gen1_layout.specs.Within.{state_in, Packs, Setting, Within}
@@ -127,8 +127,8 @@ status_back rules Burned h = refl
 status_back rules Frozen h = refl
 status_back rules Paralysed h = refl
 
-pub used_back : (count : ℕ) (u : Used) → count ≤ 4 → IsUsed count u → used_of (used_byte u) ≡ u
-used_back count Unused few h = refl
+pub used_back : (count : ℕ) (u : UsedMove) → count ≤ 4 → IsUsedMove count u → used_of (used_byte u) ≡ u
+used_back count Nothing few h = refl
 used_back count (Slot zero) few h = absurd (omega (arith, h.0))
 used_back count (Slot (suc zero)) few h = refl
 used_back count (Slot (suc (suc zero))) few h = refl
@@ -279,9 +279,9 @@ divided_fits divisor (suc k) n low h =
     omega (arith, before, less)
 
 pub now_fits : (stat : Stat) (m : Member) (a : Active) → now stat m a < 65536
-now_fits Attack m a = divided_fits 2 a.attack_halved _ (lit≤ tt) (one_fits a.stages.attack m.attack)
+now_fits Attack m a = divided_fits 2 a.attack_penalties _ (lit≤ tt) (one_fits a.stages.attack m.attack)
 now_fits Defense m a = one_fits a.stages.defense m.defense
-now_fits Speed m a = divided_fits 4 a.speed_quartered _ (lit≤ tt) (one_fits a.stages.speed m.speed)
+now_fits Speed m a = divided_fits 4 a.speed_penalties _ (lit≤ tt) (one_fits a.stages.speed m.speed)
 now_fits Special m a = one_fits a.stages.special m.special
 now_fits Accuracy m a = one_fits a.stages.accuracy 0
 now_fits Evasion m a = one_fits a.stages.evasion 0

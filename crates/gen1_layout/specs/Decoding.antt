@@ -4,8 +4,8 @@ use Rattle.gen1_tables.specs.declared.element.Element.{Element}
 use Rattle.gen1_tables.specs.declared.element.Element.TheVariants.{Normal, Fighting, Flying, Poison, Ground, Rock, Bug, Ghost, Fire, Water, Grass, Electric, Psychic, Ice, Dragon}
 use Rattle.gen1_stats.specs.declared.status.Status.{Status}
 use Rattle.gen1_stats.specs.declared.status.Status.TheVariants.{Healthy, Asleep, Poisoned, Burned, Frozen, Paralysed}
-use Rattle.gen1_machine.specs.declared.picks.Used.{Used}
-use Rattle.gen1_machine.specs.declared.picks.Used.TheVariants.{Unused, Slot, Struggle}
+use Rattle.gen1_machine.specs.declared.picks.UsedMove.{UsedMove}
+use Rattle.gen1_machine.specs.declared.picks.UsedMove.TheVariants.{Nothing, Slot, Struggle}
 use Rattle.gen1_machine.specs.declared.terms.Outcome.{Outcome}
 use Rattle.gen1_machine.specs.declared.terms.Outcome.TheVariants as outcomes
 use Rattle.gen1_machine.specs.declared.terms.Request.{Request}
@@ -26,8 +26,8 @@ status_of n mark =
     if n == 0 then Healthy else (if n == 8 then Poisoned else (if n == 16 then Burned else (if n == 32 then Frozen
     else (if n == 64 then Paralysed else Asleep n (mark == 1)))))
 
-abbrev pub used_of : ℕ → Used
-used_of n = if n == 0 then Unused else (if n == 5 then Struggle else Slot n)
+abbrev pub used_of : ℕ → UsedMove
+used_of n = if n == 0 then Nothing else (if n == 5 then Struggle else Slot n)
 
 abbrev pub element_of : ℕ → Element
 element_of n =

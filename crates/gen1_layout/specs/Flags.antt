@@ -1,9 +1,9 @@
 -- Condition bits: several at once by their places, what stands beside them, and what a change of one bit leaves alone.
 use Rattle.std.specs.Prelude.{Bool, List, [], bit_or, false, slice_index_or, ℕ, ◌^◌, ◌||◌, ◌≡◌, ◌∷◌}
-use Rattle.gen1_machine.specs.Conditions.{Conditions}
+use Rattle.gen1_machine.specs.Conditions.{ActiveConditions}
 
 -- two sets of conditions have the same numbers
-pub record SameNumbers (c d : Conditions) : Type 0 where
+pub record SameNumbers (c d : ActiveConditions) : Type 0 where
   pub bide : c.underway.bide ≡ d.underway.bide
   pub thrash : c.underway.thrash ≡ d.underway.thrash
   pub trapping : c.underway.trapping ≡ d.underway.trapping

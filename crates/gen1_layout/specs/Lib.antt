@@ -9,6 +9,8 @@ pub mod Flags
 pub mod SentOut
 -- What an operation of an update has made.
 pub mod Shows
+-- What contracts say and speak of, in a word each.
+pub mod Words
 -- Loading: the tests of the bytes, and what they mean.
 pub mod ReadingBytes
 pub mod ReadingHeader

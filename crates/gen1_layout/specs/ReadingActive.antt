@@ -92,8 +92,8 @@ pub record PassesOut (member : List ℕ) (active : List ℕ) : Type 0 where
   pub fixed : PassesFixed active
   pub counts : PassesCounts member active
   pub progress : PassesProgress active
-  pub current : UsedFits member (slice_index active 29)
-  pub picked : UsedFits member (slice_index active 30)
+  pub current_move : UsedFits member (slice_index active 29)
+  pub picked_move : UsedFits member (slice_index active 30)
   pub underway : PassesUnderway (effect_in member (slice_index active 29)) active
 
 -- the member that is out

@@ -59,7 +59,7 @@ pub record StandsForActive (members : List Member) (side : List ℕ) : Type 0 wh
 pub record StandsForStats (member : Member) (a : Active) (block : List ℕ) : Type 0 where
   pub halved : ℕ
   pub quartered : ℕ
-  pub same : block ≡ active_block member (record a { attack_halved = halved; speed_quartered = quartered })
+  pub same : block ≡ active_block member (record a { attack_penalties = halved; speed_penalties = quartered })
 
 -- the whole: the packing of a valid state
 pub record StandsFor (form : List ℕ) : Type 0 where

@@ -12,8 +12,8 @@ sent_as place first second halved quartered = record nobody_out {
   place = place;
   first_type = first;
   second_type = second;
-  attack_halved = halved;
-  speed_quartered = quartered;
+  attack_penalties = halved;
+  speed_penalties = quartered;
 }
 
 -- the four stats as they stand

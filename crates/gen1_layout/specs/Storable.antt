@@ -5,9 +5,9 @@ use Rattle.std.specs.Prelude.{None, Option, Some, is_some, length, ℕ, ◌+◌,
 use Rattle.gen1_stats.specs.Members.{IsBetween}
 use Rattle.gen1_machine.specs.declared.picks.DisabledSlot.{DisabledSlot}
 use Rattle.gen1_machine.specs.Rules.{bit_of, Rules}
-use Rattle.gen1_machine.specs.Conditions.{Conditions, Storing, Underway}
+use Rattle.gen1_machine.specs.Conditions.{ActiveConditions, Storing, Underway}
 use Rattle.gen1_machine.specs.State.{member_at, Active, Field, Party, Terms}
-use Rattle.gen1_machine.specs.Valid.{IsCount, IsMembersUnder, IsOutcome, IsStages, IsUsed}
+use Rattle.gen1_machine.specs.Valid.{IsCount, IsMembersUnder, IsOutcome, IsStages, IsUsedMove}
 
 abbrev pub IsStorableBide : Option Storing → Type 0
 IsStorableBide None = Unit {0}
@@ -24,7 +24,7 @@ pub record IsStorableUnderway (u : Underway) : Type 0 where
   pub alone : bit_of (is_some u.bide) + bit_of (is_some u.thrash) + bit_of (is_some u.trapping) ≤ 1
 
 -- for a member that knows so many moves
-pub record IsStorableConditions (count : ℕ) (c : Conditions) : Type 0 where
+pub record IsStorableConditions (count : ℕ) (c : ActiveConditions) : Type 0 where
   pub underway : IsStorableUnderway c.underway
   pub confused : IsCount 0 5 c.confused
   pub substitute : IsCount 0 249 c.substitute
@@ -33,8 +33,8 @@ pub record IsStorableConditions (count : ℕ) (c : Conditions) : Type 0 where
 
 pub record IsStorableActive (count : ℕ) (a : Active) : Type 0 where
   pub stages : IsStages a.stages
-  pub current : IsUsed count a.current
-  pub picked : IsUsed count a.picked
+  pub current_move : IsUsedMove count a.current_move
+  pub picked_move : IsUsedMove count a.picked_move
   pub kept_accuracy : a.kept_accuracy ≤ 255
   pub conditions : IsStorableConditions count a.conditions
 

@@ -1,39 +1,35 @@
 //! The fields of an active block (docs/LAYOUT.md, "Active block"), but for conditions.
-ghost use Rattle.std.specs.Prelude.{false, true, ℕ, ◌≡◌, ◌≤◌, length};
+ghost use Rattle.gen1_layout.specs.Words.{Active, Field, Member, Packs, Reads, Setting, Within, WritesActive, WritesActiveIf, active_in, changed_active, false, has_number, length, member_at, member_in, now, now_in, party, stage_of, true, ℕ, ◌≡◌, ◌≤◌};
 ghost use Rattle.gen1_tables.specs.declared.effect.Stat.TheVariants.{Attack, Defense, Special, Speed};
-ghost use Rattle.gen1_machine.specs.State.{Active, Field, active_in, changed_active, member_at, member_in, party};
-ghost use Rattle.gen1_machine.specs.CurrentStats.{has_number, now, now_in, stage_of, with_stage};
-ghost use Rattle.gen1_machine.specs.Valid.{IsUsed};
-ghost use Rattle.gen1_stats.specs.Members.{Member};
+ghost use Rattle.gen1_machine.specs.Valid.{IsUsedMove};
 ghost use Rattle.gen1_machine.specs.Layout.{active_block};
 ghost use Rattle.gen1_layout.specs.SentOut.{sent_as, stats_of};
-ghost use Rattle.gen1_layout.specs.Within.{Packs, Setting, Within};
 
 use crate::Packed;
 use crate::beginning::{high, low};
 use crate::codes::{byte_of_used, element_from, used_from};
 use byteorder::{ByteOrder, LittleEndian};
-use gen1_machine::{Side, Used};
+use gen1_machine::{Side, UsedMove};
 use gen1_tables::{Element, Stat};
 
 impl Packed {
     /// The first type of the member that is out, which need not be its species'.
     pub fn first_type(&self, side: Side) -> Element
-        ensures stands { (g : Setting) (f : Field) → Within g self.now f → result ≡ (active_in side f).first_type }
+        ensures stands { Reads self.now result λ f. (active_in side f).first_type }
     {
         element_from(self.active(side)[1])
     }
 
     /// Its second type.
     pub fn second_type(&self, side: Side) -> Element
-        ensures stands { (g : Setting) (f : Field) → Within g self.now f → result ≡ (active_in side f).second_type }
+        ensures stands { Reads self.now result λ f. (active_in side f).second_type }
     {
         element_from(self.active(side)[2])
     }
 
     /// A stage, from 0 to 12 with 6 in the middle.
     pub fn stage(&self, side: Side, stat: Stat) -> u8
-        ensures stands { (g : Setting) (f : Field) → Within g self.now f → result ≡ stage_of stat (active_in side f).stages }
+        ensures stands { Reads self.now result λ f. stage_of stat (active_in side f).stages }
     {
         match stat {
             Stat::Attack => self.active(side)[3],
@@ -62,31 +58,29 @@ impl Packed {
     }
 
     /// The move that was used last: none, a slot from 1 to 4, or Struggle.
-    pub fn current(&self, side: Side) -> Used
-        ensures stands { (g : Setting) (f : Field) → Within g self.now f → result ≡ (active_in side f).current }
+    pub fn current_move(&self, side: Side) -> UsedMove
+        ensures stands { Reads self.now result λ f. (active_in side f).current_move }
     {
         used_from(self.active(side)[29])
     }
 
     /// The move that was picked last: none, a slot from 1 to 4, or Struggle.
-    pub fn picked(&self, side: Side) -> Used
-        ensures stands { (g : Setting) (f : Field) → Within g self.now f → result ≡ (active_in side f).picked }
+    pub fn picked_move(&self, side: Side) -> UsedMove
+        ensures stands { Reads self.now result λ f. (active_in side f).picked_move }
     {
         used_from(self.active(side)[30])
     }
 
     /// The accuracy byte that is kept for a move that goes on, from 0 to 255.
     pub fn kept_accuracy(&self, side: Side) -> u8
-        ensures stands { (g : Setting) (f : Field) → Within g self.now f → result ≡ (active_in side f).kept_accuracy }
+        ensures stands { Reads self.now result λ f. (active_in side f).kept_accuracy }
     {
         self.active(side)[31]
     }
 
     /// Writes both types.
     pub fn put_types(&mut self, side: Side, first: Element, second: Element)
-        ensures stands { (g : Setting) (f : Field) (change : Active → Active) → Within g self.old f
-            → change (active_in side f) ≡ record (active_in side f) { first_type = first; second_type = second }
-            → Within g self.new (changed_active side change f) }
+        ensures stands { WritesActive side self.old self.new λ a. record a { first_type = first; second_type = second } }
     {
         let first = first.number();
         let second = second.number();
@@ -96,22 +90,16 @@ impl Packed {
     }
 
     /// Writes the move that was used last: none, Struggle, or a slot that holds a move.
-    pub fn put_current(&mut self, side: Side, used: Used)
-        ensures stands { (g : Setting) (f : Field) (change : Active → Active) → Within g self.old f
-            → change (active_in side f) ≡ record (active_in side f) { current = used }
-            → IsUsed (length (member_in side f).moves) used
-            → Within g self.new (changed_active side change f) }
+    pub fn put_current_move(&mut self, side: Side, used: UsedMove)
+        ensures stands { WritesActiveIf side self.old self.new (λ a. record a { current_move = used }) λ g f. IsUsedMove (length (member_in side f).moves) used }
     {
         let byte = byte_of_used(used);
         self.active_mut(side)[29] = byte;
     }
 
     /// Writes the move that was picked last: none, Struggle, or a slot that holds a move.
-    pub fn put_picked(&mut self, side: Side, used: Used)
-        ensures stands { (g : Setting) (f : Field) (change : Active → Active) → Within g self.old f
-            → change (active_in side f) ≡ record (active_in side f) { picked = used }
-            → IsUsed (length (member_in side f).moves) used
-            → Within g self.new (changed_active side change f) }
+    pub fn put_picked_move(&mut self, side: Side, used: UsedMove)
+        ensures stands { WritesActiveIf side self.old self.new (λ a. record a { picked_move = used }) λ g f. IsUsedMove (length (member_in side f).moves) used }
     {
         let byte = byte_of_used(used);
         self.active_mut(side)[30] = byte;
@@ -119,27 +107,21 @@ impl Packed {
 
     /// Writes the accuracy byte that is kept.
     pub fn put_kept_accuracy(&mut self, side: Side, byte: u8)
-        ensures stands { (g : Setting) (f : Field) (change : Active → Active) → Within g self.old f
-            → change (active_in side f) ≡ record (active_in side f) { kept_accuracy = byte }
-            → Within g self.new (changed_active side change f) }
+        ensures stands { WritesActive side self.old self.new λ a. record a { kept_accuracy = byte } }
     {
         self.active_mut(side)[31] = byte;
     }
 
     /// Writes the stage of accuracy, from 0 to 12. There is no number beside it.
     pub fn put_accuracy(&mut self, side: Side, stage: u8)
-        ensures stands { (g : Setting) (f : Field) (change : Active → Active) → Within g self.old f
-            → change (active_in side f) ≡ record (active_in side f) { stages = record (active_in side f).stages { accuracy = stage } }
-            → stage ≤ 12 → Within g self.new (changed_active side change f) }
+        ensures stands { WritesActiveIf side self.old self.new (λ a. record a { stages = record a.stages { accuracy = stage } }) λ g f. stage ≤ 12 }
     {
         self.active_mut(side)[7] = stage;
     }
 
     /// Writes the stage of evasion, from 0 to 12.
     pub fn put_evasion(&mut self, side: Side, stage: u8)
-        ensures stands { (g : Setting) (f : Field) (change : Active → Active) → Within g self.old f
-            → change (active_in side f) ≡ record (active_in side f) { stages = record (active_in side f).stages { evasion = stage } }
-            → stage ≤ 12 → Within g self.new (changed_active side change f) }
+        ensures stands { WritesActiveIf side self.old self.new (λ a. record a { stages = record a.stages { evasion = stage } }) λ g f. stage ≤ 12 }
     {
         self.active_mut(side)[8] = stage;
     }
@@ -147,7 +129,7 @@ impl Packed {
     /// Writes the stage of Attack, and the Attack that it gives, after any number of halvings.
     pub fn put_attack(&mut self, side: Side, stage: u8, value: u16)
         ensures stands { (g : Setting) (f : Field) (change : Active → Active) (penalties : ℕ) → Within g self.old f
-            → change (active_in side f) ≡ record (active_in side f) { stages = record (active_in side f).stages { attack = stage }; attack_halved = penalties }
+            → change (active_in side f) ≡ record (active_in side f) { stages = record (active_in side f).stages { attack = stage }; attack_penalties = penalties }
             → value ≡ now Attack (member_in side f) (change (active_in side f)) → stage ≤ 12
             → Within g self.new (changed_active side change f) }
     {
@@ -159,7 +141,7 @@ impl Packed {
     /// Writes the stage of Speed, and the Speed that it gives, after any number of quarterings.
     pub fn put_speed(&mut self, side: Side, stage: u8, value: u16)
         ensures stands { (g : Setting) (f : Field) (change : Active → Active) (penalties : ℕ) → Within g self.old f
-            → change (active_in side f) ≡ record (active_in side f) { stages = record (active_in side f).stages { speed = stage }; speed_quartered = penalties }
+            → change (active_in side f) ≡ record (active_in side f) { stages = record (active_in side f).stages { speed = stage }; speed_penalties = penalties }
             → value ≡ now Speed (member_in side f) (change (active_in side f)) → stage ≤ 12
             → Within g self.new (changed_active side change f) }
     {

@@ -5,7 +5,7 @@ ghost use Rattle.gen1_machine.specs.Rules.{bit_of};
 ghost use Rattle.gen1_machine.specs.Layout.{disabled_slot, disabled_turns, outcome_byte, request_byte, status_byte, used_byte};
 ghost use Rattle.gen1_layout.specs.Decoding.{element_of, outcome_of, request_of_byte, status_of, used_of};
 
-use gen1_machine::{DisabledSlot, Outcome, Request, Used};
+use gen1_machine::{DisabledSlot, Outcome, Request, UsedMove};
 use gen1_stats::Status;
 use gen1_tables::Element;
 
@@ -92,23 +92,23 @@ pub(crate) fn mark_of_status(status: Status) -> u8
     }
 }
 
-pub(crate) fn used_from(byte: u8) -> Used
+pub(crate) fn used_from(byte: u8) -> UsedMove
     ensures { result ≡ used_of byte }
 {
     match byte {
-        0 => Used::Unused,
-        5 => Used::Struggle,
-        slot => Used::Slot(slot),
+        0 => UsedMove::Nothing,
+        5 => UsedMove::Struggle,
+        slot => UsedMove::Slot(slot),
     }
 }
 
-pub(crate) fn byte_of_used(used: Used) -> u8
+pub(crate) fn byte_of_used(used: UsedMove) -> u8
     ensures { result ≡ used_byte used }
 {
     match used {
-        Used::Unused => 0,
-        Used::Slot(slot) => slot,
-        Used::Struggle => 5,
+        UsedMove::Nothing => 0,
+        UsedMove::Slot(slot) => slot,
+        UsedMove::Struggle => 5,
     }
 }
 

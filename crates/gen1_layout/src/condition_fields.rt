@@ -1,13 +1,12 @@
 //! The conditions of a member that is out, with their numbers (docs/LAYOUT.md, "Active block", "Condition bits").
-ghost use Rattle.std.specs.Prelude.{Bool, List, None, Option, Some, false, if◌then◌else◌, length, slice_index, slice_index_or, slice_set, true, ℕ, ◌<◌, ◌^◌, ◌≡◌, ◌≤◌};
-ghost use Rattle.gen1_machine.specs.Conditions.{Conditions as Named, after_haze, broken_off};
-ghost use Rattle.gen1_machine.specs.State.{Field, active_in, changed_conditions, conditions_in, member_in, underway_in};
+ghost use Rattle.gen1_layout.specs.Words.{Changes, Field, List, None, Reads, Setting, Some, Within, WritesConditions, WritesConditionsIf, active_in, changed_conditions, conditions_in, false, length, member_in, slice_index_or, slice_set, underway_in, ℕ, ◌<◌, ◌^◌, ◌≡◌, ◌≤◌};
+ghost use Rattle.std.specs.Prelude.{if◌then◌else◌, slice_index};
+ghost use Rattle.gen1_machine.specs.Conditions.{ActiveConditions, after_haze, broken_off};
 ghost use Rattle.gen1_machine.specs.Layout.{active_block, condition_bits, conditions_number, energy_of, turns_byte};
 ghost use Rattle.gen1_machine.specs.Valid.{IsCount};
 ghost use Rattle.gen1_layout.specs.Decoding.{turns_stored};
 ghost use Rattle.gen1_layout.specs.Flags.{SameNumbers, any_at, set_at};
 ghost use Rattle.gen1_layout.specs.Storable.{IsStorableDisabled};
-ghost use Rattle.gen1_layout.specs.Within.{Setting, Within};
 
 use crate::codes::{byte_of_count, byte_of_disabled_slot, byte_of_disabled_turns};
 use crate::{Conditions, Packed};
@@ -18,15 +17,14 @@ use gen1_machine::{DisabledSlot, Side};
 impl Packed {
     /// All conditions of the member that is out.
     pub fn conditions(&self, side: Side) -> Conditions
-        ensures stands { (g : Setting) (f : Field) → Within g self.now f → result.0 ≡ conditions_number (conditions_in side f) }
+        ensures stands { Reads self.now result.0 λ f. conditions_number (conditions_in side f) }
     {
         Conditions::from_bits_retain(long!(self.active(side), 17..21))
     }
 
     /// Whether it has a condition.
     pub fn is_on(&self, side: Side, which: Conditions) -> bool
-        ensures stands { (k : ℕ) → which.0 ≡ 2 ^ k → (g : Setting) (f : Field) → Within g self.now f
-            → result ≡ slice_index_or (condition_bits (conditions_in side f)) k false }
+        ensures stands { (k : ℕ) → which.0 ≡ 2 ^ k → Reads self.now result λ f. slice_index_or (condition_bits (conditions_in side f)) k false }
     {
         self.conditions(side).has(which)
     }
@@ -34,8 +32,7 @@ impl Packed {
     /// Whether it has one at least of several conditions, by the places of their bits. Of two it is
     /// `has_any(side, Conditions::MIST.union(Conditions::RAGE))`.
     pub fn has_any(&self, side: Side, which: Conditions) -> bool
-        ensures stands { (places : List ℕ) → which.0 ≡ set_at places → (g : Setting) (f : Field) → Within g self.now f
-            → result ≡ any_at places (condition_bits (conditions_in side f)) }
+        ensures stands { (places : List ℕ) → which.0 ≡ set_at places → Reads self.now result λ f. any_at places (condition_bits (conditions_in side f)) }
     {
         self.conditions(side).has_any(which)
     }
@@ -43,9 +40,7 @@ impl Packed {
     // The byte of the active block that belongs to a condition, where it is on.
     fn count_of(&self, side: Side, which: Conditions, at: usize) -> Option<u8>
         requires { at < 36 }
-        ensures stands { (k : ℕ) → which.0 ≡ 2 ^ k → (g : Setting) (f : Field) → Within g self.now f
-            → result ≡ (if slice_index_or (condition_bits (conditions_in side f)) k false
-            then Some (slice_index (active_block (member_in side f) (active_in side f)) at) else None) }
+        ensures stands { (k : ℕ) → which.0 ≡ 2 ^ k → Reads self.now result λ f. (if slice_index_or (condition_bits (conditions_in side f)) k false then Some (slice_index (active_block (member_in side f) (active_in side f)) at) else None) }
     {
         if self.is_on(side, which) {
             Some(self.active(side)[at])
@@ -56,28 +51,28 @@ impl Packed {
 
     /// The HP of its Substitute, from 0 to 249. `None` without one.
     pub fn substitute(&self, side: Side) -> Option<u8>
-        ensures stands { (g : Setting) (f : Field) → Within g self.now f → result ≡ (conditions_in side f).substitute }
+        ensures stands { Reads self.now result λ f. (conditions_in side f).substitute }
     {
         self.count_of(side, Conditions::SUBSTITUTE, 21)
     }
 
     /// For how many turns more it is confused, at most 5. `None` where it is not.
     pub fn confused(&self, side: Side) -> Option<u8>
-        ensures stands { (g : Setting) (f : Field) → Within g self.now f → result ≡ (conditions_in side f).confused }
+        ensures stands { Reads self.now result λ f. (conditions_in side f).confused }
     {
         self.count_of(side, Conditions::CONFUSED, 22)
     }
 
     /// The counter that Toxic begins, from 0 to 64. `None` without bad poison.
     pub fn bad_poison(&self, side: Side) -> Option<u8>
-        ensures stands { (g : Setting) (f : Field) → Within g self.now f → result ≡ (conditions_in side f).bad_poison }
+        ensures stands { Reads self.now result λ f. (conditions_in side f).bad_poison }
     {
         self.count_of(side, Conditions::BAD_POISON, 25)
     }
 
     /// The slot that Disable bars, from 1 to 4, and for how many turns more, at most 8. `None` where it bars none.
     pub fn disabled(&self, side: Side) -> Option<DisabledSlot>
-        ensures stands { (g : Setting) (f : Field) → Within g self.now f → result ≡ (conditions_in side f).disabled }
+        ensures stands { Reads self.now result λ f. (conditions_in side f).disabled }
     {
         if self.is_on(side, Conditions::DISABLED) {
             let active = self.active(side);
@@ -92,28 +87,28 @@ impl Packed {
 
     /// For how many turns more Bide stores, at most 3. `None` without Bide.
     pub fn bide(&self, side: Side) -> Option<u8>
-        ensures stands { (g : Setting) (f : Field) → Within g self.now f → result ≡ turns_stored (underway_in side f).bide }
+        ensures stands { Reads self.now result λ f. turns_stored (underway_in side f).bide }
     {
         self.count_of(side, Conditions::BIDE, 26)
     }
 
     /// For how many turns more it thrashes, at most 3. `None` where it does not.
     pub fn thrash(&self, side: Side) -> Option<u8>
-        ensures stands { (g : Setting) (f : Field) → Within g self.now f → result ≡ (underway_in side f).thrash }
+        ensures stands { Reads self.now result λ f. (underway_in side f).thrash }
     {
         self.count_of(side, Conditions::THRASH, 26)
     }
 
     /// For how many turns more it traps the foe, at most 4. `None` where it does not.
     pub fn trapping(&self, side: Side) -> Option<u8>
-        ensures stands { (g : Setting) (f : Field) → Within g self.now f → result ≡ (underway_in side f).trapping }
+        ensures stands { Reads self.now result λ f. (underway_in side f).trapping }
     {
         self.count_of(side, Conditions::TRAPPING, 26)
     }
 
     /// The energy that Bide has stored, in HP of damage, from 0 to 65,535; 0 without Bide.
     pub fn energy(&self, side: Side) -> u16
-        ensures stands { (g : Setting) (f : Field) → Within g self.now f → result ≡ energy_of (underway_in side f).bide }
+        ensures stands { Reads self.now result λ f. energy_of (underway_in side f).bide }
     {
         word!(self.active(side), 27..29)
     }
@@ -136,7 +131,7 @@ impl Packed {
 
     /// Sets or clears a condition that has no number. The place of its bit is k.
     pub fn put_flag(&mut self, side: Side, which: Conditions, on: bool)
-        ensures stands { (k : ℕ) → which.0 ≡ 2 ^ k → k < 17 → (g : Setting) (f : Field) (change : Named → Named) → Within g self.old f
+        ensures stands { (k : ℕ) → which.0 ≡ 2 ^ k → k < 17 → (g : Setting) (f : Field) (change : ActiveConditions → ActiveConditions) → Within g self.old f
             → condition_bits (change (conditions_in side f)) ≡ slice_set (condition_bits (conditions_in side f)) k on
             → SameNumbers (change (conditions_in side f)) (conditions_in side f)
             → Within g self.new (changed_conditions side change f) }
@@ -147,9 +142,7 @@ impl Packed {
 
     /// Writes the HP of a Substitute, at most 249, or that there is none.
     pub fn put_substitute(&mut self, side: Side, hp: Option<u8>)
-        ensures stands { (g : Setting) (f : Field) (change : Named → Named) → Within g self.old f
-            → change (conditions_in side f) ≡ record (conditions_in side f) { substitute = hp } → IsCount 0 249 hp
-            → Within g self.new (changed_conditions side change f) }
+        ensures stands { WritesConditionsIf side self.old self.new (λ c. record c { substitute = hp }) λ g f. IsCount 0 249 hp }
     {
         let on = hp.is_some();
         let byte = byte_of_count(hp);
@@ -161,9 +154,7 @@ impl Packed {
 
     /// Writes for how many turns more it is confused, at most 5, or that it is not.
     pub fn put_confused(&mut self, side: Side, turns: Option<u8>)
-        ensures stands { (g : Setting) (f : Field) (change : Named → Named) → Within g self.old f
-            → change (conditions_in side f) ≡ record (conditions_in side f) { confused = turns } → IsCount 0 5 turns
-            → Within g self.new (changed_conditions side change f) }
+        ensures stands { WritesConditionsIf side self.old self.new (λ c. record c { confused = turns }) λ g f. IsCount 0 5 turns }
     {
         let on = turns.is_some();
         let byte = byte_of_count(turns);
@@ -175,9 +166,7 @@ impl Packed {
 
     /// Writes the counter that Toxic begins, at most 64, or that it is not badly poisoned.
     pub fn put_bad_poison(&mut self, side: Side, count: Option<u8>)
-        ensures stands { (g : Setting) (f : Field) (change : Named → Named) → Within g self.old f
-            → change (conditions_in side f) ≡ record (conditions_in side f) { bad_poison = count } → IsCount 0 64 count
-            → Within g self.new (changed_conditions side change f) }
+        ensures stands { WritesConditionsIf side self.old self.new (λ c. record c { bad_poison = count }) λ g f. IsCount 0 64 count }
     {
         let on = count.is_some();
         let byte = byte_of_count(count);
@@ -189,10 +178,7 @@ impl Packed {
 
     /// Writes what Disable bars, a slot that holds a move for at most 8 turns more, or that it bars none.
     pub fn put_disabled(&mut self, side: Side, disabled: Option<DisabledSlot>)
-        ensures stands { (g : Setting) (f : Field) (change : Named → Named) → Within g self.old f
-            → change (conditions_in side f) ≡ record (conditions_in side f) { disabled = disabled }
-            → IsStorableDisabled (length (member_in side f).moves) disabled
-            → Within g self.new (changed_conditions side change f) }
+        ensures stands { WritesConditionsIf side self.old self.new (λ c. record c { disabled = disabled }) λ g f. IsStorableDisabled (length (member_in side f).moves) disabled }
     {
         let on = disabled.is_some();
         let slot = byte_of_disabled_slot(disabled);
@@ -206,7 +192,7 @@ impl Packed {
 
     /// Writes that Bide stores, for so many turns more, at most 3, and with so much energy. Neither thrashing nor trapping is on.
     pub fn put_bide(&mut self, side: Side, turns: u8, energy: u16)
-        ensures stands { (g : Setting) (f : Field) (change : Named → Named) → Within g self.old f
+        ensures stands { (g : Setting) (f : Field) (change : ActiveConditions → ActiveConditions) → Within g self.old f
             → change (conditions_in side f) ≡ record (conditions_in side f) { underway = record (underway_in side f) { bide = Some (record { turns = turns; energy = energy }) } }
             → turns ≤ 3 → (underway_in side f).thrash ≡ None → (underway_in side f).trapping ≡ None
             → Within g self.new (changed_conditions side change f) }
@@ -220,9 +206,7 @@ impl Packed {
 
     /// Writes that Bide is off.
     pub fn end_bide(&mut self, side: Side)
-        ensures stands { (g : Setting) (f : Field) (change : Named → Named) → Within g self.old f
-            → change (conditions_in side f) ≡ record (conditions_in side f) { underway = record (underway_in side f) { bide = None } }
-            → Within g self.new (changed_conditions side change f) }
+        ensures stands { WritesConditions side self.old self.new λ c. record c { underway = record c.underway { bide = None } } }
     {
         let turns = self.turns_without(side, Conditions::BIDE);
         let now = self.conditions(side).with(Conditions::BIDE, false);
@@ -234,7 +218,7 @@ impl Packed {
 
     /// Writes that it thrashes for so many turns more, at most 3. Neither Bide nor trapping is on.
     pub fn put_thrash(&mut self, side: Side, turns: u8)
-        ensures stands { (g : Setting) (f : Field) (change : Named → Named) → Within g self.old f
+        ensures stands { (g : Setting) (f : Field) (change : ActiveConditions → ActiveConditions) → Within g self.old f
             → change (conditions_in side f) ≡ record (conditions_in side f) { underway = record (underway_in side f) { thrash = Some turns } }
             → turns ≤ 3 → (underway_in side f).bide ≡ None → (underway_in side f).trapping ≡ None
             → Within g self.new (changed_conditions side change f) }
@@ -247,9 +231,7 @@ impl Packed {
 
     /// Writes that thrashing is off.
     pub fn end_thrash(&mut self, side: Side)
-        ensures stands { (g : Setting) (f : Field) (change : Named → Named) → Within g self.old f
-            → change (conditions_in side f) ≡ record (conditions_in side f) { underway = record (underway_in side f) { thrash = None } }
-            → Within g self.new (changed_conditions side change f) }
+        ensures stands { WritesConditions side self.old self.new λ c. record c { underway = record c.underway { thrash = None } } }
     {
         let turns = self.turns_without(side, Conditions::THRASH);
         let now = self.conditions(side).with(Conditions::THRASH, false);
@@ -260,7 +242,7 @@ impl Packed {
 
     /// Writes that it traps the foe for so many turns more, at most 4. Neither Bide nor thrashing is on.
     pub fn put_trapping(&mut self, side: Side, turns: u8)
-        ensures stands { (g : Setting) (f : Field) (change : Named → Named) → Within g self.old f
+        ensures stands { (g : Setting) (f : Field) (change : ActiveConditions → ActiveConditions) → Within g self.old f
             → change (conditions_in side f) ≡ record (conditions_in side f) { underway = record (underway_in side f) { trapping = Some turns } }
             → turns ≤ 4 → (underway_in side f).bide ≡ None → (underway_in side f).thrash ≡ None
             → Within g self.new (changed_conditions side change f) }
@@ -273,9 +255,7 @@ impl Packed {
 
     /// Writes that trapping is off.
     pub fn end_trapping(&mut self, side: Side)
-        ensures stands { (g : Setting) (f : Field) (change : Named → Named) → Within g self.old f
-            → change (conditions_in side f) ≡ record (conditions_in side f) { underway = record (underway_in side f) { trapping = None } }
-            → Within g self.new (changed_conditions side change f) }
+        ensures stands { WritesConditions side self.old self.new λ c. record c { underway = record c.underway { trapping = None } } }
     {
         let turns = self.turns_without(side, Conditions::TRAPPING);
         let now = self.conditions(side).with(Conditions::TRAPPING, false);
@@ -286,7 +266,7 @@ impl Packed {
 
     /// Breaks off Bide, thrashing, trapping and charging.
     pub fn break_off(&mut self, side: Side)
-        ensures stands { (g : Setting) (f : Field) → Within g self.old f → Within g self.new (changed_conditions side broken_off f) }
+        ensures stands { Changes self.old self.new (changed_conditions side broken_off) }
     {
         let now = self
             .conditions(side)
@@ -302,7 +282,7 @@ impl Packed {
 
     /// Takes away what Haze does: confusion, mist, focus energy, the seed, bad poison, both screens and Disable.
     pub fn clear_by_haze(&mut self, side: Side)
-        ensures stands { (g : Setting) (f : Field) → Within g self.old f → Within g self.new (changed_conditions side after_haze f) }
+        ensures stands { Changes self.old self.new (changed_conditions side after_haze) }
     {
         let now = self
             .conditions(side)

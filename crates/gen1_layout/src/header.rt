@@ -1,9 +1,7 @@
 //! The fields of the header (docs/LAYOUT.md, "Header").
-ghost use Rattle.std.specs.Prelude.{Some, ℕ, ◌%◌, ◌+◌, ◌<◌, ◌≡◌, ◌≤◌};
+ghost use Rattle.gen1_layout.specs.Words.{Changes, ChangesPacked, Field, Packs, Reads, ReadsPacked, ReadsPackedSetting, ReadsSetting, Setting, Some, Within, request_of, with_last_damage, with_next_turn, with_outcome, with_requests, ℕ, ◌<◌, ◌≡◌};
 ghost use Rattle.gen1_rolls.specs.Link.{ring_at};
-ghost use Rattle.gen1_machine.specs.State.{Field, request_of, with_last_damage, with_next_turn, with_outcome, with_requests};
 ghost use Rattle.gen1_machine.specs.Valid.{IsOutcome};
-ghost use Rattle.gen1_layout.specs.Within.{Packs, Setting, Within};
 
 use crate::Packed;
 use crate::codes::{byte_of_outcome, byte_of_request, outcome_from, request_from};
@@ -14,32 +12,32 @@ use gen1_rolls::LinkRandom;
 impl Packed {
     /// The turn, from 0 to the turn limit.
     pub fn turn(&self) -> u16
-        ensures stands { (g : Setting) (f : Field) → Within g self.now f → result ≡ f.turn }
-        ensures packs { (g : Setting) (f : Field) → Packs g self.now f → result ≡ f.turn }
+        ensures stands { Reads self.now result λ f. f.turn }
+        ensures packs { ReadsPacked self.now result λ f. f.turn }
     {
         word!(self.header(), 1..3)
     }
 
     /// The last damage in HP, of either side, from 0 to 65,535.
     pub fn last_damage(&self) -> u16
-        ensures stands { (g : Setting) (f : Field) → Within g self.now f → result ≡ f.last_damage }
-        ensures packs { (g : Setting) (f : Field) → Packs g self.now f → result ≡ f.last_damage }
+        ensures stands { Reads self.now result λ f. f.last_damage }
+        ensures packs { ReadsPacked self.now result λ f. f.last_damage }
     {
         word!(self.header(), 3..5)
     }
 
     /// How the battle stands: it goes on, side 1 or side 2 has won, it is a tie, or it ended by fault 1 or 2.
     pub fn outcome(&self) -> Outcome
-        ensures stands { (g : Setting) (f : Field) → Within g self.now f → result ≡ f.outcome }
-        ensures packs { (g : Setting) (f : Field) → Packs g self.now f → result ≡ f.outcome }
+        ensures stands { Reads self.now result λ f. f.outcome }
+        ensures packs { ReadsPacked self.now result λ f. f.outcome }
     {
         outcome_from(self.header()[16])
     }
 
     /// What is asked of a side: nothing, a move, or a switch.
     pub fn request(&self, side: Side) -> Request
-        ensures stands { (g : Setting) (f : Field) → Within g self.now f → result ≡ request_of side f }
-        ensures packs { (g : Setting) (f : Field) → Packs g self.now f → result ≡ request_of side f }
+        ensures stands { Reads self.now result (request_of side) }
+        ensures packs { ReadsPacked self.now result (request_of side) }
     {
         match side {
             Side::One => request_from(self.header()[17]),
@@ -49,16 +47,16 @@ impl Packed {
 
     /// The last turn, from 1 to 9,999.
     pub fn limit(&self) -> u16
-        ensures stands { (g : Setting) (f : Field) → Within g self.now f → result ≡ g.terms.limit }
-        ensures packs { (g : Setting) (f : Field) → Packs g self.now f → result ≡ g.terms.limit }
+        ensures stands { ReadsSetting self.now result λ g. g.terms.limit }
+        ensures packs { ReadsPackedSetting self.now result λ g. g.terms.limit }
     {
         word!(self.header(), 20..22)
     }
 
     /// The clauses that the battle is fought under.
     pub fn rules(&self) -> Rules
-        ensures stands { (g : Setting) (f : Field) → Within g self.now f → result ≡ g.terms.rules }
-        ensures packs { (g : Setting) (f : Field) → Packs g self.now f → result ≡ g.terms.rules }
+        ensures stands { ReadsSetting self.now result λ g. g.terms.rules }
+        ensures packs { ReadsPackedSetting self.now result λ g. g.terms.rules }
     {
         match Rules::new(self.header()[19]) {
             Some(rules) => rules,
@@ -68,24 +66,24 @@ impl Packed {
 
     /// Whether a sleep move fails while an earlier one keeps a living member of the foe's side asleep.
     pub fn sleep_clause(&self) -> bool
-        ensures stands { (g : Setting) (f : Field) → Within g self.now f → result ≡ g.terms.rules.sleep_clause }
-        ensures packs { (g : Setting) (f : Field) → Packs g self.now f → result ≡ g.terms.rules.sleep_clause }
+        ensures stands { ReadsSetting self.now result λ g. g.terms.rules.sleep_clause }
+        ensures packs { ReadsPackedSetting self.now result λ g. g.terms.rules.sleep_clause }
     {
         self.header()[19] % 2 == 1
     }
 
     /// Whether a freeze does nothing while a living member of the foe's side is frozen.
     pub fn freeze_clause(&self) -> bool
-        ensures stands { (g : Setting) (f : Field) → Within g self.now f → result ≡ g.terms.rules.freeze_clause }
-        ensures packs { (g : Setting) (f : Field) → Packs g self.now f → result ≡ g.terms.rules.freeze_clause }
+        ensures stands { ReadsSetting self.now result λ g. g.terms.rules.freeze_clause }
+        ensures packs { ReadsPackedSetting self.now result λ g. g.terms.rules.freeze_clause }
     {
         self.header()[19] / 2 == 1
     }
 
     /// Writes the last damage, in HP.
     pub fn put_last_damage(&mut self, damage: u16)
-        ensures stands { (g : Setting) (f : Field) → Within g self.old f → Within g self.new (with_last_damage damage f) }
-        ensures packs { (g : Setting) (f : Field) → Packs g self.old f → Packs g self.new (with_last_damage damage f) }
+        ensures stands { Changes self.old self.new (with_last_damage damage) }
+        ensures packs { ChangesPacked self.old self.new (with_last_damage damage) }
     {
         put_word!(self.header_mut(), 3..5, damage);
     }
@@ -101,8 +99,8 @@ impl Packed {
 
     /// Writes what is asked of both sides.
     pub fn put_requests(&mut self, one: Request, two: Request)
-        ensures stands { (g : Setting) (f : Field) → Within g self.old f → Within g self.new (with_requests one two f) }
-        ensures packs { (g : Setting) (f : Field) → Packs g self.old f → Packs g self.new (with_requests one two f) }
+        ensures stands { Changes self.old self.new (with_requests one two) }
+        ensures packs { ChangesPacked self.old self.new (with_requests one two) }
     {
         let one = byte_of_request(one);
         let two = byte_of_request(two);
@@ -123,8 +121,8 @@ impl Packed {
     /// The generator as the bytes have it, with its index from 0 to 8. There is an answer wherever the bytes stand for a
     /// battle.
     pub fn generator(&self) -> Option<LinkRandom>
-        ensures stands { (g : Setting) (f : Field) → Within g self.now f → result ≡ Some (ring_at g.seed g.drawn) }
-        ensures packs { (g : Setting) (f : Field) → Packs g self.now f → result ≡ Some (ring_at g.seed g.drawn) }
+        ensures stands { ReadsSetting self.now result λ g. Some (ring_at g.seed g.drawn) }
+        ensures packs { ReadsPackedSetting self.now result λ g. Some (ring_at g.seed g.drawn) }
     {
         let header = self.header();
         LinkRandom::from_parts(

@@ -1,13 +1,10 @@
 //! The fields of a member (docs/LAYOUT.md, "Member"): of any by its place, and of the one that is out.
-ghost use Rattle.std.specs.Prelude.{length, slice_set, ℕ, ◌-◌, ◌≡◌, ◌≤◌};
+ghost use Rattle.gen1_layout.specs.Words.{Field, Member, Reads, ReadsPacked, Setting, Within, WritesMember, WritesMemberIf, active_in, changed_member, is_living, known_in, length, member_at, member_in, party, slice_set, unmodified, ◌-◌, ◌≡◌, ◌≤◌};
 ghost use Rattle.gen1_tables.specs.Types.{any};
-ghost use Rattle.gen1_stats.specs.Members.{Member, is_living, is_marked};
+ghost use Rattle.gen1_stats.specs.Members.{is_marked};
 ghost use Rattle.gen1_stats.specs.declared.status.Status.TheVariants.{Healthy};
-ghost use Rattle.gen1_machine.specs.State.{Field, active_in, changed_member, known_in, member_at, member_in, party};
-ghost use Rattle.gen1_machine.specs.CurrentStats.{unmodified};
 ghost use Rattle.gen1_machine.specs.Valid.{IsStatus};
 ghost use Rattle.gen1_layout.specs.SentOut.{own_stats_of};
-ghost use Rattle.gen1_layout.specs.Within.{Packs, Setting, Within};
 
 use crate::Packed;
 use crate::codes::{byte_of_status, mark_of_status, status_from};
@@ -21,28 +18,28 @@ impl Packed {
     pub fn place(&self, side: Side) -> usize
         ensures low { 1 ≤ result }
         ensures high { result ≤ 6 }
-        ensures stands { (g : Setting) (f : Field) → Within g self.now f → result ≡ (active_in side f).place }
+        ensures stands { Reads self.now result λ f. (active_in side f).place }
     {
         (self.active(side)[0] as usize).max(1).min(6)
     }
 
     /// The level of the member that is out, from 1 to 100.
     pub fn level(&self, side: Side) -> u8
-        ensures stands { (g : Setting) (f : Field) → Within g self.now f → result ≡ (member_in side f).level }
+        ensures stands { Reads self.now result λ f. (member_in side f).level }
     {
         self.member_out(side)[1]
     }
 
     /// The most HP that it can have, from 11 to 999.
     pub fn max_hp(&self, side: Side) -> u16
-        ensures stands { (g : Setting) (f : Field) → Within g self.now f → result ≡ (member_in side f).max }
+        ensures stands { Reads self.now result λ f. (member_in side f).max }
     {
         word!(self.member_out(side), 2..4)
     }
 
     /// Its HP, from 0 to its maximum HP.
     pub fn hp(&self, side: Side) -> u16
-        ensures stands { (g : Setting) (f : Field) → Within g self.now f → result ≡ (member_in side f).hp }
+        ensures stands { Reads self.now result λ f. (member_in side f).hp }
     {
         word!(self.member_out(side), 4..6)
     }
@@ -50,7 +47,7 @@ impl Packed {
     /// Its own Attack, Defense, Speed or Special before stages, from 5 to 999; accuracy and evasion have no number of
     /// their own, and give 0.
     pub fn unmodified(&self, side: Side, stat: Stat) -> u16
-        ensures stands { (g : Setting) (f : Field) → Within g self.now f → result ≡ unmodified stat (member_in side f) }
+        ensures stands { Reads self.now result λ f. unmodified stat (member_in side f) }
     {
         match stat {
             Stat::Attack => word!(self.member_out(side), 6..8),
@@ -64,7 +61,7 @@ impl Packed {
 
     /// Its status; a sleep has 1 to 7 turns left.
     pub fn status(&self, side: Side) -> Status
-        ensures stands { (g : Setting) (f : Field) → Within g self.now f → result ≡ (member_in side f).status }
+        ensures stands { Reads self.now result λ f. (member_in side f).status }
     {
         let out = self.member_out(side);
         status_from(out[14], out[23])
@@ -74,7 +71,7 @@ impl Packed {
     pub fn move_in(&self, side: Side, slot: usize) -> u8
         requires low { 1 ≤ slot }
         requires high { slot ≤ 4 }
-        ensures stands { (g : Setting) (f : Field) → Within g self.now f → result ≡ (known_in slot (member_in side f).moves).id }
+        ensures stands { Reads self.now result λ f. (known_in slot (member_in side f).moves).id }
     {
         self.member_out(side)[slot + 14]
     }
@@ -83,7 +80,7 @@ impl Packed {
     pub fn pp(&self, side: Side, slot: usize) -> u8
         requires low { 1 ≤ slot }
         requires high { slot ≤ 4 }
-        ensures stands { (g : Setting) (f : Field) → Within g self.now f → result ≡ (known_in slot (member_in side f).moves).pp }
+        ensures stands { Reads self.now result λ f. (known_in slot (member_in side f).moves).pp }
     {
         self.member_out(side)[slot + 18]
     }
@@ -92,8 +89,8 @@ impl Packed {
     pub fn species_at(&self, side: Side, place: usize) -> u8
         requires low { 1 ≤ place }
         requires high { place ≤ 6 }
-        ensures stands { (g : Setting) (f : Field) → Within g self.now f → result ≡ (member_at place (party side f)).species }
-        ensures packs { (g : Setting) (f : Field) → Packs g self.now f → result ≡ (member_at place (party side f)).species }
+        ensures stands { Reads self.now result λ f. (member_at place (party side f)).species }
+        ensures packs { ReadsPacked self.now result λ f. (member_at place (party side f)).species }
     {
         self.member(side, place)[0]
     }
@@ -102,8 +99,8 @@ impl Packed {
     pub fn hp_at(&self, side: Side, place: usize) -> u16
         requires low { 1 ≤ place }
         requires high { place ≤ 6 }
-        ensures stands { (g : Setting) (f : Field) → Within g self.now f → result ≡ (member_at place (party side f)).hp }
-        ensures packs { (g : Setting) (f : Field) → Packs g self.now f → result ≡ (member_at place (party side f)).hp }
+        ensures stands { Reads self.now result λ f. (member_at place (party side f)).hp }
+        ensures packs { ReadsPacked self.now result λ f. (member_at place (party side f)).hp }
     {
         word!(self.member(side, place), 4..6)
     }
@@ -112,8 +109,8 @@ impl Packed {
     pub fn status_at(&self, side: Side, place: usize) -> Status
         requires low { 1 ≤ place }
         requires high { place ≤ 6 }
-        ensures stands { (g : Setting) (f : Field) → Within g self.now f → result ≡ (member_at place (party side f)).status }
-        ensures packs { (g : Setting) (f : Field) → Packs g self.now f → result ≡ (member_at place (party side f)).status }
+        ensures stands { Reads self.now result λ f. (member_at place (party side f)).status }
+        ensures packs { ReadsPacked self.now result λ f. (member_at place (party side f)).status }
     {
         let member = self.member(side, place);
         status_from(member[14], member[23])
@@ -123,7 +120,7 @@ impl Packed {
     pub fn level_at(&self, side: Side, place: usize) -> u8
         requires low { 1 ≤ place }
         requires high { place ≤ 6 }
-        ensures packs { (g : Setting) (f : Field) → Packs g self.now f → result ≡ (member_at place (party side f)).level }
+        ensures packs { ReadsPacked self.now result λ f. (member_at place (party side f)).level }
     {
         self.member(side, place)[1]
     }
@@ -132,7 +129,7 @@ impl Packed {
     pub fn max_hp_at(&self, side: Side, place: usize) -> u16
         requires low { 1 ≤ place }
         requires high { place ≤ 6 }
-        ensures packs { (g : Setting) (f : Field) → Packs g self.now f → result ≡ (member_at place (party side f)).max }
+        ensures packs { ReadsPacked self.now result λ f. (member_at place (party side f)).max }
     {
         word!(self.member(side, place), 2..4)
     }
@@ -141,7 +138,7 @@ impl Packed {
     pub fn own_stats_at(&self, side: Side, place: usize) -> [u16; 4]
         requires low { 1 ≤ place }
         requires high { place ≤ 6 }
-        ensures packs { (g : Setting) (f : Field) → Packs g self.now f → result ≡ own_stats_of (member_at place (party side f)) }
+        ensures packs { ReadsPacked self.now result λ f. own_stats_of (member_at place (party side f)) }
     {
         let member = self.member(side, place);
         [
@@ -159,8 +156,7 @@ impl Packed {
         requires high { place ≤ 6 }
         requires low_slot { 1 ≤ slot }
         requires high_slot { slot ≤ 4 }
-        ensures packs { (g : Setting) (f : Field) → Packs g self.now f
-            → result ≡ (known_in slot (member_at place (party side f)).moves).id }
+        ensures packs { ReadsPacked self.now result λ f. (known_in slot (member_at place (party side f)).moves).id }
     {
         self.member(side, place)[slot + 14]
     }
@@ -171,8 +167,7 @@ impl Packed {
         requires high { place ≤ 6 }
         requires low_slot { 1 ≤ slot }
         requires high_slot { slot ≤ 4 }
-        ensures packs { (g : Setting) (f : Field) → Packs g self.now f
-            → result ≡ (known_in slot (member_at place (party side f)).moves).pp }
+        ensures packs { ReadsPacked self.now result λ f. (known_in slot (member_at place (party side f)).moves).pp }
     {
         self.member(side, place)[slot + 18]
     }
@@ -181,14 +176,14 @@ impl Packed {
     pub fn mark(&self, side: Side, place: usize) -> bool
         requires low { 1 ≤ place }
         requires high { place ≤ 6 }
-        ensures packs { (g : Setting) (f : Field) → Packs g self.now f → result ≡ is_marked (member_at place (party side f)).status }
+        ensures packs { ReadsPacked self.now result λ f. is_marked (member_at place (party side f)).status }
     {
         self.member(side, place)[23] == 1
     }
 
     /// Whether a member of the side has HP left.
     pub fn has_living(&self, side: Side) -> bool
-        ensures packs { (g : Setting) (f : Field) → Packs g self.now f → result ≡ any is_living (party side f).members }
+        ensures packs { ReadsPacked self.now result λ f. any is_living (party side f).members }
     {
         let one = self.lives_at(side, 1);
         let two = self.lives_at(side, 2);
@@ -202,16 +197,14 @@ impl Packed {
     fn lives_at(&self, side: Side, place: usize) -> bool
         requires low { 1 ≤ place }
         requires high { place ≤ 6 }
-        ensures packs { (g : Setting) (f : Field) → Packs g self.now f → result ≡ is_living (member_at place (party side f)) }
+        ensures packs { ReadsPacked self.now result λ f. is_living (member_at place (party side f)) }
     {
         0 < self.hp_at(side, place)
     }
 
     /// Writes the HP of the member that is out, at most its maximum.
     pub fn put_hp(&mut self, side: Side, hp: u16)
-        ensures stands { (g : Setting) (f : Field) (change : Member → Member) → Within g self.old f
-            → change (member_in side f) ≡ record (member_in side f) { hp = hp } → hp ≤ (member_in side f).max
-            → Within g self.new (changed_member side change f) }
+        ensures stands { WritesMemberIf side self.old self.new (λ m. record m { hp = hp }) λ g f. hp ≤ (member_in side f).max }
     {
         let place = self.place(side);
         put_word!(self.member_mut(side, place), 4..6, hp);
@@ -219,9 +212,7 @@ impl Packed {
 
     /// Writes the status of the member that is out.
     pub fn put_status(&mut self, side: Side, status: Status)
-        ensures stands { (g : Setting) (f : Field) (change : Member → Member) → Within g self.old f
-            → change (member_in side f) ≡ record (member_in side f) { status = status } → IsStatus g.terms.rules status
-            → Within g self.new (changed_member side change f) }
+        ensures stands { WritesMemberIf side self.old self.new (λ m. record m { status = status }) λ g f. IsStatus g.terms.rules status }
     {
         let place = self.place(side);
         let byte = byte_of_status(status);
@@ -233,9 +224,7 @@ impl Packed {
 
     /// Writes that the member that is out has fallen: it has no HP, and is healthy.
     pub fn put_fallen(&mut self, side: Side)
-        ensures stands { (g : Setting) (f : Field) (change : Member → Member) → Within g self.old f
-            → change (member_in side f) ≡ record (member_in side f) { hp = 0; status = Healthy }
-            → Within g self.new (changed_member side change f) }
+        ensures stands { WritesMember side self.old self.new λ m. record m { hp = 0; status = Healthy } }
     {
         let place = self.place(side);
         let member = self.member_mut(side, place);

@@ -1,10 +1,9 @@
 //! A packed battle, and the parts of it that are lent and read.
-ghost use Rattle.std.specs.Prelude.{◌≡◌, ◌+◌, ◌-◌, ◌≤◌, length};
+ghost use Rattle.gen1_layout.specs.Words.{Field, Packs, Reads, ReadsPacked, Setting, active_in, length, member_at, member_in, other, party, ◌+◌, ◌-◌, ◌≡◌, ◌≤◌};
 ghost use Rattle.std.specs.Borrow.{sem};
-ghost use Rattle.gen1_machine.specs.State.{Field, State, active_in, member_at, member_in, party};
-ghost use Rattle.gen1_machine.specs.Sides.{other};
+ghost use Rattle.gen1_machine.specs.State.{State};
 ghost use Rattle.gen1_machine.specs.Layout.{active_block, bytes_of, header_block, member_block};
-ghost use Rattle.gen1_layout.specs.Within.{Packs, Setting, Within, blocks_of, state_in};
+ghost use Rattle.gen1_layout.specs.Within.{blocks_of, state_in};
 ghost use Rattle.gen1_layout.specs.Parts.{active_of, bytes_of_side, bytes_of_sides, in_order, joined, member_at as member_starts, member_of, part, parts_of, side_at, side_of};
 ghost use Rattle.gen1_layout.specs.Lending.{LendsActive, LendsBothSides, LendsHeader, LendsInTwo, LendsMember, LendsPart, LendsSide, LendsSides};
 
@@ -139,7 +138,7 @@ impl Packed {
     /// The 36 bytes of a side's active block.
     pub fn active(&self, side: Side) -> &[u8]
         ensures value { result.now ≡ active_of side self.now }
-        ensures stands { (g : Setting) (f : Field) → Within g self.now f → result.now ≡ active_block (member_in side f) (active_in side f) }
+        ensures stands { Reads self.now result.now λ f. active_block (member_in side f) (active_in side f) }
         ensures len { length result.now ≡ 36 }
     {
         let from = start_of_side(side) + 144;
@@ -151,7 +150,7 @@ impl Packed {
         requires low { 1 ≤ place }
         requires high { place ≤ 6 }
         ensures value { result.now ≡ member_of side place self.now }
-        ensures packs { (g : Setting) (f : Field) → Packs g self.now f → result.now ≡ member_block (member_at place (party side f)) }
+        ensures packs { ReadsPacked self.now result.now λ f. member_block (member_at place (party side f)) }
         ensures len { length result.now ≡ 24 }
     {
         let from = start_of_member(side, place);
@@ -162,7 +161,7 @@ impl Packed {
     // 384 bytes.
     pub(crate) fn member_out(&self, side: Side) -> &[u8]
         ensures len { length result.now ≡ 24 }
-        ensures stands { (g : Setting) (f : Field) → Within g self.now f → result.now ≡ member_block (member_in side f) }
+        ensures stands { Reads self.now result.now λ f. member_block (member_in side f) }
     {
         let place = (self.active(side)[0] % 8) as usize;
         let at = start_of_side(side) + 24 * place - 24;

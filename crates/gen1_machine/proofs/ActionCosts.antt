@@ -13,7 +13,7 @@ use Rattle.gen1_machine.specs.Conditions.{Storing}
 use Rattle.gen1_machine.specs.Moves.{knocks_out, hits_more, Move}
 use Rattle.gen1_machine.specs.Progress.{Phase, ◌▸◌, unless, only, given, note, broke_substitute, active, member, has_fallen, on_field, on_active, on_action, Progress}
 use Rattle.gen1_machine.specs.CriticalHits.{set_critical, critical_by, roll_critical}
-use Rattle.gen1_machine.specs.Damage.{before_types, is_factor, type_steps, varied_by, vary, set_through_types, damage_from, roll_damage, Numbers}
+use Rattle.gen1_machine.specs.Damage.{before_types, is_factor, type_steps, varied_by, vary, set_through_types, damage_from, roll_damage, DamageNumbers}
 use Rattle.gen1_machine.specs.Landing.{land}
 use Rattle.gen1_machine.specs.Picks.{used_by, number_in}
 use Rattle.gen1_machine.specs.GoingOn.{count_again, count_by_draw, draw_count, trap_for, trap, thrash_less, thrash_for, thrash_about, set_letting_go, let_energy_go, store_energy, bide_on, bide_goes_on}
@@ -25,7 +25,7 @@ use Rattle.gen1_machine.specs.ManyHits.{crash, missed_move, note_effectiveness, 
 use Rattle.gen1_machine.specs.Ruling.{Ruling}
 use Rattle.gen1_machine.specs.Action.{set_going_on, see_if_going_on, gate_or_held, move_taken_in, spend_pp, use_move, prelude, lead_up, usual_damage, damage_of, strike, carry_out, action_parts, keep_accuracy, begin, resume, act}
 use Rattle.gen1_machine.proofs.Costs.{Bound, Costs, Reached, all_covered, goes, ends, both, may_stop, either, ◌⨟◌, ◌⊳◌, more, ends-reached, choose-costs, unchosen-costs, given-costs, stay-costs, stop-costs, active-costs, conditions-costs, member-costs, damage-costs, action-costs, action_else-costs, fault-costs, draw-costs, until-costs, note-costs}
-use Rattle.gen1_machine.proofs.GateCosts.{starts-costs, goes_on-costs, ends-costs, missed-costs, lose-costs, gain-costs, cant-costs, gate-costs, land-costs, hit_or_miss-costs, note_miss-costs}
+use Rattle.gen1_machine.proofs.GateCosts.{starts-costs, lasts-costs, ends-costs, missed-costs, lose-costs, gain-costs, cant-costs, gate-costs, land-costs, hit_or_miss-costs, note_miss-costs}
 use Rattle.gen1_machine.proofs.EffectCosts.{loops_late, RulingCosts, raise-costs, confuse-costs, early_effect-costs, late_effect-costs, late_effect-loops, side_effect-costs, side_effect-loops}
 use Rattle.gen1_machine.proofs.QuietMoves.{late-quiet}
 
@@ -57,7 +57,7 @@ module _ {limit : ℕ} where
 
   pub store-costs : (s : Side) (damage : ℕ) → Costs limit (store_energy s damage) (ends 0 1 4)
   unfolding store_energy
-  store-costs s damage = goes_on-costs s _ _ ⊳ stop-costs
+  store-costs s damage = lasts-costs s _ _ ⊳ stop-costs
 
   pub bide_on-costs : (s : Side) (o : Option Storing) (damage : ℕ) → Costs limit (bide_on s o damage) (both 0 1 4)
   unfolding bide_on
@@ -164,7 +164,7 @@ module _ {limit : ℕ} where
   unfolding set_through_types
   through_types-costs = action_else-costs _ (λ a. refl)
 
-  pub damage_from-costs : (n : Numbers) (o : Option ℕ) → Costs limit (damage_from n o) (may_stop 2304 0 0 0 0 0)
+  pub damage_from-costs : (n : DamageNumbers) (o : Option ℕ) → Costs limit (damage_from n o) (may_stop 2304 0 0 0 0 0)
   unfolding damage_from
   damage_from-costs n None = more (fault-costs 1) refl
   damage_from-costs n (Some d) = more (through_types-costs ⊳ missed-costs _ ⊳ vary-costs (type_steps d n)) refl
@@ -266,7 +266,7 @@ module _ {limit : ℕ} where
   unfolding missed_move
   missed_move-costs s move = note_miss-costs s move ⊳ choose-costs _ (crash-costs s) stay-costs ⊳ choose-costs _ (explode-costs s) stay-costs ⊳ stop-costs
 
-  effectiveness-costs : (target : Side) (n : Numbers) → Costs limit (note_effectiveness target n) (goes 0 1 3)
+  effectiveness-costs : (target : Side) (n : DamageNumbers) → Costs limit (note_effectiveness target n) (goes 0 1 3)
   unfolding note_effectiveness
   effectiveness-costs target n = choose-costs _ (note-costs _ 3 (λ f. lit≤ tt)) (choose-costs _ (note-costs _ 3 (λ f. lit≤ tt)) stay-costs)
 
@@ -413,7 +413,7 @@ unfolding given
 taken-costs r h s pick = record {
   cost = λ p i j.
       (carry_out-costs r h s pick (move_taken_in s pick p.field)
-      (late-quiet (number_in (used_by pick (active s p).current) (member s p).moves))).cost p i j;
+      (late-quiet (number_in (used_by pick (active s p).current_move) (member s p).moves))).cost p i j;
 }
 
 parts-costs : (r : Ruling) → RulingCosts 5 r → (s : Side) (pick : Pick) → Costs 5 (action_parts r s pick) (both 2323 19 107)

@@ -7,13 +7,13 @@ use Rattle.gen1_stats.specs.declared.known_move.KnownMove.{KnownMove}
 use Rattle.gen1_stats.specs.Members.{nothing_known, IsKnown, Member}
 use Rattle.gen1_machine.specs.declared.picks.Pick.{Pick}
 use Rattle.gen1_machine.specs.declared.picks.Pick.TheVariants.{Use}
-use Rattle.gen1_machine.specs.declared.picks.Used.{Used}
-use Rattle.gen1_machine.specs.declared.picks.Used.TheVariants.{Slot, Struggle, Unused}
+use Rattle.gen1_machine.specs.declared.picks.UsedMove.{UsedMove}
+use Rattle.gen1_machine.specs.declared.picks.UsedMove.TheVariants.{Nothing, Slot, Struggle}
 use Rattle.gen1_machine.specs.declared.side.Side.{Side}
 use Rattle.gen1_machine.specs.declared.side.Side.TheVariants.{One, Two}
 use Rattle.gen1_machine.specs.Rules.{Rules}
 use Rattle.gen1_machine.specs.Conditions.{with_charging, with_invulnerability, Storing}
-use Rattle.gen1_machine.specs.State.{active_in, changed_active, conditions_in, member_in, underway_in, with_current, with_less_pp, with_pp_spent, Field, Terms}
+use Rattle.gen1_machine.specs.State.{active_in, changed_active, conditions_in, member_in, underway_in, with_current_move, with_less_pp, with_pp_spent, Field, Terms}
 use Rattle.gen1_machine.specs.Moves.{charges, hides, move_at, Move}
 use Rattle.gen1_machine.specs.Picks.{number_in, used_by}
 use Rattle.gen1_machine.specs.Progress.{choose, given, last_damage, on_action, on_active, on_conditions, on_field, stay, stop, unless_stopped, ◌▸◌, Action, Phase, Progress}
@@ -92,10 +92,10 @@ spent-valid rules m j h =
       status = h.status;
     }
 
-pp-tame : {rules : Rules} (used : Used) → TameMember rules (with_pp_spent used)
+pp-tame : {rules : Rules} (used : UsedMove) → TameMember rules (with_pp_spent used)
 unfolding with_pp_spent spent
 pp-tame {rules} (Slot k) = record { moves = λ m. spent-same m.moves (k - 1); valid = λ m h. spent-valid rules m (k - 1) h }
-pp-tame Unused = record { moves = λ m. record { count = refl; ids = λ i. refl }; valid = λ m h. h }
+pp-tame Nothing = record { moves = λ m. record { count = refl; ids = λ i. refl }; valid = λ m h. h }
 pp-tame Struggle = record { moves = λ m. record { count = refl; ids = λ i. refl }; valid = λ m h. h }
 
 -- phases that lead to one fact, or where they stop what is being done, to another
@@ -155,8 +155,8 @@ passes-leads {P} {R} {f} k = record { led = λ p h. by (f p).stopped (k.passed p
 
 -- the current move goes on
 
-pub unchanged : (s : Side) (f : Field) → changed_active s (with_current (active_in s f).current) f ≡ f
-unfolding changed_active with_current
+pub unchanged : (s : Side) (f : Field) → changed_active s (with_current_move (active_in s f).current_move) f ≡ f
+unfolding changed_active with_current_move
 unchanged One f = refl
 unchanged Two f = refl
 
@@ -210,11 +210,11 @@ unplanned s f a w h = replanned s Any f a w tt h
 -- where the current move stays
 
 module _ (terms : Terms) (plan : Side → Plan) (s : Side) (move : Move) (is : IsMove move) (doing : plan s ≡ Doing move.effect)
-    (pick : Pick) (stays : (used : Used) → used_by pick used ≡ used) where
+    (pick : Pick) (stays : (used : UsedMove) → used_by pick used ≡ used) where
   pub make_current-keeps : Keeps (IsPlanned terms plan) (make_current s pick)
   unfolding make_current given on_active on_field
   make_current-keeps = record {
-    kept = λ p h. subst (λ u. IsPlanned terms plan (changed_active s (with_current u) p.field) p.action p.stream) (sym (stays (active_in s p.field).current))
+    kept = λ p h. subst (λ u. IsPlanned terms plan (changed_active s (with_current_move u) p.field) p.action p.stream) (sym (stays (active_in s p.field).current_move))
         (subst (λ f. IsPlanned terms plan f p.action p.stream) (sym (unchanged s p.field)) h);
   }
 
@@ -260,7 +260,7 @@ pub no-bide : (o : Option Storing) → (is_some o ≡ true → false ≡ true) �
 no-bide None k = refl
 no-bide (Some b) k = absurd (false≢true (k refl))
 
-module _ (terms : Terms) (plan : Side → Plan) (s : Side) (move : Move) (is : IsMove move) (used : Used) (planned : plan s ≡ Plans used move.effect) where
+module _ (terms : Terms) (plan : Side → Plan) (s : Side) (move : Move) (is : IsMove move) (used : UsedMove) (planned : plan s ≡ Plans used move.effect) where
   pub next : Side → Plan
   next = with_plan s (Doing move.effect) plan
 
@@ -331,7 +331,7 @@ module _ (terms : Terms) (plan : Side → Plan) (s : Side) where
   unfolding begin on_action
   begin-keeps = record { kept = λ p h. record { field = h.field; tested = tt; stream = h.stream; holds = h.holds } }
 
-  parts-stay : (pick : Pick) → ((used : Used) → used_by pick used ≡ used) → Leads (Quiet terms plan) (IsPlanned terms (with_plan s Any plan)) (action_parts (ruling_of terms) s pick)
+  parts-stay : (pick : Pick) → ((used : UsedMove) → used_by pick used ≡ used) → Leads (Quiet terms plan) (IsPlanned terms (with_plan s Any plan)) (action_parts (ruling_of terms) s pick)
   unfolding action_parts given
   parts-stay pick stays =
       let quiet = quiet-sound terms plan in
@@ -346,12 +346,12 @@ module _ (terms : Terms) (plan : Side → Plan) (s : Side) where
           let active = active_in s p.field in
           let moves = (member_in s p.field).moves in
           let move = move_taken_in s pick p.field in
-          let e : effect_of active.current moves ≡ move.effect = ap (λ u. effect_of u moves) (sym (stays active.current)) in
+          let e : effect_of active.current_move moves ≡ move.effect = ap (λ u. effect_of u moves) (sym (stays active.current_move)) in
           forgotten plan s (Doing move.effect) _ _ _
           ((carry_out-keeps terms (with_plan s (Doing move.effect) plan) s move (is-move _) (with_plan-is s (Doing move.effect) plan) pick stays).kept p
           (replanned s (Doing move.effect) p.field p.action p.stream e h.0))
 
-  parts-take : (used : Used) (e : Effect) → plan s ≡ Plans used e → Leads (Quiet terms plan) (IsPlanned terms (with_plan s Any plan)) (action_parts (ruling_of terms) s (Use used))
+  parts-take : (used : UsedMove) (e : Effect) → plan s ≡ Plans used e → Leads (Quiet terms plan) (IsPlanned terms (with_plan s Any plan)) (action_parts (ruling_of terms) s (Use used))
   unfolding action_parts given Over
   parts-take used e planned =
       let quiet = quiet-sound terms plan in
@@ -373,8 +373,8 @@ module _ (terms : Terms) (plan : Side → Plan) (s : Side) where
   act-from pick k = record { led = λ p h. (keep_accuracy-keeps terms (with_plan s Any plan) s).kept _ (k.led _ (begin-quiet.led p h)) }
 
   -- a move that is not picked anew, and one that was planned
-  pub act-stays : (pick : Pick) → ((used : Used) → used_by pick used ≡ used) → Leads (IsPlanned terms plan) (IsPlanned terms (with_plan s Any plan)) (act (ruling_of terms) s pick)
+  pub act-stays : (pick : Pick) → ((used : UsedMove) → used_by pick used ≡ used) → Leads (IsPlanned terms plan) (IsPlanned terms (with_plan s Any plan)) (act (ruling_of terms) s pick)
   act-stays pick stays = act-from pick (parts-stay pick stays)
 
-  pub act-takes : (used : Used) (e : Effect) → plan s ≡ Plans used e → Leads (IsPlanned terms plan) (IsPlanned terms (with_plan s Any plan)) (act (ruling_of terms) s (Use used))
+  pub act-takes : (used : UsedMove) (e : Effect) → plan s ≡ Plans used e → Leads (IsPlanned terms plan) (IsPlanned terms (with_plan s Any plan)) (act (ruling_of terms) s (Use used))
   act-takes used e planned = act-from (Use used) (parts-take used e planned)

@@ -7,7 +7,7 @@ use Rattle.gen1_stats.specs.Members.{Member}
 use Rattle.gen1_machine.specs.declared.side.Side.{Side}
 use Rattle.gen1_machine.specs.declared.event.Event.{Event}
 use Rattle.gen1_machine.specs.Code.{code, codes_of}
-use Rattle.gen1_machine.specs.Conditions.{Conditions}
+use Rattle.gen1_machine.specs.Conditions.{ActiveConditions}
 use Rattle.gen1_machine.specs.State.{Active, Field}
 use Rattle.gen1_machine.specs.Progress.{Action, Phase, stay, unless_stopped, ◌▸◌, choose, given, draw, draw_until, stop, fault, note, told, on_field, on_action, set_last_damage, on_active, on_conditions, on_member, Progress}
 use Rattle.gen1_machine.specs.Bounds.{Spends}
@@ -329,7 +329,7 @@ module _ {limit : ℕ} where
   unfolding on_active
   active-costs s change = field-costs _
 
-  pub conditions-costs : (s : Side) (change : Conditions → Conditions) → Costs limit (on_conditions s change) (goes 0 0 0)
+  pub conditions-costs : (s : Side) (change : ActiveConditions → ActiveConditions) → Costs limit (on_conditions s change) (goes 0 0 0)
   unfolding on_conditions
   conditions-costs s change = field-costs _
 

@@ -12,8 +12,8 @@ use Rattle.gen1_machine.specs.Sides.{other}
 use Rattle.gen1_machine.specs.Moves.{Move}
 use Rattle.gen1_machine.specs.State.{kind_of, Active, Terms}
 use Rattle.gen1_machine.specs.Progress.{Phase}
-use Rattle.gen1_machine.specs.StageShift.{note_boost, note_unboost, penalise_again, shift_to, raise_from, lower_from, raise_stage, lower_stage}
-use Rattle.gen1_machine.specs.Ruling.{is_sleep_count, sleep_for, fall_asleep, lull_freely, freeze_freely, lull_only_one, freeze_only_one, lulls_under, freezes_under, ruling_of, Ruling}
+use Rattle.gen1_machine.specs.StageShift.{note_boost, note_unboost, take_penalty_again, shift_to, raise_from, lower_from, raise_stage, lower_stage}
+use Rattle.gen1_machine.specs.Ruling.{is_sleep_count, sleep_for, fall_asleep, sleep_freely, freeze_freely, sleep_only_one, freeze_only_one, sleeps_under, freezes_under, ruling_of, Ruling}
 use Rattle.gen1_machine.specs.EarlyEffects.{confused_by, confuse, confuse_foe, take_types, convert, set_mist, set_focus_energy, set_light_screen, set_reflect, set_screen, clear_side, cure_kind, set_skips, haze_cures, haze, rest_up, recover, heal, poison_foe, paralyse_foe, seed_foe, pay_for_substitute, make_substitute, splash, early_effect}
 use Rattle.gen1_machine.specs.LateEffects.{ready_to_sleep, put_to_sleep, lower_foes_stat, bide_for, start_bide, late_effect}
 use Rattle.gen1_machine.specs.SideEffects.{happens_below, by_chance, thaw, may_inflict, may_poison, may_confuse, flinch, kept_away_effect, names_slot, disable_for, disable_slot, disable, must_recharge, side_effect}
@@ -32,7 +32,7 @@ loops_late _ = false
 
 -- what falling asleep and freezing cost under a ruling
 pub record RulingCosts (limit : ℕ) (r : Ruling) : Type 0 where
-  pub lulls : (s : Side) → Costs limit (r.lulls s) (may_stop 2304 1 4 0 1 3)
+  pub sleeps : (s : Side) → Costs limit (r.sleeps s) (may_stop 2304 1 4 0 1 3)
   pub freezes : (s : Side) → Costs limit (r.freezes s) (goes 0 1 4)
 
 module _ {limit : ℕ} where
@@ -46,13 +46,13 @@ module _ {limit : ℕ} where
   unfolding note_unboost
   unboost-costs s stat n = choose-costs _ (note-costs _ 5 (λ f. lit≤ tt)) stay-costs
 
-  pub penalise-costs : (s : Side) → Costs limit (penalise_again s) (goes 0 0 0)
-  unfolding penalise_again
-  penalise-costs s = given-costs _ (λ status. active-costs s _)
+  pub take_penalty_again-costs : (s : Side) → Costs limit (take_penalty_again s) (goes 0 0 0)
+  unfolding take_penalty_again
+  take_penalty_again-costs s = given-costs _ (λ status. active-costs s _)
 
   pub shift_to-costs : (user target : Side) (stat : Stat) (n : ℕ) → Costs limit (shift_to user target stat n) (goes 0 0 0)
   unfolding shift_to
-  shift_to-costs user target stat n = active-costs target _ ⊳ penalise-costs (other user)
+  shift_to-costs user target stat n = active-costs target _ ⊳ take_penalty_again-costs (other user)
 
   pub raise_from-costs : (user target : Side) (stat : Stat) (by : ℕ) {f : Phase} {b : Bound} (n : ℕ) (full : Bool) → Costs limit f b
       → Costs limit (raise_from user target stat by f n full) (shifted b)
@@ -84,10 +84,10 @@ module _ {limit : ℕ} where
   unfolding fall_asleep
   fall_asleep-costs marked s = until-costs is_sleep_count (sleep_for-costs marked s)
 
-  lulls_under-costs : (clause : Bool) (s : Side) → Costs limit (lulls_under clause s) (may_stop 2304 1 4 0 1 3)
-  unfolding lulls_under lull_only_one lull_freely
-  lulls_under-costs true s = fails_if-costs s _ ⊳ fall_asleep-costs true (other s)
-  lulls_under-costs false s = more (fall_asleep-costs false (other s)) refl
+  sleeps_under-costs : (clause : Bool) (s : Side) → Costs limit (sleeps_under clause s) (may_stop 2304 1 4 0 1 3)
+  unfolding sleeps_under sleep_only_one sleep_freely
+  sleeps_under-costs true s = fails_if-costs s _ ⊳ fall_asleep-costs true (other s)
+  sleeps_under-costs false s = more (fall_asleep-costs false (other s)) refl
 
   freeze_freely-costs : (s : Side) → Costs limit (freeze_freely s) (goes 0 1 4)
   unfolding freeze_freely
@@ -99,7 +99,7 @@ module _ {limit : ℕ} where
   freezes_under-costs false s = freeze_freely-costs s
 
   pub ruling_of-costs : (t : Terms) → RulingCosts limit (ruling_of t)
-  ruling_of-costs t = record { lulls = lulls_under-costs t.rules.sleep_clause; freezes = freezes_under-costs t.rules.freeze_clause }
+  ruling_of-costs t = record { sleeps = sleeps_under-costs t.rules.sleep_clause; freezes = freezes_under-costs t.rules.freeze_clause }
 
   -- before damage
 
@@ -225,7 +225,7 @@ module _ {limit : ℕ} where
 
   pub put_to_sleep-costs : (r : Ruling) → RulingCosts limit r → (s : Side) (move : Move) → Costs limit (put_to_sleep r s move) (may_stop 2305 1 4 1 1 3)
   unfolding put_to_sleep
-  put_to_sleep-costs r h s move = ready_to_sleep-costs s move ⊳ h.lulls s
+  put_to_sleep-costs r h s move = ready_to_sleep-costs s move ⊳ h.sleeps s
 
   pub lower_foes-costs : (s : Side) (move : Move) (stat : Stat) (by : ℕ) → Costs limit (lower_foes_stat s move stat by) (may_stop 1 1 5 1 2 8)
   unfolding lower_foes_stat

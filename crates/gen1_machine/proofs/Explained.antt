@@ -6,10 +6,10 @@ use Rattle.gen1_tables.specs.declared.effect.Effect.TheVariants as effects
 use Rattle.gen1_machine.specs.declared.side.Side.{Side}
 use Rattle.gen1_stats.specs.Members.{IsBetween}
 use Rattle.gen1_machine.specs.Sides.{other}
-use Rattle.gen1_machine.specs.Conditions.{one_less, stored, with_bide, with_bide_storing, with_charging, with_rage, with_recharge, with_thrash, with_thrash_one_less, with_trapping, Conditions, Storing}
+use Rattle.gen1_machine.specs.Conditions.{one_less, stored, with_bide, with_bide_storing, with_charging, with_rage, with_recharge, with_thrash, with_thrash_one_less, with_trapping, ActiveConditions, Storing}
 use Rattle.gen1_machine.specs.State.{conditions_in, underway_in, Terms}
 use Rattle.gen1_machine.specs.Moves.{accuracy_byte, bides, charges, thrashes, traps, Move}
-use Rattle.gen1_machine.specs.Progress.{given, goes_on, only, starts, stop, unless, ◌▸◌}
+use Rattle.gen1_machine.specs.Progress.{given, lasts, only, starts, stop, unless, ◌▸◌}
 use Rattle.gen1_machine.specs.Ruling.{Ruling}
 use Rattle.gen1_machine.specs.LateEffects.{bide_for, is_late, late_effect, start_bide}
 use Rattle.gen1_machine.specs.SideEffects.{must_recharge, side_effect}
@@ -28,7 +28,7 @@ use Rattle.gen1_machine.proofs.SoundWalk.{build_rage-sound, damage_of-sound, fai
 
 -- conditions beside a move that explains them
 
-bide-on : (e : Effect) (n turns : ℕ) (c : Conditions) → bides e ≡ true → IsBetween 1 3 turns → IsConditions e n c → IsConditions e n (with_bide turns c)
+bide-on : (e : Effect) (n turns : ℕ) (c : ActiveConditions) → bides e ≡ true → IsBetween 1 3 turns → IsConditions e n c → IsConditions e n (with_bide turns c)
 unfolding with_bide
 bide-on e n turns c tie l h = record {
   underway = record {
@@ -48,7 +48,7 @@ bide-on e n turns c tie l h = record {
   disabled = h.disabled;
 }
 
-thrash-on : (e : Effect) (n turns : ℕ) (c : Conditions) → thrashes e ≡ true → IsBetween 1 3 turns → IsConditions e n c → IsConditions e n (with_thrash turns c)
+thrash-on : (e : Effect) (n turns : ℕ) (c : ActiveConditions) → thrashes e ≡ true → IsBetween 1 3 turns → IsConditions e n c → IsConditions e n (with_thrash turns c)
 unfolding with_thrash
 thrash-on e n turns c tie l h = record {
   underway = record {
@@ -68,7 +68,7 @@ thrash-on e n turns c tie l h = record {
   disabled = h.disabled;
 }
 
-trapping-on : (e : Effect) (n turns : ℕ) (c : Conditions) → traps e ≡ true → turns ≤ 4 → IsConditions e n c → IsConditions e n (with_trapping turns c)
+trapping-on : (e : Effect) (n turns : ℕ) (c : ActiveConditions) → traps e ≡ true → turns ≤ 4 → IsConditions e n c → IsConditions e n (with_trapping turns c)
 unfolding with_trapping
 trapping-on e n turns c tie l h = record {
   underway = record {
@@ -88,7 +88,7 @@ trapping-on e n turns c tie l h = record {
   disabled = h.disabled;
 }
 
-pub charging-on : (e : Effect) (n : ℕ) (c : Conditions) → charges e ≡ true → IsConditions e n c → IsConditions e n (with_charging c)
+pub charging-on : (e : Effect) (n : ℕ) (c : ActiveConditions) → charges e ≡ true → IsConditions e n c → IsConditions e n (with_charging c)
 unfolding with_charging
 charging-on e n c tie h = record {
   underway = record {
@@ -108,7 +108,7 @@ charging-on e n c tie h = record {
   disabled = h.disabled;
 }
 
-recharge-on : (e : Effect) (n : ℕ) (c : Conditions) → recharges e ≡ true → IsConditions e n c → IsConditions e n (with_recharge c)
+recharge-on : (e : Effect) (n : ℕ) (c : ActiveConditions) → recharges e ≡ true → IsConditions e n c → IsConditions e n (with_recharge c)
 unfolding with_recharge
 recharge-on e n c tie h = record {
   underway = record {
@@ -128,7 +128,7 @@ recharge-on e n c tie h = record {
   disabled = h.disabled;
 }
 
-rage-on : (e : Effect) (n : ℕ) (c : Conditions) → rages e ≡ true → IsConditions e n c → IsConditions e n (with_rage c)
+rage-on : (e : Effect) (n : ℕ) (c : ActiveConditions) → rages e ≡ true → IsConditions e n c → IsConditions e n (with_rage c)
 unfolding with_rage
 rage-on e n c tie h = record {
   underway = record {
@@ -150,7 +150,7 @@ rage-on e n c tie h = record {
 
 -- what goes on, whatever the move
 
-thrash-less : (e : Effect) (n turns : ℕ) (c : Conditions) → c.underway.thrash ≡ Some turns → nat_le turns 1 ≡ false → IsConditions e n c → IsConditions e n (with_thrash_one_less c)
+thrash-less : (e : Effect) (n turns : ℕ) (c : ActiveConditions) → c.underway.thrash ≡ Some turns → nat_le turns 1 ≡ false → IsConditions e n c → IsConditions e n (with_thrash_one_less c)
 unfolding with_thrash_one_less
 thrash-less e n turns c is more h = record {
   underway = record {
@@ -177,7 +177,7 @@ thrash-less e n turns c is more h = record {
     tied None k = k
     tied (Some n) k = k
 
-bide-less : (e : Effect) (n damage : ℕ) (b : Storing) (c : Conditions) → c.underway.bide ≡ Some b → nat_le b.turns 1 ≡ false → IsConditions e n c → IsConditions e n (with_bide_storing damage c)
+bide-less : (e : Effect) (n damage : ℕ) (b : Storing) (c : ActiveConditions) → c.underway.bide ≡ Some b → nat_le b.turns 1 ≡ false → IsConditions e n c → IsConditions e n (with_bide_storing damage c)
 unfolding with_bide_storing
 bide-less e n damage b c is more h = record {
   underway = record {
@@ -221,7 +221,7 @@ module _ (terms : Terms) (plan : Side → Plan) where
 
   bide_on-keeps : (s : Side) (o : Option Storing) (damage : ℕ)
       → Leads (λ f a w. IsPlanned terms plan f a w × ((underway_in s f).bide ≡ o)) (IsPlanned terms plan) (bide_on s o damage)
-  unfolding bide_on store_energy goes_on
+  unfolding bide_on store_energy lasts
   bide_on-keeps s None damage = stay-leads (λ f a w h. h.0)
   bide_on-keeps s (Some b) damage = choose-leads_sees _
       (λ e. leads-from (λ f a w h. h.0) (let_energy_go-keeps s _))

@@ -12,7 +12,7 @@ use Rattle.gen1_machine.specs.declared.terms.Outcome.TheVariants as outcomes
 use Rattle.gen1_machine.specs.Sides.{other}
 use Rattle.gen1_machine.specs.State.{changed_active, changed_conditions, with_kept_accuracy, Active, Field, Terms}
 use Rattle.gen1_machine.specs.Moves.{Move}
-use Rattle.gen1_machine.specs.Damage.{damage_from, roll_damage, Numbers}
+use Rattle.gen1_machine.specs.Damage.{damage_from, roll_damage, DamageNumbers}
 use Rattle.gen1_machine.specs.FixedDamage.{deal_fixed, fixed_damage, psywave}
 use Rattle.gen1_machine.specs.HitOnItself.{hurt_itself, hurt_itself_by}
 use Rattle.gen1_machine.specs.Gate.{confusion_test, gate, gate_of_move, may_hurt_itself}
@@ -21,11 +21,11 @@ use Rattle.gen1_machine.specs.Ruling.{ruling_of}
 use Rattle.gen1_machine.specs.Action.{act, action_parts, carry_out, damage_of, gate_or_held, keep_accuracy, lead_up, resume, usual_damage}
 use Rattle.gen1_machine.specs.SwitchingIn.{send_out}
 use Rattle.gen1_machine.specs.Turn.{do_part, end_spent_trapping, set_picked, Acts, Sends, Suffers}
-use Rattle.gen1_machine.proofs.Keeps.{choose-keeps, draw_until-keeps, ends-keeps, given-keeps, goes_on-keeps, note-keeps, on_active-keeps, on_conditions-keeps, set_last_damage-keeps, set_missed-keeps, stay-keeps, stop-keeps, then-keeps, Keeps, Spares}
+use Rattle.gen1_machine.proofs.Keeps.{choose-keeps, draw_until-keeps, ends-keeps, given-keeps, lasts-keeps, note-keeps, on_active-keeps, on_conditions-keeps, set_last_damage-keeps, set_missed-keeps, stay-keeps, stop-keeps, then-keeps, Keeps, Spares}
 use Rattle.gen1_machine.proofs.Leads.{choose-leads, keeps-leads, leads-weaker, stay-leads, then-leads, Leads}
 use Rattle.gen1_machine.proofs.Sound.{on_field-leads}
 use Rattle.gen1_machine.proofs.SoundFacts.{leads-from}
-use Rattle.gen1_machine.proofs.Steady.{active-spared, begin-steady, bide_goes_on-steady, cant-steady, charge-steady, counter-steady, disabled_test-steady, early_effect-steady, gate_of_status-steady, gate_of_turn-steady, hit_or_miss-steady, knock_out-steady, land_on_foes_substitute-steady, land_on_hp-steady, late_effect-steady, missed-spared, paralysis_test-steady, prelude-steady, residual-steady, roll_critical-steady, ruling-steady, see_if_going_on-steady, set_through_types-steady, strike-steady, use_move-steady, vary-steady, with_picked-leaves}
+use Rattle.gen1_machine.proofs.Steady.{active-spared, begin-steady, bide_goes_on-steady, cant-steady, charge-steady, counter-steady, disabled_test-steady, early_effect-steady, gate_of_status-steady, gate_of_turn-steady, hit_or_miss-steady, knock_out-steady, land_on_foes_substitute-steady, land_on_hp-steady, late_effect-steady, missed-spared, paralysis_test-steady, prelude-steady, residual-steady, roll_critical-steady, ruling-steady, see_if_going_on-steady, set_through_types-steady, strike-steady, use_move-steady, vary-steady, with_picked_move-leaves}
 use Rattle.gen1_machine.proofs.Acts.{leads-passes, passes-choose, passes-leads, passes-stop, passes-then, Passes}
 use Rattle.gen1_machine.proofs.TiedTurns.{Tied}
 use Rattle.gen1_machine.proofs.RequestsStand.{outcome-stays}
@@ -81,7 +81,7 @@ confusion-goes s None = keeps-goes stay-keeps
 confusion-goes s (Some turns) =
     let own = sturdy-own s in
     passes-choose _ (keeps-goes (ends-keeps s _ _ (own.conditions _)))
-    (passes-then (keeps-goes (goes_on-keeps s _ _ (own.conditions _))) (draw-passes (λ b. passes-choose _ (hurt_itself-goes s) (keeps-goes stay-keeps))))
+    (passes-then (keeps-goes (lasts-keeps s _ _ (own.conditions _))) (draw-passes (λ b. passes-choose _ (hurt_itself-goes s) (keeps-goes stay-keeps))))
 
 gate_of_move-goes : (s : Side) (pick : Pick) → Goes (gate_of_move s pick)
 unfolding gate_of_move
@@ -102,7 +102,7 @@ gate_or_held-goes s (Use used) = gate-goes s (Use used)
 
 -- damage
 
-damage_from-goes : (n : Numbers) (o : Option ℕ) → Goes (damage_from n o)
+damage_from-goes : (n : DamageNumbers) (o : Option ℕ) → Goes (damage_from n o)
 unfolding damage_from
 damage_from-goes n None = fault-ends 1
 damage_from-goes n (Some d) = keeps-goes (then-keeps (set_through_types-steady sturdy-steady)
@@ -216,7 +216,7 @@ module _ (terms : Terms) (s : Side) where
 
   picked-sturdy : (pick : Pick) → Keeps Sturdy (set_picked s pick)
   unfolding set_picked
-  picked-sturdy pick = given-keeps _ (λ a. on_active-keeps s _ (active-spared sturdy-steady s _ (with_picked-leaves _)))
+  picked-sturdy pick = given-keeps _ (λ a. on_active-keeps s _ (active-spared sturdy-steady s _ (with_picked_move-leaves _)))
 
 pub fallen-tied : (terms : Terms) → Tied terms Sturdy Tired
 fallen-tied terms = record {
@@ -226,6 +226,6 @@ fallen-tied terms = record {
   suffers = λ s. suffers-tired terms s;
   sends = λ s place. sends-tired terms s place;
   ends = λ s. ends-tired terms s;
-  picked = λ s pick. picked-sturdy terms s pick;
+  picked_move = λ s pick. picked-sturdy terms s pick;
   flinch = λ s. on_conditions-keeps s _ ((sturdy-own s).conditions _);
 }

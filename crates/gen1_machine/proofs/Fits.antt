@@ -11,8 +11,8 @@ use Rattle.gen1_stats.specs.declared.status.Status.{Status}
 use Rattle.gen1_stats.specs.declared.status.Status.TheVariants.{Asleep, Burned, Frozen, Healthy, Paralysed, Poisoned}
 use Rattle.gen1_stats.specs.Members.{is_marked, nobody, nothing_known, Member}
 use Rattle.gen1_machine.specs.declared.picks.DisabledSlot.{DisabledSlot}
-use Rattle.gen1_machine.specs.declared.picks.Used.{Used}
-use Rattle.gen1_machine.specs.declared.picks.Used.TheVariants.{Slot, Struggle, Unused}
+use Rattle.gen1_machine.specs.declared.picks.UsedMove.{UsedMove}
+use Rattle.gen1_machine.specs.declared.picks.UsedMove.TheVariants.{Nothing, Slot, Struggle}
 use Rattle.gen1_machine.specs.declared.terms.Outcome.{Outcome}
 use Rattle.gen1_machine.specs.declared.terms.Outcome.TheVariants as outcomes
 use Rattle.gen1_machine.specs.declared.terms.Request.{Request}
@@ -21,7 +21,7 @@ use Rattle.gen1_machine.specs.Rules.{bit_of, bits_of_rules, Rules}
 use Rattle.gen1_machine.specs.Conditions.{Storing}
 use Rattle.gen1_machine.specs.State.{member_at, nobody_out, Active, Party, State}
 use Rattle.gen1_machine.specs.Layout.{active_block, active_block_of, bytes_of, disabled_slot, disabled_turns, header_block, member_block, member_blocks, outcome_byte, party_bytes, request_byte, status_byte, turns_byte, used_byte}
-use Rattle.gen1_machine.specs.Valid.{IsActive, IsCount, IsDisabled, IsMembersUnder, IsMemberUnder, IsOutcome, IsParty, IsStarted, IsStatus, IsStoring, IsUnstarted, IsUsed}
+use Rattle.gen1_machine.specs.Valid.{IsActive, IsCount, IsDisabled, IsMembersUnder, IsMemberUnder, IsOutcome, IsParty, IsStarted, IsStatus, IsStoring, IsUnstarted, IsUsedMove}
 use Rattle.gen1_machine.specs.Laws.{StatesFit}
 
 -- a list of bytes, part by part
@@ -223,8 +223,8 @@ turns-small (Some b) thrash trapping h k l = omega (arith, h.0.1)
 turns-small None (Some n) trapping h k l = omega (arith, k.1)
 turns-small None None trapping h k l = count-small 0 4 trapping (omega arith) l
 
-used-small : (count : ℕ) (used : Used) → count < 256 → IsUsed count used → used_byte used < 256
-used-small count Unused l h = omega arith
+used-small : (count : ℕ) (used : UsedMove) → count < 256 → IsUsedMove count used → used_byte used < 256
+used-small count Nothing l h = omega arith
 used-small count (Slot k) l h = omega (arith, h.1)
 used-small count Struggle l h = omega arith
 
@@ -291,9 +291,9 @@ active-bytes m a count few place h =
                                                             (
                                                               omega arith,
                                                               (
-                                                                used-small (length m.moves) a.current some h.current,
+                                                                used-small (length m.moves) a.current_move some h.current_move,
                                                                 (
-                                                                  used-small (length m.moves) a.picked some h.picked,
+                                                                  used-small (length m.moves) a.picked_move some h.picked_move,
                                                                   (omega (arith, h.kept_accuracy), (omega arith, (omega arith, (omega arith, (omega arith, tt))))),
                                                                 ),
                                                               ),

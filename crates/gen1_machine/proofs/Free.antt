@@ -2,11 +2,11 @@
 -- these alone is free, and every phase of an action keeps it. Below its head this file is written by tools/walk.py.
 use Rattle.gen1_machine.specs.Action.{act, action_parts, begin, carry_out, damage_of, gate_or_held, keep_accuracy, lead_up, prelude, resume, see_if_going_on, set_going_on, spend_pp, strike, use_move, usual_damage}
 use Rattle.gen1_machine.specs.Charging.{begin_charge, charge, end_charge, make_current}
-use Rattle.gen1_machine.specs.Conditions.{Conditions, Storing}
+use Rattle.gen1_machine.specs.Conditions.{ActiveConditions, Storing}
 use Rattle.gen1_machine.specs.Counter.{counter, counter_by}
 use Rattle.gen1_machine.specs.CriticalHits.{critical_by, roll_critical, set_critical}
 use Rattle.gen1_machine.specs.CurrentStats.{at_new_stage, recomputed_at, with_penalty_of}
-use Rattle.gen1_machine.specs.Damage.{damage_from, roll_damage, set_through_types, varied_by, vary, Numbers}
+use Rattle.gen1_machine.specs.Damage.{damage_from, roll_damage, set_through_types, varied_by, vary, DamageNumbers}
 use Rattle.gen1_machine.specs.EarlyEffects.{clear_side, confuse, confuse_foe, confused_by, convert, cure_kind, early_effect, haze, haze_cures, heal, make_substitute, paralyse_foe, pay_for_substitute, poison_foe, recover, rest_up, seed_foe, set_focus_energy, set_light_screen, set_mist, set_reflect, set_screen, set_skips, splash, take_types, with_levelled_stats}
 use Rattle.gen1_machine.specs.FixedDamage.{deal_everything, deal_fixed, fixed_damage, knock_out, knock_out_by_type, psywave}
 use Rattle.gen1_machine.specs.Gate.{cant, confusion_test, disable_count, disabled_test, flinch_test, frozen_test, gate, gate_of_move, gate_of_status, gate_of_turn, may_be_paralysed, may_hurt_itself, paralysis_test, recharge_test, sleep_on, sleep_test, trapped_test, wake}
@@ -20,17 +20,17 @@ use Rattle.gen1_machine.specs.ManyHits.{build_rage, count_hit, crash, hit_again,
 use Rattle.gen1_machine.specs.Moves.{Move}
 use Rattle.gen1_machine.specs.Progress.{cure, fail, fails_if, fault, gain_hp, inflict, lose_hp, Action, Phase, Progress}
 use Rattle.gen1_machine.specs.Residual.{drained_by, residual, suffer, suffer_seed, suffer_status, worsen}
-use Rattle.gen1_machine.specs.Ruling.{fall_asleep, freeze_freely, freeze_only_one, freezes_under, lull_freely, lull_only_one, lulls_under, ruling_of, sleep_for, Ruling}
+use Rattle.gen1_machine.specs.Ruling.{fall_asleep, freeze_freely, freeze_only_one, freezes_under, ruling_of, sleep_for, sleep_freely, sleep_only_one, sleeps_under, Ruling}
 use Rattle.gen1_machine.specs.SideEffects.{by_chance, disable, disable_for, disable_slot, flinch, happens_below, kept_away_effect, may_confuse, may_inflict, may_poison, must_recharge, side_effect, thaw}
-use Rattle.gen1_machine.specs.StageShift.{lower_from, lower_stage, note_boost, note_unboost, penalise_again, raise_from, raise_stage, shift_to}
-use Rattle.gen1_machine.specs.State.{changed_active, changed_conditions, changed_member, with_current, with_kept_accuracy, with_last_damage, with_outcome, with_picked, with_types_of, Active, Field, Terms}
+use Rattle.gen1_machine.specs.StageShift.{lower_from, lower_stage, note_boost, note_unboost, raise_from, raise_stage, shift_to, take_penalty_again}
+use Rattle.gen1_machine.specs.State.{changed_active, changed_conditions, changed_member, with_current_move, with_kept_accuracy, with_last_damage, with_outcome, with_picked_move, with_types_of, Active, Field, Terms}
 use Rattle.gen1_machine.specs.declared.event.CantReason.{CantReason}
 use Rattle.gen1_machine.specs.declared.event.DamageSource.{DamageSource}
 use Rattle.gen1_machine.specs.declared.health.Kind.{Kind}
 use Rattle.gen1_machine.specs.declared.picks.DisabledSlot.{DisabledSlot}
 use Rattle.gen1_machine.specs.declared.picks.Pick.{Pick}
 use Rattle.gen1_machine.specs.declared.picks.Pick.TheVariants.{Held}
-use Rattle.gen1_machine.specs.declared.picks.Used.{Used}
+use Rattle.gen1_machine.specs.declared.picks.UsedMove.{UsedMove}
 use Rattle.gen1_machine.specs.declared.side.Side.{Side}
 use Rattle.gen1_rolls.specs.Streams.{Stream}
 use Rattle.gen1_stats.specs.Members.{Member}
@@ -54,12 +54,12 @@ types-leave : (foe : Active) → LeavesPlace (with_types_of foe)
 unfolding with_types_of
 types-leave foe = record { left = λ a. refl }
 
-current-leaves : (used : Used) → LeavesPlace (with_current used)
-unfolding with_current
+current-leaves : (used : UsedMove) → LeavesPlace (with_current_move used)
+unfolding with_current_move
 current-leaves used = record { left = λ a. refl }
 
-pub picked-leaves : (used : Used) → LeavesPlace (with_picked used)
-unfolding with_picked
+pub picked-leaves : (used : UsedMove) → LeavesPlace (with_picked_move used)
+unfolding with_picked_move
 picked-leaves used = record { left = λ a. refl }
 
 accuracy-leaves : (byte : ℕ) → LeavesPlace (with_kept_accuracy byte)
@@ -102,7 +102,7 @@ pub record Free (P : Field → Action → Stream → Type 0) : Type 0 where
   pub action : (change : Action → Action) → SparesAction P change
 
 module _ {P : Field → Action → Stream → Type 0} (free : Free P) where
-  pub conditions-spared : (s : Side) (change : Conditions → Conditions) → Spares P (changed_conditions s change)
+  pub conditions-spared : (s : Side) (change : ActiveConditions → ActiveConditions) → Spares P (changed_conditions s change)
   unfolding changed_conditions
   conditions-spared s change = free.active s _ (record { left = λ a. refl })
 
@@ -175,7 +175,7 @@ module _ {P : Field → Action → Stream → Type 0} (free : Free P) where
   unfolding set_through_types
   set_through_types-free = search (free_rules) depth 14
 
-  pub damage_from-free : (n : Numbers) (x : Option ℕ) → Keeps P (damage_from n x)
+  pub damage_from-free : (n : DamageNumbers) (x : Option ℕ) → Keeps P (damage_from n x)
   unfolding damage_from
   damage_from-free n None = search (free_rules, fault-free) depth 14
   damage_from-free n (Some d) = search (free_rules, set_through_types-free, vary-free) depth 14
@@ -366,13 +366,13 @@ module _ {P : Field → Action → Stream → Type 0} (free : Free P) where
   unfolding note_unboost
   note_unboost-free s stat n = search (free_rules) depth 14
 
-  pub penalise_again-free : (s : Side) → Keeps P (penalise_again s)
-  unfolding penalise_again
-  penalise_again-free s = search (free_rules) depth 14
+  pub take_penalty_again-free : (s : Side) → Keeps P (take_penalty_again s)
+  unfolding take_penalty_again
+  take_penalty_again-free s = search (free_rules) depth 14
 
   pub shift_to-free : (user : Side) (target : Side) (stat : Stat) (n : ℕ) → Keeps P (shift_to user target stat n)
   unfolding shift_to
-  shift_to-free user target stat n = search (free_rules, penalise_again-free) depth 14
+  shift_to-free user target stat n = search (free_rules, take_penalty_again-free) depth 14
 
   pub raise_from-free : (user : Side) (target : Side) (stat : Stat) (by : ℕ) (failing : Phase) (n : ℕ) (full : Bool) → Keeps P failing → Keeps P (raise_from user target stat by failing n full)
   unfolding raise_from
@@ -398,26 +398,26 @@ module _ {P : Field → Action → Stream → Type 0} (free : Free P) where
   unfolding fall_asleep
   fall_asleep-free marked s = search (free_rules, sleep_for-free) depth 14
 
-  pub lull_freely-free : (user : Side) → Keeps P (lull_freely user)
-  unfolding lull_freely
-  lull_freely-free user = search (free_rules, fall_asleep-free) depth 14
+  pub sleep_freely-free : (user : Side) → Keeps P (sleep_freely user)
+  unfolding sleep_freely
+  sleep_freely-free user = search (free_rules, fall_asleep-free) depth 14
 
   pub freeze_freely-free : (user : Side) → Keeps P (freeze_freely user)
   unfolding freeze_freely
   freeze_freely-free user = search (free_rules, inflict-free) depth 14
 
-  pub lull_only_one-free : (user : Side) → Keeps P (lull_only_one user)
-  unfolding lull_only_one
-  lull_only_one-free user = search (free_rules, fails_if-free, fall_asleep-free) depth 14
+  pub sleep_only_one-free : (user : Side) → Keeps P (sleep_only_one user)
+  unfolding sleep_only_one
+  sleep_only_one-free user = search (free_rules, fails_if-free, fall_asleep-free) depth 14
 
   pub freeze_only_one-free : (user : Side) → Keeps P (freeze_only_one user)
   unfolding freeze_only_one
   freeze_only_one-free user = search (free_rules, freeze_freely-free) depth 14
 
-  pub lulls_under-free : (x : Bool) (user : Side) → Keeps P (lulls_under x user)
-  unfolding lulls_under
-  lulls_under-free true user = search (free_rules, lull_only_one-free) depth 14
-  lulls_under-free false user = search (free_rules, lull_freely-free) depth 14
+  pub sleeps_under-free : (x : Bool) (user : Side) → Keeps P (sleeps_under x user)
+  unfolding sleeps_under
+  sleeps_under-free true user = search (free_rules, sleep_only_one-free) depth 14
+  sleeps_under-free false user = search (free_rules, sleep_freely-free) depth 14
 
   pub freezes_under-free : (x : Bool) (user : Side) → Keeps P (freezes_under x user)
   unfolding freezes_under
@@ -543,7 +543,7 @@ module _ {P : Field → Action → Stream → Type 0} (free : Free P) where
 
   pub put_to_sleep-free : (r : Ruling) (s : Side) (move : Move) → KeepsRuling P r → Keeps P (put_to_sleep r s move)
   unfolding put_to_sleep
-  put_to_sleep-free r s move ruling = search (free_rules, ready_to_sleep-free, ruling.lulls) depth 14
+  put_to_sleep-free r s move ruling = search (free_rules, ready_to_sleep-free, ruling.sleeps) depth 14
 
   pub lower_foes_stat-free : (s : Side) (move : Move) (stat : Stat) (by : ℕ) → Keeps P (lower_foes_stat s move stat by)
   unfolding lower_foes_stat
@@ -781,7 +781,7 @@ module _ {P : Field → Action → Stream → Type 0} (free : Free P) where
   unfolding missed_move
   missed_move-free s move = search (free_rules, note_miss-free, crash-free, explode-free) depth 14
 
-  pub note_effectiveness-free : (target : Side) (n : Numbers) → Keeps P (note_effectiveness target n)
+  pub note_effectiveness-free : (target : Side) (n : DamageNumbers) → Keeps P (note_effectiveness target n)
   unfolding note_effectiveness
   note_effectiveness-free target n = search (free_rules) depth 14
 
@@ -894,4 +894,4 @@ module _ {P : Field → Action → Stream → Type 0} (free : Free P) where
   }
 
   pub ruling-free : (terms : Terms) → KeepsRuling P (ruling_of terms)
-  ruling-free terms = record { lulls = lulls_under-free terms.rules.sleep_clause; freezes = freezes_under-free terms.rules.freeze_clause }
+  ruling-free terms = record { sleeps = sleeps_under-free terms.rules.sleep_clause; freezes = freezes_under-free terms.rules.freeze_clause }

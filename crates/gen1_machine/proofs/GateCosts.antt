@@ -14,9 +14,9 @@ use Rattle.gen1_machine.specs.declared.picks.Pick.{Pick}
 use Rattle.gen1_machine.specs.declared.picks.DisabledSlot.{DisabledSlot}
 use Rattle.gen1_machine.specs.Sides.{other}
 use Rattle.gen1_machine.specs.Code.{code}
-use Rattle.gen1_machine.specs.Conditions.{Conditions}
+use Rattle.gen1_machine.specs.Conditions.{ActiveConditions}
 use Rattle.gen1_machine.specs.Moves.{Move}
-use Rattle.gen1_machine.specs.Progress.{starts, goes_on, ends as ends_by, set_missed, fail, fails_if, lose_hp, gain_hp, inflict, cure, Progress}
+use Rattle.gen1_machine.specs.Progress.{starts, lasts, ends as ends_by, set_missed, fail, fails_if, lose_hp, gain_hp, inflict, cure, Progress}
 use Rattle.gen1_machine.specs.Damage.{before_types}
 use Rattle.gen1_machine.specs.HitTest.{miss, set_tested, hits_below, test_by, hit_test, hit_or_miss, note_miss, must_hit}
 use Rattle.gen1_machine.specs.Landing.{set_broke, land_on_substitute, land_on_hp, land_by, land_damage, land}
@@ -31,15 +31,15 @@ one_of false v w = lit≤ tt
 module _ {limit : ℕ} where
   -- a condition, a loss or a gain of HP, a failure, a status
 
-  pub starts-costs : (s : Side) (what : Volatile) (change : Conditions → Conditions) → Costs limit (starts s what change) (goes 0 1 4)
+  pub starts-costs : (s : Side) (what : Volatile) (change : ActiveConditions → ActiveConditions) → Costs limit (starts s what change) (goes 0 1 4)
   unfolding starts
   starts-costs s what change = told-costs _ _ 4 (λ f. lit≤ tt)
 
-  pub goes_on-costs : (s : Side) (what : Volatile) (change : Conditions → Conditions) → Costs limit (goes_on s what change) (goes 0 1 4)
-  unfolding goes_on
-  goes_on-costs s what change = told-costs _ _ 4 (λ f. lit≤ tt)
+  pub lasts-costs : (s : Side) (what : Volatile) (change : ActiveConditions → ActiveConditions) → Costs limit (lasts s what change) (goes 0 1 4)
+  unfolding lasts
+  lasts-costs s what change = told-costs _ _ 4 (λ f. lit≤ tt)
 
-  pub ends-costs : (s : Side) (what : Volatile) (change : Conditions → Conditions) → Costs limit (ends_by s what change) (goes 0 1 4)
+  pub ends-costs : (s : Side) (what : Volatile) (change : ActiveConditions → ActiveConditions) → Costs limit (ends_by s what change) (goes 0 1 4)
   unfolding ends_by
   ends-costs s what change = told-costs _ _ 4 (λ f. lit≤ tt)
 
@@ -83,7 +83,7 @@ module _ {limit : ℕ} where
 
   pub on_substitute-costs : (s : Side) (damage hp : ℕ) → Costs limit (land_on_substitute s damage hp) (goes 0 1 4)
   unfolding land_on_substitute
-  on_substitute-costs s damage hp = choose-costs _ (broke-costs ⊳ ends-costs s _ _) (goes_on-costs s _ _)
+  on_substitute-costs s damage hp = choose-costs _ (broke-costs ⊳ ends-costs s _ _) (lasts-costs s _ _)
 
   pub on_hp-costs : (s : Side) (source : DamageSource) (damage : ℕ) → Costs limit (land_on_hp s source damage) (goes 0 1 9)
   unfolding land_on_hp
@@ -161,7 +161,7 @@ module _ {limit : ℕ} where
   pub confusion-costs : (s : Side) (o : Option ℕ) → Costs limit (confusion_test s o) (may_stop 1 1 4 1 2 13)
   unfolding confusion_test
   confusion-costs s None = more stay-costs refl
-  confusion-costs s (Some turns) = choose-costs _ (ends-costs s _ _) (goes_on-costs s _ _ ⊳ draw-costs (may_hurt_itself-costs s))
+  confusion-costs s (Some turns) = choose-costs _ (ends-costs s _ _) (lasts-costs s _ _ ⊳ draw-costs (may_hurt_itself-costs s))
 
   pub disabled-costs : (s : Side) (pick : Pick) → Costs limit (disabled_test s pick) (may_stop 0 0 0 0 1 4)
   unfolding disabled_test

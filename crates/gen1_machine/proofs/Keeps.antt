@@ -6,9 +6,9 @@ use Rattle.gen1_machine.specs.declared.event.Volatile.{Volatile}
 use Rattle.gen1_machine.specs.declared.side.Side.{Side}
 use Rattle.gen1_rolls.specs.Streams.{byte_at, first, span, Stream}
 use Rattle.gen1_stats.specs.Members.{Member}
-use Rattle.gen1_machine.specs.Conditions.{Conditions}
+use Rattle.gen1_machine.specs.Conditions.{ActiveConditions}
 use Rattle.gen1_machine.specs.State.{changed_active, changed_conditions, changed_member, with_last_damage, Active, Field}
-use Rattle.gen1_machine.specs.Progress.{choose, draw, draw_until, ends, given, goes_on, note, on_action, on_active, on_conditions, on_field, on_member, set_last_damage, set_missed, starts, stay, stop, told, unless_stopped, ◌▸◌, Action, Phase, Progress}
+use Rattle.gen1_machine.specs.Progress.{choose, draw, draw_until, ends, given, lasts, note, on_action, on_active, on_conditions, on_field, on_member, set_last_damage, set_missed, starts, stay, stop, told, unless_stopped, ◌▸◌, Action, Phase, Progress}
 use Rattle.gen1_machine.specs.Ruling.{Ruling}
 
 pub record Keeps (P : Field → Action → Stream → Type 0) (f : Phase) : Type 0 where
@@ -24,7 +24,7 @@ pub record SparesAction (P : Field → Action → Stream → Type 0) (change : A
 
 -- what falling asleep and freezing keep
 pub record KeepsRuling (P : Field → Action → Stream → Type 0) (r : Ruling) : Type 0 where
-  pub lulls : (user : Side) → Keeps P (r.lulls user)
+  pub sleeps : (user : Side) → Keeps P (r.sleeps user)
   pub freezes : (user : Side) → Keeps P (r.freezes user)
 
 module _ {P : Field → Action → Stream → Type 0} where
@@ -97,7 +97,7 @@ module _ {P : Field → Action → Stream → Type 0} where
   unfolding on_active
   on_active-keeps s change k = on_field-keeps k
 
-  pub on_conditions-keeps : (s : Side) (change : Conditions → Conditions) → Spares P (changed_conditions s change) → Keeps P (on_conditions s change)
+  pub on_conditions-keeps : (s : Side) (change : ActiveConditions → ActiveConditions) → Spares P (changed_conditions s change) → Keeps P (on_conditions s change)
   unfolding on_conditions
   on_conditions-keeps s change k = on_field-keeps k
 
@@ -109,16 +109,16 @@ module _ {P : Field → Action → Stream → Type 0} where
   unfolding set_last_damage
   set_last_damage-keeps damage k = on_field-keeps k
 
-  pub starts-keeps : (s : Side) (what : Volatile) (change : Conditions → Conditions) → Spares P (changed_conditions s change) → Keeps P (starts s what change)
+  pub starts-keeps : (s : Side) (what : Volatile) (change : ActiveConditions → ActiveConditions) → Spares P (changed_conditions s change) → Keeps P (starts s what change)
   unfolding starts
   starts-keeps s what change k = told-keeps _ k
 
-  pub goes_on-keeps : (s : Side) (what : Volatile) (change : Conditions → Conditions) → Spares P (changed_conditions s change) → Keeps P (goes_on s what change)
-  unfolding goes_on
-  goes_on-keeps s what change k = told-keeps _ k
+  pub lasts-keeps : (s : Side) (what : Volatile) (change : ActiveConditions → ActiveConditions) → Spares P (changed_conditions s change) → Keeps P (lasts s what change)
+  unfolding lasts
+  lasts-keeps s what change k = told-keeps _ k
 
-  pub ends-keeps : (s : Side) (what : Volatile) (change : Conditions → Conditions) → Spares P (changed_conditions s change) → Keeps P (ends s what change)
+  pub ends-keeps : (s : Side) (what : Volatile) (change : ActiveConditions → ActiveConditions) → Spares P (changed_conditions s change) → Keeps P (ends s what change)
   unfolding ends
   ends-keeps s what change k = told-keeps _ k
 
-pub ruleset keeps_rules = (stay-keeps, stop-keeps, then-keeps, choose-keeps, given-keeps, draw-keeps, draw_until-keeps, note-keeps, on_action-keeps, set_missed-keeps, on_field-keeps, told-keeps, on_active-keeps, on_conditions-keeps, on_member-keeps, set_last_damage-keeps, starts-keeps, goes_on-keeps, ends-keeps)
+pub ruleset keeps_rules = (stay-keeps, stop-keeps, then-keeps, choose-keeps, given-keeps, draw-keeps, draw_until-keeps, note-keeps, on_action-keeps, set_missed-keeps, on_field-keeps, told-keeps, on_active-keeps, on_conditions-keeps, on_member-keeps, set_last_damage-keeps, starts-keeps, lasts-keeps, ends-keeps)

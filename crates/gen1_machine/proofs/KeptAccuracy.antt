@@ -12,7 +12,7 @@ use Rattle.gen1_machine.specs.declared.side.Side.{Side}
 use Rattle.gen1_machine.specs.declared.side.Side.TheVariants.{One, Two}
 use Rattle.gen1_machine.specs.declared.terms.Outcome.TheVariants as outcomes
 use Rattle.gen1_machine.specs.Sides.{other}
-use Rattle.gen1_machine.specs.Conditions.{broken_off, with_thrash_one_less, without_thrash, one_less, Conditions}
+use Rattle.gen1_machine.specs.Conditions.{broken_off, with_thrash_one_less, without_thrash, one_less, ActiveConditions}
 use Rattle.gen1_machine.specs.State.{active_in, changed_active, changed_conditions, changed_member, with_kept_accuracy, with_last_damage, with_outcome, Active, Field}
 use Rattle.gen1_machine.specs.Moves.{accuracy_byte, move_at, thrashes}
 use Rattle.gen1_machine.specs.Progress.{choose, draw, given, unless_stopped, ◌▸◌, Action, Phase, Progress}
@@ -53,7 +53,7 @@ module _ {B : Active → Action → Type 0} (alone : Alone B) (s : Side) where
   pub active-at : (u : Side) (change : Active → Active) → ((a : Active) (x : Action) → B a x → B (change a) x) → Spares (At B s) (changed_active u change)
   active-at u change k = record { spared = λ f x w h. by-active s u change f x (λ a. k a x) h }
 
-  pub conditions-at : (u : Side) (change : Conditions → Conditions) → ((a : Active) (x : Action) → B a x → B (record a { conditions = change a.conditions }) x)
+  pub conditions-at : (u : Side) (change : ActiveConditions → ActiveConditions) → ((a : Active) (x : Action) → B a x → B (record a { conditions = change a.conditions }) x)
       → Spares (At B s) (changed_conditions u change)
   unfolding changed_conditions
   conditions-at u change k = active-at u _ k
@@ -66,7 +66,7 @@ module _ {B : Active → Action → Type 0} (alone : Alone B) (s : Side) where
   unfolding with_last_damage
   at-steady = record {
     member = λ u change soft. record { spared = λ f x w h. by-member s u change f x h };
-    active = λ u change leaves. active-at u change (λ a x h. alone.same a (change a) x x (leaves.kept a) (ap (λ (c : Conditions). keeps_accuracy c.underway) (leaves.conditions a)) refl refl refl h);
+    active = λ u change leaves. active-at u change (λ a x h. alone.same a (change a) x x (leaves.kept a) (ap (λ (c : ActiveConditions). keeps_accuracy c.underway) (leaves.conditions a)) refl refl refl h);
     conditions = λ u change leaves. conditions-at u change (λ a x h. alone.same a (record a { conditions = change a.conditions }) x x refl (leaves.left a.conditions) refl refl refl h);
     damage = λ n. record { spared = λ f x w h. by-field s f (record f { last_damage = n }) x refl refl h };
     action = λ change leaves. record { spared = λ f x w h. alone.same (active_in s f) (active_in s f) x (change x) refl refl (leaves.tested x) (leaves.going_on x) (leaves.letting_go x) h };
@@ -159,11 +159,11 @@ kept-stands false n h = refl
 
 -- changes that turn rage and thrashing off at most
 
-pub quench : (s u : Side) (change : Conditions → Conditions) → ((c : Conditions) → keeps_accuracy (change c).underway ≡ true → keeps_accuracy c.underway ≡ true)
+pub quench : (s u : Side) (change : ActiveConditions → ActiveConditions) → ((c : ActiveConditions) → keeps_accuracy (change c).underway ≡ true → keeps_accuracy c.underway ≡ true)
     → Spares (At Fresh s) (changed_conditions u change)
 quench s u change k = conditions-at fresh-alone s u change (λ a x h. (h.0, λ e. h.1 (k a.conditions e)))
 
-pub quench-ready : (s u : Side) (change : Conditions → Conditions) → ((c : Conditions) → keeps_accuracy (change c).underway ≡ true → keeps_accuracy c.underway ≡ true)
+pub quench-ready : (s u : Side) (change : ActiveConditions → ActiveConditions) → ((c : ActiveConditions) → keeps_accuracy (change c).underway ≡ true → keeps_accuracy c.underway ≡ true)
     → Spares (At Ready s) (changed_conditions u change)
 quench-ready s u change k = conditions-at ready-alone s u change (λ a x h. (h.0, λ e. h.1 (k a.conditions e), h.2, h.3))
 
@@ -175,11 +175,11 @@ off-or : (a b : Bool) → (a || b) ≡ false → (a || false) ≡ false
 off-or true b e = absurd (false≢true (sym e))
 off-or false b e = refl
 
-pub broken-quenches : (c : Conditions) → keeps_accuracy (broken_off c).underway ≡ true → keeps_accuracy c.underway ≡ true
+pub broken-quenches : (c : ActiveConditions) → keeps_accuracy (broken_off c).underway ≡ true → keeps_accuracy c.underway ≡ true
 unfolding broken_off
 broken-quenches c e = weaker-or c.underway.rage (is_some c.underway.thrash) e
 
-pub unthrash-quenches : (c : Conditions) → keeps_accuracy (without_thrash c).underway ≡ true → keeps_accuracy c.underway ≡ true
+pub unthrash-quenches : (c : ActiveConditions) → keeps_accuracy (without_thrash c).underway ≡ true → keeps_accuracy c.underway ≡ true
 unfolding without_thrash
 unthrash-quenches c e = weaker-or c.underway.rage (is_some c.underway.thrash) e
 

@@ -27,7 +27,7 @@ use Rattle.gen1_machine.proofs.Sound.{party-valid, planned-holds, untied}
 use Rattle.gen1_machine.proofs.SoundWalk.{gate_or_held-sound, see_if_going_on-sound}
 use Rattle.gen1_machine.proofs.Acts.{begin-keeps, begin-quiet, either, leads-passes, no-bide, passes-leads, passes-then, quiet-sound, After, IfStopped, Quiet}
 use Rattle.gen1_machine.proofs.Steady as steadies
-use Rattle.gen1_machine.proofs.Steady.{act-steady, begin-steady, gate_or_held-steady, residual-steady, ruling-steady, with_penalty_of-leaves, with_picked-leaves, without_flinch-leaves, without_trapping-leaves, Own}
+use Rattle.gen1_machine.proofs.Steady.{act-steady, begin-steady, gate_or_held-steady, residual-steady, ruling-steady, with_penalty_of-leaves, with_picked_move-leaves, without_flinch-leaves, without_trapping-leaves, Own}
 use Rattle.gen1_machine.proofs.TiedTurns.{Tied}
 use Rattle.gen1_machine.proofs.ValidTurns.{both-keep}
 use Rattle.gen1_machine.proofs.KeptAccuracy.{active-at, aimed, at-faults, at-hurts, at-steady, foe-own, fresh-alone, fresh-breaks, fresh-keeps, kept-stands, keeps_on, off-keeps, stands-alone, stands-fresh, tested-keeps, then-runs, At, Fresh, Keeps_on, Off, On, Ready, Runs, Stands, Tested}
@@ -131,7 +131,7 @@ module _ (terms : Terms) (s : Side) (pick : Pick) where
         where
           settled : (p : Progress) → p.stopped ≡ false → Quiet terms plan p.field p.action p.stream × Seen s pick p.field p.action p.stream
               → After (At Keeps_on s) (At Keeps_on s) (given (λ p. move_taken_in s pick p.field) (carry_out (ruling_of terms) s pick) p)
-          settled p going h = carried (number_in (used_by pick (active_in s p.field).current) (member_in s p.field).moves) p going
+          settled p going h = carried (number_in (used_by pick (active_in s p.field).current_move) (member_in s p.field).moves) p going
               (explained plan p.field p.action p.stream fits h.0.0) h.0.1 h.1
 
   begins : (plan : Side → Plan) → Leads (λ f x w. IsPlanned terms plan f x w × At Stands s f x w) (Before plan) (begin s)
@@ -227,7 +227,7 @@ module _ (terms : Terms) where
 
   picked-both : (s : Side) (pick : Pick) → Keeps Both (set_picked s pick)
   unfolding set_picked
-  picked-both s pick = both-of (λ v. given-keeps _ (λ a. on_active-keeps s _ ((at-steady stands-alone v).active s _ (with_picked-leaves _))))
+  picked-both s pick = both-of (λ v. given-keeps _ (λ a. on_active-keeps s _ ((at-steady stands-alone v).active s _ (with_picked_move-leaves _))))
 
   pub kept-tied : Tied terms Both Both
   kept-tied = record {
@@ -237,6 +237,6 @@ module _ (terms : Terms) where
     suffers = λ s. keeps-leads (suffers-both s);
     sends = λ s place. keeps-leads (sends-both s place);
     ends = ends-both;
-    picked = picked-both;
+    picked_move = picked-both;
     flinch = λ s. both-of (λ v. on_conditions-keeps s _ ((at-steady stands-alone v).conditions s _ without_flinch-leaves));
   }

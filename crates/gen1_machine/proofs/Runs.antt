@@ -4,7 +4,7 @@ use Rattle.gen1_machine.specs.declared.side.Side.TheVariants.{One, Two}
 use Rattle.gen1_machine.specs.declared.choice.Choice.{Choice}
 use Rattle.gen1_machine.specs.State.{is_over, usual_terms, Terms, State}
 use Rattle.gen1_machine.specs.Progress.{Progress}
-use Rattle.gen1_machine.specs.Ruling.{lulls_under, freezes_under, ruling_of, ruling_without_clauses, ruling_with_clauses, Ruling}
+use Rattle.gen1_machine.specs.Ruling.{sleeps_under, freezes_under, ruling_of, ruling_without_clauses, ruling_with_clauses, Ruling}
 use Rattle.gen1_machine.specs.Step.{opened, update, events_of, refused, answered, offers, step_by, step, step_before, step_two, and_then_ran, run_by, run, Refusal, Stepped, Ran, Over, Refused}
 use Rattle.gen1_machine.specs.Laws.{OverStaysOver, RefusalChangesNothing, TermsStay, RunsAppend, SameAsBeforeRules, SameAsFixedLimit}
 
@@ -89,7 +89,7 @@ same_as_fixed_limit = runs-agree step step_two (λ s. s.terms.limit ≡ 1000)
     (λ s one two h. ap (λ (t : Terms). t.limit) (step_by-terms (λ terms. ruling_with_clauses terms.rules) s one two) ∙ h)
 
 pub same_as_before_rules : SameAsBeforeRules
-unfolding step step_before lulls_under freezes_under
+unfolding step step_before sleeps_under freezes_under
 same_as_before_rules = runs-agree step step_before (λ s. s.terms ≡ usual_terms)
     (λ s one two h. step_by-agree ruling_of (λ terms. ruling_without_clauses) s one two (ap ruling_of h))
     (λ s one two h. step_by-terms (λ terms. ruling_without_clauses) s one two ∙ h)

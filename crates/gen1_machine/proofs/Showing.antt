@@ -12,7 +12,7 @@ use Rattle.gen1_stats.specs.Members.{nobody, Member}
 use Rattle.gen1_machine.specs.declared.side.Side.{Side}
 use Rattle.gen1_machine.specs.declared.side.Side.TheVariants.{One, Two}
 use Rattle.gen1_machine.specs.declared.terms.Outcome.TheVariants as outcomes
-use Rattle.gen1_machine.specs.Conditions.{Conditions}
+use Rattle.gen1_machine.specs.Conditions.{ActiveConditions}
 use Rattle.gen1_machine.specs.State.{party, member_at, member_in, with_member, changed_active, changed_conditions, changed_member, Stages, Active, Party, Field}
 use Rattle.gen1_machine.specs.CurrentStats.{stage_of, with_stage, at_new_stage, recomputed_at, with_penalty_of}
 use Rattle.gen1_machine.specs.View.{on_side_view, shown_at, if_out, on_shown, shown, side_shows, shows, Shown, SideView}
@@ -43,7 +43,7 @@ pub record Visible : Type 0 where
   pub light_screen : Bool
   pub reflect : Bool
 
-abbrev pub visible : Conditions → Visible
+abbrev pub visible : ActiveConditions → Visible
 visible c = record { substitute = is_some c.substitute; confused = is_some c.confused; light_screen = c.light_screen; reflect = c.reflect }
 
 pub record ActiveView : Type 0 where
@@ -82,7 +82,7 @@ unfolding changed_active
 keeps-active One change h = record { both = λ f o. record { one = out-active f.one (change f.one.active) (h f.one.active) o.one; two = o.two }; outcome = λ f. refl }
 keeps-active Two change h = record { both = λ f o. record { one = o.one; two = out-active f.two (change f.two.active) (h f.two.active) o.two }; outcome = λ f. refl }
 
-pub keeps-conditions : (s : Side) (change : Conditions → Conditions) → Keeps (changed_conditions s change)
+pub keeps-conditions : (s : Side) (change : ActiveConditions → ActiveConditions) → Keeps (changed_conditions s change)
 unfolding changed_conditions
 keeps-conditions s change = keeps-active s _ (λ a. refl)
 
@@ -111,7 +111,7 @@ silent-active Two change h = record {
   keeps = keeps-active Two change (λ a. ap (λ (w : ActiveView). w.place) (h a));
 }
 
-pub silent-conditions : (s : Side) (change : Conditions → Conditions) → ((c : Conditions) → visible (change c) ≡ visible c) → Silent (changed_conditions s change)
+pub silent-conditions : (s : Side) (change : ActiveConditions → ActiveConditions) → ((c : ActiveConditions) → visible (change c) ≡ visible c) → Silent (changed_conditions s change)
 unfolding changed_conditions
 silent-conditions s change h = silent-active s _ (λ a. ap (λ (w : Visible). record (active_view a) { conditions = w }) (h a.conditions))
 

@@ -9,19 +9,19 @@ use Rattle.gen1_rolls.proofs.Period.{byte-small}
 use Rattle.gen1_rolls.specs.Streams.{byte_at, first, span, IsStream, Stream}
 use Rattle.gen1_stats.specs.declared.known_move.KnownMove.{KnownMove}
 use Rattle.gen1_stats.specs.Members.{nobody, IsBetween, Member}
-use Rattle.gen1_machine.specs.declared.picks.Used.{Used}
-use Rattle.gen1_machine.specs.declared.picks.Used.TheVariants.{Slot, Struggle, Unused}
+use Rattle.gen1_machine.specs.declared.picks.UsedMove.{UsedMove}
+use Rattle.gen1_machine.specs.declared.picks.UsedMove.TheVariants.{Nothing, Slot, Struggle}
 use Rattle.gen1_machine.specs.declared.side.Side.{Side}
 use Rattle.gen1_machine.specs.declared.side.Side.TheVariants.{One, Two}
 use Rattle.gen1_machine.specs.declared.terms.Outcome.TheVariants as outcomes
 use Rattle.gen1_machine.specs.Rules.{Rules}
-use Rattle.gen1_machine.specs.Conditions.{Conditions, Underway}
-use Rattle.gen1_machine.specs.State.{active_in, changed_active, changed_conditions, changed_member, conditions_in, member_at, member_in, party, with_current, with_last_damage, with_member, with_outcome, with_party, Active, Field, Party, Terms}
+use Rattle.gen1_machine.specs.Conditions.{ActiveConditions, Underway}
+use Rattle.gen1_machine.specs.State.{active_in, changed_active, changed_conditions, changed_member, conditions_in, member_at, member_in, party, with_current_move, with_last_damage, with_member, with_outcome, with_party, Active, Field, Party, Terms}
 use Rattle.gen1_machine.specs.Moves.{move_at}
 use Rattle.gen1_machine.specs.Picks.{number_in}
 use Rattle.gen1_machine.specs.declared.event.Event.{Event}
 use Rattle.gen1_machine.specs.Progress.{choose, draw, draw_until, given, on_field, told, Action, Phase, Progress}
-use Rattle.gen1_machine.specs.Valid.{effect_of, IsActive, IsConditions, IsCount, IsField, IsMembersUnder, IsMemberUnder, IsParty, IsUnderway, IsUsed}
+use Rattle.gen1_machine.specs.Valid.{effect_of, IsActive, IsConditions, IsCount, IsField, IsMembersUnder, IsMemberUnder, IsParty, IsUnderway, IsUsedMove}
 use Rattle.gen1_machine.specs.Plans.{with_plan, Any, Doing, HoldsPlan, IsPlanned, Plan, Plans}
 use Rattle.gen1_machine.proofs.Keeps.{Keeps, Spares, SparesAction}
 use Rattle.gen1_machine.proofs.Leads.{Leads}
@@ -38,7 +38,7 @@ pub record Sound (terms : Terms) (P : Field → Action → Stream → Type 0) : 
   pub stream : (f : Field) (a : Action) (w : Stream) → P f a w → IsStream w
   pub member : (s : Side) (change : Member → Member) → TameMember terms.rules change → Spares P (changed_member s change)
   pub active : (s : Side) (change : Active → Active) → TameActive change → Spares P (changed_active s change)
-  pub conditions : (s : Side) (change : Conditions → Conditions) (f : Field) (a : Action) (w : Stream) → P f a w
+  pub conditions : (s : Side) (change : ActiveConditions → ActiveConditions) (f : Field) (a : Action) (w : Stream) → P f a w
       → ((e : Effect) → IsConditions e (length (member_in s f).moves) (conditions_in s f) → IsConditions e (length (member_in s f).moves) (change (conditions_in s f)))
       → P (changed_conditions s change f) a w
   pub damage : (n : ℕ) → n ≤ 65535 → Spares P (with_last_damage n)
@@ -62,30 +62,30 @@ planned-holds s f a w is h = subst (λ x. HoldsPlan x (member_in s f).moves (act
 
 -- a change of the member that is out
 
-same-number : (used : Used) (before after : List KnownMove) → SameMoves before after → number_in used after ≡ number_in used before
-same-number Unused before after same = refl
+same-number : (used : UsedMove) (before after : List KnownMove) → SameMoves before after → number_in used after ≡ number_in used before
+same-number Nothing before after same = refl
 same-number Struggle before after same = refl
 same-number (Slot k) before after same = same.ids (k - 1)
 
-same-effect : (used : Used) (before after : List KnownMove) → SameMoves before after → effect_of used after ≡ effect_of used before
+same-effect : (used : UsedMove) (before after : List KnownMove) → SameMoves before after → effect_of used after ≡ effect_of used before
 same-effect used before after same = ap (λ n. (move_at n).effect) (same-number used before after same)
 
-same-used : (used : Used) (before after : List KnownMove) → SameMoves before after → IsUsed (length before) used → IsUsed (length after) used
+same-used : (used : UsedMove) (before after : List KnownMove) → SameMoves before after → IsUsedMove (length before) used → IsUsedMove (length after) used
 same-used used before after same h = rw same.count h
 
 same-active : (before after : List KnownMove) (a : Active) → SameMoves before after → IsActive before a → IsActive after a
 same-active before after a same h = record {
   stages = h.stages;
-  current = same-used a.current before after same h.current;
-  picked = same-used a.picked before after same h.picked;
+  current_move = same-used a.current_move before after same h.current_move;
+  picked_move = same-used a.picked_move before after same h.picked_move;
   kept_accuracy = h.kept_accuracy;
-  conditions = rw (same-effect a.current before after same, same.count) h.conditions;
+  conditions = rw (same-effect a.current_move before after same, same.count) h.conditions;
 }
 
 same-plan : (plan : Plan) (before after : List KnownMove) (a : Active) → SameMoves before after → HoldsPlan plan before a → HoldsPlan plan after a
 same-plan Any before after a same h = h
 same-plan (Plans used e) before after a same h = (same-used used before after same h.0, same-effect used before after same ∙ h.1, h.2)
-same-plan (Doing e) before after a same h = same-effect a.current before after same ∙ h
+same-plan (Doing e) before after a same h = same-effect a.current_move before after same ∙ h
 
 members-set : (rules : Rules) (members : List Member) (i : ℕ) (m : Member) → IsMemberUnder rules m → IsMembersUnder rules members → IsMembersUnder rules (set members i m)
 members-set rules members i m k h = record { size = rw length-set h.size; each = λ j d l. by j d (eqb_tells j i) (rw length-set at l) }
@@ -115,7 +115,7 @@ module _ (rules : Rules) (t : Party) (h : IsParty rules t) (change : Member → 
       → HoldsPlan plan (member_at t.active.place (with_member t.active.place (change (out_of t)) t)).moves t.active
   member-plan plan k = rw out-after (same-plan plan (out_of t).moves (change (out_of t)).moves t.active (tame.moves (out_of t)) k)
 
-active-plan : (plan : Plan) (moves : List KnownMove) (a b : Active) → b.current ≡ a.current → b.conditions ≡ a.conditions → HoldsPlan plan moves a → HoldsPlan plan moves b
+active-plan : (plan : Plan) (moves : List KnownMove) (a b : Active) → b.current_move ≡ a.current_move → b.conditions ≡ a.conditions → HoldsPlan plan moves a → HoldsPlan plan moves b
 active-plan Any moves a b e k h = h
 active-plan (Plans used x) moves a b e k h = (h.0, h.1, rw k h.2)
 active-plan (Doing x) moves a b e k h = rw e h
@@ -127,19 +127,19 @@ active-changed rules t change tame h = record {
   active = subst (λ n. IsActive (get_or t.members (n - 1) nobody).moves (change t.active)) (sym (tame.place t.active)) (tame.valid (out_of t).moves t.active h.active);
 }
 
-conditioned : (moves : List KnownMove) (a : Active) (c : Conditions) → IsConditions (effect_of a.current moves) (length moves) c → IsActive moves a → IsActive moves (record a { conditions = c })
-conditioned moves a c k h = record { stages = h.stages; current = h.current; picked = h.picked; kept_accuracy = h.kept_accuracy; conditions = k }
+conditioned : (moves : List KnownMove) (a : Active) (c : ActiveConditions) → IsConditions (effect_of a.current_move moves) (length moves) c → IsActive moves a → IsActive moves (record a { conditions = c })
+conditioned moves a c k h = record { stages = h.stages; current_move = h.current_move; picked_move = h.picked_move; kept_accuracy = h.kept_accuracy; conditions = k }
 
 -- with other ties
-retied : (e x : Effect) (n : ℕ) (c : Conditions) → IsUnderway x c.underway → IsConditions e n c → IsConditions x n c
+retied : (e x : Effect) (n : ℕ) (c : ActiveConditions) → IsUnderway x c.underway → IsConditions e n c → IsConditions x n c
 retied e x n c u h = record { underway = u; confused = h.confused; substitute = h.substitute; bad_poison = h.bad_poison; disabled = h.disabled }
 
-conditions-plan : (plan : Plan) (moves : List KnownMove) (a : Active) (c : Conditions)
+conditions-plan : (plan : Plan) (moves : List KnownMove) (a : Active) (c : ActiveConditions)
     → ((e : Effect) → IsConditions e (length moves) a.conditions → IsConditions e (length moves) c) → IsActive moves a
     → HoldsPlan plan moves a → HoldsPlan plan moves (record a { conditions = c })
 conditions-plan Any moves a c k v h = h
 conditions-plan (Plans used x) moves a c k v h =
-    (h.0, h.1, (k effects.DamageOnly (retied (effect_of a.current moves) effects.DamageOnly (length moves) a.conditions h.2 v.conditions)).underway)
+    (h.0, h.1, (k effects.DamageOnly (retied (effect_of a.current_move moves) effects.DamageOnly (length moves) a.conditions h.2 v.conditions)).underway)
 conditions-plan (Doing x) moves a c k v h = h
 
 module _ (terms : Terms) (plan : Side → Plan) where
@@ -170,12 +170,12 @@ module _ (terms : Terms) (plan : Side → Plan) where
       tested = h.tested;
       stream = h.stream;
       holds = holds-after s (record (party s f) { active = change (active_in s f) }) f
-          (subst (λ n. HoldsPlan (plan s) (get_or (party s f).members (n - 1) nobody).moves (change (active_in s f))) (sym (tame.place (active_in s f))) (active-plan (plan s) (member_in s f).moves (active_in s f) (change (active_in s f)) (tame.current (active_in s f)) (tame.conditions (active_in s f)) (h.holds s)))
+          (subst (λ n. HoldsPlan (plan s) (get_or (party s f).members (n - 1) nobody).moves (change (active_in s f))) (sym (tame.place (active_in s f))) (active-plan (plan s) (member_in s f).moves (active_in s f) (change (active_in s f)) (tame.current_move (active_in s f)) (tame.conditions (active_in s f)) (h.holds s)))
           h.holds;
     };
   }
 
-  planned-conditions : (s : Side) (change : Conditions → Conditions) (f : Field) (a : Action) (w : Stream) → IsPlanned terms plan f a w
+  planned-conditions : (s : Side) (change : ActiveConditions → ActiveConditions) (f : Field) (a : Action) (w : Stream) → IsPlanned terms plan f a w
       → ((e : Effect) → IsConditions e (length (member_in s f).moves) (conditions_in s f) → IsConditions e (length (member_in s f).moves) (change (conditions_in s f)))
       → IsPlanned terms plan (changed_conditions s change f) a w
   unfolding changed_conditions changed_active
@@ -226,7 +226,7 @@ module _ (terms : Terms) (plan : Side → Plan) where
       same f n h Two = h Two
 
   -- what the current move explains
-  pub planned-tied : (s : Side) (e : Effect) → plan s ≡ Doing e → (change : Conditions → Conditions) (f : Field) (a : Action) (w : Stream) → IsPlanned terms plan f a w
+  pub planned-tied : (s : Side) (e : Effect) → plan s ≡ Doing e → (change : ActiveConditions → ActiveConditions) (f : Field) (a : Action) (w : Stream) → IsPlanned terms plan f a w
       → (IsConditions e (length (member_in s f).moves) (conditions_in s f) → IsConditions e (length (member_in s f).moves) (change (conditions_in s f)))
       → IsPlanned terms plan (changed_conditions s change f) a w
   unfolding changed_conditions changed_active
@@ -338,25 +338,25 @@ untied e u h = record {
   rage_tied = λ on. absurd (false≢true (h.rage_tied on));
 }
 
-pub taken-up : {terms : Terms} {plan : Side → Plan} (s : Side) (used : Used) (e : Effect) (f : Field) (a : Action) (w : Stream) → plan s ≡ Plans used e
-    → IsPlanned terms plan f a w → IsPlanned terms (with_plan s (Doing e) plan) (changed_active s (with_current used) f) a w
-unfolding changed_active with_current
+pub taken-up : {terms : Terms} {plan : Side → Plan} (s : Side) (used : UsedMove) (e : Effect) (f : Field) (a : Action) (w : Stream) → plan s ≡ Plans used e
+    → IsPlanned terms plan f a w → IsPlanned terms (with_plan s (Doing e) plan) (changed_active s (with_current_move used) f) a w
+unfolding changed_active with_current_move
 taken-up {terms} {plan} s used e f a w is h =
     let v = party-valid s f h.field in
     let moves = (member_in s f).moves in
     let active = active_in s f in
     let plans = planned-holds s f a w is h in
-    let next : Party = record (party s f) { active = record active { current = used } } in
+    let next : Party = record (party s f) { active = record active { current_move = used } } in
     record {
       field = with-party s next f (record {
         members = v.members;
         place = v.place;
         active = record {
           stages = v.active.stages;
-          current = plans.0;
-          picked = v.active.picked;
+          current_move = plans.0;
+          picked_move = v.active.picked_move;
           kept_accuracy = v.active.kept_accuracy;
-          conditions = retied (effect_of active.current moves) (effect_of used moves) (length moves) active.conditions (untied (effect_of used moves) active.conditions.underway plans.2) v.active.conditions;
+          conditions = retied (effect_of active.current_move moves) (effect_of used moves) (length moves) active.conditions (untied (effect_of used moves) active.conditions.underway plans.2) v.active.conditions;
         };
       }) h.field;
       tested = h.tested;

@@ -15,12 +15,12 @@ use Rattle.gen1_stats.specs.declared.known_move.KnownMove.{KnownMove}
 use Rattle.gen1_stats.specs.Members.{IsBetween}
 use Rattle.gen1_machine.specs.declared.picks.DisabledSlot.{DisabledSlot}
 use Rattle.gen1_machine.specs.declared.side.Side.{Side}
-use Rattle.gen1_machine.specs.Conditions.{one_less, one_turn_less, with_confusion_one_less, with_disable_one_less, with_disabled, Conditions}
+use Rattle.gen1_machine.specs.Conditions.{one_less, one_turn_less, with_confusion_one_less, with_disable_one_less, with_disabled, ActiveConditions}
 use Rattle.gen1_machine.specs.State.{active_in, changed_conditions, member_in, Field, Stages, Terms}
 use Rattle.gen1_machine.specs.CurrentStats.{stage_of}
 use Rattle.gen1_machine.specs.Moves.{accuracy_byte, move_at, Move}
 use Rattle.gen1_machine.specs.Progress.{draw, draw_until, fail, fails_if, on_conditions, on_field, Action, Phase, Progress}
-use Rattle.gen1_machine.specs.Damage.{applies, before_types, by_rows, divided, is_own_type, rotated_right_1, times_factor, type_steps, Numbers}
+use Rattle.gen1_machine.specs.Damage.{applies, before_types, by_rows, divided, is_own_type, rotated_right_1, times_factor, type_steps, DamageNumbers}
 use Rattle.gen1_machine.specs.HitTest.{base_of}
 use Rattle.gen1_machine.specs.SideEffects.{names_slot}
 use Rattle.gen1_machine.specs.Valid.{IsConditions, IsCount, IsDisabled, IsField, IsMemberUnder, IsStages}
@@ -88,7 +88,7 @@ divided-small : (level power attack divisor : ℕ) → IsCount 0 999 (divided le
 divided-small level power attack zero = tt
 divided-small level power attack (suc d) = (omega arith, omega arith)
 
-pub before_types-small : (n : Numbers) → IsCount 0 999 (before_types n)
+pub before_types-small : (n : DamageNumbers) → IsCount 0 999 (before_types n)
 before_types-small n = divided-small n.level n.power n.attack _
 
 -- each row doubles a damage at most, and of a type's rows four do at most
@@ -108,7 +108,7 @@ one-row : (d e tenths : ℕ) (b : Bool) → d ≤ e → tenths ≤ 20 → nat_le
 one-row d e tenths true l m h = omega (arith, times-most d tenths 10 (leb-true tenths 10 h), l)
 one-row d e tenths false l m h = omega (arith, times-most d tenths 20 m, l)
 
-grows : (n : Numbers) (rows : List TypeRow) (d e : ℕ) → all_modest rows ≡ true → d ≤ e → by_rows (filter (applies n) rows) d ≤ grown n.kind rows e
+grows : (n : DamageNumbers) (rows : List TypeRow) (d e : ℕ) → all_modest rows ≡ true → d ≤ e → by_rows (filter (applies n) rows) d ≤ grown n.kind rows e
 unfolding all_modest grown doubles
 grows n [] d e all l = l
 grows n (row ∷ rows) d e all l =
@@ -147,7 +147,7 @@ grown-small elements.Psychic = refl
 grown-small elements.Ice = refl
 grown-small elements.Dragon = refl
 
-pub typed-small : (n : Numbers) (d : ℕ) → d ≤ 999 → type_steps d n ≤ 65535
+pub typed-small : (n : DamageNumbers) (d : ℕ) → d ≤ 999 → type_steps d n ≤ 65535
 typed-small n d l =
     omega (arith, grows n type_rows (if is_own_type n then d + d / 2 else d) 1498 all-modest (own (is_own_type n)), leb-true (grown n.kind type_rows 1498) 65535 (grown-small n.kind))
   where
@@ -180,7 +180,7 @@ risen-small by n some l e = omega (arith, leb-false n 0 e)
 
 -- counts that go on
 
-pub confusion-less : (e : Effect) (n : ℕ) (c : Conditions) (turns : ℕ) → c.confused ≡ Some turns → nat_le turns 1 ≡ false
+pub confusion-less : (e : Effect) (n : ℕ) (c : ActiveConditions) (turns : ℕ) → c.confused ≡ Some turns → nat_le turns 1 ≡ false
     → IsConditions e n c → IsConditions e n (with_confusion_one_less c)
 unfolding with_confusion_one_less
 confusion-less e n c turns is more h = record {
@@ -194,7 +194,7 @@ confusion-less e n c turns is more h = record {
     less : IsBetween 1 5 turns → IsBetween 1 5 (turns - 1)
     less k = (omega (arith, leb-false turns 1 more), omega (arith, k.1))
 
-pub disable-less : (e : Effect) (n : ℕ) (c : Conditions) (d : DisabledSlot) → c.disabled ≡ Some d → nat_le d.turns 1 ≡ false
+pub disable-less : (e : Effect) (n : ℕ) (c : ActiveConditions) (d : DisabledSlot) → c.disabled ≡ Some d → nat_le d.turns 1 ≡ false
     → IsConditions e n c → IsConditions e n (with_disable_one_less c)
 unfolding with_disable_one_less
 disable-less e n c d is more h = record {
@@ -208,7 +208,7 @@ disable-less e n c d is more h = record {
     less : IsBetween 1 n d.slot × IsBetween 1 8 d.turns → IsBetween 1 n d.slot × IsBetween 1 8 (d.turns - 1)
     less k = (k.0, (omega (arith, leb-false d.turns 1 more), omega (arith, k.1.1)))
 
-pub disabled-valid : (e : Effect) (n : ℕ) (c : Conditions) (b d : ℕ) → low_bits 2 b < n
+pub disabled-valid : (e : Effect) (n : ℕ) (c : ActiveConditions) (b d : ℕ) → low_bits 2 b < n
     → IsConditions e n c → IsConditions e n (with_disabled (low_bits 2 b + 1) (low_bits 3 d + 1) c)
 unfolding with_disabled
 disabled-valid e n c b d l h = record {
@@ -232,7 +232,7 @@ module _ {P Q : Field → Action → Stream → Type 0} where
   pub leads-from : {f : Phase} → ((f : Field) (a : Action) (w : Stream) → P f a w → Q f a w) → Keeps Q f → Leads P Q f
   leads-from w k = record { led = λ p h. k.kept p (w _ _ _ h) }
 
-  pub on_conditions-leads : (s : Side) (change : Conditions → Conditions)
+  pub on_conditions-leads : (s : Side) (change : ActiveConditions → ActiveConditions)
       → ((f : Field) (a : Action) (w : Stream) → P f a w → Q (changed_conditions s change f) a w) → Leads P Q (on_conditions s change)
   unfolding on_conditions on_field
   on_conditions-leads s change k = record { led = λ p h. k p.field p.action p.stream h }

@@ -2,10 +2,10 @@
 -- is written by tools/walk.py; the lemmas that it takes over as they are stand in tools/sound_lemmas.txt.
 use Rattle.gen1_machine.specs.Action.{damage_of, gate_or_held, see_if_going_on, set_going_on, usual_damage}
 use Rattle.gen1_machine.specs.Charging.{end_charge}
-use Rattle.gen1_machine.specs.Conditions.{with_confusion_one_less, with_disable_one_less, Conditions}
+use Rattle.gen1_machine.specs.Conditions.{with_confusion_one_less, with_disable_one_less, ActiveConditions}
 use Rattle.gen1_machine.specs.Counter.{counter, counter_by}
 use Rattle.gen1_machine.specs.CriticalHits.{critical_by, roll_critical, set_critical}
-use Rattle.gen1_machine.specs.Damage.{damage_from, roll_damage, set_through_types, varied_by, vary, Numbers}
+use Rattle.gen1_machine.specs.Damage.{damage_from, roll_damage, set_through_types, varied_by, vary, DamageNumbers}
 use Rattle.gen1_machine.specs.EarlyEffects.{clear_side, confuse, confuse_foe, confused_by, convert, cure_kind, early_effect, haze, haze_cures, heal, make_substitute, paralyse_foe, pay_for_substitute, poison_foe, recover, rest_up, seed_foe, set_focus_energy, set_light_screen, set_mist, set_reflect, set_screen, set_skips, splash, take_types}
 use Rattle.gen1_machine.specs.FixedDamage.{deal_everything, deal_fixed, fixed_damage, knock_out, knock_out_by_type, psywave}
 use Rattle.gen1_machine.specs.Gate.{cant, confusion_test, disable_count, disabled_test, flinch_test, frozen_test, gate, gate_of_move, gate_of_status, gate_of_turn, may_be_paralysed, may_hurt_itself, paralysis_test, recharge_test, sleep_on, sleep_test, trapped_test, wake}
@@ -17,12 +17,12 @@ use Rattle.gen1_machine.specs.Landing.{land, land_by, land_damage, land_on_hp, l
 use Rattle.gen1_machine.specs.LateEffects.{lower_foes_stat, put_to_sleep, ready_to_sleep}
 use Rattle.gen1_machine.specs.ManyHits.{build_rage, count_hit, crash, hits, missed_move, note_critical, note_effectiveness, note_first_hit, note_hit_count}
 use Rattle.gen1_machine.specs.Moves.{Move}
-use Rattle.gen1_machine.specs.Progress.{cure, fail, fails_if, fault, gain_hp, given, goes_on, inflict, lose_hp, starts, Action, Phase, Progress}
+use Rattle.gen1_machine.specs.Progress.{cure, fail, fails_if, fault, gain_hp, given, inflict, lasts, lose_hp, starts, Action, Phase, Progress}
 use Rattle.gen1_machine.specs.Residual.{drained_by, residual, suffer, suffer_seed, suffer_status, worsen}
-use Rattle.gen1_machine.specs.Ruling.{fall_asleep, freeze_freely, freeze_only_one, freezes_under, is_sleep_count, lull_freely, lull_only_one, lulls_under, ruling_of, sleep_for, Ruling}
+use Rattle.gen1_machine.specs.Ruling.{fall_asleep, freeze_freely, freeze_only_one, freezes_under, is_sleep_count, ruling_of, sleep_for, sleep_freely, sleep_only_one, sleeps_under, Ruling}
 use Rattle.gen1_machine.specs.SideEffects.{by_chance, disable, disable_for, disable_slot, flinch, happens_below, kept_away_effect, may_confuse, may_inflict, may_poison, names_slot, thaw}
 use Rattle.gen1_machine.specs.Sides.{other}
-use Rattle.gen1_machine.specs.StageShift.{lower_from, lower_stage, note_boost, note_unboost, penalise_again, raise_from, raise_stage, shift_to}
+use Rattle.gen1_machine.specs.StageShift.{lower_from, lower_stage, note_boost, note_unboost, raise_from, raise_stage, shift_to, take_penalty_again}
 use Rattle.gen1_machine.specs.State.{changed_active, changed_conditions, changed_member, conditions_in, member_in, with_last_damage, Active, Field, Terms}
 use Rattle.gen1_machine.specs.Valid.{IsCount, IsStatus, OnlyWith}
 use Rattle.gen1_machine.specs.declared.event.CantReason.{CantReason}
@@ -53,7 +53,7 @@ one-least : 1 ≤ 1
 one-least = omega arith
 
 module _ {terms : Terms} {P : Field → Action → Stream → Type 0} (sound : Sound terms P) where
-  pub conditions-spared : (s : Side) (change : Conditions → Conditions) → TameConditions change → Spares P (changed_conditions s change)
+  pub conditions-spared : (s : Side) (change : ActiveConditions → ActiveConditions) → TameConditions change → Spares P (changed_conditions s change)
   conditions-spared s change tame = record { spared = λ f a w h. sound.conditions s change f a w h (λ e k. tame.valid e _ _ k) }
 
   member-spared : (s : Side) (change : Member → Member) → TameMember terms.rules change → Spares P (changed_member s change)
@@ -122,7 +122,7 @@ module _ {terms : Terms} {P : Field → Action → Stream → Type 0} (sound : S
   unfolding set_through_types
   set_through_types-sound = on_action-keeps (sound.action _ (record { tested = λ a h. h; letting_go = λ a. refl }))
 
-  pub damage_from-sound : (n : Numbers) (o : Option ℕ) → IsCount 0 999 o → Keeps P (damage_from n o)
+  pub damage_from-sound : (n : DamageNumbers) (o : Option ℕ) → IsCount 0 999 o → Keeps P (damage_from n o)
   unfolding damage_from
   damage_from-sound n None l = fault-sound 1 (omega arith, omega arith)
   damage_from-sound n (Some d) l =
@@ -261,7 +261,7 @@ module _ {terms : Terms} {P : Field → Action → Stream → Type 0} (sound : S
 
   pub confusion_test-sound : (s : Side) (o : Option ℕ)
       → Leads (λ f a w. P f a w × ((conditions_in s f).confused ≡ o)) P (confusion_test s o)
-  unfolding confusion_test goes_on
+  unfolding confusion_test lasts
   confusion_test-sound s None = stay-leads (λ f a w h. h.0)
   confusion_test-sound s (Some turns) = choose-leads_sees _
       (λ e. leads-from (λ f a w h. h.0) (ends-keeps s _ _ (conditions-spared s _ without_confusion-tame)))
@@ -334,13 +334,13 @@ module _ {terms : Terms} {P : Field → Action → Stream → Type 0} (sound : S
   unfolding note_unboost
   note_unboost-sound s stat n = search (sound_rules) depth 14
 
-  pub penalise_again-sound : (s : Side) → Keeps P (penalise_again s)
-  unfolding penalise_again
-  penalise_again-sound s = search (sound_rules) depth 14
+  pub take_penalty_again-sound : (s : Side) → Keeps P (take_penalty_again s)
+  unfolding take_penalty_again
+  take_penalty_again-sound s = search (sound_rules) depth 14
 
   pub shift_to-sound : (user target : Side) (stat : Stat) (n : ℕ) → n ≤ 12 → Keeps P (shift_to user target stat n)
   unfolding shift_to
-  shift_to-sound user target stat n l = then-keeps (on_active-keeps target _ (active-spared target _ (recomputed-tame stat n l))) (penalise_again-sound _)
+  shift_to-sound user target stat n l = then-keeps (on_active-keeps target _ (active-spared target _ (recomputed-tame stat n l))) (take_penalty_again-sound _)
 
   pub raise_from-sound : (user target : Side) (stat : Stat) (by : ℕ) (failing : Phase) (n : ℕ) (full : Bool) → Keeps P failing
       → Keeps P (raise_from user target stat by failing n full)
@@ -374,26 +374,26 @@ module _ {terms : Terms} {P : Field → Action → Stream → Type 0} (sound : S
   unfolding fall_asleep
   fall_asleep-sound marked s tied = draw_until-sees sound _ (λ b byte e. sleep_for-sound marked s b tied e)
 
-  pub lull_freely-sound : (user : Side) → Keeps P (lull_freely user)
-  unfolding lull_freely
-  lull_freely-sound user = fall_asleep-sound false (other user) (λ e. absurd (false≢true e))
+  pub sleep_freely-sound : (user : Side) → Keeps P (sleep_freely user)
+  unfolding sleep_freely
+  sleep_freely-sound user = fall_asleep-sound false (other user) (λ e. absurd (false≢true e))
 
   pub freeze_freely-sound : (user : Side) → Keeps P (freeze_freely user)
   unfolding freeze_freely
   freeze_freely-sound user = search (sound_rules, inflict-sound) depth 14
 
-  pub lull_only_one-sound : (user : Side) → terms.rules.sleep_clause ≡ true → Keeps P (lull_only_one user)
-  unfolding lull_only_one
-  lull_only_one-sound user holds = then-keeps (fails_if-sound user _) (fall_asleep-sound true (other user) (λ e. holds))
+  pub sleep_only_one-sound : (user : Side) → terms.rules.sleep_clause ≡ true → Keeps P (sleep_only_one user)
+  unfolding sleep_only_one
+  sleep_only_one-sound user holds = then-keeps (fails_if-sound user _) (fall_asleep-sound true (other user) (λ e. holds))
 
   pub freeze_only_one-sound : (user : Side) → Keeps P (freeze_only_one user)
   unfolding freeze_only_one
   freeze_only_one-sound user = search (sound_rules, freeze_freely-sound) depth 14
 
-  pub lulls_under-sound : (clause : Bool) (user : Side) → (clause ≡ true → terms.rules.sleep_clause ≡ true) → Keeps P (lulls_under clause user)
-  unfolding lulls_under
-  lulls_under-sound true user holds = lull_only_one-sound user (holds refl)
-  lulls_under-sound false user holds = lull_freely-sound user
+  pub sleeps_under-sound : (clause : Bool) (user : Side) → (clause ≡ true → terms.rules.sleep_clause ≡ true) → Keeps P (sleeps_under clause user)
+  unfolding sleeps_under
+  sleeps_under-sound true user holds = sleep_only_one-sound user (holds refl)
+  sleeps_under-sound false user holds = sleep_freely-sound user
 
   pub freezes_under-sound : (x : Bool) (user : Side) → Keeps P (freezes_under x user)
   unfolding freezes_under
@@ -521,7 +521,7 @@ module _ {terms : Terms} {P : Field → Action → Stream → Type 0} (sound : S
 
   pub put_to_sleep-sound : (r : Ruling) (s : Side) (move : Move) → KeepsRuling P r → IsMove move → Keeps P (put_to_sleep r s move)
   unfolding put_to_sleep
-  put_to_sleep-sound r s move ruling is = search (sound_rules, ready_to_sleep-sound, ruling.lulls) depth 14
+  put_to_sleep-sound r s move ruling is = search (sound_rules, ready_to_sleep-sound, ruling.sleeps) depth 14
 
   pub lower_foes_stat-sound : (s : Side) (move : Move) (stat : Stat) (by : ℕ) → 1 ≤ by → IsMove move → Keeps P (lower_foes_stat s move stat by)
   unfolding lower_foes_stat
@@ -675,7 +675,7 @@ module _ {terms : Terms} {P : Field → Action → Stream → Type 0} (sound : S
   unfolding missed_move
   missed_move-sound s move is = search (sound_rules, note_miss-sound, crash-sound, explode-sound) depth 14
 
-  pub note_effectiveness-sound : (target : Side) (n : Numbers) → Keeps P (note_effectiveness target n)
+  pub note_effectiveness-sound : (target : Side) (n : DamageNumbers) → Keeps P (note_effectiveness target n)
   unfolding note_effectiveness
   note_effectiveness-sound target n = search (sound_rules) depth 14
 
@@ -725,4 +725,4 @@ module _ {terms : Terms} {P : Field → Action → Stream → Type 0} (sound : S
   damage_of-sound s move _ is = search (sound_rules, usual_damage-sound) depth 14
 
   pub ruling-sound : KeepsRuling P (ruling_of terms)
-  ruling-sound = record { lulls = λ user. lulls_under-sound terms.rules.sleep_clause user (λ e. e); freezes = λ user. freezes_under-sound terms.rules.freeze_clause user }
+  ruling-sound = record { sleeps = λ user. sleeps_under-sound terms.rules.sleep_clause user (λ e. e); freezes = λ user. freezes_under-sound terms.rules.freeze_clause user }

@@ -3,11 +3,11 @@
 -- takes over as they are stand in tools/steady_lemmas.txt.
 use Rattle.gen1_machine.specs.Action.{act, action_parts, begin, carry_out, damage_of, gate_or_held, keep_accuracy, lead_up, prelude, resume, see_if_going_on, set_going_on, spend_pp, strike, use_move, usual_damage}
 use Rattle.gen1_machine.specs.Charging.{begin_charge, charge, end_charge, make_current}
-use Rattle.gen1_machine.specs.Conditions.{after_haze, broken_off, with_bad_poison, with_bide, with_bide_storing, with_charging, with_confusion, with_confusion_one_less, with_disable_one_less, with_disabled, with_flinch, with_focus_energy, with_invulnerability, with_light_screen, with_mist, with_recharge, with_reflect, with_seed, with_substitute, with_substitute_hurt, with_trapping, with_trapping_one_less, with_worse_poison, without_bide, without_charging, without_confusion, without_disable, without_flinch, without_invulnerability, without_recharge, without_seed, without_substitute, without_trapping, Conditions, Storing}
+use Rattle.gen1_machine.specs.Conditions.{after_haze, broken_off, with_bad_poison, with_bide, with_bide_storing, with_charging, with_confusion, with_confusion_one_less, with_disable_one_less, with_disabled, with_flinch, with_focus_energy, with_invulnerability, with_light_screen, with_mist, with_recharge, with_reflect, with_seed, with_substitute, with_substitute_hurt, with_trapping, with_trapping_one_less, with_worse_poison, without_bide, without_charging, without_confusion, without_disable, without_flinch, without_invulnerability, without_recharge, without_seed, without_substitute, without_trapping, ActiveConditions, Storing}
 use Rattle.gen1_machine.specs.Counter.{counter, counter_by}
 use Rattle.gen1_machine.specs.CriticalHits.{critical_by, roll_critical, set_critical}
 use Rattle.gen1_machine.specs.CurrentStats.{at_new_stage, recomputed_at, with_penalty_of}
-use Rattle.gen1_machine.specs.Damage.{damage_from, roll_damage, set_through_types, varied_by, vary, Numbers}
+use Rattle.gen1_machine.specs.Damage.{damage_from, roll_damage, set_through_types, varied_by, vary, DamageNumbers}
 use Rattle.gen1_machine.specs.EarlyEffects.{clear_side, confuse, confuse_foe, confused_by, convert, cure_kind, early_effect, haze, haze_cures, heal, make_substitute, paralyse_foe, pay_for_substitute, poison_foe, recover, rest_up, seed_foe, set_focus_energy, set_light_screen, set_mist, set_reflect, set_screen, set_skips, splash, take_types, with_levelled_stats}
 use Rattle.gen1_machine.specs.FixedDamage.{deal_everything, deal_fixed, fixed_damage, knock_out, knock_out_by_type, psywave}
 use Rattle.gen1_machine.specs.Gate.{cant, confusion_test, disable_count, disabled_test, flinch_test, frozen_test, gate, gate_of_move, gate_of_status, gate_of_turn, may_be_paralysed, may_hurt_itself, paralysis_test, recharge_test, sleep_on, sleep_test, trapped_test, wake}
@@ -21,10 +21,10 @@ use Rattle.gen1_machine.specs.ManyHits.{build_rage, count_hit, crash, hit_again,
 use Rattle.gen1_machine.specs.Moves.{Move}
 use Rattle.gen1_machine.specs.Progress.{cure, fail, fails_if, fault, gain_hp, inflict, lose_hp, starts, Action, Phase, Progress}
 use Rattle.gen1_machine.specs.Residual.{drained_by, residual, suffer, suffer_seed, suffer_status, worsen}
-use Rattle.gen1_machine.specs.Ruling.{fall_asleep, freeze_freely, freeze_only_one, freezes_under, lull_freely, lull_only_one, lulls_under, ruling_of, sleep_for, Ruling}
+use Rattle.gen1_machine.specs.Ruling.{fall_asleep, freeze_freely, freeze_only_one, freezes_under, ruling_of, sleep_for, sleep_freely, sleep_only_one, sleeps_under, Ruling}
 use Rattle.gen1_machine.specs.SideEffects.{by_chance, disable, disable_for, disable_slot, flinch, happens_below, kept_away_effect, may_confuse, may_inflict, may_poison, must_recharge, side_effect, thaw}
-use Rattle.gen1_machine.specs.StageShift.{lower_from, lower_stage, note_boost, note_unboost, penalise_again, raise_from, raise_stage, shift_to}
-use Rattle.gen1_machine.specs.State.{changed_active, changed_conditions, changed_member, fallen, with_current, with_kept_accuracy, with_last_damage, with_outcome, with_picked, with_pp_spent, with_sleep_one_less, with_status, with_types_of, Active, Field, Terms}
+use Rattle.gen1_machine.specs.StageShift.{lower_from, lower_stage, note_boost, note_unboost, raise_from, raise_stage, shift_to, take_penalty_again}
+use Rattle.gen1_machine.specs.State.{changed_active, changed_conditions, changed_member, fallen, with_current_move, with_kept_accuracy, with_last_damage, with_outcome, with_picked_move, with_pp_spent, with_sleep_one_less, with_status, with_types_of, Active, Field, Terms}
 use Rattle.gen1_machine.specs.Valid.{keeps_accuracy}
 use Rattle.gen1_machine.specs.declared.event.CantReason.{CantReason}
 use Rattle.gen1_machine.specs.declared.event.DamageSource.{DamageSource}
@@ -32,7 +32,7 @@ use Rattle.gen1_machine.specs.declared.health.Kind.{Kind}
 use Rattle.gen1_machine.specs.declared.picks.DisabledSlot.{DisabledSlot}
 use Rattle.gen1_machine.specs.declared.picks.Pick.{Pick}
 use Rattle.gen1_machine.specs.declared.picks.Pick.TheVariants.{Held}
-use Rattle.gen1_machine.specs.declared.picks.Used.{Used}
+use Rattle.gen1_machine.specs.declared.picks.UsedMove.{UsedMove}
 use Rattle.gen1_machine.specs.declared.side.Side.{Side}
 use Rattle.gen1_rolls.specs.Streams.{Stream}
 use Rattle.gen1_stats.specs.Members.{Member}
@@ -55,8 +55,8 @@ pub record LeavesKept (change : Active → Active) : Type 0 where
   pub conditions : (a : Active) → (change a).conditions ≡ a.conditions
   pub place : (a : Active) → (change a).place ≡ a.place
 
-pub record Leaves (change : Conditions → Conditions) : Type 0 where
-  pub left : (c : Conditions) → keeps_accuracy (change c).underway ≡ keeps_accuracy c.underway
+pub record Leaves (change : ActiveConditions → ActiveConditions) : Type 0 where
+  pub left : (c : ActiveConditions) → keeps_accuracy (change c).underway ≡ keeps_accuracy c.underway
 
 -- a change that leaves a fallen member healthy
 pub record Softens (change : Member → Member) : Type 0 where
@@ -71,13 +71,13 @@ pub with_types_of-leaves : (foe : Active) → LeavesKept (with_types_of foe)
 unfolding with_types_of
 with_types_of-leaves foe = record { kept = λ a. refl; conditions = λ a. refl; place = λ a. refl }
 
-pub with_current-leaves : (used : Used) → LeavesKept (with_current used)
-unfolding with_current
-with_current-leaves used = record { kept = λ a. refl; conditions = λ a. refl; place = λ a. refl }
+pub with_current_move-leaves : (used : UsedMove) → LeavesKept (with_current_move used)
+unfolding with_current_move
+with_current_move-leaves used = record { kept = λ a. refl; conditions = λ a. refl; place = λ a. refl }
 
-pub with_picked-leaves : (used : Used) → LeavesKept (with_picked used)
-unfolding with_picked
-with_picked-leaves used = record { kept = λ a. refl; conditions = λ a. refl; place = λ a. refl }
+pub with_picked_move-leaves : (used : UsedMove) → LeavesKept (with_picked_move used)
+unfolding with_picked_move
+with_picked_move-leaves used = record { kept = λ a. refl; conditions = λ a. refl; place = λ a. refl }
 
 pub at_new_stage-leaves : (stat : Stat) (n : ℕ) → LeavesKept (at_new_stage stat n)
 unfolding at_new_stage
@@ -245,18 +245,18 @@ softens-sleep : Softens with_sleep_one_less
 unfolding with_sleep_one_less
 softens-sleep = record { healthy = λ m h e. rw (h e) refl }
 
-softens-pp : (used : Used) → Softens (with_pp_spent used)
+softens-pp : (used : UsedMove) → Softens (with_pp_spent used)
 unfolding with_pp_spent
 softens-pp used = record { healthy = λ m h. h }
 
-ruleset leaves_rules = (with_types_of-leaves, with_current-leaves, with_picked-leaves, at_new_stage-leaves, with_levelled_stats-leaves, recomputed_at-leaves, with_penalty_of-leaves, with_bide-leaves, with_bide_storing-leaves, without_bide-leaves, with_trapping-leaves, with_trapping_one_less-leaves, without_trapping-leaves, with_charging-leaves, without_charging-leaves, with_invulnerability-leaves, without_invulnerability-leaves, with_recharge-leaves, without_recharge-leaves, with_flinch-leaves, without_flinch-leaves, with_confusion-leaves, with_confusion_one_less-leaves, without_confusion-leaves, with_mist-leaves, with_focus_energy-leaves, with_light_screen-leaves, with_reflect-leaves, with_substitute-leaves, with_substitute_hurt-leaves, without_substitute-leaves, with_seed-leaves, without_seed-leaves, with_bad_poison-leaves, with_worse_poison-leaves, with_disabled-leaves, with_disable_one_less-leaves, without_disable-leaves, after_haze-leaves, softens-status, softens-fallen, softens-sleep, softens-pp)
+ruleset leaves_rules = (with_types_of-leaves, with_current_move-leaves, with_picked_move-leaves, at_new_stage-leaves, with_levelled_stats-leaves, recomputed_at-leaves, with_penalty_of-leaves, with_bide-leaves, with_bide_storing-leaves, without_bide-leaves, with_trapping-leaves, with_trapping_one_less-leaves, without_trapping-leaves, with_charging-leaves, without_charging-leaves, with_invulnerability-leaves, without_invulnerability-leaves, with_recharge-leaves, without_recharge-leaves, with_flinch-leaves, without_flinch-leaves, with_confusion-leaves, with_confusion_one_less-leaves, without_confusion-leaves, with_mist-leaves, with_focus_energy-leaves, with_light_screen-leaves, with_reflect-leaves, with_substitute-leaves, with_substitute_hurt-leaves, without_substitute-leaves, with_seed-leaves, without_seed-leaves, with_bad_poison-leaves, with_worse_poison-leaves, with_disabled-leaves, with_disable_one_less-leaves, without_disable-leaves, after_haze-leaves, softens-status, softens-fallen, softens-sleep, softens-pp)
 
 -- facts that outlive all this
 
 pub record Steady (P : Field → Action → Stream → Type 0) : Type 0 where
   pub member : (s : Side) (change : Member → Member) → Softens change → Spares P (changed_member s change)
   pub active : (s : Side) (change : Active → Active) → LeavesKept change → Spares P (changed_active s change)
-  pub conditions : (s : Side) (change : Conditions → Conditions) → Leaves change → Spares P (changed_conditions s change)
+  pub conditions : (s : Side) (change : ActiveConditions → ActiveConditions) → Leaves change → Spares P (changed_conditions s change)
   pub damage : (n : ℕ) → Spares P (with_last_damage n)
   pub action : (change : Action → Action) → LeavesAction change → SparesAction P change
 
@@ -272,7 +272,7 @@ pub record Breaks (P : Field → Action → Stream → Type 0) (s : Side) : Type
   pub broken : Spares P (changed_conditions s broken_off)
 
 pub record Own (P : Field → Action → Stream → Type 0) (s : Side) : Type 0 where
-  pub conditions : (change : Conditions → Conditions) → Spares P (changed_conditions s change)
+  pub conditions : (change : ActiveConditions → ActiveConditions) → Spares P (changed_conditions s change)
   pub kept : (byte : ℕ) → Spares P (changed_active s (with_kept_accuracy byte))
 
 pub record Acts (P : Field → Action → Stream → Type 0) : Type 0 where
@@ -285,7 +285,7 @@ module _ {P : Field → Action → Stream → Type 0} (steady : Steady P) where
   pub active-spared : (s : Side) (change : Active → Active) → LeavesKept change → Spares P (changed_active s change)
   active-spared = steady.active
 
-  pub conditions-spared : (s : Side) (change : Conditions → Conditions) → Leaves change → Spares P (changed_conditions s change)
+  pub conditions-spared : (s : Side) (change : ActiveConditions → ActiveConditions) → Leaves change → Spares P (changed_conditions s change)
   conditions-spared = steady.conditions
 
   pub damage-spared : (n : ℕ) → Spares P (with_last_damage n)
@@ -348,7 +348,7 @@ module _ {P : Field → Action → Stream → Type 0} (steady : Steady P) where
   unfolding set_through_types
   set_through_types-steady = on_action-keeps (steady.action _ (record { tested = λ a. refl; going_on = λ a. refl; letting_go = λ a. refl }))
 
-  pub damage_from-steady : (n : Numbers) (x : Option ℕ) → Faults P → Keeps P (damage_from n x)
+  pub damage_from-steady : (n : DamageNumbers) (x : Option ℕ) → Faults P → Keeps P (damage_from n x)
   unfolding damage_from
   damage_from-steady n None faults = search (steady_rules, fault-steady) depth 14
   damage_from-steady n (Some d) faults = search (steady_rules, set_through_types-steady, vary-steady) depth 14
@@ -539,13 +539,13 @@ module _ {P : Field → Action → Stream → Type 0} (steady : Steady P) where
   unfolding note_unboost
   note_unboost-steady s stat n = search (steady_rules) depth 14
 
-  pub penalise_again-steady : (s : Side) → Keeps P (penalise_again s)
-  unfolding penalise_again
-  penalise_again-steady s = search (steady_rules) depth 14
+  pub take_penalty_again-steady : (s : Side) → Keeps P (take_penalty_again s)
+  unfolding take_penalty_again
+  take_penalty_again-steady s = search (steady_rules) depth 14
 
   pub shift_to-steady : (user : Side) (target : Side) (stat : Stat) (n : ℕ) → Keeps P (shift_to user target stat n)
   unfolding shift_to
-  shift_to-steady user target stat n = search (steady_rules, penalise_again-steady) depth 14
+  shift_to-steady user target stat n = search (steady_rules, take_penalty_again-steady) depth 14
 
   pub raise_from-steady : (user : Side) (target : Side) (stat : Stat) (by : ℕ) (failing : Phase) (n : ℕ) (full : Bool) → Keeps P failing → Keeps P (raise_from user target stat by failing n full)
   unfolding raise_from
@@ -571,26 +571,26 @@ module _ {P : Field → Action → Stream → Type 0} (steady : Steady P) where
   unfolding fall_asleep
   fall_asleep-steady marked s hurts = search (steady_rules, sleep_for-steady) depth 14
 
-  pub lull_freely-steady : (user : Side) → Hurts P → Keeps P (lull_freely user)
-  unfolding lull_freely
-  lull_freely-steady user hurts = search (steady_rules, fall_asleep-steady) depth 14
+  pub sleep_freely-steady : (user : Side) → Hurts P → Keeps P (sleep_freely user)
+  unfolding sleep_freely
+  sleep_freely-steady user hurts = search (steady_rules, fall_asleep-steady) depth 14
 
   pub freeze_freely-steady : (user : Side) → Hurts P → Keeps P (freeze_freely user)
   unfolding freeze_freely
   freeze_freely-steady user hurts = search (steady_rules, inflict-steady) depth 14
 
-  pub lull_only_one-steady : (user : Side) → Hurts P → Keeps P (lull_only_one user)
-  unfolding lull_only_one
-  lull_only_one-steady user hurts = search (steady_rules, fails_if-steady, fall_asleep-steady) depth 14
+  pub sleep_only_one-steady : (user : Side) → Hurts P → Keeps P (sleep_only_one user)
+  unfolding sleep_only_one
+  sleep_only_one-steady user hurts = search (steady_rules, fails_if-steady, fall_asleep-steady) depth 14
 
   pub freeze_only_one-steady : (user : Side) → Hurts P → Keeps P (freeze_only_one user)
   unfolding freeze_only_one
   freeze_only_one-steady user hurts = search (steady_rules, freeze_freely-steady) depth 14
 
-  pub lulls_under-steady : (x : Bool) (user : Side) → Hurts P → Keeps P (lulls_under x user)
-  unfolding lulls_under
-  lulls_under-steady true user hurts = search (steady_rules, lull_only_one-steady) depth 14
-  lulls_under-steady false user hurts = search (steady_rules, lull_freely-steady) depth 14
+  pub sleeps_under-steady : (x : Bool) (user : Side) → Hurts P → Keeps P (sleeps_under x user)
+  unfolding sleeps_under
+  sleeps_under-steady true user hurts = search (steady_rules, sleep_only_one-steady) depth 14
+  sleeps_under-steady false user hurts = search (steady_rules, sleep_freely-steady) depth 14
 
   pub freezes_under-steady : (x : Bool) (user : Side) → Hurts P → Keeps P (freezes_under x user)
   unfolding freezes_under
@@ -716,7 +716,7 @@ module _ {P : Field → Action → Stream → Type 0} (steady : Steady P) where
 
   pub put_to_sleep-steady : (r : Ruling) (s : Side) (move : Move) → KeepsRuling P r → Acts P → Keeps P (put_to_sleep r s move)
   unfolding put_to_sleep
-  put_to_sleep-steady r s move ruling acts = search (steady_rules, ready_to_sleep-steady, ruling.lulls) depth 14
+  put_to_sleep-steady r s move ruling acts = search (steady_rules, ready_to_sleep-steady, ruling.sleeps) depth 14
 
   pub lower_foes_stat-steady : (s : Side) (move : Move) (stat : Stat) (by : ℕ) → Acts P → Keeps P (lower_foes_stat s move stat by)
   unfolding lower_foes_stat
@@ -954,7 +954,7 @@ module _ {P : Field → Action → Stream → Type 0} (steady : Steady P) where
   unfolding missed_move
   missed_move-steady s move hurts = search (steady_rules, note_miss-steady, crash-steady, explode-steady) depth 14
 
-  pub note_effectiveness-steady : (target : Side) (n : Numbers) → Keeps P (note_effectiveness target n)
+  pub note_effectiveness-steady : (target : Side) (n : DamageNumbers) → Keeps P (note_effectiveness target n)
   unfolding note_effectiveness
   note_effectiveness-steady target n = search (steady_rules) depth 14
 
@@ -1067,4 +1067,4 @@ module _ {P : Field → Action → Stream → Type 0} (steady : Steady P) where
   }
 
   pub ruling-steady : (terms : Terms) → Hurts P → KeepsRuling P (ruling_of terms)
-  ruling-steady terms hurts = record { lulls = λ user. lulls_under-steady terms.rules.sleep_clause user hurts; freezes = λ user. freezes_under-steady terms.rules.freeze_clause user hurts }
+  ruling-steady terms hurts = record { sleeps = λ user. sleeps_under-steady terms.rules.sleep_clause user hurts; freezes = λ user. freezes_under-steady terms.rules.freeze_clause user hurts }

@@ -9,7 +9,7 @@ use Rattle.gen1_stats.specs.declared.status.Status.{Status}
 use Rattle.gen1_stats.specs.declared.status.Status.TheVariants.{Asleep, Burned, Frozen, Healthy, Paralysed, Poisoned}
 use Rattle.gen1_stats.specs.Members.{nothing_known, IsBetween, IsMember, Member}
 use Rattle.gen1_machine.specs.Rules.{Rules}
-use Rattle.gen1_machine.specs.Conditions.{after_haze, broken_off, less_by, one_less, one_more, with_bad_poison, with_confusion, with_flinch, with_focus_energy, with_invulnerability, with_light_screen, with_mist, with_reflect, with_seed, with_substitute, with_substitute_hurt, with_trapping_one_less, with_worse_poison, without_bide, without_charging, without_confusion, without_disable, without_flinch, without_invulnerability, without_recharge, without_seed, without_substitute, without_thrash, without_trapping, Conditions}
+use Rattle.gen1_machine.specs.Conditions.{after_haze, broken_off, less_by, one_less, one_more, with_bad_poison, with_confusion, with_flinch, with_focus_energy, with_invulnerability, with_light_screen, with_mist, with_reflect, with_seed, with_substitute, with_substitute_hurt, with_trapping_one_less, with_worse_poison, without_bide, without_charging, without_confusion, without_disable, without_flinch, without_invulnerability, without_recharge, without_seed, without_substitute, without_thrash, without_trapping, ActiveConditions}
 use Rattle.gen1_machine.specs.State.{fallen, healed_by, hurt_by, one_turn_less_asleep, with_kept_accuracy, with_sleep_one_less, with_status, with_types_of, Active, Stages}
 use Rattle.gen1_machine.specs.CurrentStats.{at_new_stage, recomputed_at, with_penalty_of, with_stage}
 use Rattle.gen1_machine.specs.EarlyEffects.{with_levelled_stats}
@@ -111,7 +111,7 @@ sleep-tame {rules} = record { moves = λ m. same-moves m.moves; valid = λ m h. 
 
 pub record TameActive (change : Active → Active) : Type 0 where
   pub place : (a : Active) → (change a).place ≡ a.place
-  pub current : (a : Active) → (change a).current ≡ a.current
+  pub current_move : (a : Active) → (change a).current_move ≡ a.current_move
   pub conditions : (a : Active) → (change a).conditions ≡ a.conditions
   pub valid : (moves : List KnownMove) (a : Active) → IsActive moves a → IsActive moves (change a)
 
@@ -119,18 +119,18 @@ pub types-tame : (foe : Active) → TameActive (with_types_of foe)
 unfolding with_types_of
 types-tame foe = record {
   place = λ a. refl;
-  current = λ a. refl;
+  current_move = λ a. refl;
   conditions = λ a. refl;
-  valid = λ moves a h. record { stages = h.stages; current = h.current; picked = h.picked; kept_accuracy = h.kept_accuracy; conditions = h.conditions };
+  valid = λ moves a h. record { stages = h.stages; current_move = h.current_move; picked_move = h.picked_move; kept_accuracy = h.kept_accuracy; conditions = h.conditions };
 }
 
 pub accuracy-tame : (byte : ℕ) → byte ≤ 255 → TameActive (with_kept_accuracy byte)
 unfolding with_kept_accuracy
 accuracy-tame byte l = record {
   place = λ a. refl;
-  current = λ a. refl;
+  current_move = λ a. refl;
   conditions = λ a. refl;
-  valid = λ moves a h. record { stages = h.stages; current = h.current; picked = h.picked; kept_accuracy = l; conditions = h.conditions };
+  valid = λ moves a h. record { stages = h.stages; current_move = h.current_move; picked_move = h.picked_move; kept_accuracy = l; conditions = h.conditions };
 }
 
 with-stage : (stat : Stat) (n : ℕ) (s : Stages) → n ≤ 12 → IsStages s → IsStages (with_stage stat n s)
@@ -142,13 +142,13 @@ with-stage Accuracy n s l h = record { attack = h.attack; defense = h.defense; s
 with-stage Evasion n s l h = record { attack = h.attack; defense = h.defense; speed = h.speed; special = h.special; accuracy = h.accuracy; evasion = l }
 
 staged : (moves : List KnownMove) (a : Active) (s : Stages) → IsStages s → IsActive moves a → IsActive moves (record a { stages = s })
-staged moves a s l h = record { stages = l; current = h.current; picked = h.picked; kept_accuracy = h.kept_accuracy; conditions = h.conditions }
+staged moves a s l h = record { stages = l; current_move = h.current_move; picked_move = h.picked_move; kept_accuracy = h.kept_accuracy; conditions = h.conditions }
 
 pub stage-tame : (stat : Stat) (n : ℕ) → n ≤ 12 → TameActive (at_new_stage stat n)
 unfolding at_new_stage
 stage-tame stat n l = record {
   place = λ a. refl;
-  current = λ a. refl;
+  current_move = λ a. refl;
   conditions = λ a. refl;
   valid = λ moves a h. staged moves a _ (with-stage stat n a.stages l h.stages) h;
 }
@@ -157,50 +157,50 @@ pub recomputed-tame : (stat : Stat) (n : ℕ) → n ≤ 12 → TameActive (recom
 unfolding recomputed_at
 recomputed-tame Attack n l = record {
   place = λ a. refl;
-  current = λ a. refl;
+  current_move = λ a. refl;
   conditions = λ a. refl;
-  valid = λ moves a h. record { stages = with-stage Attack n a.stages l h.stages; current = h.current; picked = h.picked; kept_accuracy = h.kept_accuracy; conditions = h.conditions };
+  valid = λ moves a h. record { stages = with-stage Attack n a.stages l h.stages; current_move = h.current_move; picked_move = h.picked_move; kept_accuracy = h.kept_accuracy; conditions = h.conditions };
 }
 recomputed-tame Speed n l = record {
   place = λ a. refl;
-  current = λ a. refl;
+  current_move = λ a. refl;
   conditions = λ a. refl;
-  valid = λ moves a h. record { stages = with-stage Speed n a.stages l h.stages; current = h.current; picked = h.picked; kept_accuracy = h.kept_accuracy; conditions = h.conditions };
+  valid = λ moves a h. record { stages = with-stage Speed n a.stages l h.stages; current_move = h.current_move; picked_move = h.picked_move; kept_accuracy = h.kept_accuracy; conditions = h.conditions };
 }
-recomputed-tame Defense n l = record { place = λ a. refl; current = λ a. refl; conditions = λ a. refl; valid = λ moves a h. staged moves a _ (with-stage Defense n a.stages l h.stages) h }
-recomputed-tame Special n l = record { place = λ a. refl; current = λ a. refl; conditions = λ a. refl; valid = λ moves a h. staged moves a _ (with-stage Special n a.stages l h.stages) h }
-recomputed-tame Accuracy n l = record { place = λ a. refl; current = λ a. refl; conditions = λ a. refl; valid = λ moves a h. staged moves a _ (with-stage Accuracy n a.stages l h.stages) h }
-recomputed-tame Evasion n l = record { place = λ a. refl; current = λ a. refl; conditions = λ a. refl; valid = λ moves a h. staged moves a _ (with-stage Evasion n a.stages l h.stages) h }
+recomputed-tame Defense n l = record { place = λ a. refl; current_move = λ a. refl; conditions = λ a. refl; valid = λ moves a h. staged moves a _ (with-stage Defense n a.stages l h.stages) h }
+recomputed-tame Special n l = record { place = λ a. refl; current_move = λ a. refl; conditions = λ a. refl; valid = λ moves a h. staged moves a _ (with-stage Special n a.stages l h.stages) h }
+recomputed-tame Accuracy n l = record { place = λ a. refl; current_move = λ a. refl; conditions = λ a. refl; valid = λ moves a h. staged moves a _ (with-stage Accuracy n a.stages l h.stages) h }
+recomputed-tame Evasion n l = record { place = λ a. refl; current_move = λ a. refl; conditions = λ a. refl; valid = λ moves a h. staged moves a _ (with-stage Evasion n a.stages l h.stages) h }
 
 pub penalty-tame : (status : Status) → TameActive (with_penalty_of status)
 unfolding with_penalty_of
 penalty-tame Paralysed = record {
   place = λ a. refl;
-  current = λ a. refl;
+  current_move = λ a. refl;
   conditions = λ a. refl;
-  valid = λ moves a h. record { stages = h.stages; current = h.current; picked = h.picked; kept_accuracy = h.kept_accuracy; conditions = h.conditions };
+  valid = λ moves a h. record { stages = h.stages; current_move = h.current_move; picked_move = h.picked_move; kept_accuracy = h.kept_accuracy; conditions = h.conditions };
 }
 penalty-tame Burned = record {
   place = λ a. refl;
-  current = λ a. refl;
+  current_move = λ a. refl;
   conditions = λ a. refl;
-  valid = λ moves a h. record { stages = h.stages; current = h.current; picked = h.picked; kept_accuracy = h.kept_accuracy; conditions = h.conditions };
+  valid = λ moves a h. record { stages = h.stages; current_move = h.current_move; picked_move = h.picked_move; kept_accuracy = h.kept_accuracy; conditions = h.conditions };
 }
-penalty-tame Healthy = record { place = λ a. refl; current = λ a. refl; conditions = λ a. refl; valid = λ moves a h. h }
-penalty-tame (Asleep turns marked) = record { place = λ a. refl; current = λ a. refl; conditions = λ a. refl; valid = λ moves a h. h }
-penalty-tame Poisoned = record { place = λ a. refl; current = λ a. refl; conditions = λ a. refl; valid = λ moves a h. h }
-penalty-tame Frozen = record { place = λ a. refl; current = λ a. refl; conditions = λ a. refl; valid = λ moves a h. h }
+penalty-tame Healthy = record { place = λ a. refl; current_move = λ a. refl; conditions = λ a. refl; valid = λ moves a h. h }
+penalty-tame (Asleep turns marked) = record { place = λ a. refl; current_move = λ a. refl; conditions = λ a. refl; valid = λ moves a h. h }
+penalty-tame Poisoned = record { place = λ a. refl; current_move = λ a. refl; conditions = λ a. refl; valid = λ moves a h. h }
+penalty-tame Frozen = record { place = λ a. refl; current_move = λ a. refl; conditions = λ a. refl; valid = λ moves a h. h }
 
 pub levelled-tame : TameActive with_levelled_stats
 unfolding with_levelled_stats
 levelled-tame = record {
   place = λ a. refl;
-  current = λ a. refl;
+  current_move = λ a. refl;
   conditions = λ a. refl;
   valid = λ moves a h. record {
     stages = record { attack = omega arith; defense = omega arith; speed = omega arith; special = omega arith; accuracy = omega arith; evasion = omega arith };
-    current = h.current;
-    picked = h.picked;
+    current_move = h.current_move;
+    picked_move = h.picked_move;
     kept_accuracy = h.kept_accuracy;
     conditions = h.conditions;
   };
@@ -208,8 +208,8 @@ levelled-tame = record {
 
 -- conditions, beside any current move
 
-pub record TameConditions (change : Conditions → Conditions) : Type 0 where
-  pub valid : (e : Effect) (n : ℕ) (c : Conditions) → IsConditions e n c → IsConditions e n (change c)
+pub record TameConditions (change : ActiveConditions → ActiveConditions) : Type 0 where
+  pub valid : (e : Effect) (n : ℕ) (c : ActiveConditions) → IsConditions e n c → IsConditions e n (change c)
 
 pub with_invulnerability-tame : TameConditions with_invulnerability
 unfolding with_invulnerability

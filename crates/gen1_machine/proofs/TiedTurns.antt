@@ -36,7 +36,7 @@ pub record Tied (terms : Terms) (In Out : Field → Action → Stream → Type 0
   pub suffers : (s : Side) → Leads In Out (do_part (ruling_of terms) (Suffers s))
   pub sends : (s : Side) (place : ℕ) → Leads In Out (do_part (ruling_of terms) (Sends s place))
   pub ends : (s : Side) → Keeps Out (end_spent_trapping s)
-  pub picked : (s : Side) (pick : Pick) → Keeps In (set_picked s pick)
+  pub picked_move : (s : Side) (pick : Pick) → Keeps In (set_picked s pick)
   pub flinch : (s : Side) → Keeps In (on_conditions s without_flinch)
 
 pub choose-cases : {P Q : Field → Action → Stream → Type 0} (test : Progress → Bool) (f g : Phase)
@@ -100,7 +100,7 @@ module _ (terms : Terms) {In Out : Field → Action → Stream → Type 0} (tied
       choose-leads _ (k One) (choose-leads _ (k Two) (choose-leads _ (k One) (choose-leads _ (k Two) (draw-leads (λ b. choose-leads _ (k One) (k Two))))))))
 
   picked-inside : (plan : Side → Plan) (s : Side) (pick : Pick) → FitsPick pick (plan s) → Keeps (Inside plan) (set_picked s pick)
-  picked-inside plan s pick fits = both-keep (set_picked-keeps terms plan s pick fits) (tied.picked s pick)
+  picked-inside plan s pick fits = both-keep (set_picked-keeps terms plan s pick fits) (tied.picked_move s pick)
 
   fits-of : (plan : Side → Plan) (one two : Pick) → FitsPick one (plan One) → FitsPick two (plan Two) → (s : Side) → FitsPick (of_side s one two) (plan s)
   fits-of plan one two fits_one fits_two One = fits_one

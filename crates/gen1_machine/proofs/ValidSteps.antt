@@ -106,8 +106,8 @@ out-first rules t h m =
       place = rw (sent-place 1 m) (omega arith, omega (arith, h.size));
       active = record {
         stages = a.stages;
-        current = a.current;
-        picked = a.picked;
+        current_move = a.current_move;
+        picked_move = a.picked_move;
         kept_accuracy = a.kept_accuracy;
         conditions = without_trapping-tame.valid _ _ _ a.conditions;
       };

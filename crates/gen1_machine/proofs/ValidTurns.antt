@@ -10,13 +10,13 @@ use Rattle.gen1_machine.specs.declared.choice.Choice.{Choice}
 use Rattle.gen1_machine.specs.declared.choice.Choice.TheVariants as choices
 use Rattle.gen1_machine.specs.declared.picks.Pick.{Pick}
 use Rattle.gen1_machine.specs.declared.picks.Pick.TheVariants.{Continue, Held, Idle, Use}
-use Rattle.gen1_machine.specs.declared.picks.Used.{Used}
-use Rattle.gen1_machine.specs.declared.picks.Used.TheVariants.{Slot, Struggle}
+use Rattle.gen1_machine.specs.declared.picks.UsedMove.{UsedMove}
+use Rattle.gen1_machine.specs.declared.picks.UsedMove.TheVariants.{Slot, Struggle}
 use Rattle.gen1_machine.specs.declared.side.Side.{Side}
 use Rattle.gen1_machine.specs.declared.side.Side.TheVariants.{One, Two}
 use Rattle.gen1_machine.specs.Sides.{other}
 use Rattle.gen1_machine.specs.Conditions.{no_conditions, without_flinch, Underway}
-use Rattle.gen1_machine.specs.State.{active_in, changed_active, changed_conditions, member_in, party, status_in, underway_in, with_party, with_picked, Active, Field, Party, Terms}
+use Rattle.gen1_machine.specs.State.{active_in, changed_active, changed_conditions, member_in, party, status_in, underway_in, with_party, with_picked_move, Active, Field, Party, Terms}
 use Rattle.gen1_machine.specs.Picks.{must_continue, pick_in, picked_after, sleeps_or_freezes}
 use Rattle.gen1_machine.specs.Progress.{given, on_action, on_active, on_conditions, on_field, Action, Phase, Progress}
 use Rattle.gen1_machine.specs.Ruling.{ruling_of}
@@ -24,7 +24,7 @@ use Rattle.gen1_machine.specs.Action.{act, begin}
 use Rattle.gen1_machine.specs.SwitchingIn.{send_out, sent_out, with_sent_out}
 use Rattle.gen1_machine.specs.TurnOrder.{in_order, in_order_of_rank, in_order_of_speed, toss}
 use Rattle.gen1_machine.specs.Turn.{both_act, both_pick, both_switch, do_part, do_parts, end_spent_trapping, end_turn, of_side, one_picks, play_turn, set_picked, turn, Acts, Part, Sends, Suffers}
-use Rattle.gen1_machine.specs.Valid.{effect_of, IsActive, IsConditions, IsUnderway, IsUsed}
+use Rattle.gen1_machine.specs.Valid.{effect_of, IsActive, IsConditions, IsUnderway, IsUsedMove}
 use Rattle.gen1_machine.specs.Plans.{with_plan, Any, Comes, Doing, FitsPick, HoldsPlan, InRange, IsPlanned, Plan, PlanOf, Plans}
 use Rattle.gen1_machine.proofs.Keeps.{choose-keeps, note-keeps, on_conditions-keeps, stay-keeps, then-keeps, Keeps}
 use Rattle.gen1_machine.proofs.Leads.{choose-leads, given-leads, keeps-leads, leads-weaker, stay-leads, then-leads, Leads}
@@ -54,32 +54,32 @@ act-fits terms plan s Held fits = act-stays terms plan s Held (λ used. refl)
 -- the picked move
 
 picked-valid : {terms : Terms} (plan : Side → Plan) (s : Side) (pick : Pick) (f : Field) (a : Action) (w : Stream) → FitsPick pick (plan s) → IsPlanned terms plan f a w
-    → IsUsed (length (member_in s f).moves) (picked_after pick (active_in s f).picked)
+    → IsUsedMove (length (member_in s f).moves) (picked_after pick (active_in s f).picked_move)
 picked-valid plan s (Use used) f a w fits h =
     (planned-holds s f a w fits.1 h).0
-picked-valid plan s Continue f a w fits h = (party-valid s f h.field).active.picked
-picked-valid plan s Idle f a w fits h = (party-valid s f h.field).active.picked
+picked-valid plan s Continue f a w fits h = (party-valid s f h.field).active.picked_move
+picked-valid plan s Idle f a w fits h = (party-valid s f h.field).active.picked_move
 picked-valid plan s Held f a w fits h = tt
 
-same-plan : (x : Plan) (moves : List KnownMove) (a : Active) (used : Used) → HoldsPlan x moves a → HoldsPlan x moves (record a { picked = used })
+same-plan : (x : Plan) (moves : List KnownMove) (a : Active) (used : UsedMove) → HoldsPlan x moves a → HoldsPlan x moves (record a { picked_move = used })
 same-plan Any moves a used h = h
 same-plan (Plans u e) moves a used h = h
 same-plan (Doing e) moves a used h = h
 
 module _ (terms : Terms) (plan : Side → Plan) (s : Side) where
-  picks : (used : Used) (f : Field) (a : Action) (w : Stream) → IsUsed (length (member_in s f).moves) used → IsPlanned terms plan f a w → IsPlanned terms plan (changed_active s (with_picked used) f) a w
-  unfolding changed_active with_picked
+  picks : (used : UsedMove) (f : Field) (a : Action) (w : Stream) → IsUsedMove (length (member_in s f).moves) used → IsPlanned terms plan f a w → IsPlanned terms plan (changed_active s (with_picked_move used) f) a w
+  unfolding changed_active with_picked_move
   picks used f a w l h =
       let v = party-valid s f h.field in
       record {
         field = with-party s _ f (record {
           members = v.members;
           place = v.place;
-          active = record { stages = v.active.stages; current = v.active.current; picked = l; kept_accuracy = v.active.kept_accuracy; conditions = v.active.conditions };
+          active = record { stages = v.active.stages; current_move = v.active.current_move; picked_move = l; kept_accuracy = v.active.kept_accuracy; conditions = v.active.conditions };
         }) h.field;
         tested = h.tested;
         stream = h.stream;
-        holds = holds-after terms plan s (record (party s f) { active = record (active_in s f) { picked = used } }) f
+        holds = holds-after terms plan s (record (party s f) { active = record (active_in s f) { picked_move = used } }) f
             (same-plan (plan s) (member_in s f).moves (active_in s f) used (h.holds s)) h.holds;
       }
 
@@ -169,8 +169,8 @@ no-conditions e n = record {
 pub sent-valid : (moves : List KnownMove) (place : ℕ) (m : Member) → IsActive moves (sent_out place m)
 sent-valid moves place m = (penalty-tame m.status).valid moves _ (record {
   stages = record { attack = omega arith; defense = omega arith; speed = omega arith; special = omega arith; accuracy = omega arith; evasion = omega arith };
-  current = tt;
-  picked = tt;
+  current_move = tt;
+  picked_move = tt;
   kept_accuracy = omega arith;
   conditions = no-conditions _ _;
 })
@@ -298,7 +298,7 @@ pick-plan {terms} plan s zero f a w fits h = by (must_continue (underway_in s f)
   where
     by : (b c d : Bool) → must_continue (underway_in s f) ≡ b → Picked terms plan s (if b then Continue else if c then Idle else if d then Held else Use Struggle) f a w
     by true c d e =
-        let effect = effect_of (active_in s f).current (member_in s f).moves in
+        let effect = effect_of (active_in s f).current_move (member_in s f).moves in
         record {
           next = with_plan s (Doing effect) plan;
           planned = replanned s (Doing effect) f a w refl h;

@@ -15,7 +15,7 @@ use Rattle.gen1_machine.specs.State.{changed_active, changed_conditions, changed
 use Rattle.gen1_machine.specs.Moves.{explodes, hits_more, Move}
 use Rattle.gen1_machine.specs.Progress.{Phase, given, on_field, on_active, on_conditions, on_member, on_action, active, member, Progress}
 use Rattle.gen1_machine.specs.CriticalHits.{set_critical, critical_by, roll_critical}
-use Rattle.gen1_machine.specs.Damage.{before_types, is_factor, type_steps, varied_by, vary, set_through_types, damage_from, roll_damage, Numbers}
+use Rattle.gen1_machine.specs.Damage.{before_types, is_factor, type_steps, varied_by, vary, set_through_types, damage_from, roll_damage, DamageNumbers}
 use Rattle.gen1_machine.specs.Picks.{used_by, number_in}
 use Rattle.gen1_machine.specs.SideEffects.{kept_away_effect, side_effect}
 use Rattle.gen1_machine.specs.GoingOn.{count_again, count_by_draw, draw_count, trap_for, trap, thrash_less, thrash_for, thrash_about, set_letting_go, let_energy_go, store_energy, bide_on, bide_goes_on}
@@ -28,7 +28,7 @@ use Rattle.gen1_machine.specs.Ruling.{Ruling}
 use Rattle.gen1_machine.specs.Action.{set_going_on, see_if_going_on, gate_or_held, move_taken_in, spend_pp, use_move, prelude, lead_up, usual_damage, damage_of, strike, carry_out, action_parts, accuracy_to_keep, keep_accuracy, begin, resume, act}
 use Rattle.gen1_machine.specs.View.{on_shown, not_shown, shows, View}
 use Rattle.gen1_machine.proofs.Showing.{AllOut, kept, keeps-member, Silent, silent-active, silent-conditions, told-member}
-use Rattle.gen1_machine.proofs.Watching.{seeing, Runs, Rests, Lands, Leads, Seen, Halted, Still, Broken, Tells, Anything, fallen_view, Fell, Stands, Fallen, MayFall, Faulted, after-leads, before-leads, ◌⊳◌, choose-tells, if-sees, given-tells, draw-tells, until-tells, stay-tells, stop-leads, stop-tells, fault-tells, action-tells, active-tells, conditions-tells, member-tells, damage-tells, field-ahead, still-ahead, note-tells, starts-tells, ends-tells, goes_on-tells, lose-tells, gain-tells}
+use Rattle.gen1_machine.proofs.Watching.{seeing, Runs, Rests, Lands, Leads, Seen, Halted, Still, Broken, Tells, Anything, fallen_view, Fell, Stands, Fallen, MayFall, Faulted, after-leads, before-leads, ◌⊳◌, choose-tells, if-sees, given-tells, draw-tells, until-tells, stay-tells, stop-leads, stop-tells, fault-tells, action-tells, active-tells, conditions-tells, member-tells, damage-tells, field-ahead, still-ahead, note-tells, starts-tells, ends-tells, lasts-tells, lose-tells, gain-tells}
 use Rattle.gen1_machine.proofs.WatchedGate.{missed-tells, cant-tells, gate-tells, land-tells, hit_or_miss-tells, note_miss-tells}
 use Rattle.gen1_machine.proofs.WatchedEffects.{shifts_well, RulingTells, Lags, apart-fallen, on-side-same, raise-lags, raise-tells, confuse-tells, early_effect-tells, late_effect-tells, side_effect-tells}
 use Rattle.gen1_machine.proofs.ShiftingMoves.{moves-shift}
@@ -71,7 +71,7 @@ module _ {v : View} where
 
   pub store-tells : (s : Side) (damage : ℕ) → Tells v (store_energy s damage)
   unfolding store_energy seeing
-  store-tells s damage = goes_on-tells s _ _ (λ c. refl) ⊳ stop-tells
+  store-tells s damage = lasts-tells s _ _ (λ c. refl) ⊳ stop-tells
 
   pub bide_on-tells : (s : Side) (o : Option Storing) (damage : ℕ) → Tells v (bide_on s o damage)
   unfolding bide_on seeing
@@ -178,7 +178,7 @@ module _ {v : View} where
   unfolding set_through_types seeing
   through_types-tells = action-tells _
 
-  pub damage_from-tells : (n : Numbers) (o : Option ℕ) → Tells v (damage_from n o)
+  pub damage_from-tells : (n : DamageNumbers) (o : Option ℕ) → Tells v (damage_from n o)
   unfolding damage_from seeing
   damage_from-tells n None = fault-tells 1
   damage_from-tells n (Some d) = through_types-tells ⊳ missed-tells _ ⊳ vary-tells (type_steps d n)
@@ -265,7 +265,7 @@ module _ {v : View} where
   unfolding crash seeing
   crash-tells s = lose-tells s _ 1 ⊳ damage-tells 1
 
-  effectiveness-tells : (target : Side) (n : Numbers) → Tells v (note_effectiveness target n)
+  effectiveness-tells : (target : Side) (n : DamageNumbers) → Tells v (note_effectiveness target n)
   unfolding note_effectiveness seeing
   effectiveness-tells target n = choose-tells _ (note-tells _ (λ f w. refl)) (choose-tells _ (note-tells _ (λ f w. refl)) stay-tells)
 
@@ -404,7 +404,7 @@ module _ {v : View} where
   unfolding action_parts given
   parts-tells r h s pick = gate_or_held-tells s pick ⊳ see_if-tells s pick ⊳ record {
     leads = λ p i m.
-        (carry_out-tells r h s pick (move_taken_in s pick p.field) (moves-shift (number_in (used_by pick (active s p).current) (member s p).moves))).leads p i m;
+        (carry_out-tells r h s pick (move_taken_in s pick p.field) (moves-shift (number_in (used_by pick (active s p).current_move) (member s p).moves))).leads p i m;
   }
 
   pub begin-tells : (s : Side) → Tells v (begin s)

@@ -20,8 +20,8 @@ use Rattle.gen1_machine.specs.Moves.{Move}
 use Rattle.gen1_machine.specs.State.{party, active_in, who_in, kind_of, changed_active, changed_conditions, with_types_of, level_stages, Stages, Active, Field, Terms}
 use Rattle.gen1_machine.specs.CurrentStats.{stage_of, with_stage, at_new_stage, recomputed_at}
 use Rattle.gen1_machine.specs.Progress.{Phase, stay, note, on_active, on_conditions, Progress}
-use Rattle.gen1_machine.specs.StageShift.{note_boost, note_unboost, penalise_again, shift_to, raised, raise_from, lower_from, stage_in, raise_stage, lower_stage}
-use Rattle.gen1_machine.specs.Ruling.{is_sleep_count, sleep_for, fall_asleep, lull_freely, freeze_freely, lull_only_one, freeze_only_one, lulls_under, freezes_under, ruling_of, Ruling}
+use Rattle.gen1_machine.specs.StageShift.{note_boost, note_unboost, take_penalty_again, shift_to, raised, raise_from, lower_from, stage_in, raise_stage, lower_stage}
+use Rattle.gen1_machine.specs.Ruling.{is_sleep_count, sleep_for, fall_asleep, sleep_freely, freeze_freely, sleep_only_one, freeze_only_one, sleeps_under, freezes_under, ruling_of, Ruling}
 use Rattle.gen1_machine.specs.EarlyEffects.{confused_by, confuse, confuse_foe, take_types, convert, set_mist, set_focus_energy, set_light_screen, set_reflect, set_screen, with_levelled_stats, clear_side, cure_kind, set_skips, haze_cures, haze, rest_up, recover, heal, poison_foe, paralyse_foe, seed_foe, pay_for_substitute, make_substitute, splash, early_effect}
 use Rattle.gen1_machine.specs.LateEffects.{ready_to_sleep, put_to_sleep, lower_foes_stat, bide_for, start_bide, late_effect}
 use Rattle.gen1_machine.specs.SideEffects.{happens_below, by_chance, thaw, may_inflict, may_poison, may_confuse, flinch, kept_away_effect, names_slot, disable_for, disable_slot, disable, must_recharge, side_effect}
@@ -37,7 +37,7 @@ shifts_well (effects.StatDown stat n) = nat_le 1 n
 shifts_well _ = true
 
 pub record RulingTells (v : View) (r : Ruling) : Type 0 where
-  pub lulls : (s : Side) → Tells v (r.lulls s)
+  pub sleeps : (s : Side) → Tells v (r.sleeps s)
   pub freezes : (s : Side) → Tells v (r.freezes s)
 
 -- where what shows lags behind by a part of its own: nothing, or a member that fell unseen
@@ -158,7 +158,7 @@ module _ {v : View} {S : Progress → Type 0} where
 
   shift-ahead : (Fact : Field → Type 0) (G : View → View) (user target : Side) (stat : Stat) (k : ℕ)
       → Leads (Ahead v Fact G) (Ahead v Fact (λ w. on_side_view target (at_stage stat k) (G w))) S (shift_to user target stat k)
-  unfolding shift_to penalise_again on_active
+  unfolding shift_to take_penalty_again on_active
   shift-ahead Fact G user target stat k =
       more-ahead (changed_active target (recomputed_at stat k)) Fact G (on_side_view target (at_stage stat k)) (keeps-active target _ (recomputed-place stat k)) (recomputed-shows target stat k)
       ⊳ given-tells _ (λ status. still-ahead _ Fact (λ w. on_side_view target (at_stage stat k) (G w)) (silent-penalty (other user) status))
@@ -253,10 +253,10 @@ module _ {v : View} where
   unfolding fall_asleep seeing
   fall_asleep-tells marked s = until-tells is_sleep_count (sleep_for-tells marked s)
 
-  lulls_under-tells : (clause : Bool) (s : Side) → Tells v (lulls_under clause s)
-  unfolding lulls_under lull_only_one lull_freely seeing
-  lulls_under-tells true s = fails_if-tells s _ ⊳ fall_asleep-tells true (other s)
-  lulls_under-tells false s = fall_asleep-tells false (other s)
+  sleeps_under-tells : (clause : Bool) (s : Side) → Tells v (sleeps_under clause s)
+  unfolding sleeps_under sleep_only_one sleep_freely seeing
+  sleeps_under-tells true s = fails_if-tells s _ ⊳ fall_asleep-tells true (other s)
+  sleeps_under-tells false s = fall_asleep-tells false (other s)
 
   freeze_freely-tells : (s : Side) → Tells v (freeze_freely s)
   unfolding freeze_freely seeing
@@ -268,7 +268,7 @@ module _ {v : View} where
   freezes_under-tells false s = freeze_freely-tells s
 
   pub ruling_of-tells : (t : Terms) → RulingTells v (ruling_of t)
-  ruling_of-tells t = record { lulls = lulls_under-tells t.rules.sleep_clause; freezes = freezes_under-tells t.rules.freeze_clause }
+  ruling_of-tells t = record { sleeps = sleeps_under-tells t.rules.sleep_clause; freezes = freezes_under-tells t.rules.freeze_clause }
 
   -- before damage
 
@@ -393,7 +393,7 @@ module _ {v : View} where
 
   pub put_to_sleep-tells : (r : Ruling) → RulingTells v r → (s : Side) (move : Move) → Tells v (put_to_sleep r s move)
   unfolding put_to_sleep seeing
-  put_to_sleep-tells r h s move = ready_to_sleep-tells s move ⊳ h.lulls s
+  put_to_sleep-tells r h s move = ready_to_sleep-tells s move ⊳ h.sleeps s
 
   pub lower_foes-tells : (s : Side) (move : Move) (stat : Stat) (by : ℕ) → 1 ≤ by → Tells v (lower_foes_stat s move stat by)
   unfolding lower_foes_stat seeing

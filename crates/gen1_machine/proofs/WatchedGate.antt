@@ -22,7 +22,7 @@ use Rattle.gen1_machine.specs.HitOnItself.{land_on_foes_substitute, hurt_itself_
 use Rattle.gen1_machine.specs.Gate.{cant, wake, sleep_on, sleep_test, frozen_test, trapped_test, flinch_test, recharge_test, disable_count, may_hurt_itself, confusion_test, disabled_test, may_be_paralysed, paralysis_test, gate_of_status, gate_of_turn, gate_of_move, gate}
 use Rattle.gen1_machine.specs.View.{sees, shown, shows, View}
 use Rattle.gen1_machine.proofs.Showing.{keeps-member, unseen-member, told-member}
-use Rattle.gen1_machine.proofs.Watching.{seeing, Leads, Seen, Halted, Tells, before-leads, ◌⊳◌, choose-tells, if-sees, given-tells, given-sees, draw-tells, stay-tells, stop-tells, fault-tells, action-tells, conditions-tells, damage-tells, field-sees, note-tells, told-sees, ends-tells, goes_on-tells, lose-tells, cure-seen, confusion-unseen, substitute-unseen}
+use Rattle.gen1_machine.proofs.Watching.{seeing, Leads, Seen, Halted, Tells, before-leads, ◌⊳◌, choose-tells, if-sees, given-tells, given-sees, draw-tells, stay-tells, stop-tells, fault-tells, action-tells, conditions-tells, damage-tells, field-sees, note-tells, told-sees, ends-tells, lasts-tells, lose-tells, cure-seen, confusion-unseen, substitute-unseen}
 
 miss-unseen : (b : Bool) (x y : Who) (w : View) → sees (if b then events.Immune x else events.Miss y) w ≡ w
 unfolding sees
@@ -60,7 +60,7 @@ module _ {v : View} where
 
   pub on_substitute-tells : (s : Side) (damage hp : ℕ) → Tells v (land_on_substitute s damage hp)
   unfolding land_on_substitute seeing
-  on_substitute-tells s damage hp = choose-tells _ (broke-tells ⊳ ends-tells s _ _ (λ t. refl)) (goes_on-tells s _ _ (substitute-unseen damage))
+  on_substitute-tells s damage hp = choose-tells _ (broke-tells ⊳ ends-tells s _ _ (λ t. refl)) (lasts-tells s _ _ (substitute-unseen damage))
 
   pub on_hp-tells : (s : Side) (source : DamageSource) (damage : ℕ) → Tells v (land_on_hp s source damage)
   unfolding land_on_hp seeing
@@ -153,7 +153,7 @@ module _ {v : View} where
   pub confusion-tells : (s : Side) (o : Option ℕ) → Tells v (confusion_test s o)
   unfolding confusion_test seeing
   confusion-tells s None = stay-tells
-  confusion-tells s (Some turns) = choose-tells _ (ends-tells s _ _ (λ t. refl)) (goes_on-tells s _ _ confusion-unseen ⊳ draw-tells (may_hurt_itself-tells s))
+  confusion-tells s (Some turns) = choose-tells _ (ends-tells s _ _ (λ t. refl)) (lasts-tells s _ _ confusion-unseen ⊳ draw-tells (may_hurt_itself-tells s))
 
   pub disabled-tells : (s : Side) (pick : Pick) → Tells v (disabled_test s pick)
   unfolding disabled_test seeing

@@ -15,10 +15,10 @@ use Rattle.gen1_machine.specs.declared.event.DamageSource.{DamageSource}
 use Rattle.gen1_machine.specs.declared.event.Volatile.{Volatile}
 use Rattle.gen1_machine.specs.declared.event.Event.{Event}
 use Rattle.gen1_machine.specs.declared.event.Event.TheVariants as events
-use Rattle.gen1_machine.specs.Conditions.{with_bide, with_bide_storing, without_bide, with_thrash, with_thrash_one_less, without_thrash, with_trapping, with_trapping_one_less, without_trapping, with_charging, without_charging, with_invulnerability, without_invulnerability, with_recharge, without_recharge, with_rage, broken_off, with_flinch, without_flinch, with_confusion, one_less, with_confusion_one_less, without_confusion, with_mist, with_focus_energy, with_light_screen, with_reflect, with_substitute, less_by, with_substitute_hurt, without_substitute, with_seed, without_seed, with_bad_poison, with_worse_poison, with_disabled, with_disable_one_less, without_disable, Conditions}
-use Rattle.gen1_machine.specs.State.{party, member_in, who_in, health_in, kind_of, changed_active, changed_conditions, changed_member, with_last_damage, with_outcome, with_requests, with_status, hurt_by, healed_by, fallen, with_pp_spent, with_types_of, with_current, with_picked, with_kept_accuracy, Active, Party, Field}
+use Rattle.gen1_machine.specs.Conditions.{with_bide, with_bide_storing, without_bide, with_thrash, with_thrash_one_less, without_thrash, with_trapping, with_trapping_one_less, without_trapping, with_charging, without_charging, with_invulnerability, without_invulnerability, with_recharge, without_recharge, with_rage, broken_off, with_flinch, without_flinch, with_confusion, one_less, with_confusion_one_less, without_confusion, with_mist, with_focus_energy, with_light_screen, with_reflect, with_substitute, less_by, with_substitute_hurt, without_substitute, with_seed, without_seed, with_bad_poison, with_worse_poison, with_disabled, with_disable_one_less, without_disable, ActiveConditions}
+use Rattle.gen1_machine.specs.State.{party, member_in, who_in, health_in, kind_of, changed_active, changed_conditions, changed_member, with_last_damage, with_outcome, with_requests, with_status, hurt_by, healed_by, fallen, with_pp_spent, with_types_of, with_current_move, with_picked_move, with_kept_accuracy, Active, Party, Field}
 use Rattle.gen1_machine.specs.CurrentStats.{with_penalty_of}
-use Rattle.gen1_machine.specs.Progress.{Action, Phase, stay, unless_stopped, ◌▸◌, choose, given, stop, draw, draw_until, on_field, note, told, on_active, on_conditions, on_member, set_last_damage, starts, goes_on, ends, on_action, fault, lose_hp, gain_hp, inflict, cure, Progress}
+use Rattle.gen1_machine.specs.Progress.{Action, Phase, stay, unless_stopped, ◌▸◌, choose, given, stop, draw, draw_until, on_field, note, told, on_active, on_conditions, on_member, set_last_damage, starts, lasts, ends, on_action, fault, lose_hp, gain_hp, inflict, cure, Progress}
 use Rattle.gen1_machine.specs.View.{on_side_view, not_shown, if_out, on_named, on_shown, on_active_shown, sees_volatile, sees_rise, sees_drop, sees, sees_all, shown, side_shows, shows, View}
 use Rattle.gen1_machine.proofs.Showing.{BothOut, AllOut, visible, active_view, Keeps, kept, keeps-conditions, keeps-member, Silent, silent-active, silent-conditions, silent-member, silent-penalty, told-member, told-active}
 
@@ -271,7 +271,7 @@ abbrev pub Tells : View → Phase → Type 0
 Tells v f = Leads (Seen v) (Seen v) (Halted v) f
 
 unfoldable pub seeing : Bool
-unfolding with_bide with_bide_storing without_bide with_thrash with_thrash_one_less without_thrash with_trapping with_trapping_one_less without_trapping with_charging without_charging with_invulnerability without_invulnerability with_recharge without_recharge with_rage broken_off with_flinch without_flinch with_confusion without_confusion with_mist with_focus_energy with_light_screen with_reflect with_substitute without_substitute with_seed without_seed with_bad_poison with_worse_poison with_disabled with_disable_one_less without_disable with_status hurt_by healed_by fallen with_pp_spent with_types_of with_current with_picked with_kept_accuracy sees on_named on_active_shown
+unfolding with_bide with_bide_storing without_bide with_thrash with_thrash_one_less without_thrash with_trapping with_trapping_one_less without_trapping with_charging without_charging with_invulnerability without_invulnerability with_recharge without_recharge with_rage broken_off with_flinch without_flinch with_confusion without_confusion with_mist with_focus_energy with_light_screen with_reflect with_substitute without_substitute with_seed without_seed with_bad_poison with_worse_poison with_disabled with_disable_one_less without_disable with_status hurt_by healed_by fallen with_pp_spent with_types_of with_current_move with_picked_move with_kept_accuracy sees on_named on_active_shown
 seeing = true
 
 -- what each event does to a view
@@ -325,7 +325,7 @@ pub silent-requests : (one two : Request) → Silent (with_requests one two)
 unfolding with_requests
 silent-requests one two = record { unseen = λ f. refl; keeps = record { both = λ f o. record { one = o.one; two = o.two }; outcome = λ f. refl } }
 
-pub confusion-unseen : (c : Conditions) → visible (with_confusion_one_less c) ≡ visible c
+pub confusion-unseen : (c : ActiveConditions) → visible (with_confusion_one_less c) ≡ visible c
 unfolding with_confusion_one_less
 confusion-unseen c = by c.confused
   where
@@ -333,7 +333,7 @@ confusion-unseen c = by c.confused
     by None = refl
     by (Some n) = refl
 
-pub substitute-unseen : (damage : ℕ) (c : Conditions) → visible (with_substitute_hurt damage c) ≡ visible c
+pub substitute-unseen : (damage : ℕ) (c : ActiveConditions) → visible (with_substitute_hurt damage c) ≡ visible c
 unfolding with_substitute_hurt
 substitute-unseen damage c = by c.substitute
   where
@@ -346,7 +346,7 @@ module _ {v : View} {S : Progress → Type 0} where
   unfolding on_active
   active-tells s change h = field-tells _ (silent-active s change h)
 
-  pub conditions-tells : (s : Side) (change : Conditions → Conditions) → ((c : Conditions) → visible (change c) ≡ visible c) → Leads (Seen v) (Seen v) S (on_conditions s change)
+  pub conditions-tells : (s : Side) (change : ActiveConditions → ActiveConditions) → ((c : ActiveConditions) → visible (change c) ≡ visible c) → Leads (Seen v) (Seen v) S (on_conditions s change)
   unfolding on_conditions
   conditions-tells s change h = field-tells _ (silent-conditions s change h)
 
@@ -358,7 +358,7 @@ module _ {v : View} {S : Progress → Type 0} where
   unfolding set_last_damage
   damage-tells damage = field-tells _ (silent-damage damage)
 
-  pub starts-tells : (s : Side) (what : Volatile) (change : Conditions → Conditions)
+  pub starts-tells : (s : Side) (what : Volatile) (change : ActiveConditions → ActiveConditions)
       → ((t : Party) → sees_volatile what true (side_shows t) ≡ side_shows (record t { active = record t.active { conditions = change t.active.conditions } }))
       → Leads (Seen v) (Seen v) S (starts s what change)
   unfolding starts changed_conditions
@@ -366,7 +366,7 @@ module _ {v : View} {S : Progress → Type 0} where
       (λ f o. start-seen (who_in s (changed_conditions s change f)) what (shows f)
       ∙ told-active s (λ a. record a { conditions = change a.conditions }) (sees_volatile what true) f o.both (h (party s f)))
 
-  pub ends-tells : (s : Side) (what : Volatile) (change : Conditions → Conditions)
+  pub ends-tells : (s : Side) (what : Volatile) (change : ActiveConditions → ActiveConditions)
       → ((t : Party) → sees_volatile what false (side_shows t) ≡ side_shows (record t { active = record t.active { conditions = change t.active.conditions } }))
       → Leads (Seen v) (Seen v) S (ends s what change)
   unfolding ends changed_conditions
@@ -374,10 +374,10 @@ module _ {v : View} {S : Progress → Type 0} where
       (λ f o. end-seen (who_in s (changed_conditions s change f)) what (shows f)
       ∙ told-active s (λ a. record a { conditions = change a.conditions }) (sees_volatile what false) f o.both (h (party s f)))
 
-  pub goes_on-tells : (s : Side) (what : Volatile) (change : Conditions → Conditions) → ((c : Conditions) → visible (change c) ≡ visible c)
-      → Leads (Seen v) (Seen v) S (goes_on s what change)
-  unfolding goes_on
-  goes_on-tells s what change h = told-tells (changed_conditions s change) (λ f. events.Activate (who_in s f) what) (keeps-conditions s change)
+  pub lasts-tells : (s : Side) (what : Volatile) (change : ActiveConditions → ActiveConditions) → ((c : ActiveConditions) → visible (change c) ≡ visible c)
+      → Leads (Seen v) (Seen v) S (lasts s what change)
+  unfolding lasts
+  lasts-tells s what change h = told-tells (changed_conditions s change) (λ f. events.Activate (who_in s f) what) (keeps-conditions s change)
       (λ f o. activate-seen (who_in s (changed_conditions s change f)) what (shows f) ∙ sym ((silent-conditions s change h).unseen f))
 
   pub lose-tells : (s : Side) (source : DamageSource) (amount : ℕ) → Leads (Seen v) (Seen v) S (lose_hp s source amount)

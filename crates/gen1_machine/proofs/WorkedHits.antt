@@ -8,7 +8,7 @@ use Rattle.gen1_machine.specs.declared.event.DamageSource.TheVariants as sources
 use Rattle.gen1_machine.specs.declared.event.Volatile.TheVariants as volatiles
 use Rattle.gen1_machine.specs.declared.event.Event.{Event}
 use Rattle.gen1_machine.specs.declared.event.Event.TheVariants as events
-use Rattle.gen1_machine.specs.declared.picks.Used.TheVariants.{Slot}
+use Rattle.gen1_machine.specs.declared.picks.UsedMove.TheVariants.{Slot}
 use Rattle.gen1_machine.specs.declared.picks.Pick.TheVariants.{Use, Continue}
 use Rattle.gen1_rolls.specs.Streams.{Stream, Link}
 use Rattle.gen1_stats.specs.Members.{Member}
@@ -156,7 +156,7 @@ pp_left p = (known_in 1 (member One p).moves).pp
 
 -- the first turn writes Prepare alone, and costs neither a draw nor PP
 begins_to_charge : ((charges 13).events ≡ events.Prepare (tauros_of One) 13 ∷ []) × ((charges 13).drawn ∷ pp_left (charges 13) ∷ [] ≡ 0 ∷ 10 ∷ [])
-    × ((active One (charges 13)).current ≡ Slot 1)
+    × ((active One (charges 13)).current_move ≡ Slot 1)
     × ((underway One (charges 13)).charging ∷ is_invulnerable One (charges 13) ∷ (underway One (charges 91)).charging
     ∷ is_invulnerable One (charges 91) ∷ [] ≡ true ∷ false ∷ true ∷ true ∷ [])
 unfolding computing

@@ -10,14 +10,14 @@ use Rattle.gen1_machine.specs.declared.event.DamageSource.TheVariants as sources
 use Rattle.gen1_machine.specs.declared.event.Volatile.TheVariants as volatiles
 use Rattle.gen1_machine.specs.declared.event.Event.{Event}
 use Rattle.gen1_machine.specs.declared.event.Event.TheVariants as events
-use Rattle.gen1_machine.specs.declared.picks.Used.TheVariants.{Slot, Struggle}
+use Rattle.gen1_machine.specs.declared.picks.UsedMove.TheVariants.{Slot, Struggle}
 use Rattle.gen1_machine.specs.declared.picks.Pick.{Pick}
 use Rattle.gen1_machine.specs.declared.picks.Pick.TheVariants.{Use, Continue, Idle, Held}
 use Rattle.gen1_rolls.specs.Streams.{Sweep}
 use Rattle.gen1_stats.specs.Members.{Member}
 use Rattle.gen1_machine.specs.Conditions.{with_confusion, with_rage, with_recharge, with_substitute, with_thrash, with_trapping}
 use Rattle.gen1_machine.specs.Moves.{move_at}
-use Rattle.gen1_machine.specs.State.{known_in, with_picked, Active}
+use Rattle.gen1_machine.specs.State.{known_in, with_picked_move, Active}
 use Rattle.gen1_machine.specs.Progress.{active, conditions, member, set_last_damage, underway, Progress}
 use Rattle.gen1_machine.specs.Picks.{pick_in}
 use Rattle.gen1_machine.specs.Gate.{gate}
@@ -52,7 +52,7 @@ struggled = refl
 
 abbrev counters : ℕ → ℕ → Progress
 counters move damage = act usual One (Use (Slot 1))
-    (set_last_damage damage (facing (knowing 68 20) as_is (knowing move 10) (with_picked (Slot 1)) (drawing 255 0 0 0 0)))
+    (set_last_damage damage (facing (knowing 68 20) as_is (knowing move 10) (with_picked_move (Slot 1)) (drawing 255 0 0 0 0)))
 
 countered : ((counters 70 60).events ≡ moves 68 ∷ hurt Two 233 ∷ []) × ((counters 24 60).events ≡ moves 68 ∷ hurt Two 233 ∷ [])
     × ((counters 57 60).events ≡ moves 68 ∷ events.Miss (tauros_of One) ∷ []) × (hp_of Two (counters 45 60) ∷ hp_of Two (counters 70 0) ∷ [] ≡ 353 ∷ 353 ∷ [])
@@ -121,7 +121,7 @@ abbrev thrashes : Pick → (Active → Active) → ℕ → Progress
 thrashes pick change first = act usual One pick (facing (knowing 37 10) change tauros as_is (drawing first 255 255 0 0))
 
 abbrev thrashing : ℕ → ℕ → Active → Active
-thrashing turns kept a = record a { current = Slot 1; kept_accuracy = kept; conditions = with_thrash turns a.conditions }
+thrashing turns kept a = record a { current_move = Slot 1; kept_accuracy = kept; conditions = with_thrash turns a.conditions }
 
 abbrev first_thrash : Progress
 first_thrash = thrashes (Use (Slot 1)) as_is 255
@@ -160,7 +160,7 @@ accuracy_is_kept = refl
 
 abbrev bides : ℕ → ℕ → ℕ → Progress
 bides turns energy damage = act usual One Continue (set_last_damage damage (facing (knowing 117 10) (λ a. record a {
-  current = Slot 1;
+  current_move = Slot 1;
   conditions = record a.conditions { underway = record a.conditions.underway { bide = Some (record { turns = turns; energy = energy }) } };
 }) tauros as_is (Sweep 0)))
 
@@ -183,12 +183,12 @@ rage = (refl, refl, refl)
 
 -- what a choice comes to (docs/MECHANICS.md, "Picks")
 
-abbrev picked : ℕ → Member → (Active → Active) → (Active → Active) → Pick
-picked k m change foe = pick_in k One (facing m change tauros foe (Sweep 0)).field
+abbrev picked_move : ℕ → Member → (Active → Active) → (Active → Active) → Pick
+picked_move k m change foe = pick_in k One (facing m change tauros foe (Sweep 0)).field
 
-picks : (picked 2 tauros as_is as_is ≡ Use (Slot 2)) × (picked 0 tauros (set with_recharge) as_is ≡ Continue)
-    × (picked 0 (record tauros { status = Asleep 3 false }) as_is (set (with_trapping 3)) ≡ Idle) × (picked 0 tauros as_is (set (with_trapping 0)) ≡ Held)
-    × (picked 0 tauros as_is as_is ≡ Use Struggle)
+picks : (picked_move 2 tauros as_is as_is ≡ Use (Slot 2)) × (picked_move 0 tauros (set with_recharge) as_is ≡ Continue)
+    × (picked_move 0 (record tauros { status = Asleep 3 false }) as_is (set (with_trapping 3)) ≡ Idle) × (picked_move 0 tauros as_is (set (with_trapping 0)) ≡ Held)
+    × (picked_move 0 tauros as_is as_is ≡ Use Struggle)
 unfolding computing
 picks = (refl, refl, refl, refl, refl)
 

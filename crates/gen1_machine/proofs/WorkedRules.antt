@@ -11,7 +11,7 @@ use Rattle.gen1_machine.specs.declared.terms.Outcome.TheVariants as outcomes
 use Rattle.gen1_machine.specs.declared.terms.Request.TheVariants as requests
 use Rattle.gen1_machine.specs.declared.event.Event.{Event}
 use Rattle.gen1_machine.specs.declared.event.Event.TheVariants as events
-use Rattle.gen1_machine.specs.declared.picks.Used.TheVariants.{Slot}
+use Rattle.gen1_machine.specs.declared.picks.UsedMove.TheVariants.{Slot}
 use Rattle.gen1_machine.specs.declared.picks.Pick.{Pick}
 use Rattle.gen1_machine.specs.declared.picks.Pick.TheVariants.{Use, Continue, Idle}
 use Rattle.gen1_tables.specs.Types.{any}
@@ -19,12 +19,12 @@ use Rattle.gen1_rolls.specs.Streams.{byte_at, first, Stream, Link, Sweep}
 use Rattle.gen1_stats.specs.Members.{Member}
 use Rattle.gen1_machine.specs.Rules.{rules_of}
 use Rattle.gen1_machine.specs.Code.{codes_of}
-use Rattle.gen1_machine.specs.Conditions.{with_charging, with_invulnerability, with_recharge, with_flinch, with_reflect, with_substitute, with_seed, with_bad_poison, Conditions}
-use Rattle.gen1_machine.specs.State.{known_in, with_picked, level_stages, usual_terms, Stages, Active, Party}
+use Rattle.gen1_machine.specs.Conditions.{with_charging, with_invulnerability, with_recharge, with_flinch, with_reflect, with_substitute, with_seed, with_bad_poison, ActiveConditions}
+use Rattle.gen1_machine.specs.State.{known_in, with_picked_move, level_stages, usual_terms, Stages, Active, Party}
 use Rattle.gen1_machine.specs.Moves.{move_at}
 use Rattle.gen1_machine.specs.Progress.{new_action, stay, draw_until, note, set_last_damage, conditions, underway, member, status_of, stat_now, is_invulnerable, is_trapping, Progress}
 use Rattle.gen1_machine.specs.CriticalHits.{critical_bound}
-use Rattle.gen1_machine.specs.Damage.{fitted_attack, fitted_defense, before_types, type_steps, times_factor, vary, roll_damage, Numbers}
+use Rattle.gen1_machine.specs.Damage.{fitted_attack, fitted_defense, before_types, type_steps, times_factor, vary, roll_damage, DamageNumbers}
 use Rattle.gen1_machine.specs.HitTest.{scaled, hit_test}
 use Rattle.gen1_machine.specs.Landing.{land}
 use Rattle.gen1_machine.specs.Gate.{gate}
@@ -87,7 +87,7 @@ facing m f n g stream = record {
 abbrev pub as_is : Active → Active
 as_is a = a
 
-abbrev pub set : (Conditions → Conditions) → Active → Active
+abbrev pub set : (ActiveConditions → ActiveConditions) → Active → Active
 set change a = record a { conditions = change a.conditions }
 
 abbrev pub hp_of : Side → Progress → ℕ
@@ -130,7 +130,7 @@ draws_without_end = refl
 
 -- damage (docs/MECHANICS.md, "Damage"): Body Slam between two Tauros, by all 39 factors
 
-abbrev body_slam : ℕ → Numbers
+abbrev body_slam : ℕ → DamageNumbers
 body_slam level = record {
   level = level;
   power = 85;
@@ -144,7 +144,7 @@ body_slam level = record {
   halved = false;
 }
 
-abbrev dealt : Numbers → Option ℕ → List ℕ
+abbrev dealt : DamageNumbers → Option ℕ → List ℕ
 dealt n None = []
 dealt n (Some d) = map (λ factor. times_factor factor (type_steps d n)) (numbers_up 39 217)
 
@@ -269,7 +269,7 @@ sleep_before_flinch = (refl, refl)
 
 abbrev digs : ℕ → Progress
 digs b = gate One Continue (facing (record (knowing 91 5) { status = Paralysed })
-    (λ a. record a { current = Slot 1; conditions = with_invulnerability (with_charging a.conditions) }) tauros as_is (Sweep b))
+    (λ a. record a { current_move = Slot 1; conditions = with_invulnerability (with_charging a.conditions) }) tauros as_is (Sweep b))
 
 paralysed_dig : (digs 62).stopped ∷ is_invulnerable One (digs 62) ∷ (underway One (digs 62)).charging ∷ (digs 63).stopped ∷ []
     ≡ true ∷ true ∷ false ∷ false ∷ []
@@ -287,7 +287,7 @@ unfolding computing
 trapping_counts = refl
 
 abbrev wraps_anew : Progress
-wraps_anew = act usual One Continue (facing (knowing 35 0) (λ a. record a { current = Slot 1 }) tauros as_is (Sweep 0))
+wraps_anew = act usual One Continue (facing (knowing 35 0) (λ a. record a { current_move = Slot 1 }) tauros as_is (Sweep 0))
 
 wrap_used_anew : (known_in 1 (member One wraps_anew).moves).pp ≡ 63
 unfolding computing
@@ -350,7 +350,7 @@ speed_tie = (refl, refl)
 -- also where the slower side picked it in an earlier turn, and sleeps now
 abbrev quick : Status → Pick → Progress
 quick status pick = set_picked One pick
-    (facing (record (knowing 98 30) { speed = 1; status = status }) (with_picked (Slot 1)) tauros (with_picked (Slot 1)) (Sweep 0))
+    (facing (record (knowing 98 30) { speed = 1; status = status }) (with_picked_move (Slot 1)) tauros (with_picked_move (Slot 1)) (Sweep 0))
 
 quick_attack_first : (begins (quick Healthy (Use (Slot 1))) ≡ events.Win One ∷ []) × (draws_for_order (quick Healthy (Use (Slot 1))) ≡ 0)
     × (begins (quick (Asleep 3 false) Idle) ≡ events.Win One ∷ [])
@@ -358,7 +358,7 @@ unfolding computing
 quick_attack_first = (refl, refl, refl)
 
 abbrev both_counter : Progress
-both_counter = facing (knowing 68 20) (with_picked (Slot 1)) (knowing 68 20) (with_picked (Slot 1)) (Sweep 0)
+both_counter = facing (knowing 68 20) (with_picked_move (Slot 1)) (knowing 68 20) (with_picked_move (Slot 1)) (Sweep 0)
 
 counter_against_counter : draws_for_order both_counter ≡ 1
 unfolding computing

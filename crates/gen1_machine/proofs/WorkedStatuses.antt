@@ -13,7 +13,7 @@ use Rattle.gen1_machine.specs.declared.event.Event.TheVariants as events
 use Rattle.gen1_rolls.specs.Streams.{Sweep}
 use Rattle.gen1_stats.specs.Members.{Member}
 use Rattle.gen1_stats.specs.Stats.{full_pp, hp_dv, hp_stat, root, stat}
-use Rattle.gen1_machine.specs.Conditions.{with_confusion, with_mist, with_recharge, with_substitute, with_seed, Conditions}
+use Rattle.gen1_machine.specs.Conditions.{with_confusion, with_mist, with_recharge, with_substitute, with_seed, ActiveConditions}
 use Rattle.gen1_machine.specs.Stages.{at_stage}
 use Rattle.gen1_machine.specs.Moves.{move_at}
 use Rattle.gen1_machine.specs.State.{Active}
@@ -129,13 +129,13 @@ confusion_is_told = (refl, refl, refl, refl)
 -- Toxic's counter (docs/MECHANICS.md, "Residual"): it rises by 1 with the poison and by 1 with the seed, to 64 at most; a sixteenth
 -- of 353 is 22, and so the first two take 22 and 44
 
-abbrev with_counter : ℕ → Conditions → Conditions
+abbrev with_counter : ℕ → ActiveConditions → ActiveConditions
 with_counter n c = record c { bad_poison = Some n }
 
-abbrev ill : (Conditions → Conditions) → Progress
+abbrev ill : (ActiveConditions → ActiveConditions) → Progress
 ill change = residual One (alone (record tauros { status = Poisoned }) (set change))
 
-abbrev counter_after : (Conditions → Conditions) → Option ℕ
+abbrev counter_after : (ActiveConditions → ActiveConditions) → Option ℕ
 counter_after change = (conditions One (ill change)).bad_poison
 
 toxic_counter : map (λ n. counter_after (with_counter n)) (0 ∷ 1 ∷ 62 ∷ 63 ∷ 64 ∷ []) ≡ Some 1 ∷ Some 2 ∷ Some 63 ∷ Some 64 ∷ Some 64 ∷ []

@@ -44,10 +44,10 @@ gate_or_held s pick = gate s pick
 
 -- the move that a pick uses
 abbrev pub move_taken_in : Side → Pick → Field → Move
-move_taken_in s pick f = move_at (number_in (used_by pick (active_in s f).current) (member_in s f).moves)
+move_taken_in s pick f = move_at (number_in (used_by pick (active_in s f).current_move) (member_in s f).moves)
 
 unfoldable pub spend_pp : Side → Phase
-spend_pp s = given (λ p. (active s p).current) λ used. on_member s (with_pp_spent used)
+spend_pp s = given (λ p. (active s p).current_move) λ used. on_member s (with_pp_spent used)
 
 -- a move is used; Bide has no event for it
 unfoldable pub use_move : Side → Pick → Move → Phase

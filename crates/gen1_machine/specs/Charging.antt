@@ -3,14 +3,14 @@ use Rattle.gen1_machine.specs.declared.side.Side.{Side}
 use Rattle.gen1_machine.specs.declared.event.Event.TheVariants as events
 use Rattle.gen1_machine.specs.declared.picks.Pick.{Pick}
 use Rattle.gen1_machine.specs.Conditions.{with_charging, without_charging, with_invulnerability, without_invulnerability}
-use Rattle.gen1_machine.specs.State.{who_in, with_current}
+use Rattle.gen1_machine.specs.State.{who_in, with_current_move}
 use Rattle.gen1_machine.specs.Moves.{charges, hides, Move}
 use Rattle.gen1_machine.specs.Progress.{Phase, ◌▸◌, choose, only, given, stop, note, on_active, on_conditions, active, underway}
 use Rattle.gen1_machine.specs.Picks.{used_by}
 
 -- the move becomes the current one
 unfoldable pub make_current : Side → Pick → Phase
-make_current s pick = given (active s) λ a. on_active s (with_current (used_by pick a.current))
+make_current s pick = given (active s) λ a. on_active s (with_current_move (used_by pick a.current_move))
 
 -- the first turn ends here; who flies up or digs in can't be hit meanwhile
 unfoldable pub begin_charge : Side → Pick → Move → Phase

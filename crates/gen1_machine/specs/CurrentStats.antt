@@ -42,8 +42,8 @@ has_number _ = true
 
 -- how often a stat was halved or quartered since it was last recomputed
 abbrev pub penalties_of : Stat → Active → ℕ
-penalties_of Attack a = a.attack_halved
-penalties_of Speed a = a.speed_quartered
+penalties_of Attack a = a.attack_penalties
+penalties_of Speed a = a.speed_penalties
 penalties_of _ a = 0
 
 -- a stat as it stands
@@ -57,8 +57,8 @@ now_in stat s f = now stat (member_in s f) (active_in s f)
 
 -- a stat recomputed forgets its penalties
 abbrev pub without_penalties : Stat → Active → Active
-without_penalties Attack a = record a { attack_halved = 0 }
-without_penalties Speed a = record a { speed_quartered = 0 }
+without_penalties Attack a = record a { attack_penalties = 0 }
+without_penalties Speed a = record a { speed_penalties = 0 }
 without_penalties _ a = a
 
 unfoldable pub at_new_stage : Stat → ℕ → Active → Active
@@ -69,6 +69,6 @@ recomputed_at stat n a = without_penalties stat (record a { stages = with_stage 
 
 -- paralysis quarters Speed and a burn halves Attack, once more
 unfoldable pub with_penalty_of : Status → Active → Active
-with_penalty_of Paralysed a = record a { speed_quartered = a.speed_quartered + 1 }
-with_penalty_of Burned a = record a { attack_halved = a.attack_halved + 1 }
+with_penalty_of Paralysed a = record a { speed_penalties = a.speed_penalties + 1 }
+with_penalty_of Burned a = record a { attack_penalties = a.attack_penalties + 1 }
 with_penalty_of _ a = a

@@ -7,14 +7,14 @@ use Rattle.gen1_tables.specs.declared.effect.Stat.TheVariants.{Attack, Defense, 
 use Rattle.gen1_machine.specs.declared.side.Side.{Side}
 use Rattle.gen1_tables.specs.Types.{same_type, is_special, type_rows, TypeRow}
 use Rattle.gen1_machine.specs.Sides.{other}
-use Rattle.gen1_machine.specs.Conditions.{Conditions}
+use Rattle.gen1_machine.specs.Conditions.{ActiveConditions}
 use Rattle.gen1_machine.specs.State.{active_in, conditions_in, member_in, Field}
 use Rattle.gen1_machine.specs.CurrentStats.{unmodified, now_in}
 use Rattle.gen1_machine.specs.Moves.{explodes, Move}
 use Rattle.gen1_machine.specs.Progress.{Phase, ◌▸◌, choose, given, draw_until, set_last_damage, on_action, set_missed, fault, Progress}
 
 -- what the formula takes
-pub record Numbers : Type 0 where
+pub record DamageNumbers : Type 0 where
   pub level : ℕ
   pub power : ℕ
   pub attack : ℕ
@@ -48,10 +48,10 @@ attacking t = if is_special t then Special else Attack
 abbrev pub defending : Element → Stat
 defending t = if is_special t then Special else Defense
 
-abbrev pub is_screened : Element → Conditions → Bool
+abbrev pub is_screened : Element → ActiveConditions → Bool
 is_screened t c = if is_special t then c.light_screen else c.reflect
 
-abbrev pub numbers_from : Side → Bool → Move → ℕ → ℕ → Field → Numbers
+abbrev pub numbers_from : Side → Bool → Move → ℕ → ℕ → Field → DamageNumbers
 numbers_from s critical move attack defense f = record {
   level = doubled_if critical (member_in s f).level;
   power = move.power;
@@ -66,20 +66,20 @@ numbers_from s critical move attack defense f = record {
 }
 
 -- a critical hit takes no stages, no penalties and no screens
-abbrev pub critical_numbers : Side → Move → Field → Numbers
+abbrev pub critical_numbers : Side → Move → Field → DamageNumbers
 critical_numbers s move f =
     numbers_from s true move (unmodified (attacking move.kind) (member_in s f))
     (unmodified (defending move.kind) (member_in (other s) f)) f
 
-abbrev pub plain_numbers : Side → Move → Field → Numbers
+abbrev pub plain_numbers : Side → Move → Field → DamageNumbers
 plain_numbers s move f =
     numbers_from s false move (now_in (attacking move.kind) s f)
     (doubled_if (is_screened move.kind (conditions_in (other s) f)) (now_in (defending move.kind) (other s) f)) f
 
-abbrev pub numbers_in : Side → Move → Bool → Field → Numbers
+abbrev pub numbers_in : Side → Move → Bool → Field → DamageNumbers
 numbers_in s move critical f = if critical then critical_numbers s move f else plain_numbers s move f
 
-abbrev pub numbers : Side → Move → Progress → Numbers
+abbrev pub numbers : Side → Move → Progress → DamageNumbers
 numbers s move p = numbers_in s move p.action.critical p.field
 
 -- the formula (docs/MECHANICS.md, "Damage")
@@ -89,15 +89,15 @@ divided level power attack zero = None
 divided level power attack (suc d) = Some (min 997 ((2 * level / 5 + 2) * power * attack / suc d / 50) + 2)
 
 -- damage before types; none where the divisor is 0
-abbrev pub before_types : Numbers → Option ℕ
+abbrev pub before_types : DamageNumbers → Option ℕ
 before_types n = divided n.level n.power n.attack (if n.halved then max 1 (n.defense / 2) else n.defense)
 
 -- the types (docs/MECHANICS.md, "Types")
 
-abbrev pub applies : Numbers → TypeRow → Bool
+abbrev pub applies : DamageNumbers → TypeRow → Bool
 applies n row = same_type row.attacker n.kind && (same_type row.defender n.foe_first || same_type row.defender n.foe_second)
 
-abbrev pub rows_for : Numbers → List TypeRow
+abbrev pub rows_for : DamageNumbers → List TypeRow
 rows_for n = filter (applies n) type_rows
 
 -- row by row, rounded down each time
@@ -105,14 +105,14 @@ abbrev pub by_rows : List TypeRow → ℕ → ℕ
 by_rows [] d = d
 by_rows (row ∷ rows) d = by_rows rows (d * row.tenths / 10)
 
-abbrev pub is_own_type : Numbers → Bool
+abbrev pub is_own_type : DamageNumbers → Bool
 is_own_type n = same_type n.kind n.user_first || same_type n.kind n.user_second
 
 -- a half more for a type of the user's, then each row that applies
-abbrev pub type_steps : ℕ → Numbers → ℕ
+abbrev pub type_steps : ℕ → DamageNumbers → ℕ
 type_steps d n = by_rows (rows_for n) (if is_own_type n then d + d / 2 else d)
 
-abbrev pub rows_of : ℕ → Numbers → ℕ
+abbrev pub rows_of : ℕ → DamageNumbers → ℕ
 rows_of tenths n = count_by (λ row. row.tenths == tenths) (rows_for n)
 
 -- the factor (docs/MECHANICS.md, "Factor")
@@ -139,7 +139,7 @@ unfoldable pub set_through_types : Phase
 set_through_types = on_action λ a. record a { through_types = true }
 
 -- damage 0 marks a miss
-unfoldable pub damage_from : Numbers → Option ℕ → Phase
+unfoldable pub damage_from : DamageNumbers → Option ℕ → Phase
 damage_from n None = fault 1
 damage_from n (Some d) = set_through_types ▸ set_missed (type_steps d n == 0) ▸ vary (type_steps d n)
 

@@ -65,7 +65,7 @@ set_screen s move = choose (λ _. move.number == light_screen_move) (set_light_s
 -- Haze clears both sides, and cures the foe; a foe that it found asleep or frozen acts no more this turn
 
 unfoldable pub with_levelled_stats : Active → Active
-with_levelled_stats a = record a { stages = level_stages; attack_halved = 0; speed_quartered = 0 }
+with_levelled_stats a = record a { stages = level_stages; attack_penalties = 0; speed_penalties = 0 }
 
 unfoldable pub clear_side : Side → Phase
 clear_side s = on_active s with_levelled_stats ▸ on_conditions s after_haze

@@ -14,7 +14,7 @@ use Rattle.gen1_stats.specs.Members.{is_frozen, is_paralysed}
 use Rattle.gen1_machine.specs.Sides.{other}
 use Rattle.gen1_machine.specs.Conditions.{without_charging, without_recharge, broken_off, without_flinch, with_confusion_one_less, without_confusion, with_disable_one_less, without_disable}
 use Rattle.gen1_machine.specs.State.{who_in, changed_member, with_sleep_one_less}
-use Rattle.gen1_machine.specs.Progress.{Phase, stay, ◌▸◌, choose, when, only, given, stop, draw, note, told, on_conditions, on_member, goes_on, ends, conditions, underway, status_of, is_trapping}
+use Rattle.gen1_machine.specs.Progress.{Phase, stay, ◌▸◌, choose, when, only, given, stop, draw, note, told, on_conditions, on_member, lasts, ends, conditions, underway, status_of, is_trapping}
 use Rattle.gen1_machine.specs.Picks.{is_disabled_in, is_idle}
 use Rattle.gen1_machine.specs.HitOnItself.{hurt_itself}
 
@@ -63,7 +63,7 @@ confusion_test s None = stay
 confusion_test s (Some turns) =
     choose (λ _. nat_le turns 1)
     (ends s volatiles.Confusion without_confusion)
-    (goes_on s volatiles.Confusion with_confusion_one_less ▸ draw (may_hurt_itself s))
+    (lasts s volatiles.Confusion with_confusion_one_less ▸ draw (may_hurt_itself s))
 
 -- a move that is disabled isn't used, and its charge is lost
 unfoldable pub disabled_test : Side → Pick → Phase

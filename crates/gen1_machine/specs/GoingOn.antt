@@ -7,7 +7,7 @@ use Rattle.gen1_machine.specs.Sides.{other}
 use Rattle.gen1_machine.specs.Conditions.{energy_with, with_bide_storing, without_bide, with_thrash, with_thrash_one_less, without_thrash, with_trapping, with_trapping_one_less, without_recharge, Storing}
 use Rattle.gen1_machine.specs.State.{with_kept_accuracy}
 use Rattle.gen1_machine.specs.Moves.{accuracy_byte, Move}
-use Rattle.gen1_machine.specs.Progress.{Phase, stay, ◌▸◌, choose, given, stop, draw, on_active, on_conditions, set_last_damage, goes_on, ends, on_action, set_missed, goes_on_now, last_damage, underway}
+use Rattle.gen1_machine.specs.Progress.{Phase, stay, ◌▸◌, choose, given, stop, draw, on_active, on_conditions, set_last_damage, lasts, ends, on_action, set_missed, goes_on_now, last_damage, underway}
 use Rattle.gen1_machine.specs.EarlyEffects.{confuse}
 
 -- how often a move hits or holds: of two to five, few are the most
@@ -66,7 +66,7 @@ let_energy_go s energy =
     ▸ set_letting_go ▸ set_missed (let_out energy == 0)
 
 unfoldable pub store_energy : Side → ℕ → Phase
-store_energy s damage = goes_on s volatiles.Bide (with_bide_storing damage) ▸ stop
+store_energy s damage = lasts s volatiles.Bide (with_bide_storing damage) ▸ stop
 
 unfoldable pub bide_on : Side → Option Storing → ℕ → Phase
 bide_on s None damage = stay

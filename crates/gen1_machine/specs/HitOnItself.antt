@@ -11,7 +11,7 @@ use Rattle.gen1_machine.specs.State.{conditions_in, Field}
 use Rattle.gen1_machine.specs.CurrentStats.{now_in}
 use Rattle.gen1_machine.specs.Moves.{Move}
 use Rattle.gen1_machine.specs.Progress.{Phase, stay, ◌▸◌, choose, given, stop, on_conditions, set_last_damage, conditions, has_substitute, fault}
-use Rattle.gen1_machine.specs.Damage.{doubled_if, numbers_from, before_types, Numbers}
+use Rattle.gen1_machine.specs.Damage.{doubled_if, numbers_from, before_types, DamageNumbers}
 use Rattle.gen1_machine.specs.Landing.{land_on_substitute, land_on_hp}
 
 -- what it has the strength of: a move of power 40, of no effect
@@ -19,7 +19,7 @@ abbrev pub own_hit : Move
 own_hit = record { number = 0; kind = Normal; power = 40; accuracy = 100; effect = effects.DamageOnly }
 
 -- the user's own Attack against its own Defense; the foe's Reflect doubles that
-abbrev pub own_numbers_in : Side → Field → Numbers
+abbrev pub own_numbers_in : Side → Field → DamageNumbers
 own_numbers_in s f =
     numbers_from s false own_hit (now_in Attack s f) (doubled_if (conditions_in (other s) f).reflect (now_in Defense s f)) f
 

@@ -12,7 +12,7 @@ use Rattle.gen1_stats.specs.Members.{is_asleep}
 use Rattle.gen1_stats.specs.Stats.{stat}
 use Rattle.gen1_machine.specs.Sides.{other}
 use Rattle.gen1_machine.specs.Stages.{percent_at}
-use Rattle.gen1_machine.specs.Conditions.{without_trapping, Conditions}
+use Rattle.gen1_machine.specs.Conditions.{without_trapping, ActiveConditions}
 use Rattle.gen1_machine.specs.State.{active_in, conditions_in, status_in, who_in, has_type, Stages, Active, Field}
 use Rattle.gen1_machine.specs.Moves.{accuracy_byte, Move}
 use Rattle.gen1_machine.specs.Progress.{Phase, stay, ◌▸◌, choose, when, given, stop, draw, note, on_conditions, set_last_damage, on_action, set_missed, has_missed, active, Progress}
@@ -30,7 +30,7 @@ never_misses effects.NeverMisses = true
 never_misses _ = false
 
 -- what settles a hit test without a draw: whether it hits
-abbrev pub settled_hit : Effect → Status → Conditions → Option Bool
+abbrev pub settled_hit : Effect → Status → ActiveConditions → Option Bool
 settled_hit effect foe_status foe =
     if eats_dreams effect && not (is_asleep foe_status) then Some false
     else if never_misses effect then Some true

@@ -5,7 +5,7 @@ use Rattle.gen1_machine.specs.declared.event.DamageSource.{DamageSource}
 use Rattle.gen1_machine.specs.declared.event.DamageSource.TheVariants as sources
 use Rattle.gen1_machine.specs.declared.event.Volatile.TheVariants as volatiles
 use Rattle.gen1_machine.specs.Conditions.{with_substitute_hurt, without_substitute}
-use Rattle.gen1_machine.specs.Progress.{Phase, ◌▸◌, choose, when, given, set_last_damage, goes_on, ends, on_action, last_damage, conditions, member, lose_hp}
+use Rattle.gen1_machine.specs.Progress.{Phase, ◌▸◌, choose, when, given, set_last_damage, lasts, ends, on_action, last_damage, conditions, member, lose_hp}
 
 -- equal damage leaves a substitute at 0
 abbrev pub breaks : ℕ → ℕ → Bool
@@ -18,7 +18,7 @@ unfoldable pub land_on_substitute : Side → ℕ → ℕ → Phase
 land_on_substitute target damage hp =
     choose (λ _. breaks damage hp)
     (set_broke ▸ ends target volatiles.Substitute without_substitute)
-    (goes_on target volatiles.Substitute (with_substitute_hurt damage))
+    (lasts target volatiles.Substitute (with_substitute_hurt damage))
 
 -- the last damage is cut to the HP that was there
 unfoldable pub land_on_hp : Side → DamageSource → ℕ → Phase

@@ -24,7 +24,7 @@ ready_to_sleep s move =
     (fails_if s (has_status (other s)) ▸ must_hit s move)
 
 unfoldable pub put_to_sleep : Ruling → Side → Move → Phase
-put_to_sleep r s move = ready_to_sleep s move ▸ r.lulls s
+put_to_sleep r s move = ready_to_sleep s move ▸ r.sleeps s
 
 -- a stage of the foe's falls
 unfoldable pub lower_foes_stat : Side → Move → Stat → ℕ → Phase

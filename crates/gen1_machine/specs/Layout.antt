@@ -7,14 +7,14 @@ use Rattle.gen1_machine.specs.declared.terms.Outcome.{Outcome}
 use Rattle.gen1_machine.specs.declared.terms.Outcome.TheVariants as outcomes
 use Rattle.gen1_machine.specs.declared.terms.Request.{Request}
 use Rattle.gen1_machine.specs.declared.terms.Request.TheVariants as requests
-use Rattle.gen1_machine.specs.declared.picks.Used.{Used}
-use Rattle.gen1_machine.specs.declared.picks.Used.TheVariants.{Unused, Slot, Struggle}
+use Rattle.gen1_machine.specs.declared.picks.UsedMove.{UsedMove}
+use Rattle.gen1_machine.specs.declared.picks.UsedMove.TheVariants.{Nothing, Slot, Struggle}
 use Rattle.gen1_machine.specs.declared.picks.DisabledSlot.{DisabledSlot}
 use Rattle.gen1_tables.specs.Types.{number_of}
 use Rattle.gen1_rolls.specs.Streams.{byte_at, Link}
 use Rattle.gen1_stats.specs.Members.{is_marked, Member}
 use Rattle.gen1_machine.specs.Rules.{bit_of, bits_of_rules}
-use Rattle.gen1_machine.specs.Conditions.{Storing, Underway, Conditions}
+use Rattle.gen1_machine.specs.Conditions.{Storing, Underway, ActiveConditions}
 use Rattle.gen1_machine.specs.State.{member_at, known_in, Active, Party, State}
 use Rattle.gen1_machine.specs.CurrentStats.{now}
 
@@ -75,7 +75,7 @@ member_block m =
 -- an active
 
 -- the conditions from the lowest bit on
-abbrev pub condition_bits : Conditions → List Bool
+abbrev pub condition_bits : ActiveConditions → List Bool
 condition_bits c =
     is_some c.underway.bide ∷ is_some c.underway.thrash ∷ is_some c.underway.trapping ∷ c.flinch ∷ c.underway.charging
     ∷ c.invulnerable ∷ is_some c.confused ∷ c.mist ∷ c.focus_energy ∷ is_some c.substitute ∷ c.underway.recharge
@@ -85,11 +85,11 @@ abbrev pub number_of_bits : List Bool → ℕ
 number_of_bits [] = 0
 number_of_bits (b ∷ bs) = bit_of b + 2 * number_of_bits bs
 
-abbrev pub conditions_number : Conditions → ℕ
+abbrev pub conditions_number : ActiveConditions → ℕ
 conditions_number c = number_of_bits (condition_bits c)
 
-abbrev pub used_byte : Used → ℕ
-used_byte Unused = 0
+abbrev pub used_byte : UsedMove → ℕ
+used_byte Nothing = 0
 used_byte (Slot k) = k
 used_byte Struggle = 5
 
@@ -126,7 +126,7 @@ active_block m a =
     ∷ disabled_slot a.conditions.disabled ∷ disabled_turns a.conditions.disabled ∷ unwrap_or a.conditions.bad_poison 0
     ∷ turns_of a.conditions.underway
     ∷ low_byte (energy_of a.conditions.underway.bide) ∷ high_byte (energy_of a.conditions.underway.bide)
-    ∷ used_byte a.current ∷ used_byte a.picked ∷ a.kept_accuracy ∷ 0 ∷ 0 ∷ 0 ∷ 0 ∷ []
+    ∷ used_byte a.current_move ∷ used_byte a.picked_move ∷ a.kept_accuracy ∷ 0 ∷ 0 ∷ 0 ∷ 0 ∷ []
 
 -- the whole
 

@@ -8,7 +8,7 @@ use Rattle.gen1_machine.specs.Sides.{other}
 use Rattle.gen1_machine.specs.State.{who_in}
 use Rattle.gen1_machine.specs.Moves.{explodes, crashes, knocks_out, hits_more, Move}
 use Rattle.gen1_machine.specs.Progress.{Phase, stay, ◌▸◌, choose, when, unless, only, given, stop, note, set_last_damage, on_action, broke_substitute, underway, has_fallen, lose_hp, Progress}
-use Rattle.gen1_machine.specs.Damage.{numbers, rows_of, Numbers}
+use Rattle.gen1_machine.specs.Damage.{numbers, rows_of, DamageNumbers}
 use Rattle.gen1_machine.specs.HitTest.{note_miss}
 use Rattle.gen1_machine.specs.Landing.{land}
 use Rattle.gen1_machine.specs.StageShift.{raise_stage}
@@ -25,7 +25,7 @@ missed_move s move =
 
 -- the first hit says how well it did, where it went through the types
 
-unfoldable pub note_effectiveness : Side → Numbers → Phase
+unfoldable pub note_effectiveness : Side → DamageNumbers → Phase
 note_effectiveness target n =
     choose (λ _. nat_lt (rows_of 5 n) (rows_of 20 n)) (note λ f. events.SuperEffective (who_in target f))
     (only (nat_lt (rows_of 20 n) (rows_of 5 n)) (note λ f. events.Resisted (who_in target f)))

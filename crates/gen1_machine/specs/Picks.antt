@@ -3,8 +3,8 @@ use Rattle.std.specs.Prelude.{Bool, List, None, Option, Some, false, if◌then�
 use Rattle.gen1_stats.specs.declared.known_move.KnownMove.{KnownMove}
 use Rattle.gen1_stats.specs.declared.status.Status.{Status}
 use Rattle.gen1_machine.specs.declared.side.Side.{Side}
-use Rattle.gen1_machine.specs.declared.picks.Used.{Used}
-use Rattle.gen1_machine.specs.declared.picks.Used.TheVariants.{Unused, Slot, Struggle}
+use Rattle.gen1_machine.specs.declared.picks.UsedMove.{UsedMove}
+use Rattle.gen1_machine.specs.declared.picks.UsedMove.TheVariants.{Nothing, Slot, Struggle}
 use Rattle.gen1_machine.specs.declared.picks.Pick.{Pick}
 use Rattle.gen1_machine.specs.declared.picks.Pick.TheVariants.{Use, Continue, Idle, Held}
 use Rattle.gen1_machine.specs.declared.picks.DisabledSlot.{DisabledSlot}
@@ -30,39 +30,39 @@ pick_in zero s f =
     else Use Struggle
 
 -- the picked move after a pick: who is held has none, who continues or is idle keeps the older one
-abbrev pub picked_after : Pick → Used → Used
+abbrev pub picked_after : Pick → UsedMove → UsedMove
 picked_after (Use used) old = used
-picked_after Held old = Unused
+picked_after Held old = Nothing
 picked_after _ old = old
 
 -- what a pick uses, beside the current move
-abbrev pub used_by : Pick → Used → Used
-used_by (Use used) current = used
-used_by _ current = current
+abbrev pub used_by : Pick → UsedMove → UsedMove
+used_by (Use used) current_move = used
+used_by _ current_move = current_move
 
 -- the number of a move that is used, 0 for none
-abbrev pub number_in : Used → List KnownMove → ℕ
-number_in Unused moves = 0
+abbrev pub number_in : UsedMove → List KnownMove → ℕ
+number_in Nothing moves = 0
 number_in Struggle moves = struggle
 number_in (Slot k) moves = (known_in k moves).id
 
 -- the move of a side's pick
 abbrev pub picked_move_in : Side → Field → ℕ
-picked_move_in s f = number_in (active_in s f).picked (member_in s f).moves
+picked_move_in s f = number_in (active_in s f).picked_move (member_in s f).moves
 
-abbrev pub is_slot : ℕ → Used → Bool
+abbrev pub is_slot : ℕ → UsedMove → Bool
 is_slot k (Slot j) = j == k
 is_slot k _ = false
 
 -- whether a disabled slot bars a move
-abbrev pub bars : Option DisabledSlot → Used → Bool
+abbrev pub bars : Option DisabledSlot → UsedMove → Bool
 bars None used = false
 bars (Some d) used = is_slot d.slot used
 
 -- Struggle is in no slot, and who is idle uses none
 abbrev pub is_disabled_in : Side → Pick → Field → Bool
 is_disabled_in s Idle f = false
-is_disabled_in s pick f = bars (conditions_in s f).disabled (used_by pick (active_in s f).current)
+is_disabled_in s pick f = bars (conditions_in s f).disabled (used_by pick (active_in s f).current_move)
 
 abbrev pub is_idle : Pick → Bool
 is_idle Idle = true

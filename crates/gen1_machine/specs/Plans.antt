@@ -12,25 +12,25 @@ use Rattle.gen1_machine.specs.declared.choice.Choice.{Choice}
 use Rattle.gen1_machine.specs.declared.choice.Choice.TheVariants as choices
 use Rattle.gen1_machine.specs.declared.picks.Pick.{Pick}
 use Rattle.gen1_machine.specs.declared.picks.Pick.TheVariants.{Continue, Use}
-use Rattle.gen1_machine.specs.declared.picks.Used.{Used}
-use Rattle.gen1_machine.specs.declared.picks.Used.TheVariants.{Slot, Unused}
+use Rattle.gen1_machine.specs.declared.picks.UsedMove.{UsedMove}
+use Rattle.gen1_machine.specs.declared.picks.UsedMove.TheVariants.{Nothing, Slot}
 use Rattle.gen1_machine.specs.declared.side.Side.{Side}
 use Rattle.gen1_machine.specs.declared.side.Side.TheVariants.{One, Two}
 use Rattle.gen1_machine.specs.State.{active_in, member_in, party, Active, Field, Terms}
 use Rattle.gen1_machine.specs.Progress.{Action}
-use Rattle.gen1_machine.specs.Valid.{effect_of, IsCount, IsField, IsUnderway, IsUsed}
+use Rattle.gen1_machine.specs.Valid.{effect_of, IsCount, IsField, IsUnderway, IsUsedMove}
 
 -- a side plans nothing that is known; it is about to use a move, with an effect; or it is using the current move, with its effect
 pub data Plan : Type 0 where
   Any : Plan
-  Plans : (used : Used) → (effect : Effect) → Plan
+  Plans : (used : UsedMove) → (effect : Effect) → Plan
   Doing : (effect : Effect) → Plan
 
 -- what a plan says of a member that is out and knows these moves; while a move is about to be used, nothing is underway
 abbrev pub HoldsPlan : Plan → List KnownMove → Active → Type 0
 HoldsPlan Any moves a = Unit {0}
-HoldsPlan (Plans used e) moves a = IsUsed (length moves) used × (effect_of used moves ≡ e) × IsUnderway effects.DamageOnly a.conditions.underway
-HoldsPlan (Doing e) moves a = effect_of a.current moves ≡ e
+HoldsPlan (Plans used e) moves a = IsUsedMove (length moves) used × (effect_of used moves ≡ e) × IsUnderway effects.DamageOnly a.conditions.underway
+HoldsPlan (Doing e) moves a = effect_of a.current_move moves ≡ e
 
 -- a valid field in the middle of an update, of which each side's plan holds, beside what is known of the action, and the draws
 pub record IsPlanned (terms : Terms) (plan : Side → Plan) (f : Field) (a : Action) (w : Stream) : Type 0 where
@@ -54,7 +54,7 @@ PlanOf _ x = x ≡ Any
 -- what has to be planned where a pick is acted on: some move is about to be used; or the current move goes on, which has an
 -- effect that explains why
 abbrev pub FitsPick : Pick → Plan → Type 0
-FitsPick (Use used) x = (e : Effect) × (x ≡ Plans used e) × (used ≢ Unused)
+FitsPick (Use used) x = (e : Effect) × (x ≡ Plans used e) × (used ≢ Nothing)
 FitsPick Continue x = (e : Effect) × (x ≡ Doing e) × (e ≢ effects.DamageOnly)
 FitsPick _ x = Unit {0}
 

@@ -14,7 +14,7 @@ use Rattle.gen1_machine.specs.declared.event.Event.TheVariants as events
 use Rattle.gen1_rolls.specs.Streams.{byte_at, span, first, Stream}
 use Rattle.gen1_stats.specs.Members.{is_living, is_healthy, Member}
 use Rattle.gen1_stats.specs.Stats.{stat}
-use Rattle.gen1_machine.specs.Conditions.{Underway, Conditions}
+use Rattle.gen1_machine.specs.Conditions.{Underway, ActiveConditions}
 use Rattle.gen1_machine.specs.State.{active_in, conditions_in, underway_in, member_in, status_in, has_fallen_in, who_in, health_in, changed_active, changed_conditions, changed_member, with_last_damage, with_outcome, with_status, hurt_by, healed_by, has_type, Active, Field}
 use Rattle.gen1_machine.specs.CurrentStats.{now_in, with_penalty_of}
 
@@ -123,7 +123,7 @@ told change event p = record p { field = change p.field; events = p.events ++ ev
 unfoldable pub on_active : Side → (Active → Active) → Phase
 on_active s change = on_field (changed_active s change)
 
-unfoldable pub on_conditions : Side → (Conditions → Conditions) → Phase
+unfoldable pub on_conditions : Side → (ActiveConditions → ActiveConditions) → Phase
 on_conditions s change = on_field (changed_conditions s change)
 
 unfoldable pub on_member : Side → (Member → Member) → Phase
@@ -134,13 +134,13 @@ set_last_damage damage = on_field (with_last_damage damage)
 
 -- a condition begins, goes on or ends, and the event says so
 
-unfoldable pub starts : Side → Volatile → (Conditions → Conditions) → Phase
+unfoldable pub starts : Side → Volatile → (ActiveConditions → ActiveConditions) → Phase
 starts s what change = told (changed_conditions s change) λ f. events.Start (who_in s f) what
 
-unfoldable pub goes_on : Side → Volatile → (Conditions → Conditions) → Phase
-goes_on s what change = told (changed_conditions s change) λ f. events.Activate (who_in s f) what
+unfoldable pub lasts : Side → Volatile → (ActiveConditions → ActiveConditions) → Phase
+lasts s what change = told (changed_conditions s change) λ f. events.Activate (who_in s f) what
 
-unfoldable pub ends : Side → Volatile → (Conditions → Conditions) → Phase
+unfoldable pub ends : Side → Volatile → (ActiveConditions → ActiveConditions) → Phase
 ends s what change = told (changed_conditions s change) λ f. events.End (who_in s f) what
 
 -- what is known of the action
@@ -168,7 +168,7 @@ last_damage p = p.field.last_damage
 abbrev pub active : Side → Progress → Active
 active s p = active_in s p.field
 
-abbrev pub conditions : Side → Progress → Conditions
+abbrev pub conditions : Side → Progress → ActiveConditions
 conditions s p = conditions_in s p.field
 
 abbrev pub underway : Side → Progress → Underway

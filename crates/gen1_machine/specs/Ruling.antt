@@ -14,7 +14,7 @@ use Rattle.gen1_machine.specs.Progress.{Phase, ◌▸◌, unless, draw_until, on
 
 -- how a battle is fought
 pub record Ruling : Type 0 where
-  pub lulls : Side → Phase  -- what a sleep move of this side does once it has hit
+  pub sleeps : Side → Phase  -- what a sleep move of this side does once it has hit
   pub freezes : Side → Phase  -- what a freezing move of this side does once its draw was low enough
   pub last_turn : ℕ
 
@@ -32,8 +32,8 @@ fall_asleep marked s = draw_until is_sleep_count (sleep_for marked s)
 
 -- without clauses
 
-unfoldable pub lull_freely : Side → Phase
-lull_freely user = fall_asleep false (other user)
+unfoldable pub sleep_freely : Side → Phase
+sleep_freely user = fall_asleep false (other user)
 
 unfoldable pub freeze_freely : Side → Phase
 freeze_freely user = on_conditions (other user) without_recharge ▸ inflict (other user) Frozen kinds.Freeze
@@ -43,8 +43,8 @@ freeze_freely user = on_conditions (other user) without_recharge ▸ inflict (ot
 abbrev pub has_marked_sleeper : Side → Progress → Bool
 has_marked_sleeper s p = any_living (λ m. is_marked m.status) (party s p.field)
 
-unfoldable pub lull_only_one : Side → Phase
-lull_only_one user = fails_if user (has_marked_sleeper (other user)) ▸ fall_asleep true (other user)
+unfoldable pub sleep_only_one : Side → Phase
+sleep_only_one user = fails_if user (has_marked_sleeper (other user)) ▸ fall_asleep true (other user)
 
 -- the freeze clause: of a party one living member at a time is frozen
 
@@ -56,9 +56,9 @@ freeze_only_one user = unless (has_frozen_member (other user)) (freeze_freely us
 
 -- by whether the clause holds (docs/MECHANICS.md, "Rules (sleep clause, freeze clause)", "Turn limit")
 
-unfoldable pub lulls_under : Bool → Side → Phase
-lulls_under true user = lull_only_one user
-lulls_under false user = lull_freely user
+unfoldable pub sleeps_under : Bool → Side → Phase
+sleeps_under true user = sleep_only_one user
+sleeps_under false user = sleep_freely user
 
 unfoldable pub freezes_under : Bool → Side → Phase
 freezes_under true user = freeze_only_one user
@@ -66,7 +66,7 @@ freezes_under false user = freeze_freely user
 
 abbrev pub ruling_of : Terms → Ruling
 ruling_of t = record {
-  lulls = lulls_under t.rules.sleep_clause;
+  sleeps = sleeps_under t.rules.sleep_clause;
   freezes = freezes_under t.rules.freeze_clause;
   last_turn = t.limit;
 }
@@ -74,11 +74,11 @@ ruling_of t = record {
 -- the older rulings: before there were clauses, and before the last turn could be chosen
 
 abbrev pub ruling_without_clauses : Ruling
-ruling_without_clauses = record { lulls = lull_freely; freezes = freeze_freely; last_turn = 1000 }
+ruling_without_clauses = record { sleeps = sleep_freely; freezes = freeze_freely; last_turn = 1000 }
 
 abbrev pub ruling_with_clauses : Rules → Ruling
 ruling_with_clauses rules = record {
-  lulls = lulls_under rules.sleep_clause;
+  sleeps = sleeps_under rules.sleep_clause;
   freezes = freezes_under rules.freeze_clause;
   last_turn = 1000;
 }

@@ -18,12 +18,12 @@ unfoldable pub note_unboost : Side → Stat → ℕ → Phase
 note_unboost s stat n = only (nat_lt 0 n) (note λ f. events.Unboost (who_in s f) stat n)
 
 -- after a shift, the shifting user's foe takes its penalty once more
-unfoldable pub penalise_again : Side → Phase
-penalise_again s = given (status_of s) λ status. on_active s (with_penalty_of status)
+unfoldable pub take_penalty_again : Side → Phase
+take_penalty_again s = given (status_of s) λ status. on_active s (with_penalty_of status)
 
 -- a stage moves, and the stat is recomputed
 unfoldable pub shift_to : Side → Side → Stat → ℕ → Phase
-shift_to user target stat n = on_active target (recomputed_at stat n) ▸ penalise_again (other user)
+shift_to user target stat n = on_active target (recomputed_at stat n) ▸ take_penalty_again (other user)
 
 abbrev pub raised : ℕ → ℕ → ℕ
 raised by n = min 12 (n + by)

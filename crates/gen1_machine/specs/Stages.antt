@@ -21,11 +21,11 @@ divided_times divisor zero value = value
 divided_times divisor (suc k) value = max 1 (divided_times divisor k value / divisor)
 
 -- a burn halves Attack, paralysis quarters Speed; other stats have no penalty (docs/MECHANICS.md, "Penalties")
-abbrev pub penalised_times : Stat → ℕ → ℕ → ℕ
-penalised_times Attack penalties value = divided_times 2 penalties value
-penalised_times Speed penalties value = divided_times 4 penalties value
-penalised_times _ penalties value = value
+abbrev pub after_penalties : Stat → ℕ → ℕ → ℕ
+after_penalties Attack penalties value = divided_times 2 penalties value
+after_penalties Speed penalties value = divided_times 4 penalties value
+after_penalties _ penalties value = value
 
 -- an unmodified stat at its stage, after so many penalties since it was last recomputed
 abbrev pub now_at : ℕ → ℕ → Stat → ℕ → ℕ
-now_at unmodified stage stat penalties = penalised_times stat penalties (at_stage stage unmodified)
+now_at unmodified stage stat penalties = after_penalties stat penalties (at_stage stage unmodified)

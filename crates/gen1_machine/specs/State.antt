@@ -14,13 +14,13 @@ use Rattle.gen1_machine.specs.declared.terms.Request.TheVariants as requests
 use Rattle.gen1_machine.specs.declared.health.Kind.{Kind}
 use Rattle.gen1_machine.specs.declared.health.Kind.TheVariants as kinds
 use Rattle.gen1_machine.specs.declared.health.Who.{Who}
-use Rattle.gen1_machine.specs.declared.picks.Used.{Used}
-use Rattle.gen1_machine.specs.declared.picks.Used.TheVariants.{Unused, Slot}
+use Rattle.gen1_machine.specs.declared.picks.UsedMove.{UsedMove}
+use Rattle.gen1_machine.specs.declared.picks.UsedMove.TheVariants.{Nothing, Slot}
 use Rattle.gen1_tables.specs.Types.{same_type, any}
 use Rattle.gen1_stats.specs.Members.{nobody, nothing_known, is_living, Member}
 use Rattle.gen1_machine.specs.Health.{Health}
 use Rattle.gen1_machine.specs.Rules.{no_rules, Rules}
-use Rattle.gen1_machine.specs.Conditions.{no_conditions, Underway, Conditions}
+use Rattle.gen1_machine.specs.Conditions.{no_conditions, Underway, ActiveConditions}
 
 -- stages from 0 to 12, of which 6 is the middle
 pub record Stages : Type 0 where
@@ -37,12 +37,12 @@ pub record Active : Type 0 where
   pub first_type : Element
   pub second_type : Element
   pub stages : Stages
-  pub attack_halved : ℕ  -- how often since it was last recomputed
-  pub speed_quartered : ℕ  -- likewise
-  pub current : Used  -- the move that was used last
-  pub picked : Used  -- the move that was picked last
+  pub attack_penalties : ℕ  -- how often since it was last recomputed
+  pub speed_penalties : ℕ  -- likewise
+  pub current_move : UsedMove  -- the move that was used last
+  pub picked_move : UsedMove  -- the move that was picked last
   pub kept_accuracy : ℕ  -- the accuracy byte that is kept for a move that goes on
-  pub conditions : Conditions
+  pub conditions : ActiveConditions
 
 -- one side: its members, and who of them is out
 pub record Party : Type 0 where
@@ -102,7 +102,7 @@ with_member place m t = record t { members = slice_set t.members (place - 1) m }
 abbrev pub active_in : Side → Field → Active
 active_in s f = (party s f).active
 
-abbrev pub conditions_in : Side → Field → Conditions
+abbrev pub conditions_in : Side → Field → ActiveConditions
 conditions_in s f = (active_in s f).conditions
 
 abbrev pub underway_in : Side → Field → Underway
@@ -142,7 +142,7 @@ health_in s f = health_of (member_in s f)
 unfoldable pub changed_active : Side → (Active → Active) → Field → Field
 changed_active s change f = with_party s (record (party s f) { active = change (active_in s f) }) f
 
-unfoldable pub changed_conditions : Side → (Conditions → Conditions) → Field → Field
+unfoldable pub changed_conditions : Side → (ActiveConditions → ActiveConditions) → Field → Field
 changed_conditions s change = changed_active s λ a. record a { conditions = change a.conditions }
 
 unfoldable pub changed_member : Side → (Member → Member) → Field → Field
@@ -192,11 +192,11 @@ abbrev pub known_in : ℕ → List KnownMove → KnownMove
 known_in slot moves = slice_index_or moves (slot - 1) nothing_known
 
 -- Struggle has no PP
-abbrev pub after_use : Used → List KnownMove → List KnownMove
+abbrev pub after_use : UsedMove → List KnownMove → List KnownMove
 after_use (Slot k) moves = slice_set moves (k - 1) (with_less_pp (known_in k moves))
 after_use _ moves = moves
 
-unfoldable pub with_pp_spent : Used → Member → Member
+unfoldable pub with_pp_spent : UsedMove → Member → Member
 with_pp_spent used m = record m { moves = after_use used m.moves }
 
 -- changes of a member that is out
@@ -204,11 +204,11 @@ with_pp_spent used m = record m { moves = after_use used m.moves }
 unfoldable pub with_types_of : Active → Active → Active
 with_types_of foe a = record a { first_type = foe.first_type; second_type = foe.second_type }
 
-unfoldable pub with_current : Used → Active → Active
-with_current used a = record a { current = used }
+unfoldable pub with_current_move : UsedMove → Active → Active
+with_current_move used a = record a { current_move = used }
 
-unfoldable pub with_picked : Used → Active → Active
-with_picked used a = record a { picked = used }
+unfoldable pub with_picked_move : UsedMove → Active → Active
+with_picked_move used a = record a { picked_move = used }
 
 unfoldable pub with_kept_accuracy : ℕ → Active → Active
 with_kept_accuracy byte a = record a { kept_accuracy = byte }
@@ -241,10 +241,10 @@ nobody_out = record {
   first_type = Normal;
   second_type = Normal;
   stages = level_stages;
-  attack_halved = 0;
-  speed_quartered = 0;
-  current = Unused;
-  picked = Unused;
+  attack_penalties = 0;
+  speed_penalties = 0;
+  current_move = Nothing;
+  picked_move = Nothing;
   kept_accuracy = 0;
   conditions = no_conditions;
 }

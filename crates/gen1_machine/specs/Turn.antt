@@ -7,7 +7,7 @@ use Rattle.gen1_machine.specs.declared.choice.Choice.{Choice}
 use Rattle.gen1_machine.specs.declared.choice.Choice.TheVariants as choices
 use Rattle.gen1_machine.specs.Sides.{other}
 use Rattle.gen1_machine.specs.Conditions.{without_trapping, without_flinch}
-use Rattle.gen1_machine.specs.State.{with_picked, is_over}
+use Rattle.gen1_machine.specs.State.{with_picked_move, is_over}
 use Rattle.gen1_machine.specs.Moves.{rest}
 use Rattle.gen1_machine.specs.Progress.{Phase, stay, ◌▸◌, when, unless, given, on_active, on_conditions, active, underway, has_fallen, Progress}
 use Rattle.gen1_machine.specs.Picks.{pick_in, picked_after}
@@ -59,7 +59,7 @@ both_act one two s =
     Acts s (of_side s one two) ∷ Suffers s ∷ Acts (other s) (of_side (other s) one two) ∷ Suffers (other s) ∷ []
 
 unfoldable pub set_picked : Side → Pick → Phase
-set_picked s pick = given (active s) λ a. on_active s (with_picked (picked_after pick a.picked))
+set_picked s pick = given (active s) λ a. on_active s (with_picked_move (picked_after pick a.picked_move))
 
 unfoldable pub both_pick : Ruling → Pick → Pick → Phase
 both_pick r one two = set_picked One one ▸ set_picked Two two ▸ in_order λ s. do_parts r (both_act one two s)

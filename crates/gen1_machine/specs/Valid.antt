@@ -23,10 +23,10 @@ use Rattle.gen1_machine.specs.declared.terms.Outcome.{Outcome}
 use Rattle.gen1_machine.specs.declared.terms.Outcome.TheVariants as outcomes
 use Rattle.gen1_machine.specs.declared.terms.Request.TheVariants as requests
 use Rattle.gen1_machine.specs.declared.picks.DisabledSlot.{DisabledSlot}
-use Rattle.gen1_machine.specs.declared.picks.Used.{Used}
-use Rattle.gen1_machine.specs.declared.picks.Used.TheVariants.{Slot}
+use Rattle.gen1_machine.specs.declared.picks.UsedMove.{UsedMove}
+use Rattle.gen1_machine.specs.declared.picks.UsedMove.TheVariants.{Slot}
 use Rattle.gen1_machine.specs.Rules.{Rules}
-use Rattle.gen1_machine.specs.Conditions.{Storing, Underway, Conditions}
+use Rattle.gen1_machine.specs.Conditions.{Storing, Underway, ActiveConditions}
 use Rattle.gen1_machine.specs.State.{has_fallen_in, member_at, nobody_out, party, Stages, Active, Party, Field, Terms, State}
 use Rattle.gen1_machine.specs.Moves.{bides, charges, move_at, thrashes, traps}
 use Rattle.gen1_machine.specs.Picks.{number_in}
@@ -73,9 +73,9 @@ pub record IsStages (s : Stages) : Type 0 where
   pub evasion : s.evasion ≤ 12
 
 -- a move that was used, by a member that knows so many
-abbrev pub IsUsed : ℕ → Used → Type 0
-IsUsed count (Slot k) = IsBetween 1 count k
-IsUsed count _ = Unit {0}
+abbrev pub IsUsedMove : ℕ → UsedMove → Type 0
+IsUsedMove count (Slot k) = IsBetween 1 count k
+IsUsedMove count _ = Unit {0}
 
 -- a count of a range, where there is one
 abbrev pub IsCount : ℕ → ℕ → Option ℕ → Type 0
@@ -111,7 +111,7 @@ pub record IsUnderway (current : Effect) (u : Underway) : Type 0 where
   pub rage_tied : OnlyWith (rages current) u.rage
 
 -- beside a current move with this effect, for a member that knows so many; the other conditions are tied to nothing
-pub record IsConditions (current : Effect) (count : ℕ) (c : Conditions) : Type 0 where
+pub record IsConditions (current : Effect) (count : ℕ) (c : ActiveConditions) : Type 0 where
   pub underway : IsUnderway current c.underway
   pub confused : IsCount 1 5 c.confused
   pub substitute : IsCount 0 249 c.substitute
@@ -119,16 +119,16 @@ pub record IsConditions (current : Effect) (count : ℕ) (c : Conditions) : Type
   pub disabled : IsDisabled count c.disabled
 
 -- the effect of a move, by where it comes from
-abbrev pub effect_of : Used → List KnownMove → Effect
+abbrev pub effect_of : UsedMove → List KnownMove → Effect
 effect_of used moves = (move_at (number_in used moves)).effect
 
 -- beside the moves of its member. Any types are valid, and any number of penalties: the stats of the bytes are made of them
 pub record IsActive (moves : List KnownMove) (a : Active) : Type 0 where
   pub stages : IsStages a.stages
-  pub current : IsUsed (length moves) a.current
-  pub picked : IsUsed (length moves) a.picked
+  pub current_move : IsUsedMove (length moves) a.current_move
+  pub picked_move : IsUsedMove (length moves) a.picked_move
   pub kept_accuracy : a.kept_accuracy ≤ 255
-  pub conditions : IsConditions (effect_of a.current moves) (length moves) a.conditions
+  pub conditions : IsConditions (effect_of a.current_move moves) (length moves) a.conditions
 
 -- inside an update
 

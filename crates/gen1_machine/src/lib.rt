@@ -22,7 +22,7 @@ pub use event::{
 };
 pub use health::{Health, Kind, Who};
 pub use io::{DeviceFault, Sink, Source};
-pub use picks::{DisabledSlot, Pick, Used};
+pub use picks::{DisabledSlot, Pick, UsedMove};
 pub use plain::{link, now};
 pub use ranges::{FaultCode, HitCount, Level, MoveSlot, Place, Ranged, StageCount, TurnNumber};
 pub use reading::{InputFault, read_whole};

@@ -2,9 +2,9 @@
 
 /// A move of a member, by where it comes from (docs/MECHANICS.md, "Picks").
 #[derive(Debug, Clone, Copy, PartialEq, Eq)]
-pub enum Used {
+pub enum UsedMove {
     /// No move yet since the member was sent out.
-    Unused,
+    Nothing,
     /// The move in this slot, from 1 to 4.
     Slot(u8),
     /// Struggle, which is in no slot.
@@ -15,7 +15,7 @@ pub enum Used {
 #[derive(Debug, Clone, Copy, PartialEq, Eq)]
 pub enum Pick {
     /// A move that is picked anew.
-    Use(Used),
+    Use(UsedMove),
     /// The current move, which the member is in the middle of.
     Continue,
     /// Nothing, since the member is asleep or frozen.

@@ -1,12 +1,9 @@
 -- A member that is out at another stage, and the number that then stands there.
-use Rattle.std.proofs.Common.{refl, true, ℕ, ◌≡◌}
+use Rattle.gen1_layout.proofs.Words.{Active, Field, Member, Side, refl, true, ℕ, ◌≡◌}
 use Rattle.std.proofs.lemmas.Bool.{eqb-true}
 use Rattle.gen1_tables.specs.declared.effect.Stat.{Stat}
 use Rattle.gen1_tables.specs.declared.effect.Stat.TheVariants.{Accuracy, Attack, Defense, Evasion, Special, Speed}
-use Rattle.gen1_stats.specs.Members.{Member}
-use Rattle.gen1_machine.specs.declared.side.Side.{Side}
 use Rattle.gen1_machine.specs.Stages.{now_at}
-use Rattle.gen1_machine.specs.State.{Active, Field}
 use Rattle.gen1_machine.specs.CurrentStats.{at_new_stage, now, now_in, penalties_of, recomputed_at, unmodified}
 use Rattle.gen1_machine.specs.StageShift.{stands_at}
 use Rattle.gen1_status.specs.Shifting.{with_stage_after}

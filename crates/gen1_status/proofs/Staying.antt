@@ -4,7 +4,7 @@ use Rattle.std.proofs.Math.Nat.{mul-le-mul_left}
 use Rattle.std.proofs.lemmas.Bool.{cases_lt}
 use Rattle.gen1_tables.specs.declared.effect.Stat.{Stat}
 use Rattle.gen1_tables.specs.declared.effect.Stat.TheVariants.{Accuracy, Attack, Defense, Evasion, Special, Speed}
-use Rattle.gen1_machine.specs.Stages.{at_stage, divided_times, now_at, penalised_times, percent_at}
+use Rattle.gen1_machine.specs.Stages.{after_penalties, at_stage, divided_times, now_at, percent_at}
 
 percent_rises : (n : ℕ) → n < 12 → percent_at n ≤ percent_at (suc n)
 percent_rises zero h = lit≤ tt
@@ -32,13 +32,13 @@ quartered_rises : (k v w : ℕ) → v ≤ w → divided_times 4 k v ≤ divided_
 quartered_rises zero v w h = h
 quartered_rises (suc k) v w h = let before = quartered_rises k v w h in omega arith
 
-penalised_rises : (stat : Stat) (k v w : ℕ) → v ≤ w → penalised_times stat k v ≤ penalised_times stat k w
-penalised_rises Attack k v w h = halved_rises k v w h
-penalised_rises Speed k v w h = quartered_rises k v w h
-penalised_rises Defense k v w h = h
-penalised_rises Special k v w h = h
-penalised_rises Accuracy k v w h = h
-penalised_rises Evasion k v w h = h
+penalties_rise : (stat : Stat) (k v w : ℕ) → v ≤ w → after_penalties stat k v ≤ after_penalties stat k w
+penalties_rise Attack k v w h = halved_rises k v w h
+penalties_rise Speed k v w h = quartered_rises k v w h
+penalties_rise Defense k v w h = h
+penalties_rise Special k v w h = h
+penalties_rise Accuracy k v w h = h
+penalties_rise Evasion k v w h = h
 
 -- halved or quartered, a number from 1 to 999 is one still
 
@@ -50,19 +50,19 @@ quartered_between : (k v : ℕ) → 1 ≤ v → v ≤ 999 → (1 ≤ divided_tim
 quartered_between zero v low high = (low, high)
 quartered_between (suc k) v low high = let before = quartered_between k v low high in (omega arith, omega (arith, before.1))
 
-penalised_between : (stat : Stat) (k v : ℕ) → 1 ≤ v → v ≤ 999 → (1 ≤ penalised_times stat k v) × (penalised_times stat k v ≤ 999)
-penalised_between Attack k v low high = halved_between k v low high
-penalised_between Speed k v low high = quartered_between k v low high
-penalised_between Defense k v low high = (low, high)
-penalised_between Special k v low high = (low, high)
-penalised_between Accuracy k v low high = (low, high)
-penalised_between Evasion k v low high = (low, high)
+penalties_between : (stat : Stat) (k v : ℕ) → 1 ≤ v → v ≤ 999 → (1 ≤ after_penalties stat k v) × (after_penalties stat k v ≤ 999)
+penalties_between Attack k v low high = halved_between k v low high
+penalties_between Speed k v low high = quartered_between k v low high
+penalties_between Defense k v low high = (low, high)
+penalties_between Special k v low high = (low, high)
+penalties_between Accuracy k v low high = (low, high)
+penalties_between Evasion k v low high = (low, high)
 
 pub now_between : (stat : Stat) (u n k : ℕ) → (1 ≤ now_at u n stat k) × (now_at u n stat k ≤ 999)
-now_between stat u n k = penalised_between stat k (at_stage n u) (omega arith) (omega arith)
+now_between stat u n k = penalties_between stat k (at_stage n u) (omega arith) (omega arith)
 
 pub now_rises : (stat : Stat) (u n k : ℕ) → n < 12 → now_at u n stat k ≤ now_at u (suc n) stat k
-now_rises stat u n k h = penalised_rises stat k (at_stage n u) (at_stage (suc n) u) (staged_rises n u h)
+now_rises stat u n k h = penalties_rise stat k (at_stage n u) (at_stage (suc n) u) (staged_rises n u h)
 
 -- at the same stage or the next
 pub most_stays : (stat : Stat) (u n m k : ℕ) → n < 12 → n ≤ m → m ≤ suc n → now_at u n stat k ≡ 999 → now_at u m stat k ≡ 999

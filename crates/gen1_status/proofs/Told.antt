@@ -1,22 +1,14 @@
 -- How answers of the gate go through phases; and no test but the hit on itself says how the battle stands.
-use Rattle.std.proofs.Common.{Bool, List, Some, ap, false, refl, subst, sym, true, ℕ, ◌+◌, ◌≡◌, ◌∙◌}
+use Rattle.gen1_layout.proofs.Words.{Action, ActiveConditions, Bool, Event, Field, Frame, List, Parts, Phase, Progress, Shows, ShowsDrawn, Side, Some, ap, changed_active, changed_conditions, changed_member, choose, choose-false, choose-true, draw, false, given, refl, still, subst, sym, then-goes, then-stops, true, with_last_damage, ℕ, ◌+◌, ◌∙◌, ◌≡◌, ◌▸◌}
 use Rattle.gen1_rolls.specs.Streams.{Stream, byte_at}
 use Rattle.gen1_rolls.proofs.Standing.{byte_drawn, stands_after_draw}
-use Rattle.gen1_machine.specs.declared.event.Event.{Event}
-use Rattle.gen1_machine.specs.declared.side.Side.{Side}
 use Rattle.gen1_machine.specs.declared.terms.Outcome.{Outcome}
-use Rattle.gen1_machine.specs.Conditions.{Conditions}
-use Rattle.gen1_machine.specs.State.{changed_active, changed_conditions, changed_member, with_last_damage, Field}
-use Rattle.gen1_machine.specs.Progress.{Action, Phase, Progress, choose, draw, given, ◌▸◌}
 use Rattle.gen1_machine.specs.HitOnItself.{hurt_itself_by}
 use Rattle.gen1_machine.proofs.Keeps.{choose-keeps, given-keeps, set_last_damage-keeps, then-keeps, Keeps, Spares}
 use Rattle.gen1_machine.proofs.RequestsStand.{outcome-stays}
 use Rattle.gen1_machine.proofs.Steady.{land_on_foes_substitute-steady, land_on_hp-steady, Breaks, Hurts, Steady}
-use Rattle.gen1_layout.specs.Parts.{Parts}
-use Rattle.gen1_layout.specs.Shows.{Frame, Shows, ShowsDrawn}
-use Rattle.gen1_layout.proofs.Chain.{choose-false, choose-true, still, then-goes, then-stops}
-use Rattle.gen1_status.specs.declared.passing.Gate.{Gate}
-use Rattle.gen1_status.specs.declared.passing.Gate.TheVariants.{Go, Stop, Fault}
+use Rattle.gen1_status.specs.declared.gate_answer.Gate.{Gate}
+use Rattle.gen1_status.specs.declared.gate_answer.Gate.TheVariants.{Go, Stop, Fault}
 use Rattle.gen1_status.specs.Telling.{Tells, TellsDrawn, action_after, frame_after, outcome_after, stopped_by}
 
 -- how the battle stands
@@ -43,7 +35,7 @@ unfolding changed_conditions changed_active
 outcome-breaks outcome s = record { broken = record { spared = λ f a w h. outcome-stays s _ f ∙ h } }
 
 -- any change of conditions, and the hit on itself by a number
-pub conditions-spare : (outcome : Outcome) (s : Side) (change : Conditions → Conditions) → Spares (StaysAs outcome) (changed_conditions s change)
+pub conditions-spare : (outcome : Outcome) (s : Side) (change : ActiveConditions → ActiveConditions) → Spares (StaysAs outcome) (changed_conditions s change)
 unfolding changed_conditions changed_active
 conditions-spare outcome s change = record { spared = λ f a w h. outcome-stays s _ f ∙ h }
 

@@ -1,8 +1,7 @@
 -- A change that leaves what is there changes nothing.
-use Rattle.std.proofs.Common.{ap, ◌≡◌}
-use Rattle.gen1_machine.specs.declared.side.Side.{Side}
+use Rattle.gen1_layout.proofs.Words.{Active, Field, Side, active_in, ap, changed_active, ◌≡◌}
 use Rattle.gen1_machine.specs.declared.side.Side.TheVariants.{One, Two}
-use Rattle.gen1_machine.specs.State.{active_in, changed_active, with_party, Active, Field}
+use Rattle.gen1_machine.specs.State.{with_party}
 
 pub changed_active-same : (s : Side) (change : Active → Active) (f : Field) → change (active_in s f) ≡ active_in s f → changed_active s change f ≡ f
 unfolding changed_active

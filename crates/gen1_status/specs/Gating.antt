@@ -1,13 +1,10 @@
 -- Who is held, who is free but for its status, and who acts with no test (docs/MECHANICS.md, "Gate").
-use Rattle.std.specs.Prelude.{Bool, None, false, true, ◌≡◌}
+use Rattle.gen1_layout.specs.Words.{Bool, Field, None, Side, conditions_in, false, other, status_in, true, underway_in, ◌≡◌}
 use Rattle.gen1_stats.specs.declared.status.Status.{Status}
 use Rattle.gen1_stats.specs.declared.status.Status.TheVariants.{Asleep, Frozen, Paralysed}
 use Rattle.gen1_machine.specs.declared.picks.Pick.{Pick}
 use Rattle.gen1_machine.specs.declared.picks.Pick.TheVariants.{Held}
-use Rattle.gen1_machine.specs.declared.side.Side.{Side}
 use Rattle.gen1_machine.specs.Picks.{is_idle}
-use Rattle.gen1_machine.specs.Sides.{other}
-use Rattle.gen1_machine.specs.State.{Field, conditions_in, status_in, underway_in}
 
 abbrev pub is_held : Pick → Bool
 is_held Held = true

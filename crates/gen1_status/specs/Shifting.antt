@@ -1,21 +1,15 @@
 -- A shift of a stage, whose failure is left to its caller (docs/MECHANICS.md, "Stage shift").
-use Rattle.std.specs.Prelude.{Bool, List, false, true, ℕ, ℤ, negsuc, pos, ◌+◌, ◌≡◌, ◌≤◌}
+use Rattle.gen1_layout.specs.Words.{Active, Bool, Event, Frame, IsBetween, List, Phase, Progress, Shows, Side, false, true, with_stage, ℕ, ◌+◌, ◌≡◌, ◌≤◌}
+use Rattle.std.specs.Prelude.{ℤ, negsuc, pos}
 use Rattle.gen1_tables.specs.declared.effect.Stat.{Stat}
 use Rattle.gen1_tables.specs.declared.effect.Stat.TheVariants.{Accuracy, Attack, Defense, Evasion, Special, Speed}
-use Rattle.gen1_stats.specs.Members.{IsBetween}
-use Rattle.gen1_machine.specs.declared.side.Side.{Side}
-use Rattle.gen1_machine.specs.declared.event.Event.{Event}
-use Rattle.gen1_machine.specs.State.{Active}
-use Rattle.gen1_machine.specs.CurrentStats.{with_stage}
-use Rattle.gen1_machine.specs.Progress.{Phase, Progress}
 use Rattle.gen1_machine.specs.StageShift.{lower_stage, raise_stage}
 use Rattle.gen1_layout.specs.Parts.{Parts}
-use Rattle.gen1_layout.specs.Shows.{Frame, Shows}
 
 -- a stage, and so many penalties since its stat was last recomputed; Attack and Speed alone have any
 abbrev pub with_stage_after : Stat → ℕ → ℕ → Active → Active
-with_stage_after Attack stage penalties a = record a { stages = with_stage Attack stage a.stages; attack_halved = penalties }
-with_stage_after Speed stage penalties a = record a { stages = with_stage Speed stage a.stages; speed_quartered = penalties }
+with_stage_after Attack stage penalties a = record a { stages = with_stage Attack stage a.stages; attack_penalties = penalties }
+with_stage_after Speed stage penalties a = record a { stages = with_stage Speed stage a.stages; speed_penalties = penalties }
 with_stage_after Defense stage penalties a = record a { stages = with_stage Defense stage a.stages }
 with_stage_after Special stage penalties a = record a { stages = with_stage Special stage a.stages }
 with_stage_after Accuracy stage penalties a = record a { stages = with_stage Accuracy stage a.stages }

@@ -1,13 +1,11 @@
 -- What an answer of the gate tells of the phase that it stands for: whether that stopped, and how the battle stands then.
-use Rattle.std.specs.Prelude.{Bool, List, false, true, ℕ, ◌≡◌}
-use Rattle.gen1_machine.specs.declared.event.Event.{Event}
+use Rattle.gen1_layout.specs.Words.{Bool, Event, Frame, List, Phase, Progress, Shows, ShowsDrawn, false, true, ℕ, ◌≡◌}
 use Rattle.gen1_machine.specs.declared.terms.Outcome.{Outcome}
 use Rattle.gen1_machine.specs.declared.terms.Outcome.TheVariants as outcomes
-use Rattle.gen1_machine.specs.Progress.{Action, Phase, Progress}
+use Rattle.gen1_machine.specs.Progress.{Action}
 use Rattle.gen1_layout.specs.Parts.{Parts}
-use Rattle.gen1_layout.specs.Shows.{Frame, Shows, ShowsDrawn}
-use Rattle.gen1_status.specs.declared.passing.Gate.{Gate}
-use Rattle.gen1_status.specs.declared.passing.Gate.TheVariants.{Go, Fault}
+use Rattle.gen1_status.specs.declared.gate_answer.Gate.{Gate}
+use Rattle.gen1_status.specs.declared.gate_answer.Gate.TheVariants.{Go, Fault}
 
 abbrev pub stopped_by : Gate → Bool
 stopped_by Go = false

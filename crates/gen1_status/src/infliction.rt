@@ -1,9 +1,7 @@
 //! Statuses that a member gets (docs/MECHANICS.md, "Penalties", "Order of events").
-ghost use Rattle.std.specs.Prelude.{false, ◌+◌, ◌≡◌, ◌≤◌};
-ghost use Rattle.arrayvec.specs.ArrayVec.{array_vec_len};
-ghost use Rattle.gen1_machine.specs.Progress.{Progress, inflict};
+ghost use Rattle.gen1_layout.specs.Words.{AddsAtMost, Does, Frame, HasRoom, Progress, Shows, false, ◌≡◌};
+ghost use Rattle.gen1_machine.specs.Progress.{inflict};
 ghost use Rattle.gen1_machine.specs.Valid.{IsStatus};
-ghost use Rattle.gen1_layout.specs.Shows.{Does, Frame, Shows};
 ghost use Rattle.gen1_status.specs.Inflicted.{IsCountOf, status_of_kind};
 
 use crate::take_penalty;
@@ -16,9 +14,9 @@ use gen1_stats::Status;
 ///
 /// Sleep lasts for `count` turns, from 1 to 7, and is unmarked. For another kind `count` is of no account.
 pub fn inflict(battle: &mut Packed, target: Side, kind: Kind, count: u8, events: &mut EventList)
-    requires { array_vec_len events.old + 1 ≤ 64 }
+    requires { HasRoom 1 events.old }
     ensures shown { IsCountOf kind count → Does battle.old events.old.items battle.new events.new.items false (inflict target (status_of_kind kind count) kind) }
-    ensures room { array_vec_len events.new ≤ array_vec_len events.old + 1 }
+    ensures room { AddsAtMost 1 events.old events.new }
 {
     inflict_status(battle, target, status_of_kind(kind, count), kind, events);
 }
@@ -32,10 +30,10 @@ pub fn inflict_status(
     kind: Kind,
     events: &mut EventList,
 )
-    requires { array_vec_len events.old + 1 ≤ 64 }
+    requires { HasRoom 1 events.old }
     ensures shown { (g : Frame) (p : Progress) → IsStatus g.setting.terms.rules status → Shows g battle.old events.old.items false p
         → Shows g battle.new events.new.items false (inflict target status kind p) }
-    ensures room { array_vec_len events.new ≤ array_vec_len events.old + 1 }
+    ensures room { AddsAtMost 1 events.old events.new }
 {
     battle.put_status(target, status);
     take_penalty(battle, target, status);

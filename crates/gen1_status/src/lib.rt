@@ -2,20 +2,20 @@
 //! "Penalties", "Stage shift", "Picks" to "Hit on itself", "Residual").
 #![tactic(auto)]
 
-mod gating;
+mod gate_answer;
+mod gate_tests;
+mod hit_on_itself;
 mod infliction;
-mod own_hit;
-mod passing;
 mod penalties;
 mod picking;
+mod residual_damage;
 mod shifts;
 mod stage_writes;
-mod suffering;
 
-pub use gating::gate;
+pub use gate_answer::Gate;
+pub use gate_tests::gate;
 pub use infliction::{inflict, inflict_status};
-pub use passing::Gate;
 pub use penalties::take_penalty;
 pub use picking::pick;
+pub use residual_damage::residual;
 pub use shifts::{lower_stage, raise_stage, shift_stage};
-pub use suffering::residual;

@@ -1,7 +1,5 @@
 //! What paralysis and a burn do to a stat (docs/MECHANICS.md, "Penalties").
-ghost use Rattle.gen1_machine.specs.CurrentStats.{with_penalty_of};
-ghost use Rattle.gen1_machine.specs.State.{Field, changed_active};
-ghost use Rattle.gen1_layout.specs.Within.{Setting, Within};
+ghost use Rattle.gen1_layout.specs.Words.{Changes, changed_active, with_penalty_of};
 
 use gen1_layout::Packed;
 use gen1_machine::Side;
@@ -12,7 +10,7 @@ use gen1_tables::Stat;
 /// halves its current Attack, each to at least 1. Another status has none, and nothing changes (docs/MECHANICS.md,
 /// "Penalties"). The stage stays, and the status need not be the member's own.
 pub fn take_penalty(battle: &mut Packed, side: Side, status: Status)
-    ensures stands { (g : Setting) (f : Field) → Within g battle.old f → Within g battle.new (changed_active side (with_penalty_of status) f) }
+    ensures stands { Changes battle.old battle.new (changed_active side (with_penalty_of status)) }
 {
     match status {
         Status::Paralysed => {

@@ -1,10 +1,6 @@
 //! Stages that rise and fall in battle (docs/MECHANICS.md, "Stage shift").
-ghost use Rattle.std.specs.Prelude.{List, false, ◌+◌, ◌≤◌};
-ghost use Rattle.arrayvec.specs.ArrayVec.{array_vec_len};
-ghost use Rattle.gen1_stats.specs.Members.{IsBetween};
-ghost use Rattle.gen1_machine.specs.declared.event.Event.{Event};
+ghost use Rattle.gen1_layout.specs.Words.{AddsAtMost, Does, Event, HasRoom, IsBetween, List, false, ◌≤◌};
 ghost use Rattle.gen1_machine.specs.StageShift.{lower_stage, note_boost, note_unboost, raise_stage, shift_to};
-ghost use Rattle.gen1_layout.specs.Shows.{Does};
 ghost use Rattle.gen1_status.specs.Shifting.{IsShift, Shifts, shift_stage};
 
 use crate::stage_writes::{put_stage, recompute, stands_at};
@@ -33,9 +29,9 @@ pub fn shift_stage(
     by: i8,
     events: &mut EventList,
 ) -> bool
-    requires { array_vec_len events.old + 1 ≤ 64 }
+    requires { HasRoom 1 events.old }
     ensures shown { IsShift by → Shifts battle.old events.old.items battle.new events.new.items result (shift_stage user target stat by) }
-    ensures room { array_vec_len events.new ≤ array_vec_len events.old + 1 }
+    ensures room { AddsAtMost 1 events.old events.new }
 {
     let stages = by.unsigned_abs();
     if by > 0 {
@@ -58,9 +54,9 @@ pub fn raise_stage(
     by: u8,
     events: &mut EventList,
 ) -> bool
-    requires { array_vec_len events.old + 1 ≤ 64 }
+    requires { HasRoom 1 events.old }
     ensures shown { IsBetween 1 2 by → Shifts battle.old events.old.items battle.new events.new.items result (raise_stage user target stat by) }
-    ensures room { array_vec_len events.new ≤ array_vec_len events.old + 1 }
+    ensures room { AddsAtMost 1 events.old events.new }
 {
     let stage = battle.stage(target, stat);
     if stage >= HIGHEST_STAGE {
@@ -92,9 +88,9 @@ pub fn lower_stage(
     by: u8,
     events: &mut EventList,
 ) -> bool
-    requires { array_vec_len events.old + 1 ≤ 64 }
+    requires { HasRoom 1 events.old }
     ensures shown { IsBetween 1 2 by → Shifts battle.old events.old.items battle.new events.new.items result (lower_stage user target stat by) }
-    ensures room { array_vec_len events.new ≤ array_vec_len events.old + 1 }
+    ensures room { AddsAtMost 1 events.old events.new }
 {
     let stage = battle.stage(target, stat);
     if stage == LOWEST_STAGE {
@@ -125,9 +121,9 @@ fn shift_to(battle: &mut Packed, user: Side, target: Side, stat: Stat, stage: u8
 
 // Tells by how much a stage rose, if it did.
 fn note_boost(battle: &Packed, side: Side, stat: Stat, stages: u8, events: &mut EventList)
-    requires { array_vec_len events.old + 1 ≤ 64 }
+    requires { HasRoom 1 events.old }
     ensures shown { stages ≤ 2 → Does battle.now events.old.items battle.now events.new.items false (note_boost side stat stages) }
-    ensures room { array_vec_len events.new ≤ array_vec_len events.old + 1 }
+    ensures room { AddsAtMost 1 events.old events.new }
 {
     if let Some(count) = StageCount::new(stages) {
         events.push(Event::Boost(battle.who(side), stat, count));
@@ -136,9 +132,9 @@ fn note_boost(battle: &Packed, side: Side, stat: Stat, stages: u8, events: &mut 
 
 // Tells by how much a stage fell, if it did.
 fn note_unboost(battle: &Packed, side: Side, stat: Stat, stages: u8, events: &mut EventList)
-    requires { array_vec_len events.old + 1 ≤ 64 }
+    requires { HasRoom 1 events.old }
     ensures shown { stages ≤ 2 → Does battle.now events.old.items battle.now events.new.items false (note_unboost side stat stages) }
-    ensures room { array_vec_len events.new ≤ array_vec_len events.old + 1 }
+    ensures room { AddsAtMost 1 events.old events.new }
 {
     if let Some(count) = StageCount::new(stages) {
         events.push(Event::Unboost(battle.who(side), stat, count));

@@ -1,10 +1,8 @@
 //! A stage, and the number that stands at it (docs/MECHANICS.md, "Stages").
-ghost use Rattle.std.specs.Prelude.{true, ℕ, ◌≡◌, ◌≤◌};
-ghost use Rattle.gen1_machine.specs.CurrentStats.{has_number, now, recomputed_at};
+ghost use Rattle.gen1_layout.specs.Words.{Active, Field, Reads, Setting, Within, active_in, changed_active, has_number, member_in, now, true, ℕ, ◌≡◌, ◌≤◌};
+ghost use Rattle.gen1_machine.specs.CurrentStats.{recomputed_at};
 ghost use Rattle.gen1_machine.specs.Stages.{stage_number};
 ghost use Rattle.gen1_machine.specs.StageShift.{stands_at};
-ghost use Rattle.gen1_machine.specs.State.{Active, Field, active_in, changed_active, member_in};
-ghost use Rattle.gen1_layout.specs.Within.{Setting, Within};
 ghost use Rattle.gen1_status.specs.Shifting.{with_stage_after};
 
 use gen1_layout::Packed;
@@ -13,7 +11,7 @@ use gen1_tables::Stat;
 
 // Whether a current stat is this number; accuracy and evasion have none.
 pub(crate) fn stands_at(battle: &Packed, side: Side, stat: Stat, value: u16) -> bool
-    ensures stands { (g : Setting) (f : Field) → Within g battle.now f → result ≡ stands_at value stat side f }
+    ensures stands { Reads battle.now result (stands_at value stat side) }
 {
     has_number(stat) && battle.current_stat(side, stat) == value
 }

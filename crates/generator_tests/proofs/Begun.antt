@@ -1,15 +1,9 @@
 -- What is shown where an operation begins on a field: any generator, at the beginning of its own stream.
-use Rattle.std.proofs.Common.{List, false, refl, ℕ}
+use Rattle.gen1_layout.proofs.Words.{Event, Field, Frame, List, Parts, Progress, Setting, ShowsDrawn, Side, Within, false, refl, ℕ}
 use Rattle.gen1_rolls.specs.Draws.{stream_of}
 use Rattle.gen1_rolls.specs.Streams.{Stream}
 use Rattle.gen1_rolls.proofs.Standing.{stands_at_itself}
-use Rattle.gen1_machine.specs.declared.side.Side.{Side}
-use Rattle.gen1_machine.specs.declared.event.Event.{Event}
-use Rattle.gen1_machine.specs.Progress.{Progress, new_action}
-use Rattle.gen1_machine.specs.State.{Field}
-use Rattle.gen1_layout.specs.Parts.{Parts}
-use Rattle.gen1_layout.specs.Shows.{Frame, ShowsDrawn}
-use Rattle.gen1_layout.specs.Within.{Setting, Within}
+use Rattle.gen1_machine.specs.Progress.{new_action}
 
 abbrev pub begun : Field → Stream → Side → List Event → Progress
 begun f stream side events = record {

@@ -1,21 +1,17 @@
 //! The operations that draw, with any generator: what a caller knows that is itself generic, from their contracts alone.
-ghost use Rattle.std.specs.Prelude.{None, Some, nat_lt, ℕ, ◌+◌, ◌<◌, ◌≡◌, ◌≤◌};
-ghost use Rattle.arrayvec.specs.ArrayVec.{array_vec_len};
+ghost use Rattle.gen1_layout.specs.Words.{Field, HasRoom, None, Setting, Some, Within, move_at, nat_lt, status_in, ℕ, ◌+◌, ◌<◌, ◌≡◌, ◌≤◌};
 ghost use Rattle.gen1_rolls.specs.Draws.{draws_of, stream_of};
 ghost use Rattle.gen1_rolls.specs.Streams.{first, iterate};
 ghost use Rattle.gen1_stats.specs.declared.status.Status.TheVariants.{Healthy, Paralysed};
 ghost use Rattle.gen1_machine.specs.CriticalHits.{critical_bound_in, rotated_left_3};
 ghost use Rattle.gen1_machine.specs.Damage.{is_factor, rotated_right_1, times_factor};
 ghost use Rattle.gen1_machine.specs.HitTest.{scaled_in, settled_hit_in};
-ghost use Rattle.gen1_machine.specs.Moves.{move_at};
-ghost use Rattle.gen1_machine.specs.State.{Field, status_in};
-ghost use Rattle.gen1_layout.specs.Within.{Setting, Within};
 ghost use Rattle.gen1_status.specs.Telling.{stopped_by};
 ghost use Rattle.gen1_status.specs.Gating.{IsFree};
 
 use gen1_hits::{Hit, critical, factor, hit_test};
 use gen1_layout::Packed;
-use gen1_machine::{EventList, Pick, Side, Used};
+use gen1_machine::{EventList, Pick, Side, UsedMove};
 use gen1_rolls::Rolls;
 use gen1_status::{Gate, gate};
 use gen1_tables::MoveId;
@@ -58,11 +54,11 @@ pub fn hit_test_by<R: Rolls>(
 pub fn gate_by<R: Rolls>(
     battle: &mut Packed,
     side: Side,
-    used: Used,
+    used: UsedMove,
     random: &mut R,
     events: &mut EventList,
 ) -> Gate
-    requires { array_vec_len events.old + 3 ≤ 64 }
+    requires { HasRoom 3 events.old }
     ensures healthy { (g : Setting) (f : Field) → Within g battle.old f → IsFree side f → status_in side f ≡ Healthy
         → (result ≡ Gate.Go) × (random.new ≡ random.old) }
     ensures paralysed { (g : Setting) (f : Field) → Within g battle.old f → IsFree side f → status_in side f ≡ Paralysed

@@ -1,22 +1,18 @@
 //! The same with a countdown that begins at a number: its first draw is that number.
-ghost use Rattle.std.specs.Prelude.{None, nat_lt, true, ◌+◌, ◌<◌, ◌≡◌, ◌≤◌};
-ghost use Rattle.arrayvec.specs.ArrayVec.{array_vec_len};
+ghost use Rattle.gen1_layout.specs.Words.{Field, HasRoom, None, Reads, Setting, Within, move_at, nat_lt, status_in, true, ◌<◌, ◌≡◌, ◌≤◌};
 ghost use Rattle.gen1_rolls.specs.Draws.{stream_of};
 ghost use Rattle.gen1_rolls.specs.Streams.{IsStream};
 ghost use Rattle.gen1_stats.specs.declared.status.Status.TheVariants.{Paralysed};
 ghost use Rattle.gen1_machine.specs.CriticalHits.{critical_bound_in, rotated_left_3};
 ghost use Rattle.gen1_machine.specs.Damage.{is_factor, rotated_right_1, times_factor};
 ghost use Rattle.gen1_machine.specs.HitTest.{scaled_in, settled_hit_in};
-ghost use Rattle.gen1_machine.specs.Moves.{move_at};
-ghost use Rattle.gen1_machine.specs.State.{Field, status_in};
-ghost use Rattle.gen1_layout.specs.Within.{Setting, Within};
 ghost use Rattle.generator_tests.specs.Countdown.{one_down};
 ghost use Rattle.gen1_status.specs.Gating.{IsFree};
 
 use crate::any::{critical_by, factor_by, gate_by, hit_test_by};
 use crate::countdown::Countdown;
 use gen1_layout::Packed;
-use gen1_machine::{EventList, Side, Used};
+use gen1_machine::{EventList, Side, UsedMove};
 use gen1_rolls::draws_a_stream;
 use gen1_tables::MoveId;
 
@@ -32,8 +28,7 @@ pub fn own_stream(number: u8) -> Countdown
 
 /// Whether a hit is critical where the draw is this number.
 pub fn critical_at(battle: &Packed, side: Side, id: MoveId, number: u8) -> bool
-    ensures { (g : Setting) (f : Field) → Within g battle.now f
-        → result ≡ nat_lt (rotated_left_3 number) (critical_bound_in side (move_at id) f) }
+    ensures { Reads battle.now result λ f. nat_lt (rotated_left_3 number) (critical_bound_in side (move_at id) f) }
 {
     critical_by(battle, side, id, &mut Countdown::new(number))
 }
@@ -58,11 +53,11 @@ pub fn hit_test_at(battle: &mut Packed, side: Side, id: MoveId, base: u8, number
 pub fn gate_at(
     battle: &mut Packed,
     side: Side,
-    used: Used,
+    used: UsedMove,
     number: u8,
     events: &mut EventList,
 ) -> bool
-    requires { array_vec_len events.old + 3 ≤ 64 }
+    requires { HasRoom 3 events.old }
     ensures { (g : Setting) (f : Field) → Within g battle.old f → IsFree side f → status_in side f ≡ Paralysed → result ≡ nat_lt number 63 }
 {
     gate_by(battle, side, used, &mut Countdown::new(number), events).stops()

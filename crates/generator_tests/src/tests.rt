@@ -7,7 +7,7 @@ use crate::{
 use arrayvec::ArrayVec;
 use gen1_hits::Hit;
 use gen1_layout::Packed;
-use gen1_machine::{CantReason, Event, EventList, Pick, Side, Used};
+use gen1_machine::{CantReason, Event, EventList, Pick, Side, UsedMove};
 use gen1_rolls::Rolls;
 use gen1_stats::{MemberSpec, Status, Team};
 use gen1_status::{Gate, gate};
@@ -16,7 +16,7 @@ use std::test::Fail;
 
 const USER: Side = Side::One;
 
-const STRENGTH: Used = Used::Slot(1);
+const STRENGTH: UsedMove = UsedMove::Slot(1);
 
 fn strength() -> Result<MoveId, Fail> {
     Ok(MoveId::from_name("Strength").ok_or("no such move")?)

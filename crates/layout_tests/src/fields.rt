@@ -3,7 +3,7 @@ ghost use Rattle.std.specs.Prelude.{◌≡◌};
 
 use arrayvec::ArrayVec;
 use gen1_layout::{Conditions, Packed, in_two};
-use gen1_machine::{DisabledSlot, Kind, Outcome, Request, Rules, Side, TurnLimit, Used};
+use gen1_machine::{DisabledSlot, Kind, Outcome, Request, Rules, Side, TurnLimit, UsedMove};
 use gen1_rolls::{LinkRandom, Rolls};
 use gen1_stats::{MemberSpec, Status, Team};
 use gen1_tables::{Element, MoveId, Species, Stat};
@@ -170,15 +170,15 @@ fn an_active_block(rt: HostRuntime) -> Result<(), Fail> {
     packed.put_special(side, 5, 157);
     packed.put_accuracy(side, 4);
     packed.put_evasion(side, 12);
-    packed.put_current(side, Used::Slot(2));
-    packed.put_picked(side, Used::Struggle);
+    packed.put_current_move(side, UsedMove::Slot(2));
+    packed.put_picked_move(side, UsedMove::Struggle);
     packed.put_kept_accuracy(side, 229);
     assert_eq!(rt; packed.first_type(side), Element::Ghost);
     assert_eq!(rt; packed.second_type(side), Element::Dragon);
     assert_eq!(rt; packed.stage(side, Stat::Evasion), 12);
     assert_eq!(rt; packed.current_stat(side, Stat::Attack), 447);
-    assert_eq!(rt; packed.current(side), Used::Slot(2));
-    assert_eq!(rt; packed.picked(side), Used::Struggle);
+    assert_eq!(rt; packed.current_move(side), UsedMove::Slot(2));
+    assert_eq!(rt; packed.picked_move(side), UsedMove::Struggle);
     assert_eq!(rt; packed.kept_accuracy(side), 229);
     let block = [
         1, 7, 14, 7, 6, 6, 5, 4, 12, 191, 1, 32, 1, 79, 0, 157, 0, 0, 0, 0, 0, 0, 0, 0, 0, 0, 0, 0,

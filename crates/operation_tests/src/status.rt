@@ -6,7 +6,7 @@ use gen1_stats::{MemberSpec, Team};
 use gen1_tables::{Element, MoveId, Species};
 use std::test::Fail;
 
-mod gating;
+mod gates;
 mod statuses;
 
 const USER: Side = Side::One;

@@ -1,6 +1,5 @@
-use Rattle.std.proofs.Common.{refl}
+use Rattle.gen1_layout.proofs.Words.{drawing, refl, still}
 use Rattle.gen1_machine.specs.EarlyEffects.{confuse, confused_by}
-use Rattle.gen1_layout.proofs.Chain.{drawing, still}
 use Rattle.gen1_action.proofs.confusing.confuse.Goals as goal
 
 pub returns-clause-shown : goal.returns-clause-shown

@@ -1,9 +1,6 @@
-use Rattle.std.proofs.Common.{ap}
-use Rattle.gen1_machine.specs.declared.health.Who.{Who}
+use Rattle.gen1_layout.proofs.Words.{Field, Who, ap, goes, halted, noted, who_in}
 use Rattle.gen1_machine.specs.declared.event.Event.TheVariants as events
-use Rattle.gen1_machine.specs.State.{who_in, Field}
 use Rattle.gen1_machine.specs.Progress.{fail}
-use Rattle.gen1_layout.proofs.Chain.{goes, halted, noted}
 use Rattle.gen1_action.proofs.failing.fail.Goals as goal
 
 pub returns-clause-shown : goal.returns-clause-shown

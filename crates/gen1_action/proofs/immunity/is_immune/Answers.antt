@@ -1,5 +1,4 @@
-use Rattle.std.proofs.Common.{ap, sym, true, false, ◌||◌, ◌∙◌, ◌≡◌}
-use Rattle.gen1_machine.specs.State.{active_in}
+use Rattle.gen1_layout.proofs.Words.{active_in, ap, false, sym, true, ◌||◌, ◌∙◌, ◌≡◌}
 use Rattle.gen1_action.specs.Immunity.{has_no_effect}
 use Rattle.gen1_action.proofs.Immunities.{immune-is}
 use Rattle.gen1_action.proofs.immunity.is_immune.Goals as goal

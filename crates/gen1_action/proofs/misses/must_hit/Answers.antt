@@ -1,7 +1,5 @@
-use Rattle.std.proofs.Common.{ap, refl, ◌∙◌}
+use Rattle.gen1_layout.proofs.Words.{Action, ap, drawn_goes, drawn_if_not, drawn_if_so, drawn_stays, halted, refl, still, ◌∙◌}
 use Rattle.gen1_machine.specs.HitTest.{must_hit}
-use Rattle.gen1_machine.specs.Progress.{Action}
-use Rattle.gen1_layout.proofs.Chain.{drawn_goes, drawn_if_not, drawn_if_so, drawn_stays, halted, still}
 use Rattle.gen1_action.proofs.Knowledge.{plain_still}
 use Rattle.gen1_action.proofs.misses.must_hit.Goals as goal
 

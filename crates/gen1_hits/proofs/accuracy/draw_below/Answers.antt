@@ -1,7 +1,5 @@
-use Rattle.std.proofs.Common.{arith, false, nat_lt, refl, true, ◌≡◌}
-use Rattle.std.proofs.lemmas.Bool.Decides.{nat_tests}
+use Rattle.gen1_layout.proofs.Words.{arith, drawing, false, if_not, if_so, nat_lt, nat_tests, refl, stays, still, true, ◌≡◌}
 use Rattle.gen1_machine.specs.HitTest.{hits_below}
-use Rattle.gen1_layout.proofs.Chain.{drawing, if_not, if_so, stays, still}
 use Rattle.gen1_hits.proofs.accuracy.draw_below.Goals as goal
 
 pub returns-then-draw-byte : goal.returns-then-draw-byte

@@ -1,7 +1,5 @@
-use Rattle.std.proofs.Common.{Some, refl}
-use Rattle.gen1_machine.specs.Progress.{Action}
+use Rattle.gen1_layout.proofs.Words.{Action, Some, acted, drawn_goes, drawn_seeing, goes, refl, still}
 use Rattle.gen1_machine.specs.HitTest.{hit_test, set_tested, test_by}
-use Rattle.gen1_layout.proofs.Chain.{acted, drawn_goes, drawn_seeing, goes, still}
 use Rattle.gen1_hits.proofs.accuracy.hit_test.Goals as goal
 
 pub returns-in-Some-true : goal.returns-in-Some-true

@@ -1,8 +1,7 @@
-use Rattle.std.proofs.Common.{refl, true}
+use Rattle.gen1_layout.proofs.Words.{Action, acted, goes, put_damage, put_on_conditions, refl, true}
 use Rattle.gen1_machine.specs.Conditions.{without_trapping}
-use Rattle.gen1_machine.specs.Progress.{set_missed, Action}
+use Rattle.gen1_machine.specs.Progress.{set_missed}
 use Rattle.gen1_machine.specs.HitTest.{miss}
-use Rattle.gen1_layout.proofs.Chain.{acted, goes, put_damage, put_on_conditions}
 use Rattle.gen1_hits.proofs.accuracy.miss.Goals as goal
 
 pub returns : goal.returns

@@ -1,8 +1,6 @@
-use Rattle.std.proofs.Common.{nat_lt, refl, ℕ, ◌≡◌}
+use Rattle.gen1_layout.proofs.Words.{Action, acted, drawing, drawn_seeing, nat_lt, refl, still, ℕ, ◌≡◌}
 use Rattle.gen1_machine.specs.Moves.{move_at}
-use Rattle.gen1_machine.specs.Progress.{Action}
 use Rattle.gen1_machine.specs.CriticalHits.{critical_bound_in, critical_by, roll_critical, rotated_left_3, set_critical}
-use Rattle.gen1_layout.proofs.Chain.{acted, drawing, drawn_seeing, still}
 use Rattle.gen1_hits.proofs.critical_hits.critical.Goals as goal
 
 pub returns : goal.returns

@@ -1,5 +1,4 @@
-use Rattle.std.proofs.Common.{arith, false, lit<, nat_le, refl, rules, true, ◌+◌, ◌∙◌, ◌≡◌}
-use Rattle.std.proofs.lemmas.Bool.Decides.{nat_tests}
+use Rattle.gen1_layout.proofs.Words.{arith, false, lit<, nat_le, nat_tests, refl, rules, true, ◌+◌, ◌∙◌, ◌≡◌}
 use Rattle.gen1_rolls.proofs.Standing.{found_then}
 use Rattle.gen1_machine.specs.Damage.{is_factor}
 use Rattle.gen1_hits.proofs.Varying.{vary-draws, vary-keeps}

@@ -1,8 +1,7 @@
-use Rattle.std.proofs.Common.{sym, ◌∙◌}
+use Rattle.gen1_layout.proofs.Words.{changed_member, health_in, if_not, if_so, stays, sym, told_so, who_in, ◌∙◌}
 use Rattle.gen1_machine.specs.declared.event.Event.TheVariants as events
-use Rattle.gen1_machine.specs.State.{changed_member, health_in, healed_by, who_in}
+use Rattle.gen1_machine.specs.State.{healed_by}
 use Rattle.gen1_machine.specs.Progress.{gain_hp}
-use Rattle.gen1_layout.proofs.Chain.{if_not, if_so, stays, told_so}
 use Rattle.gen1_hits.proofs.hp.gain_hp.Goals as goal
 
 pub returns-then-not-gains-clause-shown : goal.returns-then-not-gains-clause-shown

@@ -1,6 +1,5 @@
-use Rattle.std.proofs.Common.{ap, arith, sym, ℕ, ◌-◌, ◌≡◌, ◌∙◌}
-use Rattle.gen1_machine.specs.State.{hurt_by, member_in}
-use Rattle.gen1_layout.proofs.Steps.{member_ok}
+use Rattle.gen1_layout.proofs.Words.{ap, arith, member_in, member_ok, sym, ℕ, ◌-◌, ◌∙◌, ◌≡◌}
+use Rattle.gen1_machine.specs.State.{hurt_by}
 use Rattle.gen1_hits.proofs.hp.hurt.Goals as goal
 
 pub returns : goal.returns

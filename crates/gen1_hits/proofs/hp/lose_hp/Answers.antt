@@ -1,8 +1,7 @@
-use Rattle.std.proofs.Common.{sym, ◌∙◌}
+use Rattle.gen1_layout.proofs.Words.{changed_member, health_in, if_not, if_so, stays, sym, told_so, who_in, ◌∙◌}
 use Rattle.gen1_machine.specs.declared.event.Event.TheVariants as events
-use Rattle.gen1_machine.specs.State.{changed_member, health_in, hurt_by, who_in}
+use Rattle.gen1_machine.specs.State.{hurt_by}
 use Rattle.gen1_machine.specs.Progress.{lose_hp}
-use Rattle.gen1_layout.proofs.Chain.{if_not, if_so, stays, told_so}
 use Rattle.gen1_hits.proofs.hp.lose_hp.Goals as goal
 
 pub returns-then-not-loses-clause-shown : goal.returns-then-not-loses-clause-shown

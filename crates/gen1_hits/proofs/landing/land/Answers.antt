@@ -1,7 +1,5 @@
-use Rattle.std.proofs.Common.{arith, false, nat_lt, sym, true, ◌≡◌}
-use Rattle.std.proofs.lemmas.Bool.Decides.{nat_tests}
+use Rattle.gen1_layout.proofs.Words.{arith, false, if_not, if_so, nat_lt, nat_tests, seeing, stays, sym, true, ◌≡◌}
 use Rattle.gen1_machine.specs.Landing.{land_by, land_damage}
-use Rattle.gen1_layout.proofs.Chain.{if_not, if_so, seeing, stays}
 use Rattle.gen1_hits.proofs.landing.land.Goals as goal
 
 pub returns-then-damage-eq0-clause-shown : goal.returns-then-damage-eq0-clause-shown

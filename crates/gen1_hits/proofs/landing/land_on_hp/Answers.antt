@@ -1,8 +1,7 @@
-use Rattle.std.proofs.Common.{ap, min, refl, ◌≡◌, ◌∙◌}
-use Rattle.gen1_machine.specs.State.{member_in}
+use Rattle.gen1_layout.proofs.Words.{ap, goes, member_in, put_damage, refl, seeing, ◌∙◌, ◌≡◌}
+use Rattle.std.proofs.Common.{min}
 use Rattle.gen1_machine.specs.Progress.{member}
 use Rattle.gen1_machine.specs.Landing.{land_on_hp}
-use Rattle.gen1_layout.proofs.Chain.{goes, put_damage, seeing}
 use Rattle.gen1_hits.proofs.landing.land_on_hp.Goals as goal
 
 pub returns-clause-shown : goal.returns-clause-shown

@@ -1,12 +1,9 @@
-use Rattle.std.proofs.Common.{Option, ap, arith, refl, sym, true, ℕ, ◌∙◌}
+use Rattle.gen1_layout.proofs.Words.{Action, Option, acted, active_ok, ap, arith, changed_conditions, conditions_in, ends, goes, if_not, if_so, refl, sym, told_so, true, who_in, ℕ, ◌∙◌}
 use Rattle.gen1_machine.specs.declared.event.Event.TheVariants as events
 use Rattle.gen1_machine.specs.declared.event.Volatile.TheVariants as volatiles
 use Rattle.gen1_machine.specs.Conditions.{less_by, with_substitute_hurt, without_substitute}
-use Rattle.gen1_machine.specs.State.{changed_conditions, conditions_in, who_in}
-use Rattle.gen1_machine.specs.Progress.{ends, goes_on, Action}
+use Rattle.gen1_machine.specs.Progress.{lasts}
 use Rattle.gen1_machine.specs.Landing.{land_on_substitute, set_broke}
-use Rattle.gen1_layout.proofs.Chain.{acted, goes, if_not, if_so, told_so}
-use Rattle.gen1_layout.proofs.Steps.{active_ok}
 use Rattle.gen1_hits.proofs.landing.land_on_substitute.Goals as goal
 
 pub returns-then-breaks-clause-shown : goal.returns-then-breaks-clause-shown
@@ -20,7 +17,7 @@ returns-then-breaks-clause-shown c g p h is =
     (goes _ _ a (told_so a (changed_conditions s without_substitute) (λ f. events.End (who_in s f) volatiles.Substitute) w c.push.ensures.items cc))
 
 pub returns-clause-shown : goal.returns-clause-shown
-unfolding land_on_substitute goes_on with_substitute_hurt
+unfolding land_on_substitute lasts with_substitute_hurt
 returns-clause-shown c g p h is =
     let s = c.args.target in
     let conditions = conditions_in s p.field in

@@ -1,13 +1,13 @@
 use Rattle.std.proofs.Common.{ap, arith, length, refl, ◌<◌, ◌∙◌}
 use Rattle.std.proofs.lemmas.List.{get_or_default}
-use Rattle.gen1_machine.specs.Damage.{Numbers}
+use Rattle.gen1_machine.specs.Damage.{DamageNumbers}
 use Rattle.gen1_hits.proofs.TypeSteps.{few_rows, le-most, most-more, most_two, rows_left, rows_left-all, rows_left-more}
 use Rattle.gen1_hits.proofs.type_rows.type_steps.Goals as goal
 
 pub loop-row-init : goal.loop-row-init
 loop-row-init c =
     let n = c.args.numbers.now in
-    let kind = ap (λ (m : Numbers). m.kind) c.numbers.view_is in
+    let kind = ap (λ (m : DamageNumbers). m.kind) c.numbers.view_is in
     let all = rows_left-all n c.rows_of-rows.result.now (rw kind at c.rows_of-rows.ensures.table) in
     record {
       so_far = rw (all, c.from-changed.ensures, c.with_own_type.ensures.is) refl;

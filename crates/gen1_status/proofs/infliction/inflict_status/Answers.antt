@@ -1,8 +1,7 @@
-use Rattle.std.proofs.Common.{refl}
+use Rattle.gen1_layout.proofs.Words.{changed_active, goes, put_on_member, refl, told_so}
 use Rattle.gen1_machine.specs.CurrentStats.{with_penalty_of}
 use Rattle.gen1_machine.specs.Progress.{inflict}
-use Rattle.gen1_machine.specs.State.{changed_active, with_status}
-use Rattle.gen1_layout.proofs.Chain.{goes, put_on_member, told_so}
+use Rattle.gen1_machine.specs.State.{with_status}
 use Rattle.gen1_status.proofs.infliction.inflict_status.Goals as goal
 
 pub returns-clause-shown : goal.returns-clause-shown

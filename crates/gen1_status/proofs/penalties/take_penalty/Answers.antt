@@ -1,9 +1,8 @@
-use Rattle.std.proofs.Common.{add-one, arith, max, refl, ℕ, ◌+◌, ◌/◌, ◌≡◌}
+use Rattle.gen1_layout.proofs.Words.{active_in, active_ok, add-one, arith, member_in, refl, ℕ, ◌+◌, ◌/◌, ◌≡◌}
+use Rattle.std.proofs.Common.{max}
 use Rattle.gen1_stats.specs.declared.status.Status.TheVariants.{Asleep, Burned, Frozen, Healthy, Paralysed, Poisoned}
 use Rattle.gen1_machine.specs.CurrentStats.{with_penalty_of}
 use Rattle.gen1_machine.specs.Stages.{at_stage, divided_times}
-use Rattle.gen1_machine.specs.State.{active_in, member_in}
-use Rattle.gen1_layout.proofs.Steps.{active_ok}
 use Rattle.gen1_status.proofs.Unchanged.{changed_active-same}
 use Rattle.gen1_status.proofs.penalties.take_penalty.Goals as goal
 
@@ -16,9 +15,9 @@ returns-in-Paralysed c =
           let own : ℕ = at_stage a.stages.speed (member_in c.args.side f).speed in
           let stage = c.stage-stage.ensures.stands g f h in
           let speed = c.current_stat-speed.ensures.stands g f h refl in
-          let quartered : divided_times 4 (a.speed_quartered + 1) own ≡ max 1 (divided_times 4 a.speed_quartered own / 4) = rw add-one refl in
+          let quartered : divided_times 4 (a.speed_penalties + 1) own ≡ max 1 (divided_times 4 a.speed_penalties own / 4) = rw add-one refl in
           let ok = (active_ok c.args.side h).stages in
-          rw c.in-Paralysed.is (c.put_speed.ensures.stands g f (with_penalty_of Paralysed) (a.speed_quartered + 1) h (rw stage refl) (omega arith) (omega (arith, ok.speed)));
+          rw c.in-Paralysed.is (c.put_speed.ensures.stands g f (with_penalty_of Paralysed) (a.speed_penalties + 1) h (rw stage refl) (omega arith) (omega (arith, ok.speed)));
     }
 
 pub returns-in-Burned : goal.returns-in-Burned
@@ -30,9 +29,9 @@ returns-in-Burned c =
           let own : ℕ = at_stage a.stages.attack (member_in c.args.side f).attack in
           let stage = c.stage-stage-in-Burned.ensures.stands g f h in
           let attack = c.current_stat-attack.ensures.stands g f h refl in
-          let halved : divided_times 2 (a.attack_halved + 1) own ≡ max 1 (divided_times 2 a.attack_halved own / 2) = rw add-one refl in
+          let halved : divided_times 2 (a.attack_penalties + 1) own ≡ max 1 (divided_times 2 a.attack_penalties own / 2) = rw add-one refl in
           let ok = (active_ok c.args.side h).stages in
-          rw c.in-Burned.is (c.put_attack.ensures.stands g f (with_penalty_of Burned) (a.attack_halved + 1) h (rw stage refl) (omega arith) (omega (arith, ok.attack)));
+          rw c.in-Burned.is (c.put_attack.ensures.stands g f (with_penalty_of Burned) (a.attack_penalties + 1) h (rw stage refl) (omega arith) (omega (arith, ok.attack)));
     }
 
 pub returns-in-Healthy : goal.returns-in-Healthy

@@ -1,6 +1,4 @@
-use Rattle.std.proofs.Common.{ap, is_some, refl, sym, ◌∙◌}
-use Rattle.gen1_machine.specs.declared.side.Side.{Side}
-use Rattle.gen1_machine.specs.State.{underway_in}
+use Rattle.gen1_layout.proofs.Words.{Side, ap, is_some, refl, sym, underway_in, ◌∙◌}
 use Rattle.gen1_machine.specs.Picks.{sleeps_or_freezes}
 use Rattle.gen1_status.proofs.picking.pick_without_slot.Goals as goal
 

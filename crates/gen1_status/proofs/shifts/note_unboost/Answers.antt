@@ -1,6 +1,5 @@
-use Rattle.std.proofs.Common.{refl, sym, ◌∙◌}
+use Rattle.gen1_layout.proofs.Words.{if_not, if_so, noted, refl, stays, sym, ◌∙◌}
 use Rattle.gen1_machine.specs.StageShift.{note_unboost}
-use Rattle.gen1_layout.proofs.Chain.{if_not, if_so, noted, stays}
 use Rattle.gen1_status.proofs.Fitting.{moved, not_moved}
 use Rattle.gen1_status.proofs.shifts.note_unboost.Goals as goal
 

@@ -1,10 +1,10 @@
 use Rattle.gen1_machine.specs.CurrentStats.{recomputed_at, with_penalty_of}
-use Rattle.gen1_machine.specs.StageShift.{penalise_again, shift_to}
+use Rattle.gen1_machine.specs.StageShift.{shift_to, take_penalty_again}
 use Rattle.gen1_layout.proofs.Chain.{goes, put_on_active, seeing}
 use Rattle.gen1_status.proofs.shifts.shift_to.Goals as goal
 
 pub returns : goal.returns
-unfolding shift_to penalise_again
+unfolding shift_to take_penalty_again
 returns c events ok g p h =
     let a = put_on_active h c.args.target (recomputed_at c.args.stat c.args.stage) (c.recompute.ensures.stands _ _ h.within ok) in
     goes _ _ a

@@ -1,5 +1,4 @@
-use Rattle.std.proofs.Common.{arith, sym, ◌+◌, ◌-◌, ◌≡◌, ◌∙◌}
-use Rattle.gen1_layout.proofs.Blocks.{active_holds}
+use Rattle.gen1_layout.proofs.Words.{active_holds, arith, sym, ◌+◌, ◌-◌, ◌∙◌, ◌≡◌}
 use Rattle.gen1_layout.proofs.Views.{active-part}
 use Rattle.gen1_layout.proofs.packed.Packed.active.Goals as goal
 

@@ -1,5 +1,4 @@
-use Rattle.std.proofs.Common.{refl, ◌∙◌}
-use Rattle.gen1_machine.specs.State.{underway_in}
+use Rattle.gen1_layout.proofs.Words.{refl, underway_in, ◌∙◌}
 use Rattle.gen1_layout.proofs.Counts.{bide_back}
 use Rattle.gen1_layout.proofs.packed.Packed.bide.Goals as goal
 

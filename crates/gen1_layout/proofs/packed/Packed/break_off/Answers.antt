@@ -1,11 +1,6 @@
-use Rattle.std.proofs.Common.{arith, false, lit<, lit≤, refl, slice_set, ◌∙◌, ◌≡◌}
-use Rattle.gen1_machine.specs.Conditions.{Conditions, broken_off}
+use Rattle.gen1_layout.proofs.Words.{ActiveConditions, active_holds, active_ok, arith, conditions_in, conditions_written, false, lit<, lit≤, number_small, refl, slice_set, top_byte, ◌∙◌, ◌≡◌}
+use Rattle.gen1_machine.specs.Conditions.{broken_off}
 use Rattle.gen1_machine.specs.Layout.{condition_bits, conditions_number}
-use Rattle.gen1_machine.specs.State.{conditions_in}
-use Rattle.gen1_layout.proofs.Blocks.{active_holds}
-use Rattle.gen1_layout.proofs.Counts.{number_small}
-use Rattle.gen1_layout.proofs.WaysBack.{top_byte}
-use Rattle.gen1_layout.proofs.Steps.{active_ok, conditions_written}
 use Rattle.gen1_layout.proofs.packed.Packed.break_off.Goals as goal
 
 pub returns : goal.returns
@@ -15,7 +10,7 @@ returns c =
       stands = λ g f h.
           let old = active_ok c.args.side h in
           let known = old.conditions in
-          let new : Conditions = broken_off (conditions_in c.args.side f) in
+          let new : ActiveConditions = broken_off (conditions_in c.args.side f) in
           let block = c.active_mut-active.ensures.value ∙ active_holds h c.args.side in
           let is : c.bits.result ≡ conditions_number new = c.bits.ensures tt ∙ (let bits = condition_bits (conditions_in c.args.side f) in
           let one = c.with.ensures 0 refl (condition_bits (conditions_in c.args.side f)) (lit< tt) refl (c.conditions.ensures.stands g f h) in

@@ -1,7 +1,5 @@
-use Rattle.std.proofs.Common.{[], ◌∙◌}
+use Rattle.gen1_layout.proofs.Words.{[], conditions_in, number_small, ◌∙◌}
 use Rattle.gen1_machine.specs.Layout.{conditions_number}
-use Rattle.gen1_machine.specs.State.{conditions_in}
-use Rattle.gen1_layout.proofs.Counts.{number_small}
 use Rattle.gen1_layout.proofs.WaysBack.{long_back}
 use Rattle.gen1_layout.proofs.packed.Packed.conditions.Goals as goal
 

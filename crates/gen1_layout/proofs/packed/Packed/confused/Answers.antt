@@ -1,5 +1,4 @@
-use Rattle.std.proofs.Common.{refl, ◌∙◌}
-use Rattle.gen1_machine.specs.State.{conditions_in}
+use Rattle.gen1_layout.proofs.Words.{conditions_in, refl, ◌∙◌}
 use Rattle.gen1_layout.proofs.Counts.{count_back}
 use Rattle.gen1_layout.proofs.packed.Packed.confused.Goals as goal
 

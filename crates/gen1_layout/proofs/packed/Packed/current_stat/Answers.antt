@@ -1,8 +1,7 @@
-use Rattle.std.proofs.Common.{[]}
+use Rattle.gen1_layout.proofs.Words.{[], active_in, member_in, word_back}
 use Rattle.gen1_tables.specs.declared.effect.Stat.TheVariants.{Attack, Defense, Special, Speed}
 use Rattle.gen1_machine.specs.CurrentStats.{now_in}
-use Rattle.gen1_machine.specs.State.{active_in, member_in}
-use Rattle.gen1_layout.proofs.WaysBack.{now_fits, word_back}
+use Rattle.gen1_layout.proofs.WaysBack.{now_fits}
 use Rattle.gen1_layout.proofs.packed.Packed.current_stat.Goals as goal
 
 pub returns-in-Attack-clause-stands : goal.returns-in-Attack-clause-stands

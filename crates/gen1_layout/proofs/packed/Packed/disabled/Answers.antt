@@ -1,7 +1,5 @@
-use Rattle.std.proofs.Common.{refl, sym, ◌∙◌}
-use Rattle.gen1_machine.specs.State.{conditions_in}
+use Rattle.gen1_layout.proofs.Words.{conditions_in, none_back, refl, sym, ◌∙◌}
 use Rattle.gen1_layout.proofs.Counts.{disabled_back}
-use Rattle.gen1_layout.proofs.WaysBack.{none_back}
 use Rattle.gen1_layout.proofs.packed.Packed.disabled.Goals as goal
 
 pub returns-then-is_on : goal.returns-then-is_on

@@ -1,11 +1,6 @@
-use Rattle.std.proofs.Common.{None, arith, lit<, refl, ◌∙◌, ◌≡◌}
-use Rattle.gen1_machine.specs.Conditions.{Conditions}
+use Rattle.gen1_layout.proofs.Words.{ActiveConditions, None, active_holds, active_ok, arith, conditions_in, conditions_written, lit<, number_small, refl, top_byte, underway_in, ◌∙◌, ◌≡◌}
 use Rattle.gen1_machine.specs.Layout.{condition_bits, conditions_number}
-use Rattle.gen1_machine.specs.State.{conditions_in, underway_in}
-use Rattle.gen1_layout.proofs.Blocks.{active_holds}
-use Rattle.gen1_layout.proofs.Counts.{less_alone, number_small}
-use Rattle.gen1_layout.proofs.WaysBack.{top_byte}
-use Rattle.gen1_layout.proofs.Steps.{active_ok, conditions_written}
+use Rattle.gen1_layout.proofs.Counts.{less_alone}
 use Rattle.gen1_layout.proofs.packed.Packed.end_thrash.Goals as goal
 
 pub returns : goal.returns
@@ -14,7 +9,7 @@ returns c =
       stands = λ g f change h makes.
           let old = active_ok c.args.side h in
           let known = old.conditions in
-          let new : Conditions = record (conditions_in c.args.side f) { underway = record (underway_in c.args.side f) { thrash = None } } in
+          let new : ActiveConditions = record (conditions_in c.args.side f) { underway = record (underway_in c.args.side f) { thrash = None } } in
           let block = c.active_mut-active.ensures.value ∙ active_holds h c.args.side in
           let is : c.bits.result ≡ conditions_number new = c.bits.ensures tt ∙ (c.with-now.ensures 1 refl (condition_bits (conditions_in c.args.side f)) (lit< tt) refl (c.conditions.ensures.stands g f h)) in
           let small = number_small new in

@@ -1,9 +1,6 @@
-use Rattle.std.proofs.Common.{[]}
+use Rattle.gen1_layout.proofs.Words.{[], active_ok, underway_in, word_back}
 use Rattle.gen1_machine.specs.Layout.{energy_of}
-use Rattle.gen1_machine.specs.State.{underway_in}
 use Rattle.gen1_layout.proofs.Counts.{energy_fits}
-use Rattle.gen1_layout.proofs.WaysBack.{word_back}
-use Rattle.gen1_layout.proofs.Steps.{active_ok}
 use Rattle.gen1_layout.proofs.packed.Packed.energy.Goals as goal
 
 pub returns : goal.returns

@@ -1,5 +1,4 @@
-use Rattle.std.proofs.Common.{refl}
-use Rattle.gen1_machine.specs.State.{party}
+use Rattle.gen1_layout.proofs.Words.{party, refl}
 use Rattle.gen1_layout.proofs.WaysBack.{any_of_six, members_in}
 use Rattle.gen1_layout.proofs.packed.Packed.has_living.Goals as goal
 

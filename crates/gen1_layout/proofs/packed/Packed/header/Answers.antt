@@ -1,5 +1,4 @@
-use Rattle.std.proofs.Common.{refl, ◌∙◌}
-use Rattle.gen1_layout.proofs.WaysBack.{header_packs}
+use Rattle.gen1_layout.proofs.Words.{header_packs, refl, ◌∙◌}
 use Rattle.gen1_layout.proofs.packed.Packed.header.Goals as goal
 
 pub returns-clause-value : goal.returns-clause-value

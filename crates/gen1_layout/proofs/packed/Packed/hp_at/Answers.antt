@@ -1,7 +1,6 @@
-use Rattle.std.proofs.Common.{[]}
-use Rattle.gen1_machine.specs.State.{member_at, party}
-use Rattle.gen1_layout.proofs.WaysBack.{hp_fits_at, word_back}
-use Rattle.gen1_layout.proofs.Steps.{packed_of}
+use Rattle.gen1_layout.proofs.Words.{[], packed_of, party, word_back}
+use Rattle.gen1_machine.specs.State.{member_at}
+use Rattle.gen1_layout.proofs.WaysBack.{hp_fits_at}
 use Rattle.gen1_layout.proofs.packed.Packed.hp_at.Goals as goal
 
 pub returns-clause-packs : goal.returns-clause-packs

@@ -1,6 +1,4 @@
-use Rattle.std.proofs.Common.{[], arith}
-use Rattle.gen1_layout.proofs.WaysBack.{word_back}
-use Rattle.gen1_layout.proofs.Steps.{packed_of}
+use Rattle.gen1_layout.proofs.Words.{[], arith, packed_of, word_back}
 use Rattle.gen1_layout.proofs.packed.Packed.last_damage.Goals as goal
 
 pub returns-clause-packs : goal.returns-clause-packs

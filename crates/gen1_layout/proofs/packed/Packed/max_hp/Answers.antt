@@ -1,6 +1,5 @@
-use Rattle.std.proofs.Common.{[]}
-use Rattle.gen1_machine.specs.State.{member_in}
-use Rattle.gen1_layout.proofs.WaysBack.{max_fits, word_back}
+use Rattle.gen1_layout.proofs.Words.{[], member_in, word_back}
+use Rattle.gen1_layout.proofs.WaysBack.{max_fits}
 use Rattle.gen1_layout.proofs.packed.Packed.max_hp.Goals as goal
 
 pub returns : goal.returns

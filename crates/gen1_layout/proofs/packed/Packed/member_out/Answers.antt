@@ -1,7 +1,6 @@
-use Rattle.std.proofs.Common.{List, ap, arith, refl, slice_index, sym, ℕ, ◌%◌, ◌*◌, ◌+◌, ◌-◌, ◌∙◌, ◌≡◌}
-use Rattle.gen1_machine.specs.State.{active_in}
-use Rattle.gen1_layout.specs.Parts.{member_at, member_of, Parts}
-use Rattle.gen1_layout.proofs.Blocks.{out_holds, party_in}
+use Rattle.gen1_layout.proofs.Words.{List, Parts, active_in, ap, arith, out_holds, refl, slice_index, sym, ℕ, ◌%◌, ◌*◌, ◌+◌, ◌-◌, ◌∙◌, ◌≡◌}
+use Rattle.gen1_layout.specs.Parts.{member_at, member_of}
+use Rattle.gen1_layout.proofs.Blocks.{party_in}
 use Rattle.gen1_layout.proofs.Views.{member-part}
 use Rattle.gen1_layout.proofs.packed.Packed.member_out.Goals as goal
 

@@ -1,5 +1,4 @@
-use Rattle.std.proofs.Common.{List, ap, arith, slice_index, ℕ, ◌≡◌}
-use Rattle.gen1_machine.specs.State.{active_in}
+use Rattle.gen1_layout.proofs.Words.{List, active_in, ap, arith, slice_index, ℕ, ◌≡◌}
 use Rattle.gen1_layout.proofs.Blocks.{party_in}
 use Rattle.gen1_layout.proofs.packed.Packed.place.Goals as goal
 

@@ -1,6 +1,5 @@
-use Rattle.std.proofs.Common.{List, ap, slice_index, ℕ, ◌+◌, ◌∙◌, ◌≡◌}
+use Rattle.gen1_layout.proofs.Words.{List, ap, member_in, slice_index, ℕ, ◌+◌, ◌∙◌, ◌≡◌}
 use Rattle.gen1_machine.specs.Layout.{member_block}
-use Rattle.gen1_machine.specs.State.{member_in}
 use Rattle.gen1_layout.proofs.WaysBack.{pp_at}
 use Rattle.gen1_layout.proofs.packed.Packed.pp.Goals as goal
 

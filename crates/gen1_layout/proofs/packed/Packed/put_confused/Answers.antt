@@ -1,11 +1,5 @@
-use Rattle.std.proofs.Common.{Bool, ap, arith, lit<, refl, slice_set, ◌∙◌, ◌≡◌}
-use Rattle.gen1_machine.specs.Conditions.{Conditions}
+use Rattle.gen1_layout.proofs.Words.{ActiveConditions, Bool, active_holds, active_ok, ap, arith, conditions_in, conditions_written, lit<, number_small, refl, slice_set, top_byte, ◌∙◌, ◌≡◌}
 use Rattle.gen1_machine.specs.Layout.{condition_bits, conditions_number, number_of_bits}
-use Rattle.gen1_machine.specs.State.{conditions_in}
-use Rattle.gen1_layout.proofs.Blocks.{active_holds}
-use Rattle.gen1_layout.proofs.Counts.{number_small}
-use Rattle.gen1_layout.proofs.WaysBack.{top_byte}
-use Rattle.gen1_layout.proofs.Steps.{active_ok, conditions_written}
 use Rattle.gen1_layout.proofs.packed.Packed.put_confused.Goals as goal
 
 pub returns : goal.returns
@@ -14,7 +8,7 @@ returns c =
       stands = λ g f change h makes ok.
           let old = active_ok c.args.side h in
           let known = old.conditions in
-          let new : Conditions = record (conditions_in c.args.side f) { confused = c.args.turns } in
+          let new : ActiveConditions = record (conditions_in c.args.side f) { confused = c.args.turns } in
           let block = c.active_mut-active.ensures.value ∙ active_holds h c.args.side in
           let is : c.bits.result ≡ conditions_number new = c.bits.ensures tt ∙ (c.with-now.ensures 6 refl (condition_bits (conditions_in c.args.side f)) (lit< tt) refl (c.conditions.ensures.stands g f h) ∙ ap (λ (b : Bool). number_of_bits (slice_set (condition_bits (conditions_in c.args.side f)) 6 b)) c.is_some-on.ensures) in
           let small = number_small new in

@@ -1,9 +1,6 @@
-use Rattle.std.proofs.Common.{ap, refl, ◌∙◌}
+use Rattle.gen1_layout.proofs.Words.{Active, active_holds, active_ok, active_written, ap, member_in, refl, ◌∙◌}
 use Rattle.gen1_tables.specs.declared.effect.Stat.TheVariants.{Defense}
 use Rattle.gen1_machine.specs.CurrentStats.{now}
-use Rattle.gen1_machine.specs.State.{Active, member_in}
-use Rattle.gen1_layout.proofs.Blocks.{active_holds}
-use Rattle.gen1_layout.proofs.Steps.{active_ok, active_written}
 use Rattle.gen1_layout.proofs.packed.Packed.put_defense.Goals as goal
 
 pub returns : goal.returns
@@ -13,5 +10,5 @@ returns c =
           let old = active_ok c.args.side h in
           let block = c.active_mut-active.ensures.value ∙ active_holds h c.args.side in
           let value = is ∙ ap (λ (a : Active). now Defense (member_in c.args.side f) a) makes in
-          active_written c.args.side change _ _ h makes (rw (c.write_u16.ensures, value, block) refl) refl (record { stages = record { attack = old.stages.attack; defense = ok; speed = old.stages.speed; special = old.stages.special; accuracy = old.stages.accuracy; evasion = old.stages.evasion }; current = old.current; picked = old.picked; kept_accuracy = old.kept_accuracy; conditions = old.conditions });
+          active_written c.args.side change _ _ h makes (rw (c.write_u16.ensures, value, block) refl) refl (record { stages = record { attack = old.stages.attack; defense = ok; speed = old.stages.speed; special = old.stages.special; accuracy = old.stages.accuracy; evasion = old.stages.evasion }; current_move = old.current_move; picked_move = old.picked_move; kept_accuracy = old.kept_accuracy; conditions = old.conditions });
     }

@@ -1,7 +1,4 @@
-use Rattle.std.proofs.Common.{lit≤, refl, zero, ◌∙◌}
-use Rattle.std.proofs.Common.{arith}
-use Rattle.gen1_layout.proofs.Blocks.{out_holds}
-use Rattle.gen1_layout.proofs.Steps.{member_ok, member_written}
+use Rattle.gen1_layout.proofs.Words.{arith, lit≤, member_ok, member_written, out_holds, refl, zero, ◌∙◌}
 use Rattle.gen1_layout.proofs.packed.Packed.put_fallen.Goals as goal
 
 pub returns : goal.returns

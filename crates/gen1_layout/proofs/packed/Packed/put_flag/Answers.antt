@@ -1,18 +1,13 @@
-use Rattle.std.proofs.Common.{ap, arith, length, refl, sym, ◌∙◌, ◌≡◌}
-use Rattle.gen1_machine.specs.Conditions.{Conditions}
+use Rattle.gen1_layout.proofs.Words.{ActiveConditions, active_holds, active_ok, ap, arith, conditions_in, conditions_written, length, member_in, number_small, refl, sym, top_byte, ◌∙◌, ◌≡◌}
 use Rattle.gen1_machine.specs.Layout.{condition_bits, conditions_number, number_of_bits}
-use Rattle.gen1_machine.specs.State.{conditions_in, member_in}
-use Rattle.gen1_layout.proofs.Blocks.{active_holds}
-use Rattle.gen1_layout.proofs.Counts.{number_small, same_storable}
-use Rattle.gen1_layout.proofs.WaysBack.{top_byte}
-use Rattle.gen1_layout.proofs.Steps.{active_ok, conditions_written}
+use Rattle.gen1_layout.proofs.Counts.{same_storable}
 use Rattle.gen1_layout.proofs.packed.Packed.put_flag.Goals as goal
 
 pub returns : goal.returns
 returns c =
     record {
       stands = λ k e low g f change h flagged same.
-          let new : Conditions = change (conditions_in c.args.side f) in
+          let new : ActiveConditions = change (conditions_in c.args.side f) in
           let block = c.active_mut.ensures.value ∙ active_holds h c.args.side in
           let is : c.bits.result ≡ conditions_number new =
           c.bits.ensures tt ∙ (c.with-now.ensures k e (condition_bits (conditions_in c.args.side f)) low refl (c.conditions.ensures.stands g f h) ∙ sym (ap number_of_bits flagged)) in

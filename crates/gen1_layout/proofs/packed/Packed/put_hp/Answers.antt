@@ -1,6 +1,4 @@
-use Rattle.std.proofs.Common.{refl, ◌∙◌}
-use Rattle.gen1_layout.proofs.Blocks.{out_holds}
-use Rattle.gen1_layout.proofs.Steps.{member_ok, member_written}
+use Rattle.gen1_layout.proofs.Words.{member_ok, member_written, out_holds, refl, ◌∙◌}
 use Rattle.gen1_layout.proofs.packed.Packed.put_hp.Goals as goal
 
 pub returns : goal.returns

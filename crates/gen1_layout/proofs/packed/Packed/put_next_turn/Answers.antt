@@ -1,7 +1,5 @@
-use Rattle.std.proofs.Common.{arith, refl, ◌%◌, ◌+◌, ◌≡◌}
+use Rattle.gen1_layout.proofs.Words.{arith, header_packed, header_packs, packed_of, refl, still_within, ◌%◌, ◌+◌, ◌≡◌}
 use Rattle.gen1_machine.specs.State.{with_next_turn}
-use Rattle.gen1_layout.proofs.WaysBack.{header_packs}
-use Rattle.gen1_layout.proofs.Steps.{header_packed, packed_of, still_within}
 use Rattle.gen1_layout.proofs.packed.Packed.put_next_turn.Goals as goal
 
 pub returns-clause-packs : goal.returns-clause-packs

@@ -1,8 +1,6 @@
-use Rattle.std.proofs.Common.{refl, subst}
+use Rattle.gen1_layout.proofs.Words.{header_packed, header_packs, packed_of, refl, still_within, subst}
 use Rattle.gen1_machine.specs.Valid.{IsOutcome}
 use Rattle.gen1_machine.specs.State.{with_outcome}
-use Rattle.gen1_layout.proofs.WaysBack.{header_packs}
-use Rattle.gen1_layout.proofs.Steps.{header_packed, packed_of, still_within}
 use Rattle.gen1_layout.proofs.packed.Packed.put_outcome.Goals as goal
 
 pub returns-clause-packs : goal.returns-clause-packs

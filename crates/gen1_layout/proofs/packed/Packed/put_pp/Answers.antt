@@ -1,9 +1,7 @@
-use Rattle.std.proofs.Common.{length-set, refl, set, ◌+◌, ◌-◌, ◌∙◌}
-use Rattle.gen1_machine.specs.State.{member_in}
-use Rattle.gen1_layout.proofs.Blocks.{out_holds}
+use Rattle.gen1_layout.proofs.Words.{member_in, member_ok, member_written, out_holds, refl, ◌+◌, ◌-◌, ◌∙◌}
+use Rattle.std.proofs.Common.{length-set, set}
 use Rattle.gen1_layout.proofs.Rewriting.{refill-same}
 use Rattle.gen1_layout.proofs.Slots.{pp_block, pp_ok, with_pp}
-use Rattle.gen1_layout.proofs.Steps.{member_ok, member_written}
 use Rattle.gen1_layout.specs.Parts.{member_of}
 use Rattle.gen1_layout.proofs.packed.Packed.put_pp.Goals as goal
 

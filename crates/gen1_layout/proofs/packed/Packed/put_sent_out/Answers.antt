@@ -13,8 +13,8 @@ returns c =
           sent_written c.args.side change new _ h makes low high (rw (c.copy_from_slice.ensures.after ∙ c.sent_block.ensures m halved quartered stats) refl)
           (record {
             stages = record { attack = lit≤ tt; defense = lit≤ tt; speed = lit≤ tt; special = lit≤ tt; accuracy = lit≤ tt; evasion = lit≤ tt };
-            current = tt;
-            picked = tt;
+            current_move = tt;
+            picked_move = tt;
             kept_accuracy = lit≤ tt;
             conditions = record { underway = record { bide = tt; thrash = tt; trapping = tt; alone = lit≤ tt }; confused = tt; substitute = tt; bad_poison = tt; disabled = tt };
           });

@@ -1,11 +1,5 @@
-use Rattle.std.proofs.Common.{Some, arith, lit<, lit≤, refl, ◌∙◌, ◌≡◌}
-use Rattle.gen1_machine.specs.Conditions.{Conditions}
+use Rattle.gen1_layout.proofs.Words.{ActiveConditions, Some, active_holds, active_ok, arith, conditions_in, conditions_written, lit<, lit≤, number_small, refl, top_byte, underway_in, ◌∙◌, ◌≡◌}
 use Rattle.gen1_machine.specs.Layout.{condition_bits, conditions_number}
-use Rattle.gen1_machine.specs.State.{conditions_in, underway_in}
-use Rattle.gen1_layout.proofs.Blocks.{active_holds}
-use Rattle.gen1_layout.proofs.Counts.{number_small}
-use Rattle.gen1_layout.proofs.WaysBack.{top_byte}
-use Rattle.gen1_layout.proofs.Steps.{active_ok, conditions_written}
 use Rattle.gen1_layout.proofs.packed.Packed.put_thrash.Goals as goal
 
 pub returns : goal.returns
@@ -14,7 +8,7 @@ returns c =
       stands = λ g f change h makes low no_bide no_trapping.
           let old = active_ok c.args.side h in
           let known = old.conditions in
-          let new : Conditions = record (conditions_in c.args.side f) { underway = record (underway_in c.args.side f) { thrash = Some c.args.turns } } in
+          let new : ActiveConditions = record (conditions_in c.args.side f) { underway = record (underway_in c.args.side f) { thrash = Some c.args.turns } } in
           let block = c.active_mut-active.ensures.value ∙ active_holds h c.args.side in
           let is : c.bits.result ≡ conditions_number new = c.bits.ensures tt ∙ (c.with-now.ensures 1 refl (condition_bits (conditions_in c.args.side f)) (lit< tt) refl (c.conditions.ensures.stands g f h)) in
           let small = number_small new in

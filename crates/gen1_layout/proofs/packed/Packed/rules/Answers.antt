@@ -1,6 +1,5 @@
-use Rattle.std.proofs.Common.{◌∙◌}
+use Rattle.gen1_layout.proofs.Words.{packed_of, ◌∙◌}
 use Rattle.gen1_layout.proofs.WaysBack.{rules_back}
-use Rattle.gen1_layout.proofs.Steps.{packed_of}
 use Rattle.gen1_layout.proofs.packed.Packed.rules.Goals as goal
 
 pub returns-in-Some-clause-packs : goal.returns-in-Some-clause-packs

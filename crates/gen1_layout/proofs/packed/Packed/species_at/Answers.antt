@@ -1,5 +1,4 @@
-use Rattle.std.proofs.Common.{refl}
-use Rattle.gen1_layout.proofs.Steps.{packed_of}
+use Rattle.gen1_layout.proofs.Words.{packed_of, refl}
 use Rattle.gen1_layout.proofs.packed.Packed.species_at.Goals as goal
 
 pub returns-clause-packs : goal.returns-clause-packs

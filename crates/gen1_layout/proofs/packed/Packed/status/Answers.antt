@@ -1,6 +1,5 @@
-use Rattle.gen1_machine.specs.State.{member_in}
+use Rattle.gen1_layout.proofs.Words.{member_in, member_ok}
 use Rattle.gen1_layout.proofs.WaysBack.{status_back}
-use Rattle.gen1_layout.proofs.Steps.{member_ok}
 use Rattle.gen1_layout.proofs.packed.Packed.status.Goals as goal
 
 pub returns : goal.returns

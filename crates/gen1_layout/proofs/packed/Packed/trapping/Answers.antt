@@ -1,7 +1,5 @@
-use Rattle.std.proofs.Common.{refl, ◌∙◌}
-use Rattle.gen1_machine.specs.State.{underway_in}
+use Rattle.gen1_layout.proofs.Words.{active_ok, refl, underway_in, ◌∙◌}
 use Rattle.gen1_layout.proofs.Counts.{trapping_back}
-use Rattle.gen1_layout.proofs.Steps.{active_ok}
 use Rattle.gen1_layout.proofs.packed.Packed.trapping.Goals as goal
 
 pub returns : goal.returns

@@ -1,6 +1,5 @@
-use Rattle.std.proofs.Common.{[]}
-use Rattle.gen1_layout.proofs.WaysBack.{turn_packs, word_back}
-use Rattle.gen1_layout.proofs.Steps.{packed_of}
+use Rattle.gen1_layout.proofs.Words.{[], packed_of, word_back}
+use Rattle.gen1_layout.proofs.WaysBack.{turn_packs}
 use Rattle.gen1_layout.proofs.packed.Packed.turn.Goals as goal
 
 pub returns-clause-packs : goal.returns-clause-packs

@@ -1,7 +1,5 @@
-use Rattle.std.proofs.Common.{sym, ◌∙◌}
-use Rattle.gen1_machine.specs.State.{underway_in}
+use Rattle.gen1_layout.proofs.Words.{active_ok, sym, underway_in, ◌∙◌}
 use Rattle.gen1_layout.proofs.Counts.{without_bide-off, without_bide-on, without_thrash-off, without_thrash-on, without_trapping-off, without_trapping-on}
-use Rattle.gen1_layout.proofs.Steps.{active_ok}
 use Rattle.gen1_layout.proofs.packed.Packed.turns_without.Goals as goal
 
 pub returns-then-is_on : goal.returns-then-is_on

@@ -1,7 +1,4 @@
-use Rattle.std.proofs.Common.{[], arith, refl}
-use Rattle.gen1_machine.specs.State.{member_in}
-use Rattle.gen1_layout.proofs.WaysBack.{word_back}
-use Rattle.gen1_layout.proofs.Steps.{member_ok}
+use Rattle.gen1_layout.proofs.Words.{[], arith, member_in, member_ok, refl, word_back}
 use Rattle.gen1_layout.proofs.packed.Packed.unmodified.Goals as goal
 
 pub returns-in-Attack : goal.returns-in-Attack

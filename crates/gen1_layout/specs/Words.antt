@@ -1,0 +1,92 @@
+-- The words of contracts: one for each thing that many of them say, and those that they speak of, passed on.
+use Rattle.arrayvec.specs.ArrayVec.{ArrayVec, array_vec_len}
+use Rattle.gen1_layout.specs.Parts.{Parts}
+pub use Rattle.std.specs.Prelude.{Bool, IsTrue, List, None, Option, Some, [], false, is_some, length, map, nat_le, nat_lt, not, slice_index_or, slice_set, true, zero, ℕ, ◌%◌, ◌&&◌, ◌*◌, ◌+◌, ◌-◌, ◌/◌, ◌<◌, ◌^◌, ◌||◌, ◌↔◌, ◌∷◌, ◌≡◌, ◌≢◌, ◌≤◌}
+pub use Rattle.gen1_stats.specs.Members.{IsBetween, Member, is_asleep, is_frozen, is_living, is_paralysed}
+pub use Rattle.gen1_machine.specs.declared.side.Side.{Side}
+pub use Rattle.gen1_machine.specs.declared.event.Event.{Event}
+pub use Rattle.gen1_machine.specs.Sides.{other}
+pub use Rattle.gen1_machine.specs.Conditions.{ActiveConditions}
+pub use Rattle.gen1_machine.specs.State.{Active, Field, active_in, changed_active, changed_conditions, changed_member, conditions_in, health_in, healed_by, hurt_by, kind_of, known_in, member_at, member_in, party, request_of, status_in, underway_in, who_in, with_last_damage, with_next_turn, with_outcome, with_requests}
+pub use Rattle.gen1_machine.specs.CurrentStats.{has_number, now, now_in, stage_of, unmodified, with_penalty_of, with_stage}
+pub use Rattle.gen1_machine.specs.Moves.{move_at}
+pub use Rattle.gen1_machine.specs.Progress.{Phase, Progress, conditions, draw, status_of, stop, ◌▸◌}
+pub use Rattle.gen1_layout.specs.Within.{Packs, Setting, Within}
+pub use Rattle.gen1_layout.specs.Shows.{Does, DoesDrawing, Frame, Shows, ShowsDrawn}
+
+-- reading: wherever the parts stand for a field, a value is this of the field
+
+abbrev pub Reads : {A : Type 0} → Parts → A → (Field → A) → Type 0
+Reads parts value read = (g : Setting) (f : Field) → Within g parts f → value ≡ read f
+
+-- the same of what no write to a field changes
+abbrev pub ReadsSetting : {A : Type 0} → Parts → A → (Setting → A) → Type 0
+ReadsSetting parts value read = (g : Setting) (f : Field) → Within g parts f → value ≡ read g
+
+-- of a field in which somebody may not be out yet
+abbrev pub ReadsPacked : {A : Type 0} → Parts → A → (Field → A) → Type 0
+ReadsPacked parts value read = (g : Setting) (f : Field) → Packs g parts f → value ≡ read f
+
+abbrev pub ReadsPackedSetting : {A : Type 0} → Parts → A → (Setting → A) → Type 0
+ReadsPackedSetting parts value read = (g : Setting) (f : Field) → Packs g parts f → value ≡ read g
+
+-- changing: wherever the parts stood for a field, they now stand for what the change makes of it
+
+abbrev pub Changes : Parts → Parts → (Field → Field) → Type 0
+Changes old new change = (g : Setting) (f : Field) → Within g old f → Within g new (change f)
+
+abbrev pub ChangesPacked : Parts → Parts → (Field → Field) → Type 0
+ChangesPacked old new change = (g : Setting) (f : Field) → Packs g old f → Packs g new (change f)
+
+-- writing a part of a side: the same for each change that makes this of the old value, and where so much is asked of the
+-- field, under that
+
+abbrev pub WritesMember : Side → Parts → Parts → (Member → Member) → Type 0
+WritesMember s old new written =
+    (g : Setting) (f : Field) (change : Member → Member) → Within g old f
+    → change (member_in s f) ≡ written (member_in s f) → Within g new (changed_member s change f)
+
+abbrev pub WritesMemberIf : Side → Parts → Parts → (Member → Member) → (Setting → Field → Type 0) → Type 0
+WritesMemberIf s old new written fits =
+    (g : Setting) (f : Field) (change : Member → Member) → Within g old f
+    → change (member_in s f) ≡ written (member_in s f) → fits g f → Within g new (changed_member s change f)
+
+abbrev pub WritesActive : Side → Parts → Parts → (Active → Active) → Type 0
+WritesActive s old new written =
+    (g : Setting) (f : Field) (change : Active → Active) → Within g old f
+    → change (active_in s f) ≡ written (active_in s f) → Within g new (changed_active s change f)
+
+abbrev pub WritesActiveIf : Side → Parts → Parts → (Active → Active) → (Setting → Field → Type 0) → Type 0
+WritesActiveIf s old new written fits =
+    (g : Setting) (f : Field) (change : Active → Active) → Within g old f
+    → change (active_in s f) ≡ written (active_in s f) → fits g f → Within g new (changed_active s change f)
+
+abbrev pub WritesConditions : Side → Parts → Parts → (ActiveConditions → ActiveConditions) → Type 0
+WritesConditions s old new written =
+    (g : Setting) (f : Field) (change : ActiveConditions → ActiveConditions) → Within g old f
+    → change (conditions_in s f) ≡ written (conditions_in s f) → Within g new (changed_conditions s change f)
+
+abbrev pub WritesConditionsIf : Side → Parts → Parts → (ActiveConditions → ActiveConditions) → (Setting → Field → Type 0) → Type 0
+WritesConditionsIf s old new written fits =
+    (g : Setting) (f : Field) (change : ActiveConditions → ActiveConditions) → Within g old f
+    → change (conditions_in s f) ≡ written (conditions_in s f) → fits g f → Within g new (changed_conditions s change f)
+
+-- doing: what a phase does that depends on what there is, where code was handed this
+
+abbrev pub DoesSeeing : {A : Type 0} → (Progress → A) → A → Parts → List Event → Parts → List Event → Bool → Phase → Type 0
+DoesSeeing read value parts events parts' events' stopped phase =
+    (g : Frame) (p : Progress) → read p ≡ value → Shows g parts events false p → Shows g parts' events' stopped (phase p)
+
+-- events: there is room for so many more; so many were added, at most so many, or none
+
+abbrev pub HasRoom : ℕ → ArrayVec Event → Type 0
+HasRoom n events = array_vec_len events + n ≤ 64
+
+abbrev pub Adds : ℕ → ArrayVec Event → ArrayVec Event → Type 0
+Adds n old new = array_vec_len new ≡ array_vec_len old + n
+
+abbrev pub AddsAtMost : ℕ → ArrayVec Event → ArrayVec Event → Type 0
+AddsAtMost n old new = array_vec_len new ≤ array_vec_len old + n
+
+abbrev pub AddsNone : ArrayVec Event → ArrayVec Event → Type 0
+AddsNone old new = array_vec_len new ≡ array_vec_len old

@@ -1,0 +1,104 @@
+//! What can keep a member from acting (docs/MECHANICS.md, "Gate"): tests in their order, of which the first that stops decides.
+ghost use Rattle.gen1_layout.specs.Words.{AddsAtMost, Does, Field, HasRoom, Setting, Within, true, ◌≡◌};
+ghost use Rattle.gen1_machine.specs.Action.{gate_or_held};
+ghost use Rattle.gen1_machine.specs.Gate.{cant, gate};
+ghost use Rattle.gen1_status.specs.Gating.{ActsAtOnce, is_held, keeps_from_acting};
+ghost use Rattle.gen1_status.specs.Telling.{DoesTelling};
+
+mod by_move;
+mod by_status;
+mod by_turn;
+mod confusion;
+
+use crate::Gate;
+use by_move::{gate_of_move, is_idle};
+use by_status::gate_of_status;
+use by_turn::gate_of_turn;
+use gen1_layout::{Conditions, Packed};
+use gen1_machine::{CantReason, Event, EventList, Pick, Side};
+use gen1_rolls::Rolls;
+use gen1_stats::Status;
+
+/// Takes the tests of a member that is about to act, and writes what they change and tell, three events at most
+/// (docs/MECHANICS.md, "Gate"). Who was held as the turn began does not act, with no test and no draw, also where the holder
+/// has left since.
+pub fn gate<R: Rolls>(
+    battle: &mut Packed,
+    side: Side,
+    pick: Pick,
+    random: &mut R,
+    events: &mut EventList,
+) -> Gate
+    requires { HasRoom 3 events.old }
+    ensures shown { DoesTelling R.byte R.next R.SPAN battle.old events.old.items random.old battle.new events.new.items random.new result (gate_or_held side pick) }
+    ensures room { AddsAtMost 3 events.old events.new }
+{
+    if is_held(pick) {
+        cant(battle, side, CantReason::PartiallyTrapped, events);
+        return Gate::Stop;
+    }
+    if acts_at_once(battle, side, pick) {
+        return Gate::Go;
+    }
+    take_tests(battle, side, pick, random, events)
+}
+
+// One look for the many turns in which there is nothing to test.
+fn acts_at_once(battle: &Packed, side: Side, pick: Pick) -> bool
+    ensures stands { (g : Setting) (f : Field) → Within g battle.now f → result ≡ true → ActsAtOnce side pick f }
+{
+    if keeps_from_acting(battle.status(side)) {
+        return false;
+    }
+    if battle.has_any(side, Conditions::GATED) {
+        return false;
+    }
+    if battle.is_on(side.other(), Conditions::TRAPPING) {
+        return false;
+    }
+    !is_idle(pick)
+}
+
+fn keeps_from_acting(status: Status) -> bool
+    ensures { result ≡ keeps_from_acting status }
+{
+    matches!(
+        status,
+        Status::Asleep { .. } | Status::Frozen | Status::Paralysed
+    )
+}
+
+fn is_held(pick: Pick) -> bool
+    ensures { result ≡ is_held pick }
+{
+    matches!(pick, Pick::Held)
+}
+
+fn take_tests<R: Rolls>(
+    battle: &mut Packed,
+    side: Side,
+    pick: Pick,
+    random: &mut R,
+    events: &mut EventList,
+) -> Gate
+    requires { HasRoom 3 events.old }
+    ensures shown { DoesTelling R.byte R.next R.SPAN battle.old events.old.items random.old battle.new events.new.items random.new result (gate side pick) }
+    ensures room { AddsAtMost 3 events.old events.new }
+{
+    if gate_of_status(battle, side, events) {
+        return Gate::Stop;
+    }
+    if gate_of_turn(battle, side, events) {
+        return Gate::Stop;
+    }
+    gate_of_move(battle, side, pick, random, events)
+}
+
+// The member does not act, for a reason that is told.
+fn cant(battle: &Packed, side: Side, why: CantReason, events: &mut EventList)
+    requires { HasRoom 1 events.old }
+    ensures shown { Does battle.now events.old.items battle.now events.new.items true (cant side why) }
+    ensures room { AddsAtMost 1 events.old events.new }
+{
+    events.push(Event::Cant(battle.who(side), why));
+}

@@ -1,0 +1,125 @@
+//! The tests that rule out the move that was picked: confusion, Disable, paralysis, and that nothing was picked.
+ghost use Rattle.gen1_layout.specs.Words.{AddsAtMost, AddsNone, Does, DoesDrawing, HasRoom, Reads, false, is_paralysed, ◌≡◌};
+ghost use Rattle.gen1_machine.specs.Picks.{bars, is_disabled_in, is_idle, used_by};
+ghost use Rattle.gen1_machine.specs.Gate.{disabled_test, gate_of_move, paralysis_test};
+ghost use Rattle.gen1_status.specs.Telling.{DoesTelling};
+
+use super::cant;
+use super::confusion::confusion_test;
+use crate::Gate;
+use gen1_layout::{Conditions, Packed};
+use gen1_machine::{CantReason, DisabledSlot, EventList, Pick, Side, UsedMove};
+use gen1_rolls::Rolls;
+use gen1_stats::Status;
+
+pub(super) fn gate_of_move<R: Rolls>(
+    battle: &mut Packed,
+    side: Side,
+    pick: Pick,
+    random: &mut R,
+    events: &mut EventList,
+) -> Gate
+    requires { HasRoom 2 events.old }
+    ensures shown { DoesTelling R.byte R.next R.SPAN battle.old events.old.items random.old battle.new events.new.items random.new result (gate_of_move side pick) }
+    ensures room { AddsAtMost 2 events.old events.new }
+{
+    let confused = confusion_test(battle, side, battle.confused(side), random, events);
+    if confused.stops() {
+        return confused;
+    }
+    if disabled_test(battle, side, pick, events) {
+        return Gate::Stop;
+    }
+    if paralysis_test(battle, side, random, events) {
+        return Gate::Stop;
+    }
+    if is_idle(pick) {
+        return Gate::Stop;
+    }
+    Gate::Go
+}
+
+// A move that is disabled is not used, and its charge is lost.
+fn disabled_test(battle: &mut Packed, side: Side, pick: Pick, events: &mut EventList) -> bool
+    requires { HasRoom 1 events.old }
+    ensures shown { Does battle.old events.old.items battle.new events.new.items result (disabled_test side pick) }
+    ensures room { AddsAtMost 1 events.old events.new }
+    ensures quiet { result ≡ false → AddsNone events.old events.new }
+{
+    if !is_disabled(battle, side, pick) {
+        return false;
+    }
+    battle.put_flag(side, Conditions::CHARGING, false);
+    cant(battle, side, CantReason::Disabled, events);
+    true
+}
+
+const FULLY_PARALYSED_BELOW: u8 = 63;
+
+// Full paralysis, one time in four.
+fn paralysis_test<R: Rolls>(
+    battle: &mut Packed,
+    side: Side,
+    random: &mut R,
+    events: &mut EventList,
+) -> bool
+    requires { HasRoom 1 events.old }
+    ensures shown { DoesDrawing R.byte R.next R.SPAN battle.old events.old.items random.old battle.new events.new.items random.new result (paralysis_test side) }
+    ensures room { AddsAtMost 1 events.old events.new }
+    ensures quiet { result ≡ false → AddsNone events.old events.new }
+{
+    if !is_paralysed(battle.status(side)) {
+        return false;
+    }
+    if random.draw() >= FULLY_PARALYSED_BELOW {
+        return false;
+    }
+    battle.break_off(side);
+    cant(battle, side, CantReason::Paralysed, events);
+    true
+}
+
+// Struggle is in no slot, and who is idle uses none.
+fn is_disabled(battle: &Packed, side: Side, pick: Pick) -> bool
+    ensures stands { Reads battle.now result (is_disabled_in side pick) }
+{
+    if is_idle(pick) {
+        return false;
+    }
+    bars(
+        battle.disabled(side),
+        used_by(pick, battle.current_move(side)),
+    )
+}
+
+fn bars(disabled: Option<DisabledSlot>, used: UsedMove) -> bool
+    ensures { result ≡ bars disabled used }
+{
+    match (disabled, used) {
+        (Some(disabled), UsedMove::Slot(slot)) => slot == disabled.slot,
+        _ => false,
+    }
+}
+
+fn used_by(pick: Pick, current_move: UsedMove) -> UsedMove
+    ensures { result ≡ used_by pick current_move }
+{
+    match pick {
+        Pick::Use(used) => used,
+        Pick::Continue => current_move,
+        Pick::Idle => current_move,
+        Pick::Held => current_move,
+    }
+}
+
+pub(super) fn is_idle(pick: Pick) -> bool
+    ensures { result ≡ is_idle pick }
+{
+    matches!(pick, Pick::Idle)
+}
+
+fn is_paralysed(status: Status) -> bool
+    ensures { result ≡ is_paralysed status }
+{
+    matches!(status, Status::Paralysed)
+}

@@ -1,0 +1,90 @@
+//! The tests that rule out any action: sleep, frost, and the foe's trapping.
+ghost use Rattle.gen1_layout.specs.Words.{AddsAtMost, AddsNone, Does, DoesSeeing, HasRoom, false, is_frozen, status_of, true, ◌≡◌};
+ghost use Rattle.gen1_machine.specs.Gate.{frozen_test, gate_of_status, sleep_test, trapped_test};
+
+use super::cant;
+use gen1_layout::{Conditions, Packed};
+use gen1_machine::{CantReason, Event, EventList, Kind, Side};
+use gen1_stats::Status;
+
+pub(super) fn gate_of_status(battle: &mut Packed, side: Side, events: &mut EventList) -> bool
+    requires { HasRoom 1 events.old }
+    ensures shown { Does battle.old events.old.items battle.new events.new.items result (gate_of_status side) }
+    ensures room { AddsAtMost 1 events.old events.new }
+    ensures quiet { result ≡ false → AddsNone events.old events.new }
+{
+    if sleep_test(battle, side, battle.status(side), events) {
+        return true;
+    }
+    if frozen_test(battle, side, events) {
+        return true;
+    }
+    trapped_test(battle, side, events)
+}
+
+fn sleep_test(battle: &mut Packed, side: Side, status: Status, events: &mut EventList) -> bool
+    requires { HasRoom 1 events.old }
+    ensures shown { DoesSeeing (status_of side) status battle.old events.old.items battle.new events.new.items result (sleep_test side status) }
+    ensures room { AddsAtMost 1 events.old events.new }
+    ensures quiet { result ≡ false → AddsNone events.old events.new }
+{
+    match status {
+        Status::Asleep { turns, marked } => {
+            sleep_turn(battle, side, turns, marked, events);
+            true
+        }
+        Status::Healthy => false,
+        Status::Poisoned => false,
+        Status::Burned => false,
+        Status::Frozen => false,
+        Status::Paralysed => false,
+    }
+}
+
+// A turn of sleep is over, and who wakes up does nothing either.
+fn sleep_turn(battle: &mut Packed, side: Side, turns: u8, marked: bool, events: &mut EventList)
+    requires { HasRoom 1 events.old }
+    ensures shown { DoesSeeing (status_of side) (Status.Asleep turns marked) battle.old events.old.items battle.new events.new.items true (sleep_test side (Status.Asleep turns marked)) }
+    ensures room { AddsAtMost 1 events.old events.new }
+{
+    if turns <= 1 {
+        battle.put_status(side, Status::Healthy);
+        events.push(Event::Cure(battle.who(side), Kind::Sleep));
+        return;
+    }
+    let turns = turns - 1;
+    battle.put_status(side, Status::Asleep { turns, marked });
+    cant(battle, side, CantReason::Asleep, events);
+}
+
+fn frozen_test(battle: &Packed, side: Side, events: &mut EventList) -> bool
+    requires { HasRoom 1 events.old }
+    ensures shown { Does battle.now events.old.items battle.now events.new.items result (frozen_test side) }
+    ensures room { AddsAtMost 1 events.old events.new }
+    ensures quiet { result ≡ false → AddsNone events.old events.new }
+{
+    if !is_frozen(battle.status(side)) {
+        return false;
+    }
+    cant(battle, side, CantReason::Frozen, events);
+    true
+}
+
+fn trapped_test(battle: &Packed, side: Side, events: &mut EventList) -> bool
+    requires { HasRoom 1 events.old }
+    ensures shown { Does battle.now events.old.items battle.now events.new.items result (trapped_test side) }
+    ensures room { AddsAtMost 1 events.old events.new }
+    ensures quiet { result ≡ false → AddsNone events.old events.new }
+{
+    if !battle.is_on(side.other(), Conditions::TRAPPING) {
+        return false;
+    }
+    cant(battle, side, CantReason::PartiallyTrapped, events);
+    true
+}
+
+fn is_frozen(status: Status) -> bool
+    ensures { result ≡ is_frozen status }
+{
+    matches!(status, Status::Frozen)
+}

@@ -1,0 +1,73 @@
+//! The tests of what is to be waited for: flinching, recharging, and the count of Disable.
+ghost use Rattle.gen1_layout.specs.Words.{AddsAtMost, AddsNone, Does, DoesSeeing, HasRoom, conditions, false, ◌≡◌};
+ghost use Rattle.gen1_machine.specs.Gate.{disable_count, flinch_test, gate_of_turn, recharge_test};
+
+use super::cant;
+use gen1_layout::{Conditions, Packed};
+use gen1_machine::{CantReason, DisabledSlot, Event, EventList, Side, Volatile};
+
+pub(super) fn gate_of_turn(battle: &mut Packed, side: Side, events: &mut EventList) -> bool
+    requires { HasRoom 1 events.old }
+    ensures shown { Does battle.old events.old.items battle.new events.new.items result (gate_of_turn side) }
+    ensures room { AddsAtMost 1 events.old events.new }
+{
+    if flinch_test(battle, side, events) {
+        return true;
+    }
+    if recharge_test(battle, side, events) {
+        return true;
+    }
+    disable_count(battle, side, battle.disabled(side), events);
+    false
+}
+
+fn flinch_test(battle: &mut Packed, side: Side, events: &mut EventList) -> bool
+    requires { HasRoom 1 events.old }
+    ensures shown { Does battle.old events.old.items battle.new events.new.items result (flinch_test side) }
+    ensures room { AddsAtMost 1 events.old events.new }
+    ensures quiet { result ≡ false → AddsNone events.old events.new }
+{
+    if !battle.is_on(side, Conditions::FLINCH) {
+        return false;
+    }
+    battle.put_flag(side, Conditions::FLINCH, false);
+    cant(battle, side, CantReason::Flinched, events);
+    true
+}
+
+fn recharge_test(battle: &mut Packed, side: Side, events: &mut EventList) -> bool
+    requires { HasRoom 1 events.old }
+    ensures shown { Does battle.old events.old.items battle.new events.new.items result (recharge_test side) }
+    ensures room { AddsAtMost 1 events.old events.new }
+    ensures quiet { result ≡ false → AddsNone events.old events.new }
+{
+    if !battle.is_on(side, Conditions::RECHARGE) {
+        return false;
+    }
+    battle.put_flag(side, Conditions::RECHARGE, false);
+    cant(battle, side, CantReason::Recharging, events);
+    true
+}
+
+// Disable counts down, and ends at 0.
+fn disable_count(
+    battle: &mut Packed,
+    side: Side,
+    disabled: Option<DisabledSlot>,
+    events: &mut EventList,
+)
+    requires { HasRoom 1 events.old }
+    ensures shown { DoesSeeing (λ p. (conditions side p).disabled) disabled battle.old events.old.items battle.new events.new.items false (disable_count side disabled) }
+    ensures room { AddsAtMost 1 events.old events.new }
+{
+    let Some(DisabledSlot { slot, turns }) = disabled else {
+        return;
+    };
+    if turns <= 1 {
+        battle.put_disabled(side, None);
+        events.push(Event::End(battle.who(side), Volatile::Disable));
+        return;
+    }
+    let turns = turns - 1;
+    battle.put_disabled(side, Some(DisabledSlot { slot, turns }));
+}

@@ -1,0 +1,72 @@
+//! The test of confusion, which counts down and ends at 0; until then the member may hit itself.
+ghost use Rattle.gen1_layout.specs.Words.{AddsAtMost, Does, Frame, HasRoom, Progress, ShowsDrawn, Some, conditions, draw, false, ◌≡◌, ◌▸◌};
+ghost use Rattle.gen1_machine.specs.declared.event.Volatile.TheVariants as volatiles;
+ghost use Rattle.gen1_machine.specs.Conditions.{with_confusion_one_less, without_confusion};
+ghost use Rattle.gen1_machine.specs.Progress.{ends, lasts};
+ghost use Rattle.gen1_machine.specs.Gate.{confusion_test, may_hurt_itself};
+ghost use Rattle.gen1_status.specs.Telling.{TellsDrawn};
+
+use crate::Gate;
+use crate::hit_on_itself::hurt_itself;
+use gen1_layout::Packed;
+use gen1_machine::{Event, EventList, Side, Volatile};
+use gen1_rolls::Rolls;
+
+pub(super) fn confusion_test<R: Rolls>(
+    battle: &mut Packed,
+    side: Side,
+    confused: Option<u8>,
+    random: &mut R,
+    events: &mut EventList,
+) -> Gate
+    requires { HasRoom 2 events.old }
+    ensures shown { (origin : R) (g : Frame) (p : Progress) → (conditions side p).confused ≡ confused
+        → ShowsDrawn R.byte R.next R.SPAN origin g battle.old events.old.items random.old false p
+        → TellsDrawn R.byte R.next R.SPAN origin g battle.new events.new.items random.new result p (confusion_test side confused p) }
+    ensures room { AddsAtMost 2 events.old events.new }
+    ensures quiet { result ≡ Gate.Go → AddsAtMost 1 events.old events.new }
+{
+    let Some(turns) = confused else {
+        return Gate::Go;
+    };
+    if turns <= 1 {
+        confusion_ends(battle, side, events);
+        return Gate::Go;
+    }
+    confusion_lasts(battle, side, turns, random, events)
+}
+
+fn confusion_ends(battle: &mut Packed, side: Side, events: &mut EventList)
+    requires { HasRoom 1 events.old }
+    ensures shown { Does battle.old events.old.items battle.new events.new.items false (ends side volatiles.Confusion without_confusion) }
+    ensures room { AddsAtMost 1 events.old events.new }
+{
+    battle.put_confused(side, None);
+    events.push(Event::End(battle.who(side), Volatile::Confusion));
+}
+
+const HITS_ITSELF_FROM: u8 = 128;
+
+// One time in two the member hits itself.
+fn confusion_lasts<R: Rolls>(
+    battle: &mut Packed,
+    side: Side,
+    turns: u8,
+    random: &mut R,
+    events: &mut EventList,
+) -> Gate
+    requires { HasRoom 2 events.old }
+    ensures shown { (origin : R) (g : Frame) (p : Progress) → (conditions side p).confused ≡ Some turns
+        → ShowsDrawn R.byte R.next R.SPAN origin g battle.old events.old.items random.old false p
+        → TellsDrawn R.byte R.next R.SPAN origin g battle.new events.new.items random.new result p
+        ((lasts side volatiles.Confusion with_confusion_one_less ▸ draw (may_hurt_itself side)) p) }
+    ensures room { AddsAtMost 2 events.old events.new }
+    ensures quiet { result ≡ Gate.Go → AddsAtMost 1 events.old events.new }
+{
+    battle.put_confused(side, Some(turns.saturating_sub(1)));
+    events.push(Event::Activate(battle.who(side), Volatile::Confusion));
+    if random.draw() < HITS_ITSELF_FROM {
+        return Gate::Go;
+    }
+    hurt_itself(battle, side, events)
+}

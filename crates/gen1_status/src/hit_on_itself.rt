@@ -1,0 +1,71 @@
+//! The hit of a confused member on itself (docs/MECHANICS.md, "Hit on itself").
+ghost use Rattle.gen1_layout.specs.Words.{AddsAtMost, Frame, HasRoom, Progress, Shows, conditions, false, other, stop, ◌≡◌, ◌≢◌, ◌▸◌};
+ghost use Rattle.gen1_machine.specs.HitOnItself.{hurt_itself, hurt_itself_by, land_on_foes_substitute};
+ghost use Rattle.gen1_status.specs.Telling.{Tells, frame_after};
+
+use crate::Gate;
+use gen1_hits::{damage, land_on_hp, land_on_substitute, own_numbers};
+use gen1_layout::{Conditions, Packed};
+use gen1_machine::{DamageSource, EventList, Outcome, Side};
+
+/// Breaks off what the member was about, and takes from it what it has the strength of: 40 in power, its own Attack against
+/// its own Defense. Writes one event at most (docs/MECHANICS.md, "Hit on itself").
+pub(crate) fn hurt_itself(battle: &mut Packed, side: Side, events: &mut EventList) -> Gate
+    requires { HasRoom 1 events.old }
+    ensures shown { (g : Frame) (p : Progress) → Shows g battle.old events.old.items false p
+        → Tells g battle.new events.new.items result p (hurt_itself side p) }
+    ensures room { AddsAtMost 1 events.old events.new }
+    ensures stops { result ≢ Gate.Go }
+{
+    battle.break_off(side);
+    battle.put_flag(side, Conditions::FLINCH, false);
+    battle.put_flag(side, Conditions::INVULNERABLE, false);
+    let numbers = own_numbers(battle, side);
+    hurt_itself_by(battle, side, damage(&numbers), events)
+}
+
+// Behind a substitute of its own the member is not hurt.
+fn hurt_itself_by(
+    battle: &mut Packed,
+    side: Side,
+    damage: Option<u16>,
+    events: &mut EventList,
+) -> Gate
+    requires { HasRoom 1 events.old }
+    ensures shown { (g : Frame) (p : Progress) → Shows g battle.old events.old.items false p
+        → Tells g battle.new events.new.items result p ((hurt_itself_by side damage ▸ stop) p) }
+    ensures room { AddsAtMost 1 events.old events.new }
+    ensures stops { result ≢ Gate.Go }
+{
+    let Some(damage) = damage else {
+        battle.put_outcome(Outcome::Fault(1));
+        return Gate::Fault;
+    };
+    battle.put_last_damage(damage);
+    if !battle.is_on(side, Conditions::SUBSTITUTE) {
+        land_on_hp(battle, side, DamageSource::Confusion, damage, events);
+        return Gate::Stop;
+    }
+    let substitute = battle.substitute(side.other());
+    land_on_foes_substitute(battle, side, damage, substitute, events);
+    Gate::Stop
+}
+
+// The foe's substitute takes it, if there is one.
+fn land_on_foes_substitute(
+    battle: &mut Packed,
+    side: Side,
+    damage: u16,
+    substitute: Option<u8>,
+    events: &mut EventList,
+)
+    requires { HasRoom 1 events.old }
+    ensures shown { (g : Frame) (p : Progress) → (conditions (other side) p).substitute ≡ substitute → Shows g battle.old events.old.items false p
+        → Shows (frame_after Gate.Stop (land_on_foes_substitute side damage substitute p) g) battle.new events.new.items false (land_on_foes_substitute side damage substitute p) }
+    ensures room { AddsAtMost 1 events.old events.new }
+{
+    let Some(hp) = substitute else {
+        return;
+    };
+    land_on_substitute(battle, side.other(), damage, hp, events);
+}

@@ -1,0 +1,129 @@
+//! What poison, a burn and Leech Seed take (docs/MECHANICS.md, "Residual").
+ghost use Rattle.gen1_layout.specs.Words.{AddsAtMost, Does, Event, HasRoom, List, Reads, conditions_in, false, is_living, member_in, status_in, ◌||◌, ◌≡◌, ◌≤◌};
+ghost use Rattle.gen1_machine.specs.Conditions.{one_more};
+ghost use Rattle.gen1_machine.specs.Residual.{residual, residual_in, suffer, suffer_seed, suffer_status, times_poisoned, worsen};
+ghost use Rattle.gen1_status.specs.Hurting.{takes_hp};
+
+use gen1_hits::{gain_hp, lose_hp};
+use gen1_layout::{Conditions, Packed};
+use gen1_machine::{DamageSource, EventList, Side};
+use gen1_stats::Status;
+
+/// What poison or a burn, and then Leech Seed, take from the member of `side` that is out, unless it has fallen before
+/// (docs/MECHANICS.md, "Residual"). Each takes a 16th of its maximum HP, at least 1, or what is left of its HP.
+///
+/// With the bad-poison mark each of the two first raises the counter by 1, to 64 at most, and takes so many times as much.
+/// The seed heals the foe the full amount, also where less was left to take. `Damage` is written for what either takes, and
+/// `Heal` for what the foe gains: three places in `events` are to be free for them.
+pub fn residual(battle: &mut Packed, side: Side, events: &mut EventList)
+    requires { HasRoom 3 events.old }
+    ensures shown { Does battle.old events.old.items battle.new events.new.items false (residual side) }
+    ensures room { AddsAtMost 3 events.old events.new }
+{
+    if !suffers(battle, side) {
+        return;
+    }
+    if !is_living(battle, side) {
+        return;
+    }
+    suffer_status(battle, side, battle.status(side), events);
+    if !battle.is_on(side, Conditions::SEEDED) {
+        return;
+    }
+    suffer_seed(battle, side, events);
+}
+
+// Most members have neither poison nor a burn nor a seed.
+fn suffers(battle: &Packed, side: Side) -> bool
+    ensures stands { Reads battle.now result λ f. (takes_hp (status_in side f) || (conditions_in side f).seeded) }
+{
+    if takes_hp(battle.status(side)) {
+        return true;
+    }
+    battle.is_on(side, Conditions::SEEDED)
+}
+
+fn takes_hp(status: Status) -> bool
+    ensures { result ≡ takes_hp status }
+{
+    matches!(status, Status::Poisoned | Status::Burned)
+}
+
+fn is_living(battle: &Packed, side: Side) -> bool
+    ensures stands { Reads battle.now result λ f. is_living (member_in side f) }
+{
+    0 < battle.hp(side)
+}
+
+// What a status takes: poison and a burn alone do.
+fn suffer_status(battle: &mut Packed, side: Side, status: Status, events: &mut EventList)
+    requires { HasRoom 1 events.old }
+    ensures shown { Does battle.old events.old.items battle.new events.new.items false (suffer_status side status) }
+    ensures room { AddsAtMost 1 events.old events.new }
+{
+    match status {
+        Status::Poisoned => suffer(battle, side, DamageSource::Poison, events),
+        Status::Burned => suffer(battle, side, DamageSource::Burn, events),
+        Status::Healthy => {}
+        Status::Asleep { .. } => {}
+        Status::Frozen => {}
+        Status::Paralysed => {}
+    }
+}
+
+fn suffer(battle: &mut Packed, side: Side, source: DamageSource, events: &mut EventList)
+    requires { HasRoom 1 events.old }
+    ensures shown { Does battle.old events.old.items battle.new events.new.items false (suffer side source) }
+    ensures room { AddsAtMost 1 events.old events.new }
+{
+    worsen(battle, side);
+    let amount = residual_amount(battle, side);
+    lose_hp(battle, side, source, amount, events);
+}
+
+// The foe is healed the full amount, also where less was left to take.
+fn suffer_seed(battle: &mut Packed, side: Side, events: &mut EventList)
+    requires { HasRoom 2 events.old }
+    ensures shown { Does battle.old events.old.items battle.new events.new.items false (suffer_seed side) }
+    ensures room { AddsAtMost 2 events.old events.new }
+{
+    worsen(battle, side);
+    let amount = residual_amount(battle, side);
+    lose_hp(battle, side, DamageSource::LeechSeed, amount, events);
+    gain_hp(battle, side.other(), amount, events);
+}
+
+// The counter of bad poison rises, where there is one.
+fn worsen(battle: &mut Packed, side: Side)
+    ensures { (events : List Event) → Does battle.old events battle.new events false (worsen side) }
+{
+    let count = battle.bad_poison(side);
+    battle.put_bad_poison(side, one_more(count));
+}
+
+fn one_more(count: Option<u8>) -> Option<u8>
+    ensures { result ≡ one_more count }
+{
+    match count {
+        Some(count) => Some(count.saturating_add(1).min(64)),
+        None => None,
+    }
+}
+
+// A 16th of the maximum HP, or of that so many times as the member was badly poisoned.
+fn residual_amount(battle: &Packed, side: Side) -> u16
+    ensures stands { Reads battle.now result (residual_in side) }
+{
+    let sixteenth = (battle.max_hp(side) / 16).max(1);
+    sixteenth.saturating_mul(times_poisoned(battle.bad_poison(side)))
+}
+
+fn times_poisoned(count: Option<u8>) -> u16
+    ensures value { result ≡ times_poisoned count }
+    ensures byte { result ≤ 255 }
+{
+    match count {
+        Some(count) => u16::from(count),
+        None => 1,
+    }
+}
