@@ -71,8 +71,8 @@ able-is Burned e = (refl, refl)
 unbarred : (s : Side) (pick : Pick) (p : Progress) → (conditions_in s p.field).disabled ≡ None → is_disabled_in s pick p.field ≡ false
 unbarred s Idle p e = refl
 unbarred s (Use used) p e = ap (λ (d : Option DisabledSlot). bars d used) e
-unbarred s Continue p e = ap (λ (d : Option DisabledSlot). bars d (active_in s p.field).current) e
-unbarred s Held p e = ap (λ (d : Option DisabledSlot). bars d (active_in s p.field).current) e
+unbarred s Continue p e = ap (λ (d : Option DisabledSlot). bars d (active_in s p.field).current_move) e
+unbarred s Held p e = ap (λ (d : Option DisabledSlot). bars d (active_in s p.field).current_move) e
 
 module _ (s : Side) (p : Progress) (free : IsFree s p.field) (goes : p.stopped ≡ false) where
   by_status : sleeps_or_freezes (status_of s p) ≡ false → gate_of_status s p ≡ p

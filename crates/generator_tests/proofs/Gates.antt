@@ -8,7 +8,7 @@ use Rattle.gen1_machine.specs.declared.side.Side.{Side}
 use Rattle.gen1_machine.specs.declared.event.Event.{Event}
 use Rattle.gen1_machine.specs.declared.event.CantReason.TheVariants as reasons
 use Rattle.gen1_machine.specs.declared.picks.Pick.TheVariants.{Use}
-use Rattle.gen1_machine.specs.declared.picks.Used.{Used}
+use Rattle.gen1_machine.specs.declared.picks.UsedMove.{UsedMove}
 use Rattle.gen1_machine.specs.Conditions.{broken_off}
 use Rattle.gen1_machine.specs.Action.{gate_or_held}
 use Rattle.gen1_machine.specs.Gate.{cant, gate, may_be_paralysed, paralysis_test}
@@ -37,7 +37,7 @@ unfolding choose stay stop cant note on_conditions on_field ◌▸◌ unless_sto
 paralysed true s p e = rw e (refl, refl)
 paralysed false s p e = rw e (refl, refl)
 
-module _ {A : Type 0} (byte : A → ℕ) (next : A → A) (width : ℕ) (r new : A) (s : Side) (used : Used) (g : Setting) (parts : Parts) (f : Field) (before after : List Event) (answer : Gate)
+module _ {A : Type 0} (byte : A → ℕ) (next : A → A) (width : ℕ) (r new : A) (s : Side) (used : UsedMove) (g : Setting) (parts : Parts) (f : Field) (before after : List Event) (answer : Gate)
     (h : TellsDrawn byte next width r (frame g (stream_of byte next width r) s) parts after new answer (begun f (stream_of byte next width r) s before)
     (gate_or_held s (Use used) (begun f (stream_of byte next width r) s before)))
     (free : IsFree s f) where
