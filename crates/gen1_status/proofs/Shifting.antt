@@ -1,19 +1,12 @@
 -- What a shift comes to: it fails at once, it fails once the stage has moved and moved back, or it succeeds.
-use Rattle.std.proofs.Common.{Bool, List, add-one, arith, false, negsuc, pos, refl, subst, true, ℕ, ℤ, ◌≡◌, ◌∙◌}
-use Rattle.std.proofs.lemmas.Bool.Decides.{nat_tests}
-use Rattle.gen1_stats.specs.Members.{IsBetween}
-use Rattle.gen1_layout.specs.Parts.{Parts}
-use Rattle.gen1_layout.specs.Shows.{Frame, Shows}
-use Rattle.gen1_machine.specs.declared.event.Event.{Event}
+use Rattle.gen1_layout.proofs.Words.{Bool, Event, Frame, IsBetween, List, Parts, Phase, Progress, Shows, Side, add-one, arith, choose, choose-false, choose-true, false, goes, nat_tests, on_active, refl, subst, then-goes, true, ℕ, ◌∙◌, ◌≡◌, ◌▸◌}
+use Rattle.std.proofs.Common.{negsuc, pos, ℤ}
 use Rattle.gen1_status.specs.Shifting.{IsShift, ShowsShifted, shift_stage}
 use lib.IntN.{nat_abs}
 use lib.Signed.{lt_z}
 use Rattle.gen1_tables.specs.declared.effect.Stat.{Stat}
-use Rattle.gen1_machine.specs.declared.side.Side.{Side}
 use Rattle.gen1_machine.specs.CurrentStats.{at_new_stage}
-use Rattle.gen1_machine.specs.Progress.{choose, on_active, Phase, Progress, ◌▸◌}
 use Rattle.gen1_machine.specs.StageShift.{lower_stage, shift_to}
-use Rattle.gen1_layout.proofs.Chain.{choose-false, choose-true, goes, then-goes}
 
 -- a shift by a number that is not above 0 goes down
 pub shift_stage-down : (user target : Side) (stat : Stat) (stages : ℕ) (by : ℤ) → IsShift by → lt_z (pos 0) by ≡ false → stages ≡ nat_abs by

@@ -1,11 +1,9 @@
 -- What the clause of the gate says of a generator that begins at its own stream, and of a member that is free.
-use Rattle.std.proofs.Common.{Bool, List, ap, false, nat_lt, refl, sym, true, ℕ, ◌∙◌, ◌≡◌}
+use Rattle.gen1_layout.proofs.Words.{Bool, Event, Field, List, Parts, Progress, Setting, Side, ap, choose, choose-true, draw, false, nat_lt, note, on_conditions, on_field, refl, stay, stop, sym, true, ℕ, ◌∙◌, ◌≡◌, ◌▸◌}
 use Rattle.gen1_rolls.specs.Draws.{stream_of}
 use Rattle.gen1_rolls.specs.Streams.{byte_at, iterate}
 use Rattle.gen1_stats.specs.declared.status.Status.TheVariants.{Healthy, Paralysed}
 use Rattle.gen1_stats.specs.Members.{is_paralysed}
-use Rattle.gen1_machine.specs.declared.side.Side.{Side}
-use Rattle.gen1_machine.specs.declared.event.Event.{Event}
 use Rattle.gen1_machine.specs.declared.event.CantReason.TheVariants as reasons
 use Rattle.gen1_machine.specs.declared.picks.Pick.TheVariants.{Use}
 use Rattle.gen1_machine.specs.declared.picks.UsedMove.{UsedMove}
@@ -13,11 +11,8 @@ use Rattle.gen1_machine.specs.Conditions.{broken_off}
 use Rattle.gen1_machine.specs.Action.{gate_or_held}
 use Rattle.gen1_machine.specs.Gate.{cant, gate, may_be_paralysed, paralysis_test}
 use Rattle.gen1_machine.specs.Picks.{sleeps_or_freezes}
-use Rattle.gen1_machine.specs.Progress.{Progress, choose, draw, note, on_conditions, on_field, only, stay, stop, unless_stopped, ◌▸◌}
-use Rattle.gen1_machine.specs.State.{Field, status_in}
-use Rattle.gen1_layout.specs.Parts.{Parts}
-use Rattle.gen1_layout.specs.Within.{Setting}
-use Rattle.gen1_layout.proofs.Chain.{choose-true}
+use Rattle.gen1_machine.specs.Progress.{only, unless_stopped}
+use Rattle.gen1_machine.specs.State.{status_in}
 use Rattle.gen1_status.specs.declared.passing.Gate.{Gate}
 use Rattle.gen1_status.specs.declared.passing.Gate.TheVariants.{Fault, Go, Stop}
 use Rattle.gen1_status.specs.Gating.{IsFree, keeps_from_acting}

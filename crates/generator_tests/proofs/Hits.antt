@@ -1,19 +1,15 @@
 -- What the clauses of the operations of a hit say of a generator that begins at its own stream.
-use Rattle.std.proofs.Common.{[], Bool, None, Option, Some, ap, arith, false, if◌then◌else◌, nat_le, nat_lt, not, refl, sym, true, ℕ, ◌+◌, ◌<◌, ◌≡◌, ◌≤◌, ◌∙◌}
-use Rattle.std.proofs.lemmas.Bool.Decides.{nat_tests}
+use Rattle.gen1_layout.proofs.Words.{Action, Bool, Field, None, Option, Parts, Progress, Setting, ShowsDrawn, Side, Some, [], ap, arith, choose, draw, false, given, nat_le, nat_lt, nat_tests, on_conditions, on_field, refl, set_last_damage, stay, sym, true, with_last_damage, ℕ, ◌+◌, ◌<◌, ◌∙◌, ◌≡◌, ◌≤◌, ◌▸◌}
+use Rattle.std.proofs.Common.{if◌then◌else◌, not}
 use Rattle.gen1_rolls.specs.Draws.{draws_of, stream_of}
 use Rattle.gen1_rolls.specs.Streams.{byte_at, first, iterate, Stream}
-use Rattle.gen1_machine.specs.declared.side.Side.{Side}
 use Rattle.gen1_machine.specs.declared.side.Side.TheVariants.{One}
 use Rattle.gen1_machine.specs.CriticalHits.{critical_bound_in, critical_by, roll_critical, rotated_left_3, set_critical}
 use Rattle.gen1_machine.specs.Damage.{is_factor, rotated_right_1, times_factor}
 use Rattle.gen1_machine.specs.HitTest.{hit_test, hits_below, miss, scaled_in, set_tested, settled_hit_in, test_by}
 use Rattle.gen1_machine.specs.Moves.{Move}
-use Rattle.gen1_machine.specs.Progress.{Action, Progress, choose, draw, given, new_action, on_action, on_conditions, on_field, set_last_damage, set_missed, stay, unless_stopped, ◌▸◌}
-use Rattle.gen1_machine.specs.State.{Field, first_state, usual_terms, with_last_damage}
-use Rattle.gen1_layout.specs.Parts.{Parts}
-use Rattle.gen1_layout.specs.Shows.{ShowsDrawn}
-use Rattle.gen1_layout.specs.Within.{Setting}
+use Rattle.gen1_machine.specs.Progress.{new_action, on_action, set_missed, unless_stopped}
+use Rattle.gen1_machine.specs.State.{first_state, usual_terms}
 use Rattle.gen1_hits.specs.Factors.{VariesFrom}
 use Rattle.gen1_hits.specs.Tested.{with_test}
 use Rattle.gen1_hits.proofs.Varying.{vary-draws, vary-keeps}

@@ -1,11 +1,6 @@
-use Rattle.std.proofs.Common.{arith, false, nat_le, sym, true, ◌+◌, ◌-◌, ◌≡◌, ◌∙◌}
-use Rattle.std.proofs.lemmas.Bool.Decides.{nat_tests}
+use Rattle.gen1_layout.proofs.Words.{active_in, active_ok, arith, false, given, member_in, nat_le, nat_tests, put_on_active, sym, true, ◌+◌, ◌-◌, ◌∙◌, ◌≡◌}
 use Rattle.gen1_machine.specs.CurrentStats.{at_new_stage, penalties_of, unmodified}
-use Rattle.gen1_machine.specs.Progress.{given}
-use Rattle.gen1_machine.specs.State.{active_in, member_in}
 use Rattle.gen1_machine.specs.StageShift.{lower_from, lower_stage, note_unboost, stage_in}
-use Rattle.gen1_layout.proofs.Chain.{put_on_active}
-use Rattle.gen1_layout.proofs.Steps.{active_ok}
 use Rattle.gen1_status.proofs.Fitting.{stage_of-fits}
 use Rattle.gen1_status.proofs.Restaging.{at_new_stage-is, now-at_new_stage, stands_at-now}
 use Rattle.gen1_status.proofs.Shifting.{moves_back, moves_on, stays_last}

@@ -1,10 +1,6 @@
-use Rattle.std.proofs.Common.{arith, false, nat_le, sym, true, ◌-◌, ◌≡◌, ◌∙◌}
-use Rattle.std.proofs.lemmas.Bool.Decides.{nat_tests}
+use Rattle.gen1_layout.proofs.Words.{active_in, arith, false, given, member_in, nat_le, nat_tests, put_on_active, sym, true, ◌-◌, ◌∙◌, ◌≡◌}
 use Rattle.gen1_machine.specs.CurrentStats.{at_new_stage, penalties_of, unmodified}
-use Rattle.gen1_machine.specs.Progress.{given}
-use Rattle.gen1_machine.specs.State.{active_in, member_in}
 use Rattle.gen1_machine.specs.StageShift.{note_boost, raise_from, raise_stage, raised, stage_in}
-use Rattle.gen1_layout.proofs.Chain.{put_on_active}
 use Rattle.gen1_status.proofs.Restaging.{at_new_stage-is, now-at_new_stage, stands_at-now}
 use Rattle.gen1_status.proofs.Shifting.{moves_back, moves_on, stays_last}
 use Rattle.gen1_status.proofs.Staying.{most_stays}
