@@ -13,8 +13,8 @@ use Rattle.gen1_machine.specs.Gate.{cant, gate, may_be_paralysed, paralysis_test
 use Rattle.gen1_machine.specs.Picks.{sleeps_or_freezes}
 use Rattle.gen1_machine.specs.Progress.{only, unless_stopped}
 use Rattle.gen1_machine.specs.State.{status_in}
-use Rattle.gen1_status.specs.declared.passing.Gate.{Gate}
-use Rattle.gen1_status.specs.declared.passing.Gate.TheVariants.{Fault, Go, Stop}
+use Rattle.gen1_status.specs.declared.gate_answer.Gate.{Gate}
+use Rattle.gen1_status.specs.declared.gate_answer.Gate.TheVariants.{Fault, Go, Stop}
 use Rattle.gen1_status.specs.Gating.{IsFree, keeps_from_acting}
 use Rattle.gen1_status.specs.Telling.{TellsDrawn, stopped_by}
 use Rattle.gen1_status.proofs.Untested.{gate-acts, gate-free}
