@@ -20,7 +20,7 @@ use Rattle.gen1_machine.specs.Action.{accuracy_after, act, action_parts, begin, 
 use Rattle.gen1_machine.specs.SwitchingIn.{send_out, sent_out, with_sent_out}
 use Rattle.gen1_machine.specs.Turn.{do_part, end_spent_trapping, set_picked, Acts, Sends, Suffers}
 use Rattle.gen1_machine.specs.Valid.{rages, IsUnderway, KeepsAccuracy}
-use Rattle.gen1_machine.specs.Plans.{FitsPick, HoldsPlan, IsPlanned, Plan, Plans}
+use Rattle.gen1_machine.specs.Plans.{FitsPick, IsPlanned, Plan}
 use Rattle.gen1_machine.proofs.Keeps.{choose-keeps, given-keeps, note-keeps, on_active-keeps, on_conditions-keeps, stay-keeps, then-keeps, Keeps, Spares}
 use Rattle.gen1_machine.proofs.Leads.{choose-leads, keeps-leads, stay-leads, then-leads, Leads}
 use Rattle.gen1_machine.proofs.Sound.{party-valid, planned-holds, untied}
@@ -104,9 +104,7 @@ module _ (terms : Terms) (s : Side) (pick : Pick) where
   explained plan f x w fits h = by pick fits
     where
       by : (pick : Pick) → FitsPick pick (plan s) → IsUnderway (move_taken_in s pick f).effect (underway_in s f)
-      by (Use used) fits =
-          let plans = planned-holds s f x w fits.1 h in
-          untied _ (underway_in s f) plans.2
+      by (Use used) fits = untied _ (underway_in s f) (planned-holds s f x w fits.1 h).2
       by Continue fits = (party-valid s f h.field).active.conditions.underway
       by Idle fits = (party-valid s f h.field).active.conditions.underway
       by Held fits = (party-valid s f h.field).active.conditions.underway

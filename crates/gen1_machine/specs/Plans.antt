@@ -1,7 +1,7 @@
--- What the sides plan in a turn. Bide, thrashing, trapping, charging, recharging and rage are explained by the move that began
--- them, so a field stays valid through an action where more is known than the field tells: which move is about to be used, or
--- is being used. Code whose bytes don't tell it takes what is planned as a premise, and its callers hand it on: of an offered
--- choice (`PlanOf`, `Comes`), to the pick that it comes to (`FitsPick`), to the move that is then used.
+-- What the sides plan in a turn: which move each is about to use, or is using. Bide, thrashing, trapping, charging, recharging
+-- and rage have to be explained by the move that began them, and no field tells of a move before it is used. So code takes what
+-- is planned as a premise, and its callers hand it on: from an offered choice (`PlanOf`, `Comes`), to the pick that it comes to
+-- (`FitsPick`), to the move that is then used.
 use Rattle.std.specs.Prelude.{List, length, suc, ℕ, ◌≡◌, ◌≢◌}
 use Rattle.gen1_tables.specs.declared.effect.Effect.{Effect}
 use Rattle.gen1_tables.specs.declared.effect.Effect.TheVariants as effects
