@@ -8,8 +8,6 @@ mod failing;
 mod immunity;
 mod known;
 mod misses;
-#[cfg(test)]
-mod tests;
 
 pub use confusing::confuse;
 pub use counting::draw_count;

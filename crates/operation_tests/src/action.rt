@@ -1,7 +1,7 @@
 //! What an action knows, and its hit test, with the numbers of docs/MECHANICS.md, "Hit test" and "Action", and the type rows
 //! of docs/TABLES.md. Both sides have a Tauros out.
-use crate::{Known, hit_or_miss, must_hit, note_miss};
 use arrayvec::ArrayVec;
+use gen1_action::{Known, hit_or_miss, must_hit, note_miss};
 use gen1_layout::{Conditions, Packed};
 use gen1_machine::{Event, EventList, Side};
 use gen1_rolls::{LinkRandom, Rolls, Sweep};
