@@ -7,10 +7,12 @@ mod counting;
 mod failing;
 mod immunity;
 mod known;
+mod living;
 mod misses;
 
 pub use confusing::confuse;
 pub use counting::draw_count;
 pub use failing::fail;
 pub use known::Known;
+pub use living::{has_frozen_member, has_marked_sleeper};
 pub use misses::{hit_or_miss, must_hit, note_miss};

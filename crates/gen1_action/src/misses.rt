@@ -34,7 +34,7 @@ pub fn hit_or_miss<R: Rolls>(
 }
 
 /// The same, as a test whose miss ends the action: a miss is told, and `true` answered (docs/MECHANICS.md, "Early effects",
-/// "Late effects"). One event is written at most, for which a place in `events` is to be free.
+/// "Late effects"). One event is written at most, and none where it hits; a place in `events` is to be free for it.
 pub fn must_hit<R: Rolls>(
     battle: &mut Packed,
     side: Side,
@@ -47,6 +47,7 @@ pub fn must_hit<R: Rolls>(
     ensures shown { DoesKnowingDrawing R.byte R.next R.SPAN battle.old events.old.items random.old known.old battle.new events.new.items random.new known.new result (must_hit side (move_at id)) }
     ensures counts { IsUncounted known.old → IsUncounted known.new }
     ensures room { AddsAtMost 1 events.old events.new }
+    ensures quiet { result ≡ false → array_vec_len events.new ≡ array_vec_len events.old }
 {
     hit_or_miss(battle, side, id, known, random);
     if !known.missed {

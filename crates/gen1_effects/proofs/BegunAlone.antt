@@ -1,0 +1,28 @@
+-- An operation that stands for itself, from an action that has just begun; that its action then ends is of no account.
+use Rattle.std.proofs.Common.{Bool, List, false, refl, subst, true, ℕ, ◌≡◌}
+use Rattle.gen1_machine.specs.declared.side.Side.{Side}
+use Rattle.gen1_machine.specs.declared.event.Event.{Event}
+use Rattle.gen1_machine.specs.Progress.{Phase, Progress, stop, ◌▸◌}
+use Rattle.gen1_layout.specs.Parts.{Parts}
+use Rattle.gen1_layout.specs.Shows.{Frame}
+use Rattle.gen1_layout.proofs.Chain.{then-goes, then-stops}
+use Rattle.gen1_action.specs.declared.known.Known.{Known}
+use Rattle.gen1_action.specs.Alone.{just_begun, Leaves}
+use Rattle.gen1_action.specs.Knowing.{ShowsKnown}
+use Rattle.gen1_action.proofs.Knowledge.{leaves}
+
+module _ {A : Type 0} {byte : A → ℕ} {next : A → A} {width : ℕ} {origin : A} {parts : Parts} {events : List Event} {now : A} {b : Bool} where
+  pub begun_alone : {p : Progress} (k : Known) (g : Frame) (s : Side) → k ≡ just_begun s
+      → ShowsKnown byte next width origin (just_begun s) g parts events now b p → ShowsKnown byte next width origin k g parts events now b p
+  begun_alone k g s is h = rw is h
+
+  pub left_unended : (k : Known) (g : Frame) (f : Phase) (p : Progress)
+      → ShowsKnown byte next width origin k g parts events now b ((f ▸ stop) p) → Leaves byte next width origin g parts events now (f p)
+  unfolding stop
+  left_unended k g f p a = by (f p).stopped refl
+    where
+      by : (stopped : Bool) → (f p).stopped ≡ stopped → Leaves byte next width origin g parts events now (f p)
+      by true e = leaves {k = k} g (subst (λ (q : Progress). ShowsKnown byte next width origin k g parts events now b q) (then-stops f stop p e) a)
+      by false e =
+          let h = subst (λ (q : Progress). ShowsKnown byte next width origin k g parts events now b q) (then-goes f stop p e) a in
+          record { within = h.shows.within; written = h.shows.written; stands = h.stands }

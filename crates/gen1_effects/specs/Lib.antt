@@ -1,0 +1,2 @@
+-- Which effects come in place of damage.
+pub mod Late

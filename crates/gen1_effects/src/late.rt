@@ -1,0 +1,69 @@
+//! Moves that act where others deal their damage: stages that rise and fall, and sleep (docs/MECHANICS.md, "Late effects").
+//! Bide, which lasts, is none of these.
+ghost use Rattle.std.specs.Prelude.{true, ◌+◌, ◌≡◌, ◌≤◌};
+ghost use Rattle.arrayvec.specs.ArrayVec.{array_vec_len};
+ghost use Rattle.gen1_machine.specs.LateEffects.{late_effect};
+ghost use Rattle.gen1_machine.specs.Moves.{move_at};
+ghost use Rattle.gen1_machine.specs.Progress.{stop, ◌▸◌};
+ghost use Rattle.gen1_action.specs.Alone.{DoesAlone};
+ghost use Rattle.gen1_action.specs.Planned.{DoesUnder};
+ghost use Rattle.gen1_effects.specs.Late.{is_group_two};
+
+use gen1_action::Known;
+use gen1_layout::Packed;
+use gen1_machine::{EventList, Side};
+use gen1_rolls::Rolls;
+use gen1_tables::{Effect, MoveId};
+
+mod shifts;
+mod sleep;
+
+use shifts::{lower_foes_stat, raise_own_stat};
+use sleep::put_to_sleep;
+
+/// What a move of `side` does that raises a stat of the user's, lowers one of the foe's, or puts the foe to sleep
+/// (docs/MECHANICS.md, "Late effects"), from the beginning of its action. The hit test, where it makes one, and a count of
+/// sleep are drawn; two places in `events` are to be free. What the effect leaves alone stays as it is.
+pub fn group_two<R: Rolls>(
+    battle: &mut Packed,
+    side: Side,
+    id: MoveId,
+    random: &mut R,
+    events: &mut EventList,
+)
+    requires room { array_vec_len events.old + 2 ≤ 64 }
+    requires tie { is_group_two (move_at id).effect ≡ true }
+    ensures shown { DoesAlone R.byte R.next R.SPAN side battle.old events.old.items random.old battle.new events.new.items random.new (λ r. late_effect r side (move_at id) (move_at id).effect) }
+    ensures room { array_vec_len events.new ≤ array_vec_len events.old + 2 }
+{
+    let mut known = Known::new().begun(side);
+    group_two_knowing(battle, side, id, &mut known, random, events);
+}
+
+/// The same in the middle of an action, of which more may be known. The action ends with it (docs/MECHANICS.md, "Action").
+pub fn group_two_knowing<R: Rolls>(
+    battle: &mut Packed,
+    side: Side,
+    id: MoveId,
+    known: &mut Known,
+    random: &mut R,
+    events: &mut EventList,
+)
+    requires room { array_vec_len events.old + 2 ≤ 64 }
+    requires tie { is_group_two (move_at id).effect ≡ true }
+    ensures shown { DoesUnder R.byte R.next R.SPAN battle.old events.old.items random.old known.old battle.new events.new.items random.new known.new true (λ r. late_effect r side (move_at id) (move_at id).effect ▸ stop) }
+    ensures room { array_vec_len events.new ≤ array_vec_len events.old + 2 }
+{
+    match id.effect() {
+        Effect::StatUp(stat, by) => {
+            raise_own_stat(battle, side, stat, by, events);
+        }
+        Effect::StatDown(stat, by) => {
+            lower_foes_stat(battle, side, id, stat, by, known, random, events);
+        }
+        Effect::InflictSleep => {
+            put_to_sleep(battle, side, id, known, random, events);
+        }
+        _ => {}
+    }
+}
