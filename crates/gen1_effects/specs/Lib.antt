@@ -1,0 +1,2 @@
+-- Which effects are early.
+pub mod GroupOne
