@@ -6,3 +6,17 @@ pub mod Searching
 pub mod LateWays
 -- What a call shows that stands for itself.
 pub mod BegunAlone
+-- A move that fails, and an action that ends.
+pub mod Failing
+-- A condition that is set.
+pub mod Setting
+-- A phase that depends on a part of what it reads.
+pub mod Partly
+-- Stages that go back to the middle.
+pub mod Levelling
+-- Who is skipped.
+pub mod Skipping
+-- An early effect by its way.
+pub mod EarlyWays
+-- Two types that are the same.
+pub mod SameTypes

@@ -1,2 +1,4 @@
 -- Which effects come in place of damage.
 pub mod Late
+-- Which effects are early.
+pub mod GroupOne

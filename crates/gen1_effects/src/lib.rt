@@ -2,6 +2,8 @@
 //! "Side effects").
 #![tactic(auto)]
 
+mod early;
 mod late;
 
+pub use early::{group_one, group_one_knowing, is_group_one};
 pub use late::{group_two, group_two_knowing};

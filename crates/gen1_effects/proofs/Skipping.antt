@@ -1,0 +1,12 @@
+-- What is known of who is skipped.
+use Rattle.std.proofs.Common.{Bool, List, refl}
+use Rattle.gen1_machine.specs.declared.event.Event.{Event}
+use Rattle.gen1_machine.specs.EarlyEffects.{set_skips}
+use Rattle.gen1_machine.specs.Progress.{Progress}
+use Rattle.gen1_layout.specs.Parts.{Parts}
+use Rattle.gen1_layout.specs.Shows.{Frame, Shows}
+
+pub skipped : {g : Frame} {parts : Parts} {events : List Event} {b : Bool} {p : Progress} (skips : Bool) → Shows g parts events b p
+    → Shows (record g { skips = skips }) parts events b (set_skips skips p)
+unfolding set_skips
+skipped skips h = record { within = h.within; written = h.written; ends = h.ends; stream = h.stream; drawn = h.drawn; skips = refl; action = h.action }

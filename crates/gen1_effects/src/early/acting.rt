@@ -1,0 +1,134 @@
+//! An early effect, by the effect of the move (docs/MECHANICS.md, "Early effects").
+ghost use Rattle.std.specs.Prelude.{true, ◌+◌, ◌≡◌, ◌≤◌};
+ghost use Rattle.arrayvec.specs.ArrayVec.{array_vec_len};
+ghost use Rattle.gen1_machine.specs.EarlyEffects.{early_effect};
+ghost use Rattle.gen1_machine.specs.Moves.{move_at};
+ghost use Rattle.gen1_machine.specs.Progress.{stop, ◌▸◌};
+ghost use Rattle.gen1_action.specs.Alone.{DoesAlone};
+ghost use Rattle.gen1_action.specs.Knowing.{DoesKnowingDrawing, IsUncounted};
+ghost use Rattle.gen1_effects.specs.GroupOne.{is_group_one, way_of};
+
+use super::clearing::haze;
+use super::confusing::confuse_foe;
+use super::conversion::convert;
+use super::healing::heal;
+use super::paralysing::paralyse_foe;
+use super::poisoning::poison_foe;
+use super::seeding::seed_foe;
+use super::splashing::splash;
+use super::staying_up::{set_focus_energy, set_mist, set_screen};
+use gen1_action::{Known, fail};
+use gen1_layout::Packed;
+use gen1_machine::{EventList, Side};
+use gen1_rolls::Rolls;
+use gen1_tables::{Effect, MoveId};
+
+/// Whether an effect is one of [`group_one`]: an early effect but Substitute (docs/MECHANICS.md, "Early effects").
+pub fn is_group_one(effect: Effect) -> bool
+    ensures { result ≡ is_group_one effect }
+{
+    matches!(
+        effect,
+        Effect::AlwaysFails
+            | Effect::Conversion
+            | Effect::Mist
+            | Effect::FocusEnergy
+            | Effect::Screen
+            | Effect::Haze
+            | Effect::InflictConfusion
+            | Effect::Heal
+            | Effect::InflictPoison
+            | Effect::InflictParalysis
+            | Effect::LeechSeed
+            | Effect::Splash
+    )
+}
+
+/// Plays the move of `side`, whose effect is early and not Substitute (docs/MECHANICS.md, "Early effects"): moves that always
+/// fail, Conversion, Mist, Focus Energy, screens, Haze, confusion, healing, poison, paralysis, Leech Seed and Splash.
+///
+/// The action has just begun. At most three draws are taken, and two events written at most, for which two places in `events`
+/// are to be free. A move that fails, or misses, says so by an event, and changes nothing but what a miss changes.
+pub fn group_one<R: Rolls>(
+    battle: &mut Packed,
+    side: Side,
+    id: MoveId,
+    random: &mut R,
+    events: &mut EventList,
+)
+    requires room { array_vec_len events.old + 2 ≤ 64 }
+    requires early { is_group_one (move_at id).effect ≡ true }
+    ensures shown { DoesAlone R.byte R.next R.SPAN side battle.old events.old.items random.old battle.new events.new.items random.new (λ rules. early_effect side (move_at id) (move_at id).effect ▸ stop) }
+    ensures room { array_vec_len events.new ≤ array_vec_len events.old + 2 }
+{
+    let mut known = Known::new().begun(side);
+    group_one_knowing(battle, side, id, &mut known, random, events);
+}
+
+/// The same as [`group_one`] in the middle of an action, of which `known` tells: whether a hit test was missed, and at which
+/// byte it was made, is known then, and after Haze whether the foe is skipped in this turn.
+pub fn group_one_knowing<R: Rolls>(
+    battle: &mut Packed,
+    side: Side,
+    id: MoveId,
+    known: &mut Known,
+    random: &mut R,
+    events: &mut EventList,
+)
+    requires room { array_vec_len events.old + 2 ≤ 64 }
+    requires early { is_group_one (move_at id).effect ≡ true }
+    ensures shown { DoesKnowingDrawing R.byte R.next R.SPAN battle.old events.old.items random.old known.old battle.new events.new.items random.new known.new true (early_effect side (move_at id) (move_at id).effect ▸ stop) }
+    ensures counts { IsUncounted known.old → IsUncounted known.new }
+    ensures room { array_vec_len events.new ≤ array_vec_len events.old + 2 }
+{
+    match way_of(id.effect()) {
+        Way::Fails => fail(battle, side, events),
+        Way::Conversion => convert(battle, side, events),
+        Way::Mist => set_mist(battle, side, events),
+        Way::FocusEnergy => set_focus_energy(battle, side, events),
+        Way::Screen => set_screen(battle, side, id, events),
+        Way::Haze => haze(battle, side, known, events),
+        Way::Confusion => confuse_foe(battle, side, id, known, random, events),
+        Way::Heal => heal(battle, side, id, events),
+        Way::Poison => poison_foe(battle, side, id, known, random, events),
+        Way::Paralysis => paralyse_foe(battle, side, id, known, random, events),
+        Way::LeechSeed => seed_foe(battle, side, id, known, random, events),
+        Way::Splash => splash(battle, side, events),
+    }
+}
+
+// By which way an early effect goes.
+#[derive(Clone, Copy, Debug, PartialEq, Eq)]
+enum Way {
+    Fails,
+    Conversion,
+    Mist,
+    FocusEnergy,
+    Screen,
+    Haze,
+    Confusion,
+    Heal,
+    Poison,
+    Paralysis,
+    LeechSeed,
+    Splash,
+}
+
+fn way_of(effect: Effect) -> Way
+    ensures { result ≡ way_of effect }
+{
+    match effect {
+        Effect::Conversion => Way::Conversion,
+        Effect::Mist => Way::Mist,
+        Effect::FocusEnergy => Way::FocusEnergy,
+        Effect::Screen => Way::Screen,
+        Effect::Haze => Way::Haze,
+        Effect::InflictConfusion => Way::Confusion,
+        Effect::Heal => Way::Heal,
+        Effect::InflictPoison => Way::Poison,
+        Effect::InflictParalysis => Way::Paralysis,
+        Effect::LeechSeed => Way::LeechSeed,
+        Effect::Splash => Way::Splash,
+        _ => Way::Fails,
+    }
+}

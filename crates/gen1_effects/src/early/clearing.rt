@@ -1,0 +1,62 @@
+//! Haze (docs/MECHANICS.md, "Early effects").
+ghost use Rattle.std.specs.Prelude.{List, Option, false, true, ◌+◌, ◌≡◌, ◌≤◌, ◌||◌};
+ghost use Rattle.arrayvec.specs.ArrayVec.{array_vec_len};
+ghost use Rattle.gen1_machine.specs.declared.event.Event.{Event};
+ghost use Rattle.gen1_machine.specs.EarlyEffects.{clear_side, cure_kind, haze, haze_cures};
+ghost use Rattle.gen1_machine.specs.Picks.{sleeps_or_freezes};
+ghost use Rattle.gen1_machine.specs.Progress.{given, status_of, stop, ◌▸◌};
+ghost use Rattle.gen1_layout.specs.Shows.{Does};
+ghost use Rattle.gen1_action.specs.Knowing.{DoesKnowing, IsUncounted};
+
+use super::levelling::level_stats;
+use gen1_action::Known;
+use gen1_layout::Packed;
+use gen1_machine::{Event, EventList, Kind, Side};
+use gen1_stats::Status;
+
+pub(super) fn haze(battle: &mut Packed, side: Side, known: &mut Known, events: &mut EventList)
+    requires { array_vec_len events.old + 2 ≤ 64 }
+    ensures shown { DoesKnowing battle.old events.old.items known.old battle.new events.new.items known.new true (haze side ▸ stop) }
+    ensures counts { IsUncounted known.old → IsUncounted known.new }
+    ensures room { array_vec_len events.new ≤ array_vec_len events.old + 2 }
+{
+    clear_side(battle, Side::One);
+    clear_side(battle, Side::Two);
+    events.push(Event::ClearAll);
+    cure(battle, side.other(), known, events);
+}
+
+fn clear_side(battle: &mut Packed, side: Side)
+    ensures { (events : List Event) → Does battle.old events battle.new events false (clear_side side) }
+{
+    level_stats(battle, side);
+    battle.clear_by_haze(side);
+}
+
+// The member of `side` is cured, and is skipped where it was asleep or frozen.
+fn cure(battle: &mut Packed, side: Side, known: &mut Known, events: &mut EventList)
+    requires { array_vec_len events.old + 1 ≤ 64 }
+    ensures shown { DoesKnowing battle.old events.old.items known.old battle.new events.new.items known.new false (given (status_of side) (haze_cures side)) }
+    ensures counts { IsUncounted known.old → IsUncounted known.new }
+    ensures room { array_vec_len events.new ≤ array_vec_len events.old + 1 }
+{
+    known.skips = sleeps_or_freezes(battle.status(side));
+    cure_kind(battle, side, battle.kind(side), events);
+}
+
+fn sleeps_or_freezes(status: Status) -> bool
+    ensures { result ≡ sleeps_or_freezes status }
+{
+    matches!(status, Status::Asleep { .. } | Status::Frozen)
+}
+
+fn cure_kind(battle: &mut Packed, side: Side, kind: Option<Kind>, events: &mut EventList)
+    requires { array_vec_len events.old + 1 ≤ 64 }
+    ensures shown { Does battle.old events.old.items battle.new events.new.items false (cure_kind side kind) }
+    ensures room { array_vec_len events.new ≤ array_vec_len events.old + 1 }
+{
+    if let Some(kind) = kind {
+        battle.put_status(side, Status::Healthy);
+        events.push(Event::Cure(battle.who(side), kind));
+    }
+}
