@@ -51,6 +51,7 @@ pub fn must_hit<R: Rolls>(
     ensures shown { DoesKnowingDrawing R.byte R.next R.SPAN battle.old events.old.items random.old known.old battle.new events.new.items random.new known.new result (must_hit side (move_at id)) }
     ensures counts { IsUncounted known.old → IsUncounted known.new }
     ensures room { array_vec_len events.new ≤ array_vec_len events.old + 1 }
+    ensures quiet { result ≡ false → array_vec_len events.new ≡ array_vec_len events.old }
 {
     hit_or_miss(battle, side, id, known, random);
     if !known.missed {
