@@ -5,3 +5,5 @@ pub mod Knowledge
 -- How what is planned goes through the parts of an action.
 pub mod Planning
 pub mod Counted
+-- Any living member, place by place.
+pub mod Six

@@ -8,3 +8,5 @@ pub mod Alone
 pub mod Counting
 -- Which types a move has no effect on.
 pub mod Immunity
+-- What the clauses of the rules count.
+pub mod Living

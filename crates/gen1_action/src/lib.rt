@@ -7,6 +7,7 @@ mod counting;
 mod failing;
 mod immunity;
 mod known;
+mod living;
 mod misses;
 #[cfg(test)]
 mod tests;
@@ -15,4 +16,5 @@ pub use confusing::confuse;
 pub use counting::draw_count;
 pub use failing::fail;
 pub use known::Known;
+pub use living::{has_frozen_member, has_marked_sleeper};
 pub use misses::{hit_or_miss, must_hit, note_miss};
