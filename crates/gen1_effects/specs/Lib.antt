@@ -1,0 +1,2 @@
+-- What a move may do besides its damage.
+pub mod SideEffects
