@@ -2,3 +2,5 @@
 pub mod Late
 -- Which effects are early.
 pub mod GroupOne
+-- What a move may do besides its damage.
+pub mod SideEffects

@@ -4,6 +4,8 @@
 
 mod early;
 mod late;
+mod side_effects;
 
 pub use early::{group_one, group_one_knowing, is_group_one};
 pub use late::{group_two, group_two_knowing};
+pub use side_effects::{side_effect, side_effect_knowing};

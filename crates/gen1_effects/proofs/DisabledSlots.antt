@@ -1,0 +1,60 @@
+-- Which slots Disable may draw: the first four of a list are all there are, and a slot holds a move where a number stands in it.
+use Rattle.std.proofs.Common.{All, Bool, List, [], add-zero, ap, arith, false, get_or, inl, inr, length, nat_lt, refl, suc, sym, true, zero, ℕ, ◌%◌, ◌&&◌, ◌+◌, ◌-◌, ◌<◌, ◌||◌, ◌∙◌, ◌∷◌, ◌≡◌, ◌≤◌, ◌⊎◌}
+use Rattle.std.proofs.lemmas.Bool.Decides.{nat_tests}
+use Rattle.gen1_stats.specs.declared.known_move.KnownMove.{KnownMove}
+use Rattle.gen1_stats.specs.Members.{nothing_known, IsBetween}
+use Rattle.gen1_machine.specs.SideEffects.{has_pp, names_slot}
+use Rattle.gen1_machine.specs.State.{known_in}
+use Rattle.gen1_status.proofs.Comparing.{below, not_below}
+
+either_pp : (a b : ℕ) → nat_lt 0 (a + b) ≡ (nat_lt 0 a || nat_lt 0 b)
+either_pp a b = elim (some a) [
+  | inl none ↦ (let e : a + b ≡ b = omega arith in rw (e, none) refl)
+  | inr more ↦ rw (below 0 (a + b) (omega arith), below 0 a more) refl
+]
+  where
+    some : (n : ℕ) → (n ≡ 0) ⊎ (0 < n)
+    some n = grind arith
+
+or_none : (x : Bool) → (x || false) ≡ x
+or_none true = refl
+or_none false = refl
+
+or_three : (x y z : Bool) → ((x || y) || z) ≡ (x || (y || z))
+or_three true y z = refl
+or_three false y z = refl
+
+abbrev pub four_pp : List KnownMove → Bool
+four_pp moves = nat_lt 0 (known_in 1 moves).pp || (nat_lt 0 (known_in 2 moves).pp || (nat_lt 0 (known_in 3 moves).pp || nat_lt 0 (known_in 4 moves).pp))
+
+pub has_pp-is : (moves : List KnownMove) → length moves ≤ 4 → has_pp moves ≡ four_pp moves
+has_pp-is [] h = refl
+has_pp-is (a ∷ []) h = simp (either_pp, add-zero, or_none, or_three) refl
+has_pp-is (a ∷ b ∷ []) h = simp (either_pp, add-zero, or_none, or_three) refl
+has_pp-is (a ∷ b ∷ c ∷ []) h = simp (either_pp, add-zero, or_none, or_three) refl
+has_pp-is (a ∷ b ∷ c ∷ d ∷ []) h = simp (either_pp, add-zero, or_none, or_three) refl
+has_pp-is (a ∷ b ∷ c ∷ d ∷ e ∷ more) h = absurd (omega arith)
+
+beyond : (moves : List KnownMove) (k : ℕ) → length moves ≤ k → get_or moves k nothing_known ≡ nothing_known
+beyond [] k h = refl
+beyond (m ∷ moves) zero h = absurd (omega arith)
+beyond (m ∷ moves) (suc k) h = beyond moves k (omega arith)
+
+within_or : (k n : ℕ) → (k < n) ⊎ (n ≤ k)
+within_or k n = grind arith
+
+pub holds_move : (moves : List KnownMove) (k : ℕ) → All (λ (m : KnownMove). IsBetween 1 165 m.id) moves → nat_lt k (length moves) ≡ nat_lt 0 (known_in (k + 1) moves).id
+holds_move moves k h =
+    let e : k + 1 - 1 ≡ k = omega arith in
+    rw e (elim (within_or k (length moves)) [
+      | inl held ↦ below k (length moves) held ∙ sym (below 0 (get_or moves k nothing_known).id (omega (arith, (h k nothing_known held).0)))
+      | inr past ↦ not_below k (length moves) past ∙ sym (ap (λ (m : KnownMove). nat_lt 0 m.id) (beyond moves k past))
+    ])
+
+-- a slot that a byte names holds a move
+pub named_holds : (moves : List KnownMove) (b : ℕ) → names_slot moves b ≡ true → b % 4 < length moves
+named_holds moves b h = by (nat_lt (b % 4) (length moves)) _ h refl
+  where
+    by : (x y : Bool) → (x && y) ≡ true → nat_lt (b % 4) (length moves) ≡ x → b % 4 < length moves
+    by true y h e = grind (arith, nat_tests)
+    by false y h e = cc

@@ -1,0 +1,94 @@
+-- What a move may do besides its damage, by the way of its effect; and conditions without a number that begin.
+use Rattle.std.proofs.Common.{Bool, List, false, refl, true, ◌&&◌, ◌≡◌}
+use Rattle.gen1_tables.specs.declared.effect.Effect.{Effect}
+use Rattle.gen1_tables.specs.declared.effect.Effect.TheVariants as effects
+use Rattle.gen1_machine.specs.declared.side.Side.{Side}
+use Rattle.gen1_machine.specs.declared.event.Event.{Event}
+use Rattle.gen1_machine.specs.declared.health.Kind.{Kind}
+use Rattle.gen1_machine.specs.declared.health.Kind.TheVariants as kinds
+use Rattle.gen1_machine.specs.Conditions.{with_flinch, with_recharge, Conditions}
+use Rattle.gen1_machine.specs.Moves.{Move}
+use Rattle.gen1_machine.specs.Progress.{Phase, Progress, inflict, stay}
+use Rattle.gen1_machine.specs.Ruling.{freeze_freely, freeze_only_one, freezes_under, has_frozen_member, Ruling}
+use Rattle.gen1_machine.specs.Sides.{other}
+use Rattle.gen1_machine.specs.SideEffects.{disable, kept_away_effect, may_confuse, must_recharge, side_effect}
+use Rattle.gen1_layout.specs.Flags.{SameNumbers}
+use Rattle.gen1_layout.specs.Parts.{Parts}
+use Rattle.gen1_layout.specs.Shows.{Frame, Shows}
+use Rattle.gen1_layout.proofs.Chain.{if_not, if_so, stays}
+use Rattle.gen1_status.specs.Inflicted.{status_of_kind}
+use Rattle.gen1_status.specs.Shifting.{ShowsShifted}
+use Rattle.gen1_effects.specs.declared.side_effects.Way.{Way}
+use Rattle.gen1_effects.specs.declared.side_effects.Way.TheVariants as ways
+use Rattle.gen1_effects.specs.SideEffects.{afflict, harm_of, harms, harms_unless_away, is_freeze, way_of}
+
+abbrev pub way_phase : Ruling → Side → Move → Way → Phase
+way_phase r s move (ways.Confuse n) = may_confuse s n
+way_phase r s move ways.Disable = disable s move
+way_phase r s move ways.Recharge = must_recharge s
+way_phase r s move (ways.Harm h) = harms_unless_away r s move h
+
+kept_away_effect-is : (r : Ruling) (s : Side) (move : Move) (e : Effect) → kept_away_effect r s move e ≡ harms r s move (harm_of e)
+unfolding kept_away_effect
+kept_away_effect-is r s move (effects.PoisonChance n) = refl
+kept_away_effect-is r s move effects.Twineedle = refl
+kept_away_effect-is r s move (effects.BurnChance n) = refl
+kept_away_effect-is r s move effects.FreezeChance = refl
+kept_away_effect-is r s move (effects.ParalysisChance n) = refl
+kept_away_effect-is r s move (effects.FlinchChance n) = refl
+kept_away_effect-is r s move (effects.StatDownChance stat) = refl
+kept_away_effect-is r s move _ = refl
+
+pub side_effect-is : (r : Ruling) (s : Side) (move : Move) (e : Effect) → side_effect r s move e ≡ way_phase r s move (way_of e)
+unfolding side_effect
+side_effect-is r s move (effects.ConfusionChance n) = refl
+side_effect-is r s move effects.Disable = refl
+side_effect-is r s move effects.Recharge = refl
+side_effect-is r s move e = rw (kept_away_effect-is r s move e) refl
+
+pub side_effect-by : (r : Ruling) (s : Side) (move : Move) (e : Effect) (way : Way) → way ≡ way_of e → side_effect r s move e ≡ way_phase r s move way
+side_effect-by r s move e way is = rw is (side_effect-is r s move e)
+
+-- what is no freeze is inflicted
+pub inflicted : (r : Ruling) (s : Side) (kind : Kind) → is_freeze kind ≡ false → afflict r s kind ≡ inflict (other s) (status_of_kind kind 0) kind
+inflicted r s kinds.Freeze e = cc
+inflicted r s kinds.Sleep e = refl
+inflicted r s kinds.Poison e = refl
+inflicted r s kinds.Burn e = refl
+inflicted r s kinds.Paralysis e = refl
+
+pub frozen : (r : Ruling) (s : Side) (kind : Kind) → is_freeze kind ≡ true → afflict r s kind ≡ r.freezes s
+frozen r s kinds.Freeze e = refl
+frozen r s kinds.Sleep e = cc
+frozen r s kinds.Poison e = cc
+frozen r s kinds.Burn e = cc
+frozen r s kinds.Paralysis e = cc
+
+-- a shift that is let fail
+pub shifted : (g : Frame) (parts : Parts) (events : List Event) (b : Bool) (shift : Phase → Phase) (p : Progress) → ShowsShifted g parts events b shift stay p → Shows g parts events false (shift stay p)
+unfolding stay
+shifted g parts events true shift p h = h
+shifted g parts events false shift p h = rw h.2 h.1
+
+pub flinching-same : (c : Conditions) → SameNumbers (with_flinch c) c
+unfolding with_flinch
+flinching-same c = record { bide = refl; thrash = refl; trapping = refl; confused = refl; substitute = refl; bad_poison = refl; disabled = refl }
+
+pub recharging-same : (c : Conditions) → SameNumbers (with_recharge c) c
+unfolding with_recharge
+recharging-same c = record { bide = refl; thrash = refl; trapping = refl; confused = refl; substitute = refl; bad_poison = refl; disabled = refl }
+
+-- by the freeze clause
+
+module _ {g : Frame} {parts : Parts} {events : List Event} where
+  pub refuses : (clause : Bool) (s : Side) (p : Progress) → (clause && has_frozen_member (other s) p) ≡ true → Shows g parts events false p
+      → Shows g parts events false (freezes_under clause s p)
+  unfolding freezes_under freeze_only_one
+  refuses true s p e h = if_so (has_frozen_member (other s)) stay (freeze_freely s) e (stays h)
+  refuses false s p e h = cc
+
+  pub freezes : (clause : Bool) (s : Side) (p : Progress) → (clause && has_frozen_member (other s) p) ≡ false → Shows g parts events false (freeze_freely s p)
+      → Shows g parts events false (freezes_under clause s p)
+  unfolding freezes_under freeze_only_one
+  freezes true s p e h = if_not (has_frozen_member (other s)) stay (freeze_freely s) e h
+  freezes false s p e h = h

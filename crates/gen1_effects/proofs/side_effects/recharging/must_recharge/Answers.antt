@@ -1,0 +1,17 @@
+use Rattle.std.proofs.Common.{ap, lit<, refl}
+use Rattle.gen1_machine.specs.declared.event.Event.TheVariants as events
+use Rattle.gen1_machine.specs.declared.health.Who.{Who}
+use Rattle.gen1_machine.specs.Conditions.{with_recharge}
+use Rattle.gen1_machine.specs.SideEffects.{must_recharge}
+use Rattle.gen1_machine.specs.State.{changed_conditions, conditions_in, who_in, Field}
+use Rattle.gen1_layout.proofs.Chain.{told_so}
+use Rattle.gen1_effects.proofs.SideEffects.{recharging-same}
+use Rattle.gen1_effects.proofs.side_effects.recharging.must_recharge.Goals as goal
+
+pub returns-clause-shown : goal.returns-clause-shown
+unfolding must_recharge with_recharge
+returns-clause-shown c g p h =
+    let s = c.args.side in
+    let w = c.put_flag.ensures.stands 10 refl (lit< tt) _ p.field with_recharge h.within refl (recharging-same (conditions_in s p.field)) in
+    told_so h (changed_conditions s with_recharge) (λ (f : Field). events.MustRecharge (who_in s f)) w c.push.ensures.items
+    (ap (λ (who : Who). events.MustRecharge who) (c.who.ensures.stands _ _ w))

@@ -1,0 +1,74 @@
+-- What a move may do besides its damage (docs/MECHANICS.md, "Side effects"): what code does under a battle's rules, and the
+-- ways in which effects go.
+use Rattle.std.specs.Prelude.{Bool, List, false, true, ℕ}
+use Rattle.gen1_tables.specs.declared.effect.Effect.{Effect}
+use Rattle.gen1_tables.specs.declared.effect.Effect.TheVariants as effects
+use Rattle.gen1_stats.specs.declared.status.Status.TheVariants.{Burned, Paralysed}
+use Rattle.gen1_machine.specs.declared.side.Side.{Side}
+use Rattle.gen1_machine.specs.declared.event.Event.{Event}
+use Rattle.gen1_machine.specs.declared.health.Kind.{Kind}
+use Rattle.gen1_machine.specs.declared.health.Kind.TheVariants as kinds
+use Rattle.gen1_machine.specs.Moves.{Move}
+use Rattle.gen1_machine.specs.Progress.{Phase, Progress, given, draw_until, has_substitute, inflict, member, stay, unless}
+use Rattle.gen1_machine.specs.Ruling.{Ruling, ruling_of}
+use Rattle.gen1_machine.specs.Sides.{other}
+use Rattle.gen1_machine.specs.SideEffects.{by_chance, disable_slot, flinch, may_inflict, may_poison, names_slot}
+use Rattle.gen1_machine.specs.StageShift.{lower_stage}
+use Rattle.gen1_layout.specs.Parts.{Parts}
+use Rattle.gen1_layout.specs.Shows.{Frame, ShowsDrawn}
+use Rattle.gen1_status.specs.Inflicted.{status_of_kind}
+use Rattle.gen1_effects.specs.declared.side_effects.Harm.{Harm}
+use Rattle.gen1_effects.specs.declared.side_effects.Harm.TheVariants as harm
+use Rattle.gen1_effects.specs.declared.side_effects.Way.{Way}
+use Rattle.gen1_effects.specs.declared.side_effects.Way.TheVariants as ways
+
+-- code with draws does what a phase does under the rules of the battle, whatever generator it was handed, and does not stop
+abbrev pub DoesByRules : {A : Type 0} → (A → ℕ) → (A → A) → ℕ → Parts → List Event → A → Parts → List Event → A → (Ruling → Phase) → Type 0
+DoesByRules {A = A} byte next width parts events old parts' events' new phase =
+    (origin : A) (g : Frame) (p : Progress) → ShowsDrawn byte next width origin g parts events old false p
+    → ShowsDrawn byte next width origin g parts' events' new false (phase (ruling_of g.setting.terms) p)
+
+-- a status of a kind, for the foe; a freeze goes by the rules
+abbrev pub is_freeze : Kind → Bool
+is_freeze kinds.Freeze = true
+is_freeze _ = false
+
+abbrev pub afflict : Ruling → Side → Kind → Phase
+afflict r s kinds.Freeze = r.freezes s
+afflict r s kind = inflict (other s) (status_of_kind kind 0) kind
+
+-- Disable once it has hit, and nothing is disabled yet
+abbrev pub draw_slot : Side → Phase
+draw_slot s = given (λ p. (member (other s) p).moves) λ moves. draw_until (names_slot moves) (disable_slot s moves)
+
+-- the ways of effects
+
+abbrev pub harm_of : Effect → Harm
+harm_of (effects.PoisonChance n) = harm.Poison n
+harm_of effects.Twineedle = harm.Poison 52
+harm_of (effects.BurnChance n) = harm.Burn n
+harm_of effects.FreezeChance = harm.Freeze
+harm_of (effects.ParalysisChance n) = harm.Paralysis n
+harm_of (effects.FlinchChance n) = harm.Flinch n
+harm_of (effects.StatDownChance stat) = harm.Drop stat
+harm_of _ = harm.Nothing
+
+abbrev pub way_of : Effect → Way
+way_of (effects.ConfusionChance n) = ways.Confuse n
+way_of effects.Disable = ways.Disable
+way_of effects.Recharge = ways.Recharge
+way_of e = ways.Harm (harm_of e)
+
+-- what each of them does
+
+abbrev pub harms : Ruling → Side → Move → Harm → Phase
+harms r s move (harm.Poison n) = may_poison s n
+harms r s move (harm.Burn n) = may_inflict s move n (inflict (other s) Burned kinds.Burn)
+harms r s move harm.Freeze = may_inflict s move 26 (r.freezes s)
+harms r s move (harm.Paralysis n) = may_inflict s move n (inflict (other s) Paralysed kinds.Paralysis)
+harms r s move (harm.Flinch n) = by_chance n (flinch (other s))
+harms r s move (harm.Drop stat) = by_chance 85 (lower_stage s (other s) stat 1 stay)
+harms r s move harm.Nothing = stay
+
+abbrev pub harms_unless_away : Ruling → Side → Move → Harm → Phase
+harms_unless_away r s move h = unless (has_substitute (other s)) (harms r s move h)

@@ -1,0 +1,169 @@
+//! What a move may do besides its damage (docs/MECHANICS.md, "Side effects").
+ghost use Rattle.std.specs.Prelude.{false, ◌+◌, ◌≡◌, ◌≤◌};
+ghost use Rattle.arrayvec.specs.ArrayVec.{array_vec_len};
+ghost use Rattle.gen1_machine.specs.Moves.{move_at};
+ghost use Rattle.gen1_machine.specs.SideEffects.{side_effect};
+ghost use Rattle.gen1_action.specs.Alone.{DoesAlone};
+ghost use Rattle.gen1_action.specs.Knowing.{IsUncounted};
+ghost use Rattle.gen1_action.specs.Planned.{DoesUnder};
+ghost use Rattle.gen1_effects.specs.SideEffects.{DoesByRules, harm_of, harms, harms_unless_away, way_of};
+
+mod chance;
+mod confusing;
+mod disabling;
+mod flinching;
+mod inflicting;
+mod recharging;
+mod stat_drops;
+
+use confusing::may_confuse;
+use disabling::disable;
+use flinching::may_flinch;
+use gen1_action::Known;
+use gen1_layout::{Conditions, Packed};
+use gen1_machine::{EventList, Kind, Side};
+use gen1_rolls::Rolls;
+use gen1_tables::{Effect, MoveId, Stat};
+use inflicting::{may_inflict, may_poison};
+use recharging::must_recharge;
+use stat_drops::may_lower;
+
+// What a move may do besides its damage. The numbers are the bounds of draws.
+#[derive(Clone, Copy)]
+pub(crate) enum Way {
+    Confuse(u8),
+    Disable,
+    Recharge,
+    // Harm that a Substitute of the foe's keeps away.
+    Harm(Harm),
+}
+
+#[derive(Clone, Copy)]
+pub(crate) enum Harm {
+    Poison(u8),
+    Burn(u8),
+    Freeze,
+    Paralysis(u8),
+    Flinch(u8),
+    Drop(Stat),
+    Nothing,
+}
+
+/// The side effect of a move of `side` that has just begun its action (docs/MECHANICS.md, "Side effects"). A move without one
+/// does nothing. A place in `events` is to be free; the bytes, the events and the generator are left as the section says.
+pub fn side_effect<R: Rolls>(
+    battle: &mut Packed,
+    side: Side,
+    id: MoveId,
+    random: &mut R,
+    events: &mut EventList,
+)
+    requires { array_vec_len events.old + 1 ≤ 64 }
+    ensures shown { DoesAlone R.byte R.next R.SPAN side battle.old events.old.items random.old battle.new events.new.items random.new (λ r. side_effect r side (move_at id) (move_at id).effect) }
+    ensures room { array_vec_len events.new ≤ array_vec_len events.old + 1 }
+{
+    let mut known = Known::new().begun(side);
+    side_effect_knowing(battle, side, id, &mut known, random, events);
+}
+
+/// The side effect of a move of `side`, by what is known of its action, which only the hit test of Disable changes. True where
+/// it ended the action: where Disable missed or failed (docs/MECHANICS.md, "Side effects"). A place in `events` is to be free.
+pub fn side_effect_knowing<R: Rolls>(
+    battle: &mut Packed,
+    side: Side,
+    id: MoveId,
+    known: &mut Known,
+    random: &mut R,
+    events: &mut EventList,
+) -> bool
+    requires { array_vec_len events.old + 1 ≤ 64 }
+    ensures shown { DoesUnder R.byte R.next R.SPAN battle.old events.old.items random.old known.old battle.new events.new.items random.new known.new result (λ r. side_effect r side (move_at id) (move_at id).effect) }
+    ensures counts { IsUncounted known.old → IsUncounted known.new }
+    ensures room { array_vec_len events.new ≤ array_vec_len events.old + 1 }
+{
+    match way_of(id.effect()) {
+        Way::Confuse(bound) => {
+            may_confuse(battle, side, bound, random, events);
+            false
+        }
+        Way::Disable => disable(battle, side, id, known, random, events),
+        Way::Recharge => {
+            must_recharge(battle, side, events);
+            false
+        }
+        Way::Harm(harm) => {
+            harm_unless_away(battle, side, id, harm, random, events);
+            false
+        }
+    }
+}
+
+// A Substitute of the foe's keeps harm away, without a draw.
+fn harm_unless_away<R: Rolls>(
+    battle: &mut Packed,
+    side: Side,
+    id: MoveId,
+    harm: Harm,
+    random: &mut R,
+    events: &mut EventList,
+)
+    requires { array_vec_len events.old + 1 ≤ 64 }
+    ensures shown { DoesByRules R.byte R.next R.SPAN battle.old events.old.items random.old battle.new events.new.items random.new (λ r. harms_unless_away r side (move_at id) harm) }
+    ensures room { array_vec_len events.new ≤ array_vec_len events.old + 1 }
+{
+    if battle.is_on(side.other(), Conditions::SUBSTITUTE) {
+        return;
+    }
+    do_harm(battle, side, id, harm, random, events);
+}
+
+fn do_harm<R: Rolls>(
+    battle: &mut Packed,
+    side: Side,
+    id: MoveId,
+    harm: Harm,
+    random: &mut R,
+    events: &mut EventList,
+)
+    requires { array_vec_len events.old + 1 ≤ 64 }
+    ensures shown { DoesByRules R.byte R.next R.SPAN battle.old events.old.items random.old battle.new events.new.items random.new (λ r. harms r side (move_at id) harm) }
+    ensures room { array_vec_len events.new ≤ array_vec_len events.old + 1 }
+{
+    match harm {
+        Harm::Poison(bound) => may_poison(battle, side, bound, random, events),
+        Harm::Burn(bound) => may_inflict(battle, side, id, Kind::Burn, bound, random, events),
+        Harm::Freeze => may_inflict(battle, side, id, Kind::Freeze, 26, random, events),
+        Harm::Paralysis(bound) => {
+            may_inflict(battle, side, id, Kind::Paralysis, bound, random, events)
+        }
+        Harm::Flinch(bound) => may_flinch(battle, side, bound, random),
+        Harm::Drop(stat) => may_lower(battle, side, stat, random, events),
+        Harm::Nothing => {}
+    }
+}
+
+fn way_of(effect: Effect) -> Way
+    ensures { result ≡ way_of effect }
+{
+    match effect {
+        Effect::ConfusionChance(bound) => Way::Confuse(bound),
+        Effect::Disable => Way::Disable,
+        Effect::Recharge => Way::Recharge,
+        _ => Way::Harm(harm_of(effect)),
+    }
+}
+
+fn harm_of(effect: Effect) -> Harm
+    ensures { result ≡ harm_of effect }
+{
+    match effect {
+        Effect::PoisonChance(bound) => Harm::Poison(bound),
+        Effect::Twineedle => Harm::Poison(52),
+        Effect::BurnChance(bound) => Harm::Burn(bound),
+        Effect::FreezeChance => Harm::Freeze,
+        Effect::ParalysisChance(bound) => Harm::Paralysis(bound),
+        Effect::FlinchChance(bound) => Harm::Flinch(bound),
+        Effect::StatDownChance(stat) => Harm::Drop(stat),
+        _ => Harm::Nothing,
+    }
+}
