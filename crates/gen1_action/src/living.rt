@@ -1,9 +1,8 @@
 //! What the clauses count: living members of a side that sleep by the foe's moves, or are frozen (docs/MECHANICS.md, "Rules
 //! (sleep clause, freeze clause)").
-ghost use Rattle.std.specs.Prelude.{◌&&◌, ◌≡◌, ◌≤◌};
-ghost use Rattle.gen1_stats.specs.Members.{is_frozen, is_living, is_marked};
-ghost use Rattle.gen1_machine.specs.State.{Field, any_living, member_at, party};
-ghost use Rattle.gen1_layout.specs.Within.{Packs, Setting, Within};
+ghost use Rattle.gen1_layout.specs.Words.{Reads, ReadsPacked, is_frozen, is_living, member_at, party, ◌&&◌, ◌≡◌, ◌≤◌};
+ghost use Rattle.gen1_stats.specs.Members.{is_marked};
+ghost use Rattle.gen1_machine.specs.State.{any_living};
 ghost use Rattle.gen1_action.specs.Living.{counts};
 
 use gen1_layout::Packed;
@@ -20,7 +19,7 @@ pub(crate) enum Clause {
 /// Whether a living member of `side`, also the one that is out, sleeps by a move of the foe that the sleep clause counts
 /// (docs/MECHANICS.md, "Rules (sleep clause, freeze clause)"). Whether the battle is under that clause is not asked.
 pub fn has_marked_sleeper(battle: &Packed, side: Side) -> bool
-    ensures stands { (g : Setting) (f : Field) → Within g battle.now f → result ≡ any_living (λ m. is_marked m.status) (party side f) }
+    ensures stands { Reads battle.now result λ f. any_living (λ m. is_marked m.status) (party side f) }
 {
     any_living(battle, side, Clause::Sleep)
 }
@@ -28,13 +27,13 @@ pub fn has_marked_sleeper(battle: &Packed, side: Side) -> bool
 /// Whether a living member of `side`, also the one that is out, is frozen (docs/MECHANICS.md, "Rules (sleep clause, freeze
 /// clause)"). Whether the battle is under the freeze clause is not asked.
 pub fn has_frozen_member(battle: &Packed, side: Side) -> bool
-    ensures stands { (g : Setting) (f : Field) → Within g battle.now f → result ≡ any_living (λ m. is_frozen m.status) (party side f) }
+    ensures stands { Reads battle.now result λ f. any_living (λ m. is_frozen m.status) (party side f) }
 {
     any_living(battle, side, Clause::Freeze)
 }
 
 fn any_living(battle: &Packed, side: Side, clause: Clause) -> bool
-    ensures packs { (g : Setting) (f : Field) → Packs g battle.now f → result ≡ any_living (λ m. counts clause m.status) (party side f) }
+    ensures packs { ReadsPacked battle.now result λ f. any_living (λ m. counts clause m.status) (party side f) }
 {
     let one = counts_at(battle, side, 1, clause);
     let two = counts_at(battle, side, 2, clause);
@@ -48,8 +47,7 @@ fn any_living(battle: &Packed, side: Side, clause: Clause) -> bool
 fn counts_at(battle: &Packed, side: Side, place: usize, clause: Clause) -> bool
     requires low { 1 ≤ place }
     requires high { place ≤ 6 }
-    ensures packs { (g : Setting) (f : Field) → Packs g battle.now f
-        → result ≡ (is_living (member_at place (party side f)) && counts clause (member_at place (party side f)).status) }
+    ensures packs { ReadsPacked battle.now result λ f. (is_living (member_at place (party side f)) && counts clause (member_at place (party side f)).status) }
 {
     let living = 0 < battle.hp_at(side, place);
     let counted = has_what_counts(battle, side, place, clause);
@@ -59,7 +57,7 @@ fn counts_at(battle: &Packed, side: Side, place: usize, clause: Clause) -> bool
 fn has_what_counts(battle: &Packed, side: Side, place: usize, clause: Clause) -> bool
     requires low { 1 ≤ place }
     requires high { place ≤ 6 }
-    ensures packs { (g : Setting) (f : Field) → Packs g battle.now f → result ≡ counts clause (member_at place (party side f)).status }
+    ensures packs { ReadsPacked battle.now result λ f. counts clause (member_at place (party side f)).status }
 {
     match clause {
         Clause::Sleep => battle.mark(side, place),

@@ -1,5 +1,5 @@
 //! The hit test of an action, and how a miss is told (docs/MECHANICS.md, "Hit test", "Action").
-ghost use Rattle.gen1_layout.specs.Words.{Adds, AddsAtMost, Does, Event, HasRoom, List, Reads, active_in, false, move_at, true, ◌≡◌};
+ghost use Rattle.gen1_layout.specs.Words.{Adds, AddsAtMost, AddsNone, Does, Event, HasRoom, List, Reads, active_in, false, move_at, true, ◌≡◌};
 ghost use Rattle.std.specs.Prelude.{if◌then◌else◌};
 ghost use Rattle.gen1_machine.specs.Moves.{accuracy_byte};
 ghost use Rattle.gen1_machine.specs.HitTest.{hit_or_miss, miss_event, must_hit, note_miss};
@@ -47,7 +47,7 @@ pub fn must_hit<R: Rolls>(
     ensures shown { DoesKnowingDrawing R.byte R.next R.SPAN battle.old events.old.items random.old known.old battle.new events.new.items random.new known.new result (must_hit side (move_at id)) }
     ensures counts { IsUncounted known.old → IsUncounted known.new }
     ensures room { AddsAtMost 1 events.old events.new }
-    ensures quiet { result ≡ false → array_vec_len events.new ≡ array_vec_len events.old }
+    ensures quiet { result ≡ false → AddsNone events.old events.new }
 {
     hit_or_miss(battle, side, id, known, random);
     if !known.missed {

@@ -1,11 +1,5 @@
 -- An operation that stands for itself, from an action that has just begun; that its action then ends is of no account.
-use Rattle.std.proofs.Common.{Bool, List, false, refl, subst, true, ℕ, ◌≡◌}
-use Rattle.gen1_machine.specs.declared.side.Side.{Side}
-use Rattle.gen1_machine.specs.declared.event.Event.{Event}
-use Rattle.gen1_machine.specs.Progress.{Phase, Progress, stop, ◌▸◌}
-use Rattle.gen1_layout.specs.Parts.{Parts}
-use Rattle.gen1_layout.specs.Shows.{Frame}
-use Rattle.gen1_layout.proofs.Chain.{then-goes, then-stops}
+use Rattle.gen1_layout.proofs.Words.{Bool, Event, Frame, List, Parts, Phase, Progress, Side, false, refl, stop, subst, then-goes, then-stops, true, ℕ, ◌≡◌, ◌▸◌}
 use Rattle.gen1_action.specs.declared.known.Known.{Known}
 use Rattle.gen1_action.specs.Alone.{just_begun, Leaves}
 use Rattle.gen1_action.specs.Knowing.{ShowsKnown}

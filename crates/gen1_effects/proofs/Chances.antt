@@ -1,14 +1,10 @@
 -- How what is shown goes through a draw by chance, and through draws until a byte meets a test.
-use Rattle.std.proofs.Common.{Bool, List, None, Option, Some, ap, false, nat_lt, refl, sym, true, ℕ, ◌+◌, ◌≡◌, ◌∙◌}
+use Rattle.gen1_layout.proofs.Words.{Bool, Event, Frame, List, None, Option, Parts, Phase, Progress, ShowsDrawn, Some, ap, choose-false, drawing, drawn_if_not, drawn_if_so, drawn_stays, false, nat_lt, refl, stay, sym, then-goes, true, ℕ, ◌+◌, ◌∙◌, ◌≡◌, ◌▸◌}
 use Rattle.gen1_rolls.specs.Draws.{FindsDraw, FindsNone}
 use Rattle.gen1_rolls.specs.Streams.{Stream, byte_at, first, span}
 use Rattle.gen1_rolls.proofs.Standing.{byte_found, first-found, first-none, stands_after_found, stands_after_none, stands_there}
-use Rattle.gen1_machine.specs.declared.event.Event.{Event}
-use Rattle.gen1_machine.specs.Progress.{Phase, Progress, draw_until, stay, when, ◌▸◌}
+use Rattle.gen1_machine.specs.Progress.{draw_until, when}
 use Rattle.gen1_machine.specs.SideEffects.{by_chance, happens_below}
-use Rattle.gen1_layout.specs.Parts.{Parts}
-use Rattle.gen1_layout.specs.Shows.{Frame, ShowsDrawn}
-use Rattle.gen1_layout.proofs.Chain.{choose-false, drawing, drawn_if_not, drawn_if_so, drawn_stays, then-goes}
 
 found-is : (test : ℕ → Bool) (f : ℕ → Phase) (p : Progress) (m : ℕ) → first p.stream p.drawn test ≡ Some m
     → draw_until test f p ≡ f (byte_at p.stream m) (record p { drawn = m + 1 })

@@ -1,10 +1,9 @@
 -- Which slots Disable may draw: the first four of a list are all there are, and a slot holds a move where a number stands in it.
-use Rattle.std.proofs.Common.{All, Bool, List, [], add-zero, ap, arith, false, get_or, inl, inr, length, nat_lt, refl, suc, sym, true, zero, ℕ, ◌%◌, ◌&&◌, ◌+◌, ◌-◌, ◌<◌, ◌||◌, ◌∙◌, ◌∷◌, ◌≡◌, ◌≤◌, ◌⊎◌}
-use Rattle.std.proofs.lemmas.Bool.Decides.{nat_tests}
+use Rattle.gen1_layout.proofs.Words.{Bool, IsBetween, List, [], ap, arith, false, inl, inr, known_in, length, nat_lt, nat_tests, refl, suc, sym, true, zero, ℕ, ◌%◌, ◌&&◌, ◌+◌, ◌-◌, ◌<◌, ◌||◌, ◌∙◌, ◌∷◌, ◌≡◌, ◌≤◌, ◌⊎◌}
+use Rattle.std.proofs.Common.{All, add-zero, get_or}
 use Rattle.gen1_stats.specs.declared.known_move.KnownMove.{KnownMove}
-use Rattle.gen1_stats.specs.Members.{nothing_known, IsBetween}
+use Rattle.gen1_stats.specs.Members.{nothing_known}
 use Rattle.gen1_machine.specs.SideEffects.{has_pp, names_slot}
-use Rattle.gen1_machine.specs.State.{known_in}
 use Rattle.gen1_status.proofs.Comparing.{below, not_below}
 
 either_pp : (a b : ℕ) → nat_lt 0 (a + b) ≡ (nat_lt 0 a || nat_lt 0 b)

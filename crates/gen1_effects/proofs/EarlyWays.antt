@@ -1,11 +1,10 @@
 -- An early effect is that of its way.
-use Rattle.std.proofs.Common.{ap, true, ◌≡◌}
+use Rattle.gen1_layout.proofs.Words.{Phase, Side, ap, true, ◌≡◌}
 use Rattle.gen1_tables.specs.declared.effect.Effect.{Effect}
 use Rattle.gen1_tables.specs.declared.effect.Effect.TheVariants as effects
-use Rattle.gen1_machine.specs.declared.side.Side.{Side}
 use Rattle.gen1_machine.specs.Moves.{Move}
 use Rattle.gen1_machine.specs.EarlyEffects.{confuse_foe, convert, early_effect, haze, heal, paralyse_foe, poison_foe, seed_foe, set_focus_energy, set_mist, set_screen, splash}
-use Rattle.gen1_machine.specs.Progress.{fail, Phase}
+use Rattle.gen1_machine.specs.Progress.{fail}
 use Rattle.gen1_effects.specs.declared.early.acting.Way.{Way}
 use Rattle.gen1_effects.specs.declared.early.acting.Way.TheVariants as ways
 use Rattle.gen1_effects.specs.GroupOne.{is_group_one, way_of}

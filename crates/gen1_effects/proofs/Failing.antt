@@ -1,11 +1,7 @@
 -- A move that fails by a test, or is past it, and an action that ends with its effect.
-use Rattle.std.proofs.Common.{Bool, List, ap, false, refl, true, ℕ, ◌≡◌, ◌∙◌}
-use Rattle.gen1_machine.specs.declared.side.Side.{Side}
-use Rattle.gen1_machine.specs.declared.event.Event.{Event}
-use Rattle.gen1_machine.specs.Progress.{choose, fail, fails_if, stay, stop, Phase, Progress, ◌▸◌}
-use Rattle.gen1_layout.specs.Parts.{Parts}
-use Rattle.gen1_layout.specs.Shows.{Does, Frame, Shows, ShowsDrawn}
-use Rattle.gen1_layout.proofs.Chain.{choose-false, choose-true, drawn_goes, drawn_if_so, drawn_stops, goes, halted, if_so, past, still, stops, then-goes}
+use Rattle.gen1_layout.proofs.Words.{Bool, Event, Frame, List, Parts, Phase, Progress, Shows, ShowsDrawn, Side, ap, choose, choose-false, choose-true, drawn_goes, drawn_if_so, drawn_stops, false, goes, halted, if_so, past, refl, stay, still, stop, stops, then-goes, true, ℕ, ◌∙◌, ◌≡◌, ◌▸◌}
+use Rattle.gen1_machine.specs.Progress.{fail, fails_if}
+use Rattle.gen1_layout.specs.Shows.{Does}
 use Rattle.gen1_action.specs.declared.known.Known.{Known}
 use Rattle.gen1_action.specs.Knowing.{ShowsKnown}
 use Rattle.gen1_action.proofs.Knowledge.{plain_still}

@@ -1,14 +1,13 @@
 -- What a late effect comes to, by the effect of the move.
-use Rattle.std.proofs.Common.{Bool, ap, false, refl, true, ℕ, ◌≡◌}
+use Rattle.gen1_layout.proofs.Words.{Bool, Phase, Progress, Side, ap, false, refl, stop, true, ℕ, ◌≡◌, ◌▸◌}
 use Rattle.std.proofs.lemmas.Bool.{false≢true}
 use Rattle.gen1_tables.specs.declared.effect.Effect.{Effect}
 use Rattle.gen1_tables.specs.declared.effect.Effect.TheVariants as effects
 use Rattle.gen1_tables.specs.declared.effect.Stat.{Stat}
-use Rattle.gen1_machine.specs.declared.side.Side.{Side}
 use Rattle.gen1_machine.specs.LateEffects.{late_effect, lower_foes_stat, put_to_sleep}
 use Rattle.gen1_machine.specs.Moves.{Move}
-use Rattle.gen1_machine.specs.Progress.{Phase, Progress, fail, stop, ◌▸◌}
-use Rattle.gen1_machine.specs.Ruling.{fall_asleep, lull_freely, lull_only_one, lulls_under, Ruling}
+use Rattle.gen1_machine.specs.Progress.{fail}
+use Rattle.gen1_machine.specs.Ruling.{fall_asleep, sleep_freely, sleep_only_one, sleeps_under, Ruling}
 use Rattle.gen1_machine.specs.Sides.{other}
 use Rattle.gen1_machine.specs.StageShift.{raise_stage}
 use Rattle.gen1_effects.specs.Late.{is_group_two}
@@ -26,9 +25,9 @@ module _ (r : Ruling) (s : Side) (move : Move) (e : Effect) (p : Progress) where
   unfolding late_effect
   lowers stat by is = ends_with (lower_foes_stat s move stat by) (ap (late_effect r s move) is)
 
-  pub lulls : e ≡ effects.InflictSleep → (late_effect r s move e ▸ stop) p ≡ (put_to_sleep r s move ▸ stop) p
+  pub sleeps : e ≡ effects.InflictSleep → (late_effect r s move e ▸ stop) p ≡ (put_to_sleep r s move ▸ stop) p
   unfolding late_effect
-  lulls is = ends_with (put_to_sleep r s move) (ap (late_effect r s move) is)
+  sleeps is = ends_with (put_to_sleep r s move) (ap (late_effect r s move) is)
 
 -- there are no others
 pub no_other : (e : Effect) → is_group_two e ≡ true → ((stat : Stat) (by : ℕ) → e ≡ effects.StatUp stat by → ⊥)
@@ -40,10 +39,10 @@ no_other _ tie up down sleep = false≢true tie
 
 -- sleep by the rules of the battle
 
-pub lulls-one : (clause : Bool) (s : Side) (p : Progress) → clause ≡ true → lulls_under clause s p ≡ lull_only_one s p
-unfolding lulls_under
-lulls-one clause s p is = ap (λ (b : Bool). lulls_under b s p) is
+pub sleeps-one : (clause : Bool) (s : Side) (p : Progress) → clause ≡ true → sleeps_under clause s p ≡ sleep_only_one s p
+unfolding sleeps_under
+sleeps-one clause s p is = ap (λ (b : Bool). sleeps_under b s p) is
 
-pub lulls-any : (clause : Bool) (s : Side) (p : Progress) → clause ≡ false → lulls_under clause s p ≡ fall_asleep false (other s) p
-unfolding lulls_under lull_freely
-lulls-any clause s p is = ap (λ (b : Bool). lulls_under b s p) is
+pub sleeps-any : (clause : Bool) (s : Side) (p : Progress) → clause ≡ false → sleeps_under clause s p ≡ fall_asleep false (other s) p
+unfolding sleeps_under sleep_freely
+sleeps-any clause s p is = ap (λ (b : Bool). sleeps_under b s p) is

@@ -1,23 +1,21 @@
 -- Stages that go back to the middle, one after the other.
-use Rattle.std.proofs.Common.{arith, refl, ℕ, ◌≡◌, ◌≤◌}
-use Rattle.gen1_machine.specs.declared.side.Side.{Side}
+use Rattle.gen1_layout.proofs.Words.{Active, Field, Side, arith, changed_active, refl, ℕ, ◌≡◌, ◌≤◌}
 use Rattle.gen1_machine.specs.declared.side.Side.TheVariants.{One, Two}
 use Rattle.gen1_machine.specs.EarlyEffects.{with_levelled_stats}
 use Rattle.gen1_machine.specs.Stages.{at_stage}
-use Rattle.gen1_machine.specs.State.{changed_active, Active, Field}
 
 -- a stat from 1 to 999 stands in the middle as it is
 pub level-is : (v : ℕ) → 1 ≤ v → v ≤ 999 → at_stage 6 v ≡ v
 level-is v low high = omega arith
 
 abbrev pub level_attack : Active → Active
-level_attack a = record a { stages = record a.stages { attack = 6 }; attack_halved = 0 }
+level_attack a = record a { stages = record a.stages { attack = 6 }; attack_penalties = 0 }
 
 abbrev pub level_defense : Active → Active
 level_defense a = record a { stages = record a.stages { defense = 6 } }
 
 abbrev pub level_speed : Active → Active
-level_speed a = record a { stages = record a.stages { speed = 6 }; speed_quartered = 0 }
+level_speed a = record a { stages = record a.stages { speed = 6 }; speed_penalties = 0 }
 
 abbrev pub level_special : Active → Active
 level_special a = record a { stages = record a.stages { special = 6 } }

@@ -1,13 +1,9 @@
 -- How what is shown goes through draws until one meets a test, and through the end of an action.
-use Rattle.std.proofs.Common.{Bool, List, None, Option, Some, ap, false, refl, sym, true, ℕ, ◌+◌, ◌∙◌, ◌≡◌}
+use Rattle.gen1_layout.proofs.Words.{Bool, Event, Frame, List, None, Option, Parts, Phase, Progress, ShowsDrawn, Some, ap, drawn_goes, drawn_stops, false, halted, refl, still, stop, sym, true, ℕ, ◌+◌, ◌∙◌, ◌≡◌, ◌▸◌}
 use Rattle.gen1_rolls.specs.Draws.{FindsDraw, FindsNone}
 use Rattle.gen1_rolls.specs.Streams.{Stream, byte_at, first, span}
 use Rattle.gen1_rolls.proofs.Standing.{found_then, none_then, stands_there}
-use Rattle.gen1_machine.specs.declared.event.Event.{Event}
-use Rattle.gen1_machine.specs.Progress.{Phase, Progress, draw_until, stop, ◌▸◌}
-use Rattle.gen1_layout.specs.Parts.{Parts}
-use Rattle.gen1_layout.specs.Shows.{Frame, ShowsDrawn}
-use Rattle.gen1_layout.proofs.Chain.{drawn_goes, drawn_stops, halted, still}
+use Rattle.gen1_machine.specs.Progress.{draw_until}
 
 -- what a search comes to
 

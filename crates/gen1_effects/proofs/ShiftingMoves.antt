@@ -1,13 +1,11 @@
 -- The moves of the table that move a stage move it by one or two.
-use Rattle.std.proofs.Common.{[], Bool, List, ap, arith, nat_le, refl, suc, sym, true, zero, ℕ, ◌&&◌, ◌-◌, ◌∙◌, ◌∷◌, ◌≡◌}
-use Rattle.std.proofs.lemmas.Bool.Decides.{nat_tests}
+use Rattle.gen1_layout.proofs.Words.{Bool, IsBetween, List, [], ap, arith, nat_le, nat_tests, refl, suc, sym, true, zero, ℕ, ◌&&◌, ◌-◌, ◌∙◌, ◌∷◌, ◌≡◌}
 use Rattle.std.specs.Prelude.{slice_index_or}
 use Rattle.gen1_tables.specs.declared.element.Element.TheVariants.{Normal}
 use Rattle.gen1_tables.specs.declared.effect.Effect.{Effect}
 use Rattle.gen1_tables.specs.declared.effect.Effect.TheVariants as effects
 use Rattle.gen1_tables.specs.declared.effect.Stat.{Stat}
 use Rattle.gen1_tables.specs.Moves.{move_rows, move_row, MoveRow}
-use Rattle.gen1_stats.specs.Members.{IsBetween}
 use Rattle.gen1_machine.specs.Moves.{move_at}
 use Rattle.gen1_machine.proofs.Costs.{and-left, and-right}
 

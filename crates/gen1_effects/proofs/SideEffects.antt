@@ -1,21 +1,16 @@
 -- What a move may do besides its damage, by the way of its effect; and conditions without a number that begin.
-use Rattle.std.proofs.Common.{Bool, List, false, refl, true, ◌&&◌, ◌≡◌}
+use Rattle.gen1_layout.proofs.Words.{ActiveConditions, Bool, Event, Frame, List, Parts, Phase, Progress, Shows, Side, false, if_not, if_so, refl, stay, stays, true, ◌&&◌, ◌≡◌}
 use Rattle.gen1_tables.specs.declared.effect.Effect.{Effect}
 use Rattle.gen1_tables.specs.declared.effect.Effect.TheVariants as effects
-use Rattle.gen1_machine.specs.declared.side.Side.{Side}
-use Rattle.gen1_machine.specs.declared.event.Event.{Event}
 use Rattle.gen1_machine.specs.declared.health.Kind.{Kind}
 use Rattle.gen1_machine.specs.declared.health.Kind.TheVariants as kinds
-use Rattle.gen1_machine.specs.Conditions.{with_flinch, with_recharge, Conditions}
+use Rattle.gen1_machine.specs.Conditions.{with_flinch, with_recharge}
 use Rattle.gen1_machine.specs.Moves.{Move}
-use Rattle.gen1_machine.specs.Progress.{Phase, Progress, inflict, stay}
+use Rattle.gen1_machine.specs.Progress.{inflict}
 use Rattle.gen1_machine.specs.Ruling.{freeze_freely, freeze_only_one, freezes_under, has_frozen_member, Ruling}
 use Rattle.gen1_machine.specs.Sides.{other}
 use Rattle.gen1_machine.specs.SideEffects.{disable, kept_away_effect, may_confuse, must_recharge, side_effect}
 use Rattle.gen1_layout.specs.Flags.{SameNumbers}
-use Rattle.gen1_layout.specs.Parts.{Parts}
-use Rattle.gen1_layout.specs.Shows.{Frame, Shows}
-use Rattle.gen1_layout.proofs.Chain.{if_not, if_so, stays}
 use Rattle.gen1_status.specs.Inflicted.{status_of_kind}
 use Rattle.gen1_status.specs.Shifting.{ShowsShifted}
 use Rattle.gen1_effects.specs.declared.side_effects.Way.{Way}
@@ -70,11 +65,11 @@ unfolding stay
 shifted g parts events true shift p h = h
 shifted g parts events false shift p h = rw h.2 h.1
 
-pub flinching-same : (c : Conditions) → SameNumbers (with_flinch c) c
+pub flinching-same : (c : ActiveConditions) → SameNumbers (with_flinch c) c
 unfolding with_flinch
 flinching-same c = record { bide = refl; thrash = refl; trapping = refl; confused = refl; substitute = refl; bad_poison = refl; disabled = refl }
 
-pub recharging-same : (c : Conditions) → SameNumbers (with_recharge c) c
+pub recharging-same : (c : ActiveConditions) → SameNumbers (with_recharge c) c
 unfolding with_recharge
 recharging-same c = record { bide = refl; thrash = refl; trapping = refl; confused = refl; substitute = refl; bad_poison = refl; disabled = refl }
 

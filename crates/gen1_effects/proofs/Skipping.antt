@@ -1,10 +1,6 @@
 -- What is known of who is skipped.
-use Rattle.std.proofs.Common.{Bool, List, refl}
-use Rattle.gen1_machine.specs.declared.event.Event.{Event}
+use Rattle.gen1_layout.proofs.Words.{Bool, Event, Frame, List, Parts, Progress, Shows, refl}
 use Rattle.gen1_machine.specs.EarlyEffects.{set_skips}
-use Rattle.gen1_machine.specs.Progress.{Progress}
-use Rattle.gen1_layout.specs.Parts.{Parts}
-use Rattle.gen1_layout.specs.Shows.{Frame, Shows}
 
 pub skipped : {g : Frame} {parts : Parts} {events : List Event} {b : Bool} {p : Progress} (skips : Bool) → Shows g parts events b p
     → Shows (record g { skips = skips }) parts events b (set_skips skips p)

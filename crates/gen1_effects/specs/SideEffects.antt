@@ -1,21 +1,17 @@
 -- What a move may do besides its damage (docs/MECHANICS.md, "Side effects"): what code does under a battle's rules, and the
 -- ways in which effects go.
-use Rattle.std.specs.Prelude.{Bool, List, false, true, ℕ}
+use Rattle.gen1_layout.specs.Words.{Bool, Event, Frame, List, Phase, Progress, ShowsDrawn, Side, false, other, true, ℕ}
 use Rattle.gen1_tables.specs.declared.effect.Effect.{Effect}
 use Rattle.gen1_tables.specs.declared.effect.Effect.TheVariants as effects
 use Rattle.gen1_stats.specs.declared.status.Status.TheVariants.{Burned, Paralysed}
-use Rattle.gen1_machine.specs.declared.side.Side.{Side}
-use Rattle.gen1_machine.specs.declared.event.Event.{Event}
 use Rattle.gen1_machine.specs.declared.health.Kind.{Kind}
 use Rattle.gen1_machine.specs.declared.health.Kind.TheVariants as kinds
 use Rattle.gen1_machine.specs.Moves.{Move}
-use Rattle.gen1_machine.specs.Progress.{Phase, Progress, given, draw_until, has_substitute, inflict, member, stay, unless}
+use Rattle.gen1_machine.specs.Progress.{given, draw_until, has_substitute, inflict, member, stay, unless}
 use Rattle.gen1_machine.specs.Ruling.{Ruling, ruling_of}
-use Rattle.gen1_machine.specs.Sides.{other}
 use Rattle.gen1_machine.specs.SideEffects.{by_chance, disable_slot, flinch, may_inflict, may_poison, names_slot}
 use Rattle.gen1_machine.specs.StageShift.{lower_stage}
 use Rattle.gen1_layout.specs.Parts.{Parts}
-use Rattle.gen1_layout.specs.Shows.{Frame, ShowsDrawn}
 use Rattle.gen1_status.specs.Inflicted.{status_of_kind}
 use Rattle.gen1_effects.specs.declared.side_effects.Harm.{Harm}
 use Rattle.gen1_effects.specs.declared.side_effects.Harm.TheVariants as harm

@@ -1,10 +1,7 @@
 //! Moves that act where others deal their damage: stages that rise and fall, and sleep (docs/MECHANICS.md, "Late effects").
 //! Bide, which lasts, is none of these.
-ghost use Rattle.std.specs.Prelude.{true, ◌+◌, ◌≡◌, ◌≤◌};
-ghost use Rattle.arrayvec.specs.ArrayVec.{array_vec_len};
+ghost use Rattle.gen1_layout.specs.Words.{AddsAtMost, HasRoom, move_at, stop, true, ◌≡◌, ◌▸◌};
 ghost use Rattle.gen1_machine.specs.LateEffects.{late_effect};
-ghost use Rattle.gen1_machine.specs.Moves.{move_at};
-ghost use Rattle.gen1_machine.specs.Progress.{stop, ◌▸◌};
 ghost use Rattle.gen1_action.specs.Alone.{DoesAlone};
 ghost use Rattle.gen1_action.specs.Planned.{DoesUnder};
 ghost use Rattle.gen1_effects.specs.Late.{is_group_two};
@@ -31,10 +28,10 @@ pub fn group_two<R: Rolls>(
     random: &mut R,
     events: &mut EventList,
 )
-    requires room { array_vec_len events.old + 2 ≤ 64 }
+    requires room { HasRoom 2 events.old }
     requires tie { is_group_two (move_at id).effect ≡ true }
     ensures shown { DoesAlone R.byte R.next R.SPAN side battle.old events.old.items random.old battle.new events.new.items random.new (λ r. late_effect r side (move_at id) (move_at id).effect) }
-    ensures room { array_vec_len events.new ≤ array_vec_len events.old + 2 }
+    ensures room { AddsAtMost 2 events.old events.new }
 {
     let mut known = Known::new().begun(side);
     group_two_knowing(battle, side, id, &mut known, random, events);
@@ -49,10 +46,10 @@ pub fn group_two_knowing<R: Rolls>(
     random: &mut R,
     events: &mut EventList,
 )
-    requires room { array_vec_len events.old + 2 ≤ 64 }
+    requires room { HasRoom 2 events.old }
     requires tie { is_group_two (move_at id).effect ≡ true }
     ensures shown { DoesUnder R.byte R.next R.SPAN battle.old events.old.items random.old known.old battle.new events.new.items random.new known.new true (λ r. late_effect r side (move_at id) (move_at id).effect ▸ stop) }
-    ensures room { array_vec_len events.new ≤ array_vec_len events.old + 2 }
+    ensures room { AddsAtMost 2 events.old events.new }
 {
     match id.effect() {
         Effect::StatUp(stat, by) => {

@@ -1,7 +1,5 @@
 //! What a move may do besides its damage (docs/MECHANICS.md, "Side effects").
-ghost use Rattle.std.specs.Prelude.{false, ◌+◌, ◌≡◌, ◌≤◌};
-ghost use Rattle.arrayvec.specs.ArrayVec.{array_vec_len};
-ghost use Rattle.gen1_machine.specs.Moves.{move_at};
+ghost use Rattle.gen1_layout.specs.Words.{AddsAtMost, HasRoom, move_at, ◌≡◌};
 ghost use Rattle.gen1_machine.specs.SideEffects.{side_effect};
 ghost use Rattle.gen1_action.specs.Alone.{DoesAlone};
 ghost use Rattle.gen1_action.specs.Knowing.{IsUncounted};
@@ -58,9 +56,9 @@ pub fn side_effect<R: Rolls>(
     random: &mut R,
     events: &mut EventList,
 )
-    requires { array_vec_len events.old + 1 ≤ 64 }
+    requires { HasRoom 1 events.old }
     ensures shown { DoesAlone R.byte R.next R.SPAN side battle.old events.old.items random.old battle.new events.new.items random.new (λ r. side_effect r side (move_at id) (move_at id).effect) }
-    ensures room { array_vec_len events.new ≤ array_vec_len events.old + 1 }
+    ensures room { AddsAtMost 1 events.old events.new }
 {
     let mut known = Known::new().begun(side);
     side_effect_knowing(battle, side, id, &mut known, random, events);
@@ -76,10 +74,10 @@ pub fn side_effect_knowing<R: Rolls>(
     random: &mut R,
     events: &mut EventList,
 ) -> bool
-    requires { array_vec_len events.old + 1 ≤ 64 }
+    requires { HasRoom 1 events.old }
     ensures shown { DoesUnder R.byte R.next R.SPAN battle.old events.old.items random.old known.old battle.new events.new.items random.new known.new result (λ r. side_effect r side (move_at id) (move_at id).effect) }
     ensures counts { IsUncounted known.old → IsUncounted known.new }
-    ensures room { array_vec_len events.new ≤ array_vec_len events.old + 1 }
+    ensures room { AddsAtMost 1 events.old events.new }
 {
     match way_of(id.effect()) {
         Way::Confuse(bound) => {
@@ -107,9 +105,9 @@ fn harm_unless_away<R: Rolls>(
     random: &mut R,
     events: &mut EventList,
 )
-    requires { array_vec_len events.old + 1 ≤ 64 }
+    requires { HasRoom 1 events.old }
     ensures shown { DoesByRules R.byte R.next R.SPAN battle.old events.old.items random.old battle.new events.new.items random.new (λ r. harms_unless_away r side (move_at id) harm) }
-    ensures room { array_vec_len events.new ≤ array_vec_len events.old + 1 }
+    ensures room { AddsAtMost 1 events.old events.new }
 {
     if battle.is_on(side.other(), Conditions::SUBSTITUTE) {
         return;
@@ -125,9 +123,9 @@ fn do_harm<R: Rolls>(
     random: &mut R,
     events: &mut EventList,
 )
-    requires { array_vec_len events.old + 1 ≤ 64 }
+    requires { HasRoom 1 events.old }
     ensures shown { DoesByRules R.byte R.next R.SPAN battle.old events.old.items random.old battle.new events.new.items random.new (λ r. harms r side (move_at id) harm) }
-    ensures room { array_vec_len events.new ≤ array_vec_len events.old + 1 }
+    ensures room { AddsAtMost 1 events.old events.new }
 {
     match harm {
         Harm::Poison(bound) => may_poison(battle, side, bound, random, events),

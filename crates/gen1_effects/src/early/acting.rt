@@ -1,9 +1,6 @@
 //! An early effect, by the effect of the move (docs/MECHANICS.md, "Early effects").
-ghost use Rattle.std.specs.Prelude.{true, ◌+◌, ◌≡◌, ◌≤◌};
-ghost use Rattle.arrayvec.specs.ArrayVec.{array_vec_len};
+ghost use Rattle.gen1_layout.specs.Words.{AddsAtMost, HasRoom, move_at, stop, true, ◌≡◌, ◌▸◌};
 ghost use Rattle.gen1_machine.specs.EarlyEffects.{early_effect};
-ghost use Rattle.gen1_machine.specs.Moves.{move_at};
-ghost use Rattle.gen1_machine.specs.Progress.{stop, ◌▸◌};
 ghost use Rattle.gen1_action.specs.Alone.{DoesAlone};
 ghost use Rattle.gen1_action.specs.Knowing.{DoesKnowingDrawing, IsUncounted};
 ghost use Rattle.gen1_effects.specs.GroupOne.{is_group_one, way_of};
@@ -56,10 +53,10 @@ pub fn group_one<R: Rolls>(
     random: &mut R,
     events: &mut EventList,
 )
-    requires room { array_vec_len events.old + 2 ≤ 64 }
+    requires room { HasRoom 2 events.old }
     requires early { is_group_one (move_at id).effect ≡ true }
     ensures shown { DoesAlone R.byte R.next R.SPAN side battle.old events.old.items random.old battle.new events.new.items random.new (λ rules. early_effect side (move_at id) (move_at id).effect ▸ stop) }
-    ensures room { array_vec_len events.new ≤ array_vec_len events.old + 2 }
+    ensures room { AddsAtMost 2 events.old events.new }
 {
     let mut known = Known::new().begun(side);
     group_one_knowing(battle, side, id, &mut known, random, events);
@@ -75,11 +72,11 @@ pub fn group_one_knowing<R: Rolls>(
     random: &mut R,
     events: &mut EventList,
 )
-    requires room { array_vec_len events.old + 2 ≤ 64 }
+    requires room { HasRoom 2 events.old }
     requires early { is_group_one (move_at id).effect ≡ true }
     ensures shown { DoesKnowingDrawing R.byte R.next R.SPAN battle.old events.old.items random.old known.old battle.new events.new.items random.new known.new true (early_effect side (move_at id) (move_at id).effect ▸ stop) }
     ensures counts { IsUncounted known.old → IsUncounted known.new }
-    ensures room { array_vec_len events.new ≤ array_vec_len events.old + 2 }
+    ensures room { AddsAtMost 2 events.old events.new }
 {
     match way_of(id.effect()) {
         Way::Fails => fail(battle, side, events),

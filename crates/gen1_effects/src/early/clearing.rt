@@ -1,11 +1,8 @@
 //! Haze (docs/MECHANICS.md, "Early effects").
-ghost use Rattle.std.specs.Prelude.{List, Option, false, true, ◌+◌, ◌≡◌, ◌≤◌, ◌||◌};
-ghost use Rattle.arrayvec.specs.ArrayVec.{array_vec_len};
-ghost use Rattle.gen1_machine.specs.declared.event.Event.{Event};
+ghost use Rattle.gen1_layout.specs.Words.{AddsAtMost, Does, Event, HasRoom, List, false, status_of, stop, true, ◌≡◌, ◌▸◌};
 ghost use Rattle.gen1_machine.specs.EarlyEffects.{clear_side, cure_kind, haze, haze_cures};
 ghost use Rattle.gen1_machine.specs.Picks.{sleeps_or_freezes};
-ghost use Rattle.gen1_machine.specs.Progress.{given, status_of, stop, ◌▸◌};
-ghost use Rattle.gen1_layout.specs.Shows.{Does};
+ghost use Rattle.gen1_machine.specs.Progress.{given};
 ghost use Rattle.gen1_action.specs.Knowing.{DoesKnowing, IsUncounted};
 
 use super::levelling::level_stats;
@@ -15,10 +12,10 @@ use gen1_machine::{Event, EventList, Kind, Side};
 use gen1_stats::Status;
 
 pub(super) fn haze(battle: &mut Packed, side: Side, known: &mut Known, events: &mut EventList)
-    requires { array_vec_len events.old + 2 ≤ 64 }
+    requires { HasRoom 2 events.old }
     ensures shown { DoesKnowing battle.old events.old.items known.old battle.new events.new.items known.new true (haze side ▸ stop) }
     ensures counts { IsUncounted known.old → IsUncounted known.new }
-    ensures room { array_vec_len events.new ≤ array_vec_len events.old + 2 }
+    ensures room { AddsAtMost 2 events.old events.new }
 {
     clear_side(battle, Side::One);
     clear_side(battle, Side::Two);
@@ -35,10 +32,10 @@ fn clear_side(battle: &mut Packed, side: Side)
 
 // The member of `side` is cured, and is skipped where it was asleep or frozen.
 fn cure(battle: &mut Packed, side: Side, known: &mut Known, events: &mut EventList)
-    requires { array_vec_len events.old + 1 ≤ 64 }
+    requires { HasRoom 1 events.old }
     ensures shown { DoesKnowing battle.old events.old.items known.old battle.new events.new.items known.new false (given (status_of side) (haze_cures side)) }
     ensures counts { IsUncounted known.old → IsUncounted known.new }
-    ensures room { array_vec_len events.new ≤ array_vec_len events.old + 1 }
+    ensures room { AddsAtMost 1 events.old events.new }
 {
     known.skips = sleeps_or_freezes(battle.status(side));
     cure_kind(battle, side, battle.kind(side), events);
@@ -51,9 +48,9 @@ fn sleeps_or_freezes(status: Status) -> bool
 }
 
 fn cure_kind(battle: &mut Packed, side: Side, kind: Option<Kind>, events: &mut EventList)
-    requires { array_vec_len events.old + 1 ≤ 64 }
+    requires { HasRoom 1 events.old }
     ensures shown { Does battle.old events.old.items battle.new events.new.items false (cure_kind side kind) }
-    ensures room { array_vec_len events.new ≤ array_vec_len events.old + 1 }
+    ensures room { AddsAtMost 1 events.old events.new }
 {
     if let Some(kind) = kind {
         battle.put_status(side, Status::Healthy);

@@ -1,9 +1,6 @@
 //! Supersonic and Confuse Ray (docs/MECHANICS.md, "Early effects").
-ghost use Rattle.std.specs.Prelude.{true, ◌+◌, ◌≡◌, ◌≤◌};
-ghost use Rattle.arrayvec.specs.ArrayVec.{array_vec_len};
+ghost use Rattle.gen1_layout.specs.Words.{AddsAtMost, HasRoom, move_at, stop, true, ◌▸◌};
 ghost use Rattle.gen1_machine.specs.EarlyEffects.{confuse_foe};
-ghost use Rattle.gen1_machine.specs.Moves.{move_at};
-ghost use Rattle.gen1_machine.specs.Progress.{stop, ◌▸◌};
 ghost use Rattle.gen1_action.specs.Knowing.{DoesKnowingDrawing, IsUncounted};
 
 use super::foes::{has_substitute, is_confused};
@@ -21,10 +18,10 @@ pub(super) fn confuse_foe<R: Rolls>(
     random: &mut R,
     events: &mut EventList,
 )
-    requires { array_vec_len events.old + 2 ≤ 64 }
+    requires { HasRoom 2 events.old }
     ensures shown { DoesKnowingDrawing R.byte R.next R.SPAN battle.old events.old.items random.old known.old battle.new events.new.items random.new known.new true (confuse_foe side (move_at id) ▸ stop) }
     ensures counts { IsUncounted known.old → IsUncounted known.new }
-    ensures room { array_vec_len events.new ≤ array_vec_len events.old + 2 }
+    ensures room { AddsAtMost 2 events.old events.new }
 {
     let foe = side.other();
     if has_substitute(battle, foe) {

@@ -1,12 +1,8 @@
 //! Recover, Soft-Boiled and Rest (docs/MECHANICS.md, "Early effects").
-ghost use Rattle.std.specs.Prelude.{false, true, ◌+◌, ◌-◌, ◌==◌, ◌≡◌, ◌≤◌};
-ghost use Rattle.arrayvec.specs.ArrayVec.{array_vec_len};
+ghost use Rattle.gen1_layout.specs.Words.{AddsAtMost, Does, HasRoom, Reads, false, member_in, move_at, stop, true, ◌-◌, ◌≡◌, ◌▸◌};
+ghost use Rattle.std.specs.Prelude.{◌==◌};
 ghost use Rattle.gen1_machine.specs.EarlyEffects.{heal, recover, resists_healing, rest_up};
-ghost use Rattle.gen1_machine.specs.Moves.{move_at, rest};
-ghost use Rattle.gen1_machine.specs.Progress.{stop, ◌▸◌};
-ghost use Rattle.gen1_machine.specs.State.{Field, member_in};
-ghost use Rattle.gen1_layout.specs.Shows.{Does};
-ghost use Rattle.gen1_layout.specs.Within.{Setting, Within};
+ghost use Rattle.gen1_machine.specs.Moves.{rest};
 
 use gen1_action::fail;
 use gen1_hits::gain_hp;
@@ -16,9 +12,9 @@ use gen1_stats::Status;
 use gen1_tables::MoveId;
 
 pub(super) fn heal(battle: &mut Packed, side: Side, id: MoveId, events: &mut EventList)
-    requires { array_vec_len events.old + 2 ≤ 64 }
+    requires { HasRoom 2 events.old }
     ensures shown { Does battle.old events.old.items battle.new events.new.items true (heal side (move_at id) ▸ stop) }
-    ensures room { array_vec_len events.new ≤ array_vec_len events.old + 2 }
+    ensures room { AddsAtMost 2 events.old events.new }
 {
     if cannot_heal(battle, side) {
         fail(battle, side, events);
@@ -33,8 +29,7 @@ pub(super) fn heal(battle: &mut Packed, side: Side, id: MoveId, events: &mut Eve
 
 // Losses that can't be healed, whatever the maximum.
 fn cannot_heal(battle: &Packed, side: Side) -> bool
-    ensures stands { (g : Setting) (f : Field) → Within g battle.now f
-        → result ≡ resists_healing ((member_in side f).max - (member_in side f).hp) }
+    ensures stands { Reads battle.now result λ f. resists_healing ((member_in side f).max - (member_in side f).hp) }
 {
     resists_healing(battle.max_hp(side).saturating_sub(battle.hp(side)))
 }
@@ -55,9 +50,9 @@ fn is_rest(id: MoveId) -> bool
 
 // The penalties of the status that sleep replaces stay.
 fn rest_up(battle: &mut Packed, side: Side, events: &mut EventList)
-    requires { array_vec_len events.old + 2 ≤ 64 }
+    requires { HasRoom 2 events.old }
     ensures shown { Does battle.old events.old.items battle.new events.new.items false (rest_up side) }
-    ensures room { array_vec_len events.new ≤ array_vec_len events.old + 2 }
+    ensures room { AddsAtMost 2 events.old events.new }
 {
     let asleep = Status::Asleep {
         turns: 2,
@@ -70,9 +65,9 @@ fn rest_up(battle: &mut Packed, side: Side, events: &mut EventList)
 }
 
 fn recover(battle: &mut Packed, side: Side, events: &mut EventList)
-    requires { array_vec_len events.old + 1 ≤ 64 }
+    requires { HasRoom 1 events.old }
     ensures shown { Does battle.old events.old.items battle.new events.new.items false (recover side) }
-    ensures room { array_vec_len events.new ≤ array_vec_len events.old + 1 }
+    ensures room { AddsAtMost 1 events.old events.new }
 {
     let half = battle.max_hp(side) / 2;
     gain_hp(battle, side, half, events);

@@ -1,7 +1,6 @@
 //! Stages that go back to the middle, with the stats that then stand there (docs/MECHANICS.md, "Stages").
+ghost use Rattle.gen1_layout.specs.Words.{Changes, changed_active};
 ghost use Rattle.gen1_machine.specs.EarlyEffects.{with_levelled_stats};
-ghost use Rattle.gen1_machine.specs.State.{Field, changed_active};
-ghost use Rattle.gen1_layout.specs.Within.{Setting, Within};
 
 use gen1_layout::Packed;
 use gen1_machine::Side;
@@ -11,7 +10,7 @@ const MIDDLE: u8 = 6;
 
 // In the middle each stat is the member's own, and without penalties.
 pub(super) fn level_stats(battle: &mut Packed, side: Side)
-    ensures stands { (g : Setting) (f : Field) → Within g battle.old f → Within g battle.new (changed_active side with_levelled_stats f) }
+    ensures stands { Changes battle.old battle.new (changed_active side with_levelled_stats) }
 {
     let attack = battle.unmodified(side, Stat::Attack);
     battle.put_attack(side, MIDDLE, attack);

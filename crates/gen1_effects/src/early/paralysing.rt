@@ -1,9 +1,6 @@
 //! Stun Spore, Thunder Wave and Glare (docs/MECHANICS.md, "Early effects").
-ghost use Rattle.std.specs.Prelude.{true, ◌+◌, ◌≡◌, ◌≤◌};
-ghost use Rattle.arrayvec.specs.ArrayVec.{array_vec_len};
+ghost use Rattle.gen1_layout.specs.Words.{AddsAtMost, HasRoom, move_at, stop, true, ◌▸◌};
 ghost use Rattle.gen1_machine.specs.EarlyEffects.{paralyse_foe};
-ghost use Rattle.gen1_machine.specs.Moves.{move_at};
-ghost use Rattle.gen1_machine.specs.Progress.{stop, ◌▸◌};
 ghost use Rattle.gen1_action.specs.Knowing.{DoesKnowingDrawing, IsUncounted};
 
 use super::foes::{has_status, is_grounded};
@@ -22,10 +19,10 @@ pub(super) fn paralyse_foe<R: Rolls>(
     random: &mut R,
     events: &mut EventList,
 )
-    requires { array_vec_len events.old + 2 ≤ 64 }
+    requires { HasRoom 2 events.old }
     ensures shown { DoesKnowingDrawing R.byte R.next R.SPAN battle.old events.old.items random.old known.old battle.new events.new.items random.new known.new true (paralyse_foe side (move_at id) ▸ stop) }
     ensures counts { IsUncounted known.old → IsUncounted known.new }
-    ensures room { array_vec_len events.new ≤ array_vec_len events.old + 2 }
+    ensures room { AddsAtMost 2 events.old events.new }
 {
     let foe = side.other();
     if has_status(battle, foe) {

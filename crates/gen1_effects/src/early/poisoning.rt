@@ -1,13 +1,12 @@
 //! Poison Powder, Poison Gas and Toxic (docs/MECHANICS.md, "Early effects").
-ghost use Rattle.std.specs.Prelude.{false, true, ◌+◌, ◌==◌, ◌≡◌, ◌≤◌};
-ghost use Rattle.arrayvec.specs.ArrayVec.{array_vec_len};
+ghost use Rattle.gen1_layout.specs.Words.{AddsAtMost, Does, HasRoom, false, move_at, stop, true, ◌≡◌, ◌▸◌};
+ghost use Rattle.std.specs.Prelude.{◌==◌};
 ghost use Rattle.gen1_machine.specs.EarlyEffects.{poison_foe};
-ghost use Rattle.gen1_machine.specs.Moves.{move_at, toxic};
-ghost use Rattle.gen1_machine.specs.Progress.{inflict, on_conditions, only, stop, ◌▸◌};
+ghost use Rattle.gen1_machine.specs.Moves.{toxic};
+ghost use Rattle.gen1_machine.specs.Progress.{inflict, on_conditions, only};
 ghost use Rattle.gen1_stats.specs.declared.status.Status.TheVariants.{Poisoned};
 ghost use Rattle.gen1_machine.specs.declared.health.Kind.TheVariants as kinds;
 ghost use Rattle.gen1_machine.specs.Conditions.{with_bad_poison};
-ghost use Rattle.gen1_layout.specs.Shows.{Does};
 ghost use Rattle.gen1_action.specs.Knowing.{DoesKnowingDrawing, IsUncounted};
 
 use super::foes::{has_status, has_substitute, is_of};
@@ -26,10 +25,10 @@ pub(super) fn poison_foe<R: Rolls>(
     random: &mut R,
     events: &mut EventList,
 )
-    requires { array_vec_len events.old + 2 ≤ 64 }
+    requires { HasRoom 2 events.old }
     ensures shown { DoesKnowingDrawing R.byte R.next R.SPAN battle.old events.old.items random.old known.old battle.new events.new.items random.new known.new true (poison_foe side (move_at id) ▸ stop) }
     ensures counts { IsUncounted known.old → IsUncounted known.new }
-    ensures room { array_vec_len events.new ≤ array_vec_len events.old + 2 }
+    ensures room { AddsAtMost 2 events.old events.new }
 {
     let foe = side.other();
     if has_substitute(battle, foe) {
@@ -51,10 +50,10 @@ pub(super) fn poison_foe<R: Rolls>(
 }
 
 fn poison(battle: &mut Packed, side: Side, id: MoveId, events: &mut EventList)
-    requires { array_vec_len events.old + 1 ≤ 64 }
+    requires { HasRoom 1 events.old }
     ensures shown { Does battle.old events.old.items battle.new events.new.items false
         (inflict side Poisoned kinds.Poison ▸ only ((move_at id).number == toxic) (on_conditions side with_bad_poison)) }
-    ensures room { array_vec_len events.new ≤ array_vec_len events.old + 1 }
+    ensures room { AddsAtMost 1 events.old events.new }
 {
     inflict(battle, side, Kind::Poison, 0, events);
     if is_toxic(id) {

@@ -1,12 +1,8 @@
 //! Leech Seed (docs/MECHANICS.md, "Early effects").
-ghost use Rattle.std.specs.Prelude.{true, ◌+◌, ◌||◌, ◌≡◌, ◌≤◌};
-ghost use Rattle.arrayvec.specs.ArrayVec.{array_vec_len};
+ghost use Rattle.gen1_layout.specs.Words.{AddsAtMost, HasRoom, Reads, active_in, conditions_in, move_at, stop, true, ◌||◌, ◌▸◌};
 ghost use Rattle.gen1_machine.specs.EarlyEffects.{seed_foe};
-ghost use Rattle.gen1_machine.specs.Moves.{move_at};
-ghost use Rattle.gen1_machine.specs.Progress.{stop, ◌▸◌};
-ghost use Rattle.gen1_machine.specs.State.{Field, active_in, conditions_in, has_type};
+ghost use Rattle.gen1_machine.specs.State.{has_type};
 ghost use Rattle.gen1_tables.specs.declared.element.Element.TheVariants.{Grass};
-ghost use Rattle.gen1_layout.specs.Within.{Setting, Within};
 ghost use Rattle.gen1_action.specs.Knowing.{DoesKnowingDrawing, IsUncounted};
 
 use super::foes::is_of;
@@ -24,10 +20,10 @@ pub(super) fn seed_foe<R: Rolls>(
     random: &mut R,
     events: &mut EventList,
 )
-    requires { array_vec_len events.old + 2 ≤ 64 }
+    requires { HasRoom 2 events.old }
     ensures shown { DoesKnowingDrawing R.byte R.next R.SPAN battle.old events.old.items random.old known.old battle.new events.new.items random.new known.new true (seed_foe side (move_at id) ▸ stop) }
     ensures counts { IsUncounted known.old → IsUncounted known.new }
-    ensures room { array_vec_len events.new ≤ array_vec_len events.old + 2 }
+    ensures room { AddsAtMost 2 events.old events.new }
 {
     if must_hit(battle, side, id, known, random, events) {
         return;
@@ -42,7 +38,7 @@ pub(super) fn seed_foe<R: Rolls>(
 }
 
 fn takes_no_seed(battle: &Packed, side: Side) -> bool
-    ensures stands { (g : Setting) (f : Field) → Within g battle.now f → result ≡ ((conditions_in side f).seeded || has_type Grass (active_in side f)) }
+    ensures stands { Reads battle.now result λ f. ((conditions_in side f).seeded || has_type Grass (active_in side f)) }
 {
     battle.is_on(side, Conditions::SEEDED) || is_of(battle, side, Element::Grass)
 }

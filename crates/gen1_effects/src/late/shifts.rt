@@ -1,13 +1,8 @@
 //! Moves that raise a stat of the user's or lower one of the foe's (docs/MECHANICS.md, "Late effects", "Stage shift").
-ghost use Rattle.std.specs.Prelude.{◌+◌, ◌≤◌};
-ghost use Rattle.arrayvec.specs.ArrayVec.{array_vec_len};
-ghost use Rattle.gen1_stats.specs.Members.{IsBetween};
+ghost use Rattle.gen1_layout.specs.Words.{AddsAtMost, Does, HasRoom, IsBetween, move_at, other, ◌▸◌};
 ghost use Rattle.gen1_machine.specs.LateEffects.{lower_foes_stat};
-ghost use Rattle.gen1_machine.specs.Moves.{move_at};
-ghost use Rattle.gen1_machine.specs.Progress.{fail, fails_if, is_invulnerable, ◌▸◌};
-ghost use Rattle.gen1_machine.specs.Sides.{other};
+ghost use Rattle.gen1_machine.specs.Progress.{fail, fails_if, is_invulnerable};
 ghost use Rattle.gen1_machine.specs.StageShift.{lower_stage, raise_stage};
-ghost use Rattle.gen1_layout.specs.Shows.{Does};
 ghost use Rattle.gen1_action.specs.Knowing.{DoesKnowingDrawing};
 
 use gen1_action::{Known, fail, must_hit};
@@ -25,9 +20,9 @@ pub(super) fn raise_own_stat(
     by: u8,
     events: &mut EventList,
 ) -> bool
-    requires { array_vec_len events.old + 2 ≤ 64 }
+    requires { HasRoom 2 events.old }
     ensures shown { IsBetween 1 2 by → Does battle.old events.old.items battle.new events.new.items result (raise_stage side side stat by (fail side)) }
-    ensures room { array_vec_len events.new ≤ array_vec_len events.old + 2 }
+    ensures room { AddsAtMost 2 events.old events.new }
 {
     if raise_stage(battle, side, side, stat, by, events) {
         return false;
@@ -47,9 +42,9 @@ pub(super) fn lower_foes_stat<R: Rolls>(
     random: &mut R,
     events: &mut EventList,
 ) -> bool
-    requires { array_vec_len events.old + 2 ≤ 64 }
+    requires { HasRoom 2 events.old }
     ensures shown { IsBetween 1 2 by → DoesKnowingDrawing R.byte R.next R.SPAN battle.old events.old.items random.old known.old battle.new events.new.items random.new known.new result (lower_foes_stat side (move_at id) stat by) }
-    ensures room { array_vec_len events.new ≤ array_vec_len events.old + 2 }
+    ensures room { AddsAtMost 2 events.old events.new }
 {
     let foe = side.other();
     if battle.is_on(foe, Conditions::SUBSTITUTE) {
@@ -70,9 +65,9 @@ fn lower_unless_away(
     by: u8,
     events: &mut EventList,
 ) -> bool
-    requires { array_vec_len events.old + 2 ≤ 64 }
+    requires { HasRoom 2 events.old }
     ensures shown { IsBetween 1 2 by → Does battle.old events.old.items battle.new events.new.items result (fails_if side (is_invulnerable (other side)) ▸ lower_stage side (other side) stat by (fail side)) }
-    ensures room { array_vec_len events.new ≤ array_vec_len events.old + 2 }
+    ensures room { AddsAtMost 2 events.old events.new }
 {
     let foe = side.other();
     if battle.is_on(foe, Conditions::INVULNERABLE) {

@@ -1,12 +1,8 @@
 //! Moves that put the foe to sleep (docs/MECHANICS.md, "Late effects", "Rules (sleep clause, freeze clause)").
-ghost use Rattle.std.specs.Prelude.{false, true, ◌+◌, ◌≡◌, ◌≤◌};
-ghost use Rattle.arrayvec.specs.ArrayVec.{array_vec_len};
+ghost use Rattle.gen1_layout.specs.Words.{AddsAtMost, Frame, HasRoom, Progress, Shows, ShowsDrawn, false, move_at, true, ◌≡◌};
 ghost use Rattle.gen1_stats.specs.Members.{is_healthy};
 ghost use Rattle.gen1_machine.specs.LateEffects.{put_to_sleep, ready_to_sleep};
-ghost use Rattle.gen1_machine.specs.Moves.{move_at};
-ghost use Rattle.gen1_machine.specs.Progress.{Progress};
-ghost use Rattle.gen1_machine.specs.Ruling.{fall_asleep, is_sleep_count, lull_only_one, lulls_under, sleep_for};
-ghost use Rattle.gen1_layout.specs.Shows.{Frame, Shows, ShowsDrawn};
+ghost use Rattle.gen1_machine.specs.Ruling.{fall_asleep, is_sleep_count, sleep_for, sleep_only_one, sleeps_under};
 ghost use Rattle.gen1_action.specs.Knowing.{DoesKnowingDrawing};
 ghost use Rattle.gen1_action.specs.Planned.{DoesUnder};
 
@@ -27,9 +23,9 @@ pub(super) fn put_to_sleep<R: Rolls>(
     random: &mut R,
     events: &mut EventList,
 ) -> bool
-    requires { array_vec_len events.old + 2 ≤ 64 }
+    requires { HasRoom 2 events.old }
     ensures shown { DoesUnder R.byte R.next R.SPAN battle.old events.old.items random.old known.old battle.new events.new.items random.new known.new result (λ r. put_to_sleep r side (move_at id)) }
-    ensures room { array_vec_len events.new ≤ array_vec_len events.old + 2 }
+    ensures room { AddsAtMost 2 events.old events.new }
 {
     if ready_to_sleep(battle, side, id, known, random, events) {
         return true;
@@ -46,9 +42,9 @@ fn ready_to_sleep<R: Rolls>(
     random: &mut R,
     events: &mut EventList,
 ) -> bool
-    requires { array_vec_len events.old + 1 ≤ 64 }
+    requires { HasRoom 1 events.old }
     ensures shown { DoesKnowingDrawing R.byte R.next R.SPAN battle.old events.old.items random.old known.old battle.new events.new.items random.new known.new result (ready_to_sleep side (move_at id)) }
-    ensures room { array_vec_len events.new ≤ array_vec_len events.old + 1 }
+    ensures room { AddsAtMost 1 events.old events.new }
 {
     let foe = side.other();
     if battle.is_on(foe, Conditions::RECHARGE) {
@@ -70,30 +66,30 @@ fn is_healthy(status: Status) -> bool
 
 // What a sleep move does once it has hit, by the rules of the battle.
 fn lull<R: Rolls>(battle: &mut Packed, side: Side, random: &mut R, events: &mut EventList) -> bool
-    requires { array_vec_len events.old + 1 ≤ 64 }
+    requires { HasRoom 1 events.old }
     ensures shown { (origin : R) (g : Frame) (p : Progress) → ShowsDrawn R.byte R.next R.SPAN origin g battle.old events.old.items random.old false p
-        → ShowsDrawn R.byte R.next R.SPAN origin g battle.new events.new.items random.new result (lulls_under g.setting.terms.rules.sleep_clause side p) }
-    ensures room { array_vec_len events.new ≤ array_vec_len events.old + 1 }
+        → ShowsDrawn R.byte R.next R.SPAN origin g battle.new events.new.items random.new result (sleeps_under g.setting.terms.rules.sleep_clause side p) }
+    ensures room { AddsAtMost 1 events.old events.new }
 {
     if battle.sleep_clause() {
-        return lull_only_one(battle, side, random, events);
+        return sleep_only_one(battle, side, random, events);
     }
     fall_asleep(battle, side.other(), false, random, events);
     false
 }
 
 // Under the sleep clause one living member of the foe's at a time sleeps by the user's moves.
-fn lull_only_one<R: Rolls>(
+fn sleep_only_one<R: Rolls>(
     battle: &mut Packed,
     side: Side,
     random: &mut R,
     events: &mut EventList,
 ) -> bool
-    requires { array_vec_len events.old + 1 ≤ 64 }
+    requires { HasRoom 1 events.old }
     ensures shown { (origin : R) (g : Frame) (p : Progress) → g.setting.terms.rules.sleep_clause ≡ true
         → ShowsDrawn R.byte R.next R.SPAN origin g battle.old events.old.items random.old false p
-        → ShowsDrawn R.byte R.next R.SPAN origin g battle.new events.new.items random.new result (lull_only_one side p) }
-    ensures room { array_vec_len events.new ≤ array_vec_len events.old + 1 }
+        → ShowsDrawn R.byte R.next R.SPAN origin g battle.new events.new.items random.new result (sleep_only_one side p) }
+    ensures room { AddsAtMost 1 events.old events.new }
 {
     let foe = side.other();
     if has_marked_sleeper(battle, foe) {
@@ -112,11 +108,11 @@ fn fall_asleep<R: Rolls>(
     random: &mut R,
     events: &mut EventList,
 )
-    requires { array_vec_len events.old + 1 ≤ 64 }
+    requires { HasRoom 1 events.old }
     ensures shown { (origin : R) (g : Frame) (p : Progress) → g.setting.terms.rules.sleep_clause ≡ marked
         → ShowsDrawn R.byte R.next R.SPAN origin g battle.old events.old.items random.old false p
         → ShowsDrawn R.byte R.next R.SPAN origin g battle.new events.new.items random.new false (fall_asleep marked side p) }
-    ensures room { array_vec_len events.new ≤ array_vec_len events.old + 1 }
+    ensures room { AddsAtMost 1 events.old events.new }
 {
     let Some(byte) = until(random, |byte| byte % 8 != 0) else {
         return;
@@ -126,10 +122,10 @@ fn fall_asleep<R: Rolls>(
 
 // A sleep of 1 to 7 turns, by the byte that was drawn.
 fn sleep_for(battle: &mut Packed, side: Side, marked: bool, byte: u8, events: &mut EventList)
-    requires { array_vec_len events.old + 1 ≤ 64 }
+    requires { HasRoom 1 events.old }
     ensures shown { (g : Frame) (p : Progress) → g.setting.terms.rules.sleep_clause ≡ marked → is_sleep_count byte ≡ true
         → Shows g battle.old events.old.items false p → Shows g battle.new events.new.items false (sleep_for marked side byte p) }
-    ensures room { array_vec_len events.new ≤ array_vec_len events.old + 1 }
+    ensures room { AddsAtMost 1 events.old events.new }
 {
     let turns = byte % 8;
     let status = Status::Asleep { turns, marked };

@@ -1,8 +1,6 @@
 //! Confusion by chance (docs/MECHANICS.md, "Side effects").
-ghost use Rattle.std.specs.Prelude.{false, ◌+◌, ◌≤◌};
-ghost use Rattle.arrayvec.specs.ArrayVec.{array_vec_len};
+ghost use Rattle.gen1_layout.specs.Words.{AddsAtMost, DoesDrawing, HasRoom, false};
 ghost use Rattle.gen1_machine.specs.SideEffects.{may_confuse};
-ghost use Rattle.gen1_layout.specs.Shows.{DoesDrawing};
 
 use super::chance::is_drawn_below;
 use gen1_action::confuse;
@@ -18,9 +16,9 @@ pub(super) fn may_confuse<R: Rolls>(
     random: &mut R,
     events: &mut EventList,
 )
-    requires { array_vec_len events.old + 1 ≤ 64 }
+    requires { HasRoom 1 events.old }
     ensures shown { DoesDrawing R.byte R.next R.SPAN battle.old events.old.items random.old battle.new events.new.items random.new false (may_confuse side bound) }
-    ensures room { array_vec_len events.new ≤ array_vec_len events.old + 1 }
+    ensures room { AddsAtMost 1 events.old events.new }
 {
     let foe = side.other();
     if !is_drawn_below(bound, random) {

@@ -1,13 +1,7 @@
 //! Disable, with its draws (docs/MECHANICS.md, "Side effects").
-ghost use Rattle.std.specs.Prelude.{false, true, ◌+◌, ◌≡◌, ◌≤◌};
-ghost use Rattle.arrayvec.specs.ArrayVec.{array_vec_len};
-ghost use Rattle.gen1_machine.specs.Moves.{move_at};
-ghost use Rattle.gen1_machine.specs.Progress.{Progress, member};
-ghost use Rattle.gen1_machine.specs.Sides.{other};
+ghost use Rattle.gen1_layout.specs.Words.{AddsAtMost, DoesDrawing, DoesSeeing, Field, Frame, HasRoom, Progress, Reads, Setting, ShowsDrawn, Within, false, member_in, move_at, other, true, ◌≡◌};
+ghost use Rattle.gen1_machine.specs.Progress.{member};
 ghost use Rattle.gen1_machine.specs.SideEffects.{disable, disable_for, disable_slot, has_pp, names_slot};
-ghost use Rattle.gen1_machine.specs.State.{Field, member_in};
-ghost use Rattle.gen1_layout.specs.Shows.{DoesDrawing, Frame, Shows, ShowsDrawn};
-ghost use Rattle.gen1_layout.specs.Within.{Setting, Within};
 ghost use Rattle.gen1_action.specs.Knowing.{DoesKnowingDrawing, IsUncounted};
 ghost use Rattle.gen1_effects.specs.SideEffects.{draw_slot};
 
@@ -25,10 +19,10 @@ pub(super) fn disable<R: Rolls>(
     random: &mut R,
     events: &mut EventList,
 ) -> bool
-    requires { array_vec_len events.old + 1 ≤ 64 }
+    requires { HasRoom 1 events.old }
     ensures shown { DoesKnowingDrawing R.byte R.next R.SPAN battle.old events.old.items random.old known.old battle.new events.new.items random.new known.new result (disable side (move_at id)) }
     ensures counts { IsUncounted known.old → IsUncounted known.new }
-    ensures room { array_vec_len events.new ≤ array_vec_len events.old + 1 }
+    ensures room { AddsAtMost 1 events.old events.new }
 {
     if must_hit(battle, side, id, known, random, events) {
         return true;
@@ -47,9 +41,9 @@ fn draw_slot<R: Rolls>(
     random: &mut R,
     events: &mut EventList,
 ) -> bool
-    requires { array_vec_len events.old + 1 ≤ 64 }
+    requires { HasRoom 1 events.old }
     ensures shown { DoesDrawing R.byte R.next R.SPAN battle.old events.old.items random.old battle.new events.new.items random.new result (draw_slot side) }
-    ensures room { array_vec_len events.new ≤ array_vec_len events.old + 1 }
+    ensures room { AddsAtMost 1 events.old events.new }
 {
     let foe = side.other();
     let any_pp = has_pp(battle, foe);
@@ -71,11 +65,11 @@ fn disable_slot<R: Rolls>(
     random: &mut R,
     events: &mut EventList,
 ) -> bool
-    requires { array_vec_len events.old + 1 ≤ 64 }
+    requires { HasRoom 1 events.old }
     ensures shown { (origin : R) (g : Frame) (p : Progress) → any_pp ≡ has_pp (member (other side) p).moves → names_slot (member (other side) p).moves byte ≡ true
         → ShowsDrawn R.byte R.next R.SPAN origin g battle.old events.old.items random.old false p
         → ShowsDrawn R.byte R.next R.SPAN origin g battle.new events.new.items random.new result (disable_slot side (member (other side) p).moves byte p) }
-    ensures room { array_vec_len events.new ≤ array_vec_len events.old + 1 }
+    ensures room { AddsAtMost 1 events.old events.new }
 {
     if !any_pp {
         fail(battle, side, events);
@@ -87,10 +81,9 @@ fn disable_slot<R: Rolls>(
 }
 
 fn disable_for(battle: &mut Packed, foe: Side, byte: u8, count: u8, events: &mut EventList)
-    requires { array_vec_len events.old + 1 ≤ 64 }
-    ensures shown { (g : Frame) (p : Progress) → names_slot (member foe p).moves byte ≡ true → Shows g battle.old events.old.items false p
-        → Shows g battle.new events.new.items false (disable_for foe byte count p) }
-    ensures room { array_vec_len events.new ≤ array_vec_len events.old + 1 }
+    requires { HasRoom 1 events.old }
+    ensures shown { DoesSeeing (λ p. names_slot (member foe p).moves byte) true battle.old events.old.items battle.new events.new.items false (disable_for foe byte count) }
+    ensures room { AddsAtMost 1 events.old events.new }
 {
     let disabled = DisabledSlot {
         slot: byte % 4 + 1,
@@ -113,7 +106,7 @@ fn names_slot(battle: &Packed, foe: Side, any_pp: bool, byte: u8) -> bool
 
 // Whether a move of the member that is out has PP left.
 fn has_pp(battle: &Packed, side: Side) -> bool
-    ensures stands { (g : Setting) (f : Field) → Within g battle.now f → result ≡ has_pp (member_in side f).moves }
+    ensures stands { Reads battle.now result λ f. has_pp (member_in side f).moves }
 {
     let one = battle.pp(side, 1) > 0;
     let two = battle.pp(side, 2) > 0;

@@ -1,9 +1,6 @@
 //! Flinching by chance (docs/MECHANICS.md, "Side effects").
-ghost use Rattle.std.specs.Prelude.{List, false};
-ghost use Rattle.gen1_machine.specs.declared.event.Event.{Event};
-ghost use Rattle.gen1_machine.specs.Sides.{other};
+ghost use Rattle.gen1_layout.specs.Words.{Does, DoesDrawing, Event, List, false, other};
 ghost use Rattle.gen1_machine.specs.SideEffects.{by_chance, flinch};
-ghost use Rattle.gen1_layout.specs.Shows.{Does, DoesDrawing};
 
 use super::chance::is_drawn_below;
 use gen1_layout::{Conditions, Packed};

@@ -1,16 +1,11 @@
 //! Statuses by chance, and the thaw (docs/MECHANICS.md, "Side effects", "Rules (sleep clause, freeze clause)").
-ghost use Rattle.std.specs.Prelude.{false, not, ◌&&◌, ◌+◌, ◌||◌, ◌≡◌, ◌≤◌};
-ghost use Rattle.arrayvec.specs.ArrayVec.{array_vec_len};
+ghost use Rattle.gen1_layout.specs.Words.{AddsAtMost, Does, DoesDrawing, Field, Frame, HasRoom, Progress, Reads, Setting, Shows, Within, active_in, false, is_frozen, move_at, not, party, status_in, ◌&&◌, ◌||◌, ◌≡◌};
 ghost use Rattle.gen1_tables.specs.declared.element.Element.TheVariants.{Fire, Poison};
 ghost use Rattle.gen1_tables.specs.Types.{same_type};
-ghost use Rattle.gen1_stats.specs.Members.{is_frozen, is_healthy};
-ghost use Rattle.gen1_machine.specs.Moves.{move_at};
-ghost use Rattle.gen1_machine.specs.Progress.{Progress};
+ghost use Rattle.gen1_stats.specs.Members.{is_healthy};
 ghost use Rattle.gen1_machine.specs.Ruling.{freezes_under, ruling_of};
-ghost use Rattle.gen1_machine.specs.State.{Field, active_in, any_living, has_type, party, status_in};
+ghost use Rattle.gen1_machine.specs.State.{any_living, has_type};
 ghost use Rattle.gen1_machine.specs.SideEffects.{may_inflict, may_poison, thaw};
-ghost use Rattle.gen1_layout.specs.Shows.{Does, DoesDrawing, Frame, Shows};
-ghost use Rattle.gen1_layout.specs.Within.{Setting, Within};
 ghost use Rattle.gen1_status.specs.Inflicted.{IsCountOf};
 ghost use Rattle.gen1_effects.specs.SideEffects.{DoesByRules, afflict, is_freeze};
 
@@ -31,9 +26,9 @@ pub(super) fn may_poison<R: Rolls>(
     random: &mut R,
     events: &mut EventList,
 )
-    requires { array_vec_len events.old + 1 ≤ 64 }
+    requires { HasRoom 1 events.old }
     ensures shown { DoesDrawing R.byte R.next R.SPAN battle.old events.old.items random.old battle.new events.new.items random.new false (may_poison side bound) }
-    ensures room { array_vec_len events.new ≤ array_vec_len events.old + 1 }
+    ensures room { AddsAtMost 1 events.old events.new }
 {
     let foe = side.other();
     if resists_poison(battle, foe) {
@@ -46,7 +41,7 @@ pub(super) fn may_poison<R: Rolls>(
 }
 
 fn resists_poison(battle: &Packed, side: Side) -> bool
-    ensures stands { (g : Setting) (f : Field) → Within g battle.now f → result ≡ (not (is_healthy (status_in side f)) || has_type Poison (active_in side f)) }
+    ensures stands { Reads battle.now result λ f. (not (is_healthy (status_in side f)) || has_type Poison (active_in side f)) }
 {
     let ailing = has_status(battle, side);
     let immune = has_type(battle, side, Element::Poison);
@@ -63,9 +58,9 @@ pub(super) fn may_inflict<R: Rolls>(
     random: &mut R,
     events: &mut EventList,
 )
-    requires { array_vec_len events.old + 1 ≤ 64 }
+    requires { HasRoom 1 events.old }
     ensures shown { IsCountOf kind 0 → DoesByRules R.byte R.next R.SPAN battle.old events.old.items random.old battle.new events.new.items random.new (λ r. may_inflict side (move_at id) bound (afflict r side kind)) }
-    ensures room { array_vec_len events.new ≤ array_vec_len events.old + 1 }
+    ensures room { AddsAtMost 1 events.old events.new }
 {
     let foe = side.other();
     if has_status(battle, foe) {
@@ -82,9 +77,9 @@ pub(super) fn may_inflict<R: Rolls>(
 }
 
 fn thaw(battle: &mut Packed, side: Side, id: MoveId, events: &mut EventList)
-    requires { array_vec_len events.old + 1 ≤ 64 }
+    requires { HasRoom 1 events.old }
     ensures shown { Does battle.old events.old.items battle.new events.new.items false (thaw side (move_at id)) }
-    ensures room { array_vec_len events.new ≤ array_vec_len events.old + 1 }
+    ensures room { AddsAtMost 1 events.old events.new }
 {
     let foe = side.other();
     if !thaws(id.kind(), battle.status(foe)) {
@@ -95,10 +90,10 @@ fn thaw(battle: &mut Packed, side: Side, id: MoveId, events: &mut EventList)
 }
 
 fn afflict(battle: &mut Packed, side: Side, kind: Kind, events: &mut EventList)
-    requires { array_vec_len events.old + 1 ≤ 64 }
+    requires { HasRoom 1 events.old }
     ensures shown { (g : Frame) (p : Progress) → IsCountOf kind 0 → Shows g battle.old events.old.items false p
         → Shows g battle.new events.new.items false (afflict (ruling_of g.setting.terms) side kind p) }
-    ensures room { array_vec_len events.new ≤ array_vec_len events.old + 1 }
+    ensures room { AddsAtMost 1 events.old events.new }
 {
     if is_freeze(kind) {
         freeze(battle, side, events);
@@ -109,10 +104,10 @@ fn afflict(battle: &mut Packed, side: Side, kind: Kind, events: &mut EventList)
 
 // The freeze clause lets one living member of the foe's be frozen at a time. A freeze spares the foe its recharging.
 fn freeze(battle: &mut Packed, side: Side, events: &mut EventList)
-    requires { array_vec_len events.old + 1 ≤ 64 }
+    requires { HasRoom 1 events.old }
     ensures shown { (g : Frame) (p : Progress) → Shows g battle.old events.old.items false p
         → Shows g battle.new events.new.items false (freezes_under g.setting.terms.rules.freeze_clause side p) }
-    ensures room { array_vec_len events.new ≤ array_vec_len events.old + 1 }
+    ensures room { AddsAtMost 1 events.old events.new }
 {
     let foe = side.other();
     if is_refused(battle, foe) {
@@ -144,7 +139,7 @@ fn thaws(kind: Element, status: Status) -> bool
 }
 
 fn has_status(battle: &Packed, side: Side) -> bool
-    ensures stands { (g : Setting) (f : Field) → Within g battle.now f → result ≡ not (is_healthy (status_in side f)) }
+    ensures stands { Reads battle.now result λ f. not (is_healthy (status_in side f)) }
 {
     !is_healthy(battle.status(side))
 }
@@ -156,7 +151,7 @@ fn is_healthy(status: Status) -> bool
 }
 
 fn has_type(battle: &Packed, side: Side, kind: Element) -> bool
-    ensures stands { (g : Setting) (f : Field) → Within g battle.now f → result ≡ has_type kind (active_in side f) }
+    ensures stands { Reads battle.now result λ f. has_type kind (active_in side f) }
 {
     let first = same_type(kind, battle.first_type(side));
     let second = same_type(kind, battle.second_type(side));

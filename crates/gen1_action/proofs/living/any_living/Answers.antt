@@ -1,5 +1,4 @@
-use Rattle.gen1_stats.specs.Members.{Member}
-use Rattle.gen1_machine.specs.State.{party}
+use Rattle.gen1_layout.proofs.Words.{Member, party}
 use Rattle.gen1_layout.proofs.WaysBack.{members_in}
 use Rattle.gen1_action.specs.Living.{counts}
 use Rattle.gen1_action.proofs.Six.{any_of_six}

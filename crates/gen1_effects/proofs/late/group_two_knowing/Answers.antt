@@ -5,7 +5,7 @@ use Rattle.gen1_machine.specs.Progress.{fail}
 use Rattle.gen1_machine.specs.Ruling.{ruling_of}
 use Rattle.gen1_machine.specs.StageShift.{raise_stage}
 use Rattle.gen1_action.proofs.Knowledge.{plain_still}
-use Rattle.gen1_effects.proofs.LateWays.{lowers, lulls, no_other, raises}
+use Rattle.gen1_effects.proofs.LateWays.{lowers, no_other, raises, sleeps}
 use Rattle.gen1_effects.proofs.Searching.{ended}
 use Rattle.gen1_effects.proofs.ShiftingMoves.{falls-by, rises-by}
 use Rattle.gen1_effects.proofs.late.group_two_knowing.Goals as goal
@@ -29,7 +29,7 @@ pub returns-in-InflictSleep-clause-shown : goal.returns-in-InflictSleep-clause-s
 returns-in-InflictSleep-clause-shown t c origin g p h =
     let r = ruling_of g.setting.terms in
     let is = sym c.effect.ensures ∙ c.in-InflictSleep.is in
-    rw (lulls r c.args.side (move_at c.args.id) _ p is)
+    rw (sleeps r c.args.side (move_at c.args.id) _ p is)
     (ended _ _ (put_to_sleep r c.args.side (move_at c.args.id)) (c.put_to_sleep.ensures.shown origin g p h))
 
 pub returns-in_default-clause-shown : goal.returns-in_default-clause-shown

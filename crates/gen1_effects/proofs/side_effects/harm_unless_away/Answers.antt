@@ -1,5 +1,4 @@
-use Rattle.std.proofs.Common.{refl, sym, ◌∙◌}
-use Rattle.gen1_layout.proofs.Chain.{drawn_if_not, drawn_if_so, drawn_stays}
+use Rattle.gen1_layout.proofs.Words.{drawn_if_not, drawn_if_so, drawn_stays, refl, sym, ◌∙◌}
 use Rattle.gen1_effects.proofs.side_effects.harm_unless_away.Goals as goal
 
 pub returns-then-is_on-clause-shown : goal.returns-then-is_on-clause-shown

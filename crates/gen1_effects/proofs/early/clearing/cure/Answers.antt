@@ -1,8 +1,6 @@
-use Rattle.std.proofs.Common.{ap, ◌∙◌}
+use Rattle.gen1_layout.proofs.Words.{ap, given, goes, ◌∙◌}
 use Rattle.gen1_machine.specs.EarlyEffects.{cure_kind, haze_cures, set_skips}
 use Rattle.gen1_machine.specs.Picks.{sleeps_or_freezes}
-use Rattle.gen1_machine.specs.Progress.{given}
-use Rattle.gen1_layout.proofs.Chain.{goes}
 use Rattle.gen1_effects.proofs.Skipping.{skipped}
 use Rattle.gen1_effects.proofs.early.clearing.cure.Goals as goal
 

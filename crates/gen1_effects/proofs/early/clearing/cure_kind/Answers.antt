@@ -1,11 +1,9 @@
-use Rattle.std.proofs.Common.{ap, refl}
+use Rattle.gen1_layout.proofs.Words.{Field, Who, ap, changed_member, refl, stays, told_so, who_in}
 use Rattle.gen1_stats.specs.declared.status.Status.TheVariants.{Healthy}
-use Rattle.gen1_machine.specs.declared.health.Who.{Who}
 use Rattle.gen1_machine.specs.declared.event.Event.TheVariants as events
 use Rattle.gen1_machine.specs.EarlyEffects.{cure_kind}
 use Rattle.gen1_machine.specs.Progress.{cure}
-use Rattle.gen1_machine.specs.State.{changed_member, who_in, with_status, Field}
-use Rattle.gen1_layout.proofs.Chain.{stays, told_so}
+use Rattle.gen1_machine.specs.State.{with_status}
 use Rattle.gen1_effects.proofs.early.clearing.cure_kind.Goals as goal
 
 pub returns-in-Some-clause-shown : goal.returns-in-Some-clause-shown

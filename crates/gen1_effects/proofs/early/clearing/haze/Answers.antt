@@ -1,8 +1,6 @@
-use Rattle.std.proofs.Common.{false, refl}
+use Rattle.gen1_layout.proofs.Words.{Field, false, goes, noted, refl}
 use Rattle.gen1_machine.specs.declared.event.Event.TheVariants as events
 use Rattle.gen1_machine.specs.EarlyEffects.{haze}
-use Rattle.gen1_machine.specs.State.{Field}
-use Rattle.gen1_layout.proofs.Chain.{goes, noted}
 use Rattle.gen1_effects.proofs.Failing.{ended}
 use Rattle.gen1_effects.proofs.early.clearing.haze.Goals as goal
 

@@ -1,7 +1,6 @@
-use Rattle.std.proofs.Common.{sym, ◌∙◌}
+use Rattle.gen1_layout.proofs.Words.{drawn_goes, drawn_settled, drawn_stops, sym, ◌∙◌}
 use Rattle.gen1_machine.specs.EarlyEffects.{confuse_foe}
 use Rattle.gen1_machine.specs.Progress.{has_substitute, is_confused}
-use Rattle.gen1_layout.proofs.Chain.{drawn_goes, drawn_settled, drawn_stops}
 use Rattle.gen1_action.specs.Knowing.{knowing}
 use Rattle.gen1_effects.proofs.Failing.{drawn_ended, drawn_fails, drawn_past}
 use Rattle.gen1_effects.proofs.early.confusing.confuse_foe.Goals as goal

@@ -1,11 +1,9 @@
-use Rattle.std.proofs.Common.{ap, refl, sym, ◌∙◌}
-use Rattle.gen1_machine.specs.declared.health.Who.{Who}
+use Rattle.gen1_layout.proofs.Words.{Field, Who, active_in, ap, changed_active, refl, seeing, sym, told_so, who_in, ◌∙◌}
 use Rattle.gen1_machine.specs.declared.event.Event.TheVariants as events
 use Rattle.gen1_machine.specs.declared.event.Volatile.TheVariants as volatiles
 use Rattle.gen1_machine.specs.EarlyEffects.{convert, take_types}
 use Rattle.gen1_machine.specs.Progress.{active, is_invulnerable}
-use Rattle.gen1_machine.specs.State.{active_in, changed_active, who_in, with_types_of, Field}
-use Rattle.gen1_layout.proofs.Chain.{seeing, told_so}
+use Rattle.gen1_machine.specs.State.{with_types_of}
 use Rattle.gen1_effects.proofs.Failing.{ended, fails_then, past_fail}
 use Rattle.gen1_effects.proofs.early.conversion.convert.Goals as goal
 

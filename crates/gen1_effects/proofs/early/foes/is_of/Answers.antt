@@ -1,6 +1,5 @@
-use Rattle.std.proofs.Common.{ap, false, sym, true, ◌∙◌, ◌≡◌}
+use Rattle.gen1_layout.proofs.Words.{active_in, ap, false, sym, true, ◌∙◌, ◌≡◌}
 use Rattle.gen1_tables.specs.Types.{same_type}
-use Rattle.gen1_machine.specs.State.{active_in}
 use Rattle.gen1_effects.proofs.SameTypes.{same-is}
 use Rattle.gen1_effects.proofs.early.foes.is_of.Goals as goal
 

@@ -1,6 +1,5 @@
-use Rattle.std.proofs.Common.{sym, ◌∙◌}
+use Rattle.gen1_layout.proofs.Words.{if_not, if_so, sym, ◌∙◌}
 use Rattle.gen1_machine.specs.EarlyEffects.{cannot_heal, heal}
-use Rattle.gen1_layout.proofs.Chain.{if_not, if_so}
 use Rattle.gen1_effects.proofs.Failing.{ended, fails_then, past_fail}
 use Rattle.gen1_effects.proofs.early.healing.heal.Goals as goal
 

@@ -1,5 +1,4 @@
-use Rattle.std.proofs.Common.{ap, ℕ, ◌/◌}
-use Rattle.gen1_stats.specs.Members.{Member}
+use Rattle.gen1_layout.proofs.Words.{Member, ap, ℕ, ◌/◌}
 use Rattle.gen1_machine.specs.EarlyEffects.{recover}
 use Rattle.gen1_machine.specs.Progress.{gain_hp, member}
 use Rattle.gen1_effects.proofs.Partly.{seeing_part}

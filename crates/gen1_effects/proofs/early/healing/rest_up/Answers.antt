@@ -1,13 +1,10 @@
-use Rattle.std.proofs.Common.{ap, false, lit≤, refl}
+use Rattle.gen1_layout.proofs.Words.{Field, Member, Who, ap, changed_member, false, goes, lit≤, refl, told_so, who_in}
 use Rattle.gen1_stats.specs.declared.status.Status.TheVariants.{Asleep}
-use Rattle.gen1_stats.specs.Members.{Member}
 use Rattle.gen1_machine.specs.declared.health.Kind.TheVariants as kinds
-use Rattle.gen1_machine.specs.declared.health.Who.{Who}
 use Rattle.gen1_machine.specs.declared.event.Event.TheVariants as events
 use Rattle.gen1_machine.specs.EarlyEffects.{rest_up}
 use Rattle.gen1_machine.specs.Progress.{gain_hp, member}
-use Rattle.gen1_machine.specs.State.{changed_member, who_in, with_status, Field}
-use Rattle.gen1_layout.proofs.Chain.{goes, told_so}
+use Rattle.gen1_machine.specs.State.{with_status}
 use Rattle.gen1_effects.proofs.Partly.{seeing_part}
 use Rattle.gen1_effects.proofs.early.healing.rest_up.Goals as goal
 

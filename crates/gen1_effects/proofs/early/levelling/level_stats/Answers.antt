@@ -1,5 +1,4 @@
-use Rattle.std.proofs.Common.{arith, lit≤, refl, sym, ◌∙◌}
-use Rattle.gen1_layout.proofs.Steps.{member_ok}
+use Rattle.gen1_layout.proofs.Words.{arith, lit≤, member_ok, refl, sym, ◌∙◌}
 use Rattle.gen1_effects.proofs.Levelling.{level-is, level_accuracy, level_attack, level_defense, level_evasion, level_special, level_speed, levelled}
 use Rattle.gen1_effects.proofs.early.levelling.level_stats.Goals as goal
 

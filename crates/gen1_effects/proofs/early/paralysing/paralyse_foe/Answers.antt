@@ -1,12 +1,10 @@
-use Rattle.std.proofs.Common.{Bool, ap, sym, ◌&&◌, ◌∙◌}
+use Rattle.gen1_layout.proofs.Words.{Bool, Progress, Side, ap, drawn_goes, drawn_settled, drawn_stops, sym, ◌&&◌, ◌∙◌}
 use Rattle.gen1_tables.specs.declared.element.Element.{Element}
 use Rattle.gen1_tables.specs.declared.element.Element.TheVariants.{Electric, Ground}
 use Rattle.gen1_tables.specs.Types.{same_type}
-use Rattle.gen1_machine.specs.declared.side.Side.{Side}
 use Rattle.gen1_machine.specs.EarlyEffects.{paralyse_foe}
 use Rattle.gen1_machine.specs.Moves.{move_at, Move}
-use Rattle.gen1_machine.specs.Progress.{has_status, is_of, Progress}
-use Rattle.gen1_layout.proofs.Chain.{drawn_goes, drawn_settled, drawn_stops}
+use Rattle.gen1_machine.specs.Progress.{has_status, is_of}
 use Rattle.gen1_action.proofs.Knowledge.{plain_still}
 use Rattle.gen1_effects.proofs.Failing.{drawn_ended, drawn_fails, drawn_past}
 use Rattle.gen1_effects.proofs.early.paralysing.paralyse_foe.Goals as goal

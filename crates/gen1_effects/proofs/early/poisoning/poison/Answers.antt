@@ -1,6 +1,5 @@
-use Rattle.std.proofs.Common.{lit≤, refl, sym, ◌∙◌}
+use Rattle.gen1_layout.proofs.Words.{goes, if_not, if_so, lit≤, put_on_conditions, refl, stays, sym, ◌∙◌}
 use Rattle.gen1_machine.specs.Conditions.{with_bad_poison}
-use Rattle.gen1_layout.proofs.Chain.{goes, if_not, if_so, put_on_conditions, stays}
 use Rattle.gen1_effects.proofs.early.poisoning.poison.Goals as goal
 
 pub returns-then-is_toxic-clause-shown : goal.returns-then-is_toxic-clause-shown

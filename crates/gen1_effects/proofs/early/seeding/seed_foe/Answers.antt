@@ -1,14 +1,10 @@
-use Rattle.std.proofs.Common.{Bool, ap, lit<, refl, sym, ◌||◌, ◌∙◌}
+use Rattle.gen1_layout.proofs.Words.{Bool, Field, Progress, Side, Who, ap, changed_conditions, conditions_in, drawn_goes, drawn_settled, drawn_stops, lit<, refl, still, sym, told_so, who_in, ◌||◌, ◌∙◌}
 use Rattle.gen1_tables.specs.declared.element.Element.TheVariants.{Grass}
-use Rattle.gen1_machine.specs.declared.side.Side.{Side}
-use Rattle.gen1_machine.specs.declared.health.Who.{Who}
 use Rattle.gen1_machine.specs.declared.event.Event.TheVariants as events
 use Rattle.gen1_machine.specs.declared.event.Volatile.TheVariants as volatiles
 use Rattle.gen1_machine.specs.Conditions.{with_seed}
 use Rattle.gen1_machine.specs.EarlyEffects.{seed_foe}
-use Rattle.gen1_machine.specs.Progress.{conditions, is_of, starts, Progress}
-use Rattle.gen1_machine.specs.State.{changed_conditions, conditions_in, who_in, Field}
-use Rattle.gen1_layout.proofs.Chain.{drawn_goes, drawn_settled, drawn_stops, still, told_so}
+use Rattle.gen1_machine.specs.Progress.{conditions, is_of, starts}
 use Rattle.gen1_effects.proofs.Failing.{drawn_ended, drawn_fails, drawn_past}
 use Rattle.gen1_effects.proofs.Setting.{seed-same}
 use Rattle.gen1_effects.proofs.early.seeding.seed_foe.Goals as goal

@@ -1,5 +1,4 @@
-use Rattle.std.proofs.Common.{false, refl, sym, true, ◌∙◌, ◌≡◌}
-use Rattle.gen1_machine.specs.State.{conditions_in}
+use Rattle.gen1_layout.proofs.Words.{conditions_in, false, refl, sym, true, ◌∙◌, ◌≡◌}
 use Rattle.gen1_effects.proofs.early.seeding.takes_no_seed.Goals as goal
 
 pub returns-then-is_on : goal.returns-then-is_on

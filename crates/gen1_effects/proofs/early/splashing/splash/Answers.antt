@@ -1,10 +1,7 @@
-use Rattle.std.proofs.Common.{ap}
-use Rattle.gen1_machine.specs.declared.health.Who.{Who}
+use Rattle.gen1_layout.proofs.Words.{Field, Who, ap, noted, who_in}
 use Rattle.gen1_machine.specs.declared.event.Event.TheVariants as events
 use Rattle.gen1_machine.specs.declared.event.Volatile.TheVariants as volatiles
 use Rattle.gen1_machine.specs.EarlyEffects.{splash}
-use Rattle.gen1_machine.specs.State.{who_in, Field}
-use Rattle.gen1_layout.proofs.Chain.{noted}
 use Rattle.gen1_effects.proofs.Failing.{ended}
 use Rattle.gen1_effects.proofs.early.splashing.splash.Goals as goal
 

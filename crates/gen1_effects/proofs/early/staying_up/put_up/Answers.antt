@@ -1,10 +1,7 @@
-use Rattle.std.proofs.Common.{ap, false, slice_index_or, sym, ◌∙◌}
-use Rattle.gen1_machine.specs.declared.health.Who.{Who}
+use Rattle.gen1_layout.proofs.Words.{Field, Progress, Who, ap, changed_conditions, conditions_in, false, slice_index_or, sym, told_so, who_in, ◌∙◌}
 use Rattle.gen1_machine.specs.declared.event.Event.TheVariants as events
 use Rattle.gen1_machine.specs.Layout.{condition_bits}
-use Rattle.gen1_machine.specs.Progress.{conditions, starts, Progress}
-use Rattle.gen1_machine.specs.State.{changed_conditions, conditions_in, who_in, Field}
-use Rattle.gen1_layout.proofs.Chain.{told_so}
+use Rattle.gen1_machine.specs.Progress.{conditions, starts}
 use Rattle.gen1_effects.proofs.Failing.{ended, fails_then, past_fail}
 use Rattle.gen1_effects.proofs.early.staying_up.put_up.Goals as goal
 

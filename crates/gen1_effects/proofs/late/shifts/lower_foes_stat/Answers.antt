@@ -1,10 +1,7 @@
-use Rattle.std.proofs.Common.{ap, is_some, refl, sym, ◌∙◌}
-use Rattle.gen1_machine.specs.declared.side.Side.{Side}
+use Rattle.gen1_layout.proofs.Words.{Side, ap, conditions_in, drawn_goes, drawn_if_not, drawn_if_so, drawn_settled, drawn_stays, drawn_stops, is_some, refl, stay, sym, ◌∙◌}
 use Rattle.gen1_machine.specs.LateEffects.{lower_foes_stat}
-use Rattle.gen1_machine.specs.Progress.{fail, fails_if, has_substitute, stay}
+use Rattle.gen1_machine.specs.Progress.{fail, fails_if, has_substitute}
 use Rattle.gen1_machine.specs.Sides.{other}
-use Rattle.gen1_machine.specs.State.{conditions_in}
-use Rattle.gen1_layout.proofs.Chain.{drawn_goes, drawn_if_not, drawn_if_so, drawn_settled, drawn_stays, drawn_stops}
 use Rattle.gen1_action.proofs.Knowledge.{plain_still}
 use Rattle.gen1_effects.proofs.late.shifts.lower_foes_stat.Goals as goal
 

@@ -1,7 +1,6 @@
-use Rattle.std.proofs.Common.{refl, sym, ◌∙◌}
-use Rattle.gen1_machine.specs.Progress.{fail, fails_if, is_invulnerable, stay}
+use Rattle.gen1_layout.proofs.Words.{goes, if_not, if_so, refl, stay, stays, stops, sym, ◌∙◌}
+use Rattle.gen1_machine.specs.Progress.{fail, fails_if, is_invulnerable}
 use Rattle.gen1_machine.specs.StageShift.{lower_stage}
-use Rattle.gen1_layout.proofs.Chain.{goes, if_not, if_so, stays, stops}
 use Rattle.gen1_status.proofs.Shifting.{fails, succeeds}
 use Rattle.gen1_effects.proofs.late.shifts.lower_unless_away.Goals as goal
 

@@ -1,7 +1,5 @@
-use Rattle.std.proofs.Common.{ap, arith, refl, ◌∙◌}
-use Rattle.std.proofs.lemmas.Bool.Decides.{nat_tests}
+use Rattle.gen1_layout.proofs.Words.{ap, arith, nat_tests, refl, still, ◌∙◌}
 use Rattle.gen1_machine.specs.Ruling.{fall_asleep, is_sleep_count, sleep_for}
-use Rattle.gen1_layout.proofs.Chain.{still}
 use Rattle.gen1_effects.proofs.Searching.{drawn_none, drawn_until}
 use Rattle.gen1_effects.proofs.late.sleep.fall_asleep.Goals as goal
 

@@ -1,13 +1,13 @@
 use Rattle.std.proofs.Common.{sym, ◌∙◌}
-use Rattle.gen1_effects.proofs.LateWays.{lulls-any, lulls-one}
+use Rattle.gen1_effects.proofs.LateWays.{sleeps-any, sleeps-one}
 use Rattle.gen1_effects.proofs.late.sleep.lull.Goals as goal
 
 pub returns-then-sleep_clause-clause-shown : goal.returns-then-sleep_clause-clause-shown
 returns-then-sleep_clause-clause-shown t c origin g p h =
     let on = sym (c.sleep_clause.ensures.stands g.setting p.field h.shows.within) ∙ c.if-sleep_clause.true in
-    rw (lulls-one _ c.args.side p on) (c.lull_only_one.ensures.shown origin g p on h)
+    rw (sleeps-one _ c.args.side p on) (c.sleep_only_one.ensures.shown origin g p on h)
 
 pub returns-clause-shown : goal.returns-clause-shown
 returns-clause-shown t c origin g p h =
     let off = sym (c.sleep_clause.ensures.stands g.setting p.field h.shows.within) ∙ c.if-sleep_clause.false in
-    rw (lulls-any _ c.args.side p off, ← c.other.ensures) (c.fall_asleep.ensures.shown origin g p off h)
+    rw (sleeps-any _ c.args.side p off, ← c.other.ensures) (c.fall_asleep.ensures.shown origin g p off h)

@@ -1,10 +1,9 @@
-use Rattle.std.proofs.Common.{ap, lit<, not, refl, sym, ◌∙◌}
+use Rattle.gen1_layout.proofs.Words.{ap, conditions_in, drawn_goes, drawn_if_not, drawn_if_so, drawn_stays, drawn_stops, lit<, on_conditions, put_on_conditions, refl, stay, sym, ◌∙◌}
+use Rattle.std.proofs.Common.{not}
 use Rattle.gen1_stats.specs.Members.{is_healthy}
 use Rattle.gen1_machine.specs.Conditions.{without_recharge}
 use Rattle.gen1_machine.specs.LateEffects.{ready_to_sleep}
-use Rattle.gen1_machine.specs.Progress.{fail, fails_if, has_status, on_conditions, stay}
-use Rattle.gen1_machine.specs.State.{conditions_in}
-use Rattle.gen1_layout.proofs.Chain.{drawn_goes, drawn_if_not, drawn_if_so, drawn_stays, drawn_stops, put_on_conditions}
+use Rattle.gen1_machine.specs.Progress.{fail, fails_if, has_status}
 use Rattle.gen1_status.proofs.Clearing.{recharge-same}
 use Rattle.gen1_action.proofs.Knowledge.{plain_still}
 use Rattle.gen1_effects.proofs.late.sleep.ready_to_sleep.Goals as goal

@@ -1,6 +1,4 @@
-use Rattle.std.proofs.Common.{arith, nat_lt, true, ℕ, ◌%◌, ◌∙◌, ◌≡◌}
-use Rattle.std.proofs.lemmas.Bool.Decides.{nat_tests}
-use Rattle.gen1_stats.specs.Members.{IsBetween}
+use Rattle.gen1_layout.proofs.Words.{IsBetween, arith, nat_lt, nat_tests, true, ℕ, ◌%◌, ◌∙◌, ◌≡◌}
 use Rattle.gen1_machine.specs.Ruling.{sleep_for}
 use Rattle.gen1_effects.proofs.late.sleep.sleep_for.Goals as goal
 

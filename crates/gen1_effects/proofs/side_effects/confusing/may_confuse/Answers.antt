@@ -1,9 +1,8 @@
-use Rattle.std.proofs.Common.{refl, sym, ◌∙◌}
+use Rattle.gen1_layout.proofs.Words.{drawn_if_not, drawn_if_so, drawn_stays, refl, sym, ◌∙◌}
 use Rattle.gen1_machine.specs.EarlyEffects.{confuse}
 use Rattle.gen1_machine.specs.Progress.{is_confused, unless}
 use Rattle.gen1_machine.specs.Sides.{other}
 use Rattle.gen1_machine.specs.SideEffects.{may_confuse}
-use Rattle.gen1_layout.proofs.Chain.{drawn_if_not, drawn_if_so, drawn_stays}
 use Rattle.gen1_effects.proofs.Chances.{comes, passes}
 use Rattle.gen1_effects.proofs.side_effects.confusing.may_confuse.Goals as goal
 

@@ -1,7 +1,6 @@
-use Rattle.std.proofs.Common.{refl, sym, ◌∙◌}
+use Rattle.gen1_layout.proofs.Words.{drawn_goes, drawn_if_so, drawn_settled, drawn_stops, refl, sym, ◌∙◌}
 use Rattle.gen1_machine.specs.Progress.{fails_if}
 use Rattle.gen1_machine.specs.SideEffects.{disable}
-use Rattle.gen1_layout.proofs.Chain.{drawn_goes, drawn_if_so, drawn_settled, drawn_stops}
 use Rattle.gen1_action.specs.Knowing.{knowing}
 use Rattle.gen1_action.proofs.Knowledge.{plain_still}
 use Rattle.gen1_effects.proofs.Chances.{drawn_past}

@@ -1,13 +1,9 @@
-use Rattle.std.proofs.Common.{Bool, ap, arith, false, length, nat_lt, refl, true, ◌%◌, ◌&&◌, ◌+◌, ◌<◌, ◌≡◌}
-use Rattle.std.proofs.lemmas.Bool.Decides.{nat_tests}
+use Rattle.gen1_layout.proofs.Words.{Bool, Field, Who, ap, arith, changed_conditions, false, length, nat_lt, nat_tests, refl, told_so, true, who_in, ◌%◌, ◌&&◌, ◌+◌, ◌<◌, ◌≡◌}
 use Rattle.gen1_machine.specs.declared.event.Event.TheVariants as events
 use Rattle.gen1_machine.specs.declared.event.Volatile.TheVariants as volatiles
-use Rattle.gen1_machine.specs.declared.health.Who.{Who}
 use Rattle.gen1_machine.specs.Conditions.{with_disabled}
 use Rattle.gen1_machine.specs.Progress.{member, starts}
 use Rattle.gen1_machine.specs.SideEffects.{disable_for}
-use Rattle.gen1_machine.specs.State.{changed_conditions, who_in, Field}
-use Rattle.gen1_layout.proofs.Chain.{told_so}
 use Rattle.gen1_effects.proofs.DisabledSlots.{named_holds}
 use Rattle.gen1_effects.proofs.side_effects.disabling.disable_for.Goals as goal
 

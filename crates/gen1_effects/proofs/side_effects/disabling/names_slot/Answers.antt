@@ -1,6 +1,4 @@
-use Rattle.std.proofs.Common.{refl, ◌%◌}
-use Rattle.gen1_machine.specs.State.{member_in}
-use Rattle.gen1_layout.proofs.Steps.{member_ok}
+use Rattle.gen1_layout.proofs.Words.{member_in, member_ok, refl, ◌%◌}
 use Rattle.gen1_effects.proofs.DisabledSlots.{holds_move}
 use Rattle.gen1_effects.proofs.side_effects.disabling.names_slot.Goals as goal
 

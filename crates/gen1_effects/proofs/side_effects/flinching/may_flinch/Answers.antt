@@ -1,7 +1,6 @@
-use Rattle.std.proofs.Common.{refl}
+use Rattle.gen1_layout.proofs.Words.{refl, still}
 use Rattle.gen1_machine.specs.Sides.{other}
 use Rattle.gen1_machine.specs.SideEffects.{flinch}
-use Rattle.gen1_layout.proofs.Chain.{still}
 use Rattle.gen1_effects.proofs.Chances.{comes, passes}
 use Rattle.gen1_effects.proofs.side_effects.flinching.may_flinch.Goals as goal
 

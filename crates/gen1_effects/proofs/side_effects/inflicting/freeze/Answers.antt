@@ -1,8 +1,7 @@
-use Rattle.std.proofs.Common.{lit<, refl, sym, ◌∙◌}
+use Rattle.gen1_layout.proofs.Words.{goes, lit<, put_on_conditions, refl, sym, ◌∙◌}
 use Rattle.gen1_machine.specs.Conditions.{without_recharge}
 use Rattle.gen1_machine.specs.Ruling.{freezes_under, freeze_freely, freeze_only_one}
 use Rattle.gen1_machine.specs.Sides.{other}
-use Rattle.gen1_layout.proofs.Chain.{goes, put_on_conditions}
 use Rattle.gen1_status.proofs.Clearing.{recharge-same}
 use Rattle.gen1_effects.proofs.SideEffects.{freezes, refuses}
 use Rattle.gen1_effects.proofs.side_effects.inflicting.freeze.Goals as goal

@@ -1,7 +1,6 @@
-use Rattle.std.proofs.Common.{refl, sym, ◌∙◌}
+use Rattle.gen1_layout.proofs.Words.{drawn_if_not, drawn_if_so, drawn_stays, refl, still, sym, ◌∙◌}
 use Rattle.gen1_machine.specs.Ruling.{ruling_of}
 use Rattle.gen1_machine.specs.SideEffects.{may_inflict}
-use Rattle.gen1_layout.proofs.Chain.{drawn_if_not, drawn_if_so, drawn_stays, still}
 use Rattle.gen1_effects.specs.SideEffects.{afflict}
 use Rattle.gen1_effects.proofs.Chances.{comes, passes}
 use Rattle.gen1_effects.proofs.side_effects.inflicting.may_inflict.Goals as goal

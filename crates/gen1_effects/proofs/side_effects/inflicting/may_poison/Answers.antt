@@ -1,10 +1,9 @@
-use Rattle.std.proofs.Common.{refl, sym, ◌∙◌}
+use Rattle.gen1_layout.proofs.Words.{drawn_if_not, drawn_if_so, drawn_stays, refl, still, sym, ◌∙◌}
 use Rattle.gen1_stats.specs.declared.status.Status.TheVariants.{Poisoned}
 use Rattle.gen1_machine.specs.declared.health.Kind.TheVariants as kinds
 use Rattle.gen1_machine.specs.Progress.{inflict}
 use Rattle.gen1_machine.specs.Sides.{other}
 use Rattle.gen1_machine.specs.SideEffects.{may_poison}
-use Rattle.gen1_layout.proofs.Chain.{drawn_if_not, drawn_if_so, drawn_stays, still}
 use Rattle.gen1_effects.proofs.Chances.{comes, passes}
 use Rattle.gen1_effects.proofs.side_effects.inflicting.may_poison.Goals as goal
 

@@ -1,16 +1,14 @@
-use Rattle.std.proofs.Common.{ap, refl, sym, ◌&&◌, ◌∙◌}
+use Rattle.gen1_layout.proofs.Words.{Field, Who, ap, changed_member, if_not, if_so, refl, stays, sym, told_so, who_in, ◌&&◌, ◌∙◌}
 use Rattle.gen1_tables.specs.declared.element.Element.TheVariants.{Fire}
 use Rattle.gen1_tables.specs.Types.{same_type}
 use Rattle.gen1_stats.specs.declared.status.Status.TheVariants.{Healthy}
 use Rattle.gen1_stats.specs.Members.{is_frozen}
 use Rattle.gen1_machine.specs.declared.event.Event.TheVariants as events
 use Rattle.gen1_machine.specs.declared.health.Kind.TheVariants as kinds
-use Rattle.gen1_machine.specs.declared.health.Who.{Who}
 use Rattle.gen1_machine.specs.Progress.{cure}
 use Rattle.gen1_machine.specs.Sides.{other}
 use Rattle.gen1_machine.specs.SideEffects.{thaw}
-use Rattle.gen1_machine.specs.State.{changed_member, who_in, with_status, Field}
-use Rattle.gen1_layout.proofs.Chain.{if_not, if_so, stays, told_so}
+use Rattle.gen1_machine.specs.State.{with_status}
 use Rattle.gen1_effects.proofs.side_effects.inflicting.thaw.Goals as goal
 
 pub returns-then-not-thaws-clause-shown : goal.returns-then-not-thaws-clause-shown

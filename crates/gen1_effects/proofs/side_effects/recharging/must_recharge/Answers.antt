@@ -1,10 +1,7 @@
-use Rattle.std.proofs.Common.{ap, lit<, refl}
+use Rattle.gen1_layout.proofs.Words.{Field, Who, ap, changed_conditions, conditions_in, lit<, refl, told_so, who_in}
 use Rattle.gen1_machine.specs.declared.event.Event.TheVariants as events
-use Rattle.gen1_machine.specs.declared.health.Who.{Who}
 use Rattle.gen1_machine.specs.Conditions.{with_recharge}
 use Rattle.gen1_machine.specs.SideEffects.{must_recharge}
-use Rattle.gen1_machine.specs.State.{changed_conditions, conditions_in, who_in, Field}
-use Rattle.gen1_layout.proofs.Chain.{told_so}
 use Rattle.gen1_effects.proofs.SideEffects.{recharging-same}
 use Rattle.gen1_effects.proofs.side_effects.recharging.must_recharge.Goals as goal
 

@@ -1,8 +1,6 @@
-use Rattle.std.proofs.Common.{arith, refl}
-use Rattle.gen1_machine.specs.Progress.{stay}
+use Rattle.gen1_layout.proofs.Words.{arith, refl, stay, still}
 use Rattle.gen1_machine.specs.Sides.{other}
 use Rattle.gen1_machine.specs.StageShift.{lower_stage}
-use Rattle.gen1_layout.proofs.Chain.{still}
 use Rattle.gen1_effects.proofs.Chances.{comes, passes}
 use Rattle.gen1_effects.proofs.SideEffects.{shifted}
 use Rattle.gen1_effects.proofs.side_effects.stat_drops.may_lower.Goals as goal
