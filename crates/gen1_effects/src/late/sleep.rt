@@ -30,7 +30,7 @@ pub(super) fn put_to_sleep<R: Rolls>(
     if ready_to_sleep(battle, side, id, known, random, events) {
         return true;
     }
-    lull(battle, side, random, events)
+    sleep_by_rules(battle, side, random, events)
 }
 
 // A foe that must recharge need not any more, and takes no test.
@@ -65,7 +65,12 @@ fn is_healthy(status: Status) -> bool
 }
 
 // What a sleep move does once it has hit, by the rules of the battle.
-fn lull<R: Rolls>(battle: &mut Packed, side: Side, random: &mut R, events: &mut EventList) -> bool
+fn sleep_by_rules<R: Rolls>(
+    battle: &mut Packed,
+    side: Side,
+    random: &mut R,
+    events: &mut EventList,
+) -> bool
     requires { HasRoom 1 events.old }
     ensures shown { (origin : R) (g : Frame) (p : Progress) → ShowsDrawn R.byte R.next R.SPAN origin g battle.old events.old.items random.old false p
         → ShowsDrawn R.byte R.next R.SPAN origin g battle.new events.new.items random.new result (sleeps_under g.setting.terms.rules.sleep_clause side p) }

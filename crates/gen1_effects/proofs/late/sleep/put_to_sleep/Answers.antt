@@ -12,4 +12,4 @@ pub returns-clause-shown : goal.returns-clause-shown
 unfolding put_to_sleep
 returns-clause-shown t c origin g p h =
     let a = drawn_settled c.if-ready_to_sleep.false (c.ready_to_sleep.ensures.shown origin g p h) in
-    drawn_goes _ _ a (c.lull.ensures.shown origin (knowing c.ready_to_sleep.new.known g) _ a)
+    drawn_goes _ _ a (c.sleep_by_rules.ensures.shown origin (knowing c.ready_to_sleep.new.known g) _ a)

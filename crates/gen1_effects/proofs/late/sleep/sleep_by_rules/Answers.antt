@@ -1,6 +1,6 @@
 use Rattle.std.proofs.Common.{sym, ◌∙◌}
 use Rattle.gen1_effects.proofs.LateWays.{sleeps-any, sleeps-one}
-use Rattle.gen1_effects.proofs.late.sleep.lull.Goals as goal
+use Rattle.gen1_effects.proofs.late.sleep.sleep_by_rules.Goals as goal
 
 pub returns-then-sleep_clause-clause-shown : goal.returns-then-sleep_clause-clause-shown
 returns-then-sleep_clause-clause-shown t c origin g p h =
