@@ -4,4 +4,4 @@
 
 mod late;
 
-pub use late::{group_two, group_two_knowing};
+pub use late::{group_two, group_two_knowing, is_group_two};
