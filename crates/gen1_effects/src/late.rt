@@ -18,6 +18,17 @@ mod sleep;
 use shifts::{lower_foes_stat, raise_own_stat};
 use sleep::put_to_sleep;
 
+/// Whether an effect is one of these: of a move that raises a stat of the user's, lowers one of the foe's, or puts the foe to
+/// sleep (docs/MECHANICS.md, "Late effects").
+pub fn is_group_two(effect: Effect) -> bool
+    ensures { result ≡ is_group_two effect }
+{
+    matches!(
+        effect,
+        Effect::StatUp(..) | Effect::StatDown(..) | Effect::InflictSleep
+    )
+}
+
 /// What a move of `side` does that raises a stat of the user's, lowers one of the foe's, or puts the foe to sleep
 /// (docs/MECHANICS.md, "Late effects"), from the beginning of its action. The hit test, where it makes one, and a count of
 /// sleep are drawn; two places in `events` are to be free. What the effect leaves alone stays as it is.
