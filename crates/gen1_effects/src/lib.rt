@@ -7,5 +7,5 @@ mod late;
 mod side_effects;
 
 pub use early::{group_one, group_one_knowing, is_group_one};
-pub use late::{group_two, group_two_knowing};
+pub use late::{group_two, group_two_knowing, is_group_two};
 pub use side_effects::{side_effect, side_effect_knowing};

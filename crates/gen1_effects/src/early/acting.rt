@@ -44,7 +44,7 @@ pub fn is_group_one(effect: Effect) -> bool
 /// Plays the move of `side`, whose effect is early and not Substitute (docs/MECHANICS.md, "Early effects"): moves that always
 /// fail, Conversion, Mist, Focus Energy, screens, Haze, confusion, healing, poison, paralysis, Leech Seed and Splash.
 ///
-/// The action has just begun. At most three draws are taken, and two events written at most, for which two places in `events`
+/// The action has just begun. At most two draws are taken, and two events written at most, for which two places in `events`
 /// are to be free. A move that fails, or misses, says so by an event, and changes nothing but what a miss changes.
 pub fn group_one<R: Rolls>(
     battle: &mut Packed,

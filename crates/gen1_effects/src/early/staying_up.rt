@@ -61,7 +61,7 @@ fn is_light_screen(id: MoveId) -> bool
     id.number() == LIGHT_SCREEN
 }
 
-// Sets a condition that has no number, the place of whose bit is k.
+// Sets a condition that has no number, and fails where it is on. The place of its bit is k.
 fn put_up(
     battle: &mut Packed,
     side: Side,
