@@ -4,3 +4,5 @@
 
 #[cfg(test)]
 mod early;
+#[cfg(test)]
+mod side_effects;

@@ -23,8 +23,9 @@ pub(super) fn may_lower<R: Rolls>(
     ensures shown { DoesDrawing R.byte R.next R.SPAN battle.old events.old.items random.old battle.new events.new.items random.new false (by_chance 85 (lower_stage side (other side) stat 1 stay)) }
     ensures room { AddsAtMost 1 events.old events.new }
 {
+    let foe = side.other();
     if !is_drawn_below(85, random) {
         return;
     }
-    lower_stage(battle, side, side.other(), stat, 1, events);
+    lower_stage(battle, side, foe, stat, 1, events);
 }

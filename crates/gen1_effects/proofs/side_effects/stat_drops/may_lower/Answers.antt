@@ -14,4 +14,4 @@ returns-clause-shown t c origin g p h =
     let s = c.args.side in
     comes 85 (lower_stage s (other s) c.args.stat 1 stay) h c.is_drawn_below.ensures.drawn c.is_drawn_below.ensures.left c.if-not-is_drawn_below.false
     (λ d. still d (shifted _ _ _ _ (lower_stage s (other s) c.args.stat 1) _
-    ((rw c.other.ensures at c.lower_stage.ensures.shown) (omega arith, omega arith) stay _ _ d.shows)) refl)
+    ((rw c.other-foe.ensures at c.lower_stage.ensures.shown) (omega arith, omega arith) stay _ _ d.shows)) refl)
