@@ -1,0 +1,2 @@
+-- What Bide lets out.
+pub mod Energy
