@@ -1,0 +1,9 @@
+use Rattle.std.proofs.Common.{arith}
+use Rattle.gen1_layout.proofs.Steps.{member_ok}
+use Rattle.gen1_multiturn.proofs.substituting.quarter.Goals as goal
+
+pub returns-clause-stands : goal.returns-clause-stands
+returns-clause-stands c g f h =
+    let max = (member_ok c.args.side h).numbers.max in
+    let is = c.max_hp.ensures.stands g f h in
+    omega (arith, max.1, is, c.min.ensures)

@@ -1,0 +1,137 @@
+//! Moves that charge for a turn before they strike (docs/MECHANICS.md, "Charging").
+ghost use Rattle.std.specs.Prelude.{List, false, length, true, ◌+◌, ◌≡◌, ◌≤◌};
+ghost use Rattle.arrayvec.specs.ArrayVec.{array_vec_len};
+ghost use Rattle.gen1_machine.specs.declared.event.Event.{Event};
+ghost use Rattle.gen1_machine.specs.declared.picks.Pick.TheVariants.{Continue};
+ghost use Rattle.gen1_machine.specs.Charging.{begin_charge, charge, end_charge, make_current};
+ghost use Rattle.gen1_machine.specs.Conditions.{with_invulnerability};
+ghost use Rattle.gen1_machine.specs.Moves.{charges, hides, move_at};
+ghost use Rattle.gen1_machine.specs.Picks.{used_by};
+ghost use Rattle.gen1_machine.specs.Progress.{Progress, on_conditions, only};
+ghost use Rattle.gen1_machine.specs.State.{active_in, member_in};
+ghost use Rattle.gen1_machine.specs.Valid.{IsUsed};
+ghost use Rattle.gen1_layout.specs.Shows.{Does, Frame, Shows};
+ghost use Rattle.gen1_action.specs.Planned.{DoesTaking};
+ghost use Rattle.gen1_multiturn.specs.Anyway.{DoesAnyway};
+
+use gen1_action::Known;
+use gen1_layout::{Conditions, Packed};
+use gen1_machine::{Event, EventList, Pick, Side, Used};
+use gen1_rolls::Rolls;
+use gen1_tables::{Effect, MoveId};
+
+/// Charges the current move of `side`, with `Prepare`, if it charges and has not yet; for Fly and Dig the user is Invulnerable
+/// then. If it has, both conditions are cleared. A place in `events` is to be free, and nothing else changes
+/// (docs/MECHANICS.md, "Charging").
+pub fn charge(battle: &mut Packed, side: Side, id: MoveId, events: &mut EventList)
+    requires { array_vec_len events.old + 1 ≤ 64 }
+    ensures shown { DoesAnyway battle.old events.old.items battle.new events.new.items (charge side Continue (move_at id)) }
+    ensures room { array_vec_len events.new ≤ array_vec_len events.old + 1 }
+{
+    charge_by(battle, side, Pick::Continue, id, events);
+}
+
+/// The same of the move that a pick takes up, in an action of which something is known. The answer is `true` where the action
+/// ends with it: in the first turn, where the move becomes the current one (docs/MECHANICS.md, "Charging").
+pub fn charge_knowing<R: Rolls>(
+    battle: &mut Packed,
+    side: Side,
+    pick: Pick,
+    id: MoveId,
+    known: &Known,
+    random: &R,
+    events: &mut EventList,
+) -> bool
+    requires { array_vec_len events.old + 1 ≤ 64 }
+    ensures shown { DoesTaking R.byte R.next R.SPAN side pick (move_at id).effect battle.old events.old.items random.now known.now battle.new events.new.items random.now known.now result (λ r. charge side pick (move_at id)) }
+    ensures room { array_vec_len events.new ≤ array_vec_len events.old + 1 }
+{
+    charge_by(battle, side, pick, id, events)
+}
+
+/// Makes the move that a pick uses the current one of `side`; nothing else changes (docs/MECHANICS.md, "Charging").
+pub fn make_current(battle: &mut Packed, side: Side, pick: Pick)
+    ensures shown { (g : Frame) (p : Progress) (events : List Event) → IsUsed (length (member_in side p.field).moves) (used_by pick (active_in side p.field).current)
+        → Shows g battle.old events false p → Shows g battle.new events false (make_current side pick p) }
+{
+    let used = used_by(pick, battle.current(side));
+    battle.put_current(side, used);
+}
+
+// What a pick uses, beside the current move.
+fn used_by(pick: Pick, current: Used) -> Used
+    ensures { result ≡ used_by pick current }
+{
+    match pick {
+        Pick::Use(used) => used,
+        Pick::Continue => current,
+        Pick::Idle => current,
+        Pick::Held => current,
+    }
+}
+
+// True where the action ends with it.
+fn charge_by(
+    battle: &mut Packed,
+    side: Side,
+    pick: Pick,
+    id: MoveId,
+    events: &mut EventList,
+) -> bool
+    requires { array_vec_len events.old + 1 ≤ 64 }
+    ensures shown { (g : Frame) (p : Progress) → IsUsed (length (member_in side p.field).moves) (used_by pick (active_in side p.field).current)
+        → Shows g battle.old events.old.items false p → Shows g battle.new events.new.items result (charge side pick (move_at id) p) }
+    ensures room { array_vec_len events.new ≤ array_vec_len events.old + 1 }
+{
+    if !charges(id.effect()) {
+        return false;
+    }
+    if battle.is_on(side, Conditions::CHARGING) {
+        end_charge(battle, side);
+        return false;
+    }
+    begin_charge(battle, side, pick, id, events);
+    true
+}
+
+fn charges(effect: Effect) -> bool
+    ensures { result ≡ charges effect }
+{
+    matches!(effect, Effect::Charge | Effect::ChargeInvulnerable)
+}
+
+// The first turn.
+fn begin_charge(battle: &mut Packed, side: Side, pick: Pick, id: MoveId, events: &mut EventList)
+    requires { array_vec_len events.old + 1 ≤ 64 }
+    ensures shown { (g : Frame) (p : Progress) → IsUsed (length (member_in side p.field).moves) (used_by pick (active_in side p.field).current)
+        → Shows g battle.old events.old.items false p → Shows g battle.new events.new.items true (begin_charge side pick (move_at id) p) }
+    ensures room { array_vec_len events.new ≡ array_vec_len events.old + 1 }
+{
+    make_current(battle, side, pick);
+    battle.put_flag(side, Conditions::CHARGING, true);
+    hide(battle, side, id.effect());
+    events.push(Event::Prepare(battle.who(side), id));
+}
+
+// Who flies up or digs in can't be hit meanwhile.
+fn hide(battle: &mut Packed, side: Side, effect: Effect)
+    ensures shown { (events : List Event) → Does battle.old events battle.new events false (only (hides effect) (on_conditions side with_invulnerability)) }
+{
+    if hides(effect) {
+        battle.put_flag(side, Conditions::INVULNERABLE, true);
+    }
+}
+
+fn hides(effect: Effect) -> bool
+    ensures { result ≡ hides effect }
+{
+    matches!(effect, Effect::ChargeInvulnerable)
+}
+
+// The second turn.
+fn end_charge(battle: &mut Packed, side: Side)
+    ensures shown { (events : List Event) → Does battle.old events battle.new events false (end_charge side) }
+{
+    battle.put_flag(side, Conditions::CHARGING, false);
+    battle.put_flag(side, Conditions::INVULNERABLE, false);
+}
