@@ -1,18 +1,16 @@
 -- What is underway for a member that is out, of which one thing at most is on, and what a turn makes of its counts.
-use Rattle.std.proofs.Common.{None, Option, Some, ap, arith, false, is_some, refl, subst, sym, true, ℕ, ◌+◌, ◌-◌, ◌≡◌, ◌≤◌, ◌∙◌}
+use Rattle.gen1_layout.proofs.Words.{ActiveConditions, Field, None, Option, Progress, Side, Some, ap, arith, changed_active, changed_conditions, false, is_some, refl, subst, sym, true, underway_in, ℕ, ◌+◌, ◌-◌, ◌∙◌, ◌≡◌, ◌≤◌}
 use Rattle.std.proofs.lemmas.Bool.{false≢true}
 use Rattle.gen1_tables.specs.declared.effect.Effect.{Effect}
 use Rattle.gen1_tables.specs.declared.effect.Effect.TheVariants as effects
-use Rattle.gen1_machine.specs.declared.side.Side.{Side}
 use Rattle.gen1_machine.specs.declared.side.Side.TheVariants.{One, Two}
-use Rattle.gen1_machine.specs.Conditions.{energy_with, with_bide_storing, with_thrash_one_less, with_trapping_one_less, Conditions, Storing, Underway}
+use Rattle.gen1_machine.specs.Conditions.{energy_with, with_bide_storing, with_thrash_one_less, with_trapping_one_less, Storing, Underway}
 use Rattle.gen1_machine.specs.Layout.{energy_of}
 use Rattle.gen1_machine.specs.Moves.{bides, thrashes, traps}
 use Rattle.gen1_machine.specs.Plans.{Doing, Plan}
-use Rattle.gen1_machine.specs.Progress.{Progress}
 use Rattle.gen1_machine.specs.Rules.{bit_of}
 use Rattle.gen1_machine.specs.Sides.{other}
-use Rattle.gen1_machine.specs.State.{changed_active, changed_conditions, underway_in, Field, Terms}
+use Rattle.gen1_machine.specs.State.{Terms}
 use Rattle.gen1_machine.specs.Valid.{IsUnderway}
 use Rattle.gen1_machine.proofs.Sound.{party-valid, planned-holds}
 use Rattle.gen1_layout.specs.Decoding.{turns_stored}
@@ -30,17 +28,17 @@ beside-trapping u turns h is =
 
 -- a turn less
 
-pub less_trapping : (c : Conditions) (turns : ℕ) → c.underway.trapping ≡ Some turns
+pub less_trapping : (c : ActiveConditions) (turns : ℕ) → c.underway.trapping ≡ Some turns
     → with_trapping_one_less c ≡ record c { underway = record c.underway { trapping = Some (turns - 1) } }
 unfolding with_trapping_one_less
 less_trapping c turns e = rw e refl
 
-pub none_trapping : (c : Conditions) → c.underway.trapping ≡ None → with_trapping_one_less c ≡ c
+pub none_trapping : (c : ActiveConditions) → c.underway.trapping ≡ None → with_trapping_one_less c ≡ c
 unfolding with_trapping_one_less
 none_trapping c e = rw e refl
 
 -- what is underway for a member stays where its foe changes
-pub foe-apart : (s t : Side) (change : Conditions → Conditions) (f : Field) → t ≡ other s → underway_in s (changed_conditions t change f) ≡ underway_in s f
+pub foe-apart : (s t : Side) (change : ActiveConditions → ActiveConditions) (f : Field) → t ≡ other s → underway_in s (changed_conditions t change f) ≡ underway_in s f
 unfolding changed_conditions changed_active
 foe-apart One t change f e = rw e refl
 foe-apart Two t change f e = rw e refl
@@ -57,12 +55,12 @@ beside-bide u b h is =
     let sum = subst (λ (o : Option Storing). bit_of (is_some o) + bit_of (is_some u.thrash) + bit_of (is_some u.trapping) ≤ 1) is h.alone in
     (none-on u.thrash (omega (arith, sum)), none-on u.trapping (omega (arith, sum)))
 
-pub less_thrash : (c : Conditions) (turns : ℕ) → c.underway.thrash ≡ Some turns
+pub less_thrash : (c : ActiveConditions) (turns : ℕ) → c.underway.thrash ≡ Some turns
     → with_thrash_one_less c ≡ record c { underway = record c.underway { thrash = Some (turns - 1) } }
 unfolding with_thrash_one_less
 less_thrash c turns e = rw e refl
 
-pub more_energy : (c : Conditions) (damage : ℕ) (b : Storing) (turns energy : ℕ) → c.underway.bide ≡ Some b → turns ≡ b.turns - 1 → energy ≡ energy_with damage b
+pub more_energy : (c : ActiveConditions) (damage : ℕ) (b : Storing) (turns energy : ℕ) → c.underway.bide ≡ Some b → turns ≡ b.turns - 1 → energy ≡ energy_with damage b
     → with_bide_storing damage c ≡ record c { underway = record c.underway { bide = Some (record { turns = turns; energy = energy }) } }
 unfolding with_bide_storing
 more_energy c damage b turns energy e few much = rw (e, few, much) refl

@@ -1,16 +1,12 @@
 //! Bide, which begins, stores the last damage, and lets it out twice over (docs/MECHANICS.md, "Going on").
-ghost use Rattle.std.specs.Prelude.{None, Some, false, true, ℕ, ◌%◌, ◌*◌, ◌+◌, ◌-◌, ◌≡◌, ◌≤◌};
-ghost use Rattle.arrayvec.specs.ArrayVec.{array_vec_len};
+ghost use Rattle.gen1_layout.specs.Words.{Adds, AddsAtMost, Frame, HasRoom, None, Progress, Reads, Shows, Some, false, true, underway_in, ℕ, ◌-◌, ◌≡◌};
 ghost use Rattle.gen1_tables.specs.declared.effect.Effect.{Effect};
 ghost use Rattle.gen1_tables.specs.declared.effect.Effect.TheVariants.{Bide};
 ghost use Rattle.gen1_machine.specs.Conditions.{Storing, energy_with};
 ghost use Rattle.gen1_machine.specs.GoingOn.{bide_goes_on, let_energy_go, let_out, store_energy};
 ghost use Rattle.gen1_machine.specs.LateEffects.{bide_for, start_bide};
 ghost use Rattle.gen1_machine.specs.Moves.{bides};
-ghost use Rattle.gen1_machine.specs.Progress.{Progress, underway};
-ghost use Rattle.gen1_machine.specs.State.{Field, underway_in};
-ghost use Rattle.gen1_layout.specs.Shows.{Does, Frame, Shows};
-ghost use Rattle.gen1_layout.specs.Within.{Setting, Within};
+ghost use Rattle.gen1_machine.specs.Progress.{underway};
 ghost use Rattle.gen1_action.specs.declared.known.Known.{Known as Knowledge};
 ghost use Rattle.gen1_action.specs.Alone.{DoesAloneAt};
 ghost use Rattle.gen1_action.specs.Knowing.{DoesKnowing, IsUncounted};
@@ -32,10 +28,10 @@ pub fn bide<R: Rolls>(
     random: &mut R,
     events: &mut EventList,
 ) -> Option<u16>
-    requires { array_vec_len events.old + 1 ≤ 64 }
+    requires { HasRoom 1 events.old }
     ensures left { DoesAloneAt R.byte R.next R.SPAN side Bide battle.old events.old.items random.old battle.new events.new.items random.new (λ r. use_bide side) }
-    ensures energy { (g : Setting) (f : Field) → Within g battle.old f → result ≡ energy_let_out f.last_damage (underway_in side f).bide }
-    ensures room { array_vec_len events.new ≤ array_vec_len events.old + 1 }
+    ensures energy { Reads battle.old result λ f. energy_let_out f.last_damage (underway_in side f).bide }
+    ensures room { AddsAtMost 1 events.old events.new }
 {
     let energy = energy_let_out(battle, side);
     match battle.bide(side) {
@@ -56,10 +52,10 @@ pub fn bide_knowing(
     known: &mut Known,
     events: &mut EventList,
 ) -> bool
-    requires { array_vec_len events.old + 1 ≤ 64 }
+    requires { HasRoom 1 events.old }
     ensures shown { DoesKnowing battle.old events.old.items known.old battle.new events.new.items known.new result (bide_goes_on side) }
     ensures counts { IsUncounted known.old → IsUncounted known.new }
-    ensures room { array_vec_len events.new ≤ array_vec_len events.old + 1 }
+    ensures room { AddsAtMost 1 events.old events.new }
 {
     let Some(turns) = battle.bide(side) else {
         return false;
@@ -76,10 +72,10 @@ pub fn bide_knowing(
 /// Begins the Bide of `side`, with `Start`: for two or three turns of one draw, with no energy yet. A place in `events` is to be
 /// free for it, and nothing else changes (docs/MECHANICS.md, "Going on").
 pub fn start_bide<R: Rolls>(battle: &mut Packed, side: Side, random: &mut R, events: &mut EventList)
-    requires { array_vec_len events.old + 1 ≤ 64 }
+    requires { HasRoom 1 events.old }
     ensures shown { (known : Knowledge) (effect : Effect) → bides effect ≡ true
         → DoesAt R.byte R.next R.SPAN side effect battle.old events.old.items random.old known battle.new events.new.items random.new known false (λ r. start_bide side) }
-    ensures room { array_vec_len events.new ≡ array_vec_len events.old + 1 }
+    ensures room { Adds 1 events.old events.new }
 {
     let byte = random.draw();
     bide_for(battle, side, byte, events);
@@ -87,10 +83,10 @@ pub fn start_bide<R: Rolls>(battle: &mut Packed, side: Side, random: &mut R, eve
 
 // Neither thrashing nor trapping is on.
 fn bide_for(battle: &mut Packed, side: Side, byte: u8, events: &mut EventList)
-    requires { array_vec_len events.old + 1 ≤ 64 }
+    requires { HasRoom 1 events.old }
     ensures shown { (g : Frame) (p : Progress) → (underway side p).thrash ≡ None → (underway side p).trapping ≡ None
         → Shows g battle.old events.old.items false p → Shows g battle.new events.new.items false (bide_for side byte p) }
-    ensures room { array_vec_len events.new ≡ array_vec_len events.old + 1 }
+    ensures room { Adds 1 events.old events.new }
 {
     battle.put_bide(side, byte % 2 + 2, 0);
     events.push(Event::Start(battle.who(side), Volatile::Bide));
@@ -98,7 +94,7 @@ fn bide_for(battle: &mut Packed, side: Side, byte: u8, events: &mut EventList)
 
 // What is let out in this turn, where that is the last.
 fn energy_let_out(battle: &Packed, side: Side) -> Option<u16>
-    ensures { (g : Setting) (f : Field) → Within g battle.now f → result ≡ energy_let_out f.last_damage (underway_in side f).bide }
+    ensures { Reads battle.now result λ f. energy_let_out f.last_damage (underway_in side f).bide }
 {
     let Some(turns) = battle.bide(side) else {
         return None;
@@ -118,11 +114,11 @@ fn let_energy_go(
     known: &mut Known,
     events: &mut EventList,
 )
-    requires { array_vec_len events.old + 1 ≤ 64 }
+    requires { HasRoom 1 events.old }
     ensures shown { (energy : ℕ) → damage ≡ let_out energy
         → DoesKnowing battle.old events.old.items known.old battle.new events.new.items known.new false (let_energy_go side energy) }
     ensures counts { IsUncounted known.old → IsUncounted known.new }
-    ensures room { array_vec_len events.new ≡ array_vec_len events.old + 1 }
+    ensures room { Adds 1 events.old events.new }
 {
     battle.end_bide(side);
     events.push(Event::End(battle.who(side), Volatile::Bide));
@@ -132,10 +128,10 @@ fn let_energy_go(
 }
 
 fn store_energy(battle: &mut Packed, side: Side, turns: u8, energy: u16, events: &mut EventList)
-    requires { array_vec_len events.old + 1 ≤ 64 }
+    requires { HasRoom 1 events.old }
     ensures shown { (g : Frame) (p : Progress) (damage : ℕ) (b : Storing) → (underway side p).bide ≡ Some b → turns ≡ b.turns - 1 → energy ≡ energy_with damage b
         → Shows g battle.old events.old.items false p → Shows g battle.new events.new.items true (store_energy side damage p) }
-    ensures room { array_vec_len events.new ≡ array_vec_len events.old + 1 }
+    ensures room { Adds 1 events.old events.new }
 {
     battle.put_bide(side, turns, energy);
     events.push(Event::Activate(battle.who(side), Volatile::Bide));

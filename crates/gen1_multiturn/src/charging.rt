@@ -1,22 +1,18 @@
 //! Moves that charge for a turn before they strike (docs/MECHANICS.md, "Charging").
-ghost use Rattle.std.specs.Prelude.{List, false, length, true, ◌+◌, ◌≡◌, ◌≤◌};
-ghost use Rattle.arrayvec.specs.ArrayVec.{array_vec_len};
-ghost use Rattle.gen1_machine.specs.declared.event.Event.{Event};
+ghost use Rattle.gen1_layout.specs.Words.{Adds, AddsAtMost, Does, Event, Frame, HasRoom, List, Progress, Shows, active_in, false, length, member_in, move_at, true, ◌≡◌};
 ghost use Rattle.gen1_machine.specs.declared.picks.Pick.TheVariants.{Continue};
 ghost use Rattle.gen1_machine.specs.Charging.{begin_charge, charge, end_charge, make_current};
 ghost use Rattle.gen1_machine.specs.Conditions.{with_invulnerability};
-ghost use Rattle.gen1_machine.specs.Moves.{charges, hides, move_at};
+ghost use Rattle.gen1_machine.specs.Moves.{charges, hides};
 ghost use Rattle.gen1_machine.specs.Picks.{used_by};
-ghost use Rattle.gen1_machine.specs.Progress.{Progress, on_conditions, only};
-ghost use Rattle.gen1_machine.specs.State.{active_in, member_in};
-ghost use Rattle.gen1_machine.specs.Valid.{IsUsed};
-ghost use Rattle.gen1_layout.specs.Shows.{Does, Frame, Shows};
+ghost use Rattle.gen1_machine.specs.Progress.{on_conditions, only};
+ghost use Rattle.gen1_machine.specs.Valid.{IsUsedMove};
 ghost use Rattle.gen1_action.specs.Planned.{DoesTaking};
 ghost use Rattle.gen1_multiturn.specs.Anyway.{DoesAnyway};
 
 use gen1_action::Known;
 use gen1_layout::{Conditions, Packed};
-use gen1_machine::{Event, EventList, Pick, Side, Used};
+use gen1_machine::{Event, EventList, Pick, Side, UsedMove};
 use gen1_rolls::Rolls;
 use gen1_tables::{Effect, MoveId};
 
@@ -24,9 +20,9 @@ use gen1_tables::{Effect, MoveId};
 /// then. If it has, both conditions are cleared. A place in `events` is to be free, and nothing else changes
 /// (docs/MECHANICS.md, "Charging").
 pub fn charge(battle: &mut Packed, side: Side, id: MoveId, events: &mut EventList)
-    requires { array_vec_len events.old + 1 ≤ 64 }
+    requires { HasRoom 1 events.old }
     ensures shown { DoesAnyway battle.old events.old.items battle.new events.new.items (charge side Continue (move_at id)) }
-    ensures room { array_vec_len events.new ≤ array_vec_len events.old + 1 }
+    ensures room { AddsAtMost 1 events.old events.new }
 {
     charge_by(battle, side, Pick::Continue, id, events);
 }
@@ -42,24 +38,24 @@ pub fn charge_knowing<R: Rolls>(
     random: &R,
     events: &mut EventList,
 ) -> bool
-    requires { array_vec_len events.old + 1 ≤ 64 }
+    requires { HasRoom 1 events.old }
     ensures shown { DoesTaking R.byte R.next R.SPAN side pick (move_at id).effect battle.old events.old.items random.now known.now battle.new events.new.items random.now known.now result (λ r. charge side pick (move_at id)) }
-    ensures room { array_vec_len events.new ≤ array_vec_len events.old + 1 }
+    ensures room { AddsAtMost 1 events.old events.new }
 {
     charge_by(battle, side, pick, id, events)
 }
 
 /// Makes the move that a pick uses the current one of `side`; nothing else changes (docs/MECHANICS.md, "Charging").
 pub fn make_current(battle: &mut Packed, side: Side, pick: Pick)
-    ensures shown { (g : Frame) (p : Progress) (events : List Event) → IsUsed (length (member_in side p.field).moves) (used_by pick (active_in side p.field).current)
+    ensures shown { (g : Frame) (p : Progress) (events : List Event) → IsUsedMove (length (member_in side p.field).moves) (used_by pick (active_in side p.field).current_move)
         → Shows g battle.old events false p → Shows g battle.new events false (make_current side pick p) }
 {
-    let used = used_by(pick, battle.current(side));
-    battle.put_current(side, used);
+    let used = used_by(pick, battle.current_move(side));
+    battle.put_current_move(side, used);
 }
 
 // What a pick uses, beside the current move.
-fn used_by(pick: Pick, current: Used) -> Used
+fn used_by(pick: Pick, current: UsedMove) -> UsedMove
     ensures { result ≡ used_by pick current }
 {
     match pick {
@@ -78,10 +74,10 @@ fn charge_by(
     id: MoveId,
     events: &mut EventList,
 ) -> bool
-    requires { array_vec_len events.old + 1 ≤ 64 }
-    ensures shown { (g : Frame) (p : Progress) → IsUsed (length (member_in side p.field).moves) (used_by pick (active_in side p.field).current)
+    requires { HasRoom 1 events.old }
+    ensures shown { (g : Frame) (p : Progress) → IsUsedMove (length (member_in side p.field).moves) (used_by pick (active_in side p.field).current_move)
         → Shows g battle.old events.old.items false p → Shows g battle.new events.new.items result (charge side pick (move_at id) p) }
-    ensures room { array_vec_len events.new ≤ array_vec_len events.old + 1 }
+    ensures room { AddsAtMost 1 events.old events.new }
 {
     if !charges(id.effect()) {
         return false;
@@ -102,10 +98,10 @@ fn charges(effect: Effect) -> bool
 
 // The first turn.
 fn begin_charge(battle: &mut Packed, side: Side, pick: Pick, id: MoveId, events: &mut EventList)
-    requires { array_vec_len events.old + 1 ≤ 64 }
-    ensures shown { (g : Frame) (p : Progress) → IsUsed (length (member_in side p.field).moves) (used_by pick (active_in side p.field).current)
+    requires { HasRoom 1 events.old }
+    ensures shown { (g : Frame) (p : Progress) → IsUsedMove (length (member_in side p.field).moves) (used_by pick (active_in side p.field).current_move)
         → Shows g battle.old events.old.items false p → Shows g battle.new events.new.items true (begin_charge side pick (move_at id) p) }
-    ensures room { array_vec_len events.new ≡ array_vec_len events.old + 1 }
+    ensures room { Adds 1 events.old events.new }
 {
     make_current(battle, side, pick);
     battle.put_flag(side, Conditions::CHARGING, true);

@@ -1,10 +1,6 @@
 //! A substitute that is made (docs/MECHANICS.md, "Early effects").
-ghost use Rattle.std.specs.Prelude.{false, ◌+◌, ◌/◌, ◌≡◌, ◌≤◌};
-ghost use Rattle.arrayvec.specs.ArrayVec.{array_vec_len};
+ghost use Rattle.gen1_layout.specs.Words.{AddsAtMost, Does, HasRoom, Reads, false, member_in, ◌/◌, ◌≤◌};
 ghost use Rattle.gen1_machine.specs.EarlyEffects.{make_substitute, pay_for_substitute};
-ghost use Rattle.gen1_machine.specs.State.{Field, member_in};
-ghost use Rattle.gen1_layout.specs.Shows.{Does};
-ghost use Rattle.gen1_layout.specs.Within.{Setting, Within};
 ghost use Rattle.gen1_multiturn.specs.Anyway.{DoesAnyway};
 
 use gen1_action::fail;
@@ -17,9 +13,9 @@ use gen1_machine::{DamageSource, Event, EventList, Side, Volatile};
 /// is written, or `Start` and `Damage`: two places in `events` are to be free. Nothing else changes (docs/MECHANICS.md, "Early
 /// effects").
 pub fn substitute(battle: &mut Packed, side: Side, events: &mut EventList)
-    requires { array_vec_len events.old + 2 ≤ 64 }
+    requires { HasRoom 2 events.old }
     ensures shown { DoesAnyway battle.old events.old.items battle.new events.new.items (make_substitute side) }
-    ensures room { array_vec_len events.new ≤ array_vec_len events.old + 2 }
+    ensures room { AddsAtMost 2 events.old events.new }
 {
     make_substitute(battle, side, events);
 }
@@ -27,9 +23,9 @@ pub fn substitute(battle: &mut Packed, side: Side, events: &mut EventList)
 /// The same, as a part of an action. The answer is `true` where it fails, which ends the action (docs/MECHANICS.md, "Early
 /// effects").
 pub fn make_substitute(battle: &mut Packed, side: Side, events: &mut EventList) -> bool
-    requires { array_vec_len events.old + 2 ≤ 64 }
+    requires { HasRoom 2 events.old }
     ensures shown { Does battle.old events.old.items battle.new events.new.items result (make_substitute side) }
-    ensures room { array_vec_len events.new ≤ array_vec_len events.old + 2 }
+    ensures room { AddsAtMost 2 events.old events.new }
 {
     if battle.is_on(side, Conditions::SUBSTITUTE) {
         fail(battle, side, events);
@@ -46,17 +42,17 @@ pub fn make_substitute(battle: &mut Packed, side: Side, events: &mut EventList) 
 
 // A quarter of the maximum HP, which are 999 at most.
 fn quarter(battle: &Packed, side: Side) -> u8
-    ensures stands { (g : Setting) (f : Field) → Within g battle.now f → result ≡ (member_in side f).max / 4 }
+    ensures stands { Reads battle.now result λ f. (member_in side f).max / 4 }
     ensures most { result ≤ 249 }
 {
     (battle.max_hp(side) / 4).min(249) as u8
 }
 
 fn pay_for_substitute(battle: &mut Packed, side: Side, cost: u8, events: &mut EventList)
-    requires room { array_vec_len events.old + 2 ≤ 64 }
+    requires room { HasRoom 2 events.old }
     requires most { cost ≤ 249 }
     ensures shown { Does battle.old events.old.items battle.new events.new.items false (pay_for_substitute side cost) }
-    ensures room { array_vec_len events.new ≤ array_vec_len events.old + 2 }
+    ensures room { AddsAtMost 2 events.old events.new }
 {
     battle.put_substitute(side, Some(cost));
     events.push(Event::Start(battle.who(side), Volatile::Substitute));

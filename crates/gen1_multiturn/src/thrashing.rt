@@ -1,13 +1,10 @@
 //! Thrashing, which begins, goes on, and ends in confusion (docs/MECHANICS.md, "Going on").
-ghost use Rattle.std.specs.Prelude.{List, None, Option, false, true, ℕ, ◌+◌, ◌≡◌, ◌≤◌};
-ghost use Rattle.arrayvec.specs.ArrayVec.{array_vec_len};
+ghost use Rattle.gen1_layout.specs.Words.{AddsAtMost, Event, Frame, HasRoom, List, None, Progress, ShowsDrawn, draw, false, move_at, true, ◌≡◌};
 ghost use Rattle.gen1_tables.specs.declared.effect.Effect.{Effect};
 ghost use Rattle.gen1_tables.specs.declared.effect.Effect.TheVariants.{Thrash};
-ghost use Rattle.gen1_machine.specs.declared.event.Event.{Event};
-ghost use Rattle.gen1_machine.specs.Moves.{Move, accuracy_byte, move_at, thrashes};
+ghost use Rattle.gen1_machine.specs.Moves.{Move, accuracy_byte, thrashes};
 ghost use Rattle.gen1_machine.specs.GoingOn.{thrash_about, thrash_for, thrash_less};
-ghost use Rattle.gen1_machine.specs.Progress.{Progress, draw, underway};
-ghost use Rattle.gen1_layout.specs.Shows.{Frame, ShowsDrawn};
+ghost use Rattle.gen1_machine.specs.Progress.{underway};
 ghost use Rattle.gen1_action.specs.Alone.{DoesAloneAt};
 ghost use Rattle.gen1_action.specs.Planned.{DoesAt};
 
@@ -23,10 +20,10 @@ const ACCURACY: u8 = 255;
 /// Begins the thrashing of `side`, which uses Thrash or Petal Dance: for two or three turns more, of one draw, with the accuracy
 /// byte of these moves, 255, kept for them. Nothing else changes, and no event is written (docs/MECHANICS.md, "Going on").
 pub fn thrash<R: Rolls>(battle: &mut Packed, side: Side, random: &mut R, events: &mut EventList)
-    requires { array_vec_len events.old + 1 ≤ 64 }
+    requires { HasRoom 1 events.old }
     ensures left { (move : Move) → accuracy_byte move ≡ 255
         → DoesAloneAt R.byte R.next R.SPAN side Thrash battle.old events.old.items random.old battle.new events.new.items random.new (λ r. thrash_about side move) }
-    ensures room { array_vec_len events.new ≤ array_vec_len events.old + 1 }
+    ensures room { AddsAtMost 1 events.old events.new }
 {
     thrash_with(
         battle,
@@ -48,10 +45,10 @@ pub fn thrash_knowing<R: Rolls>(
     random: &mut R,
     events: &mut EventList,
 )
-    requires room { array_vec_len events.old + 1 ≤ 64 }
+    requires room { HasRoom 1 events.old }
     requires tie { thrashes (move_at id).effect ≡ true }
     ensures shown { DoesAt R.byte R.next R.SPAN side (move_at id).effect battle.old events.old.items random.old known.now battle.new events.new.items random.new known.now false (λ r. thrash_about side (move_at id)) }
-    ensures room { array_vec_len events.new ≤ array_vec_len events.old + 1 }
+    ensures room { AddsAtMost 1 events.old events.new }
 {
     thrash_with(battle, side, id.accuracy_byte(), known, random, events);
 }
@@ -65,10 +62,10 @@ fn thrash_with<R: Rolls>(
     random: &mut R,
     events: &mut EventList,
 )
-    requires { array_vec_len events.old + 1 ≤ 64 }
+    requires { HasRoom 1 events.old }
     ensures shown { (move : Move) (effect : Effect) → accuracy_byte move ≡ accuracy → thrashes effect ≡ true
         → DoesAt R.byte R.next R.SPAN side effect battle.old events.old.items random.old known.now battle.new events.new.items random.new known.now false (λ r. thrash_about side move) }
-    ensures room { array_vec_len events.new ≤ array_vec_len events.old + 1 }
+    ensures room { AddsAtMost 1 events.old events.new }
 {
     if known.going_on {
         thrash_on(battle, side, battle.thrash(side), random, events);
@@ -85,11 +82,11 @@ fn thrash_on<R: Rolls>(
     random: &mut R,
     events: &mut EventList,
 )
-    requires { array_vec_len events.old + 1 ≤ 64 }
+    requires { HasRoom 1 events.old }
     ensures shown { (origin : R) (g : Frame) (p : Progress) → (underway side p).thrash ≡ left
         → ShowsDrawn R.byte R.next R.SPAN origin g battle.old events.old.items random.old false p
         → ShowsDrawn R.byte R.next R.SPAN origin g battle.new events.new.items random.new false (thrash_less side left p) }
-    ensures room { array_vec_len events.new ≤ array_vec_len events.old + 1 }
+    ensures room { AddsAtMost 1 events.old events.new }
 {
     let Some(turns) = left else {
         return;

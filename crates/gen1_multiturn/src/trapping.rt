@@ -1,14 +1,11 @@
 //! Trapping, which begins or goes on (docs/MECHANICS.md, "Going on").
-ghost use Rattle.std.specs.Prelude.{List, None, false, true, ◌≡◌};
+ghost use Rattle.gen1_layout.specs.Words.{Does, Event, Frame, List, None, Progress, ShowsDrawn, false, other, true, ◌≡◌, ◌▸◌};
 ghost use Rattle.gen1_tables.specs.declared.effect.Effect.{Effect};
 ghost use Rattle.gen1_tables.specs.declared.effect.Effect.TheVariants.{Trapping};
-ghost use Rattle.gen1_machine.specs.declared.event.Event.{Event};
-ghost use Rattle.gen1_machine.specs.Sides.{other};
 ghost use Rattle.gen1_machine.specs.Conditions.{with_trapping_one_less, without_recharge};
 ghost use Rattle.gen1_machine.specs.Moves.{traps};
 ghost use Rattle.gen1_machine.specs.GoingOn.{draw_count, trap, trap_for};
-ghost use Rattle.gen1_machine.specs.Progress.{Progress, on_conditions, underway, ◌▸◌};
-ghost use Rattle.gen1_layout.specs.Shows.{Does, Frame, ShowsDrawn};
+ghost use Rattle.gen1_machine.specs.Progress.{on_conditions, underway};
 ghost use Rattle.gen1_action.specs.Alone.{DoesAloneAt};
 ghost use Rattle.gen1_action.specs.Planned.{DoesAt};
 

@@ -1,8 +1,6 @@
-use Rattle.std.proofs.Common.{Option, ap, is_some, refl, sym, ◌∙◌}
+use Rattle.gen1_layout.proofs.Words.{Option, ap, drawn_if_not, drawn_if_so, is_some, refl, sym, underway_in, ◌∙◌}
 use Rattle.gen1_tables.specs.declared.effect.Effect.TheVariants.{Bide}
 use Rattle.gen1_machine.specs.Conditions.{Storing}
-use Rattle.gen1_machine.specs.State.{underway_in}
-use Rattle.gen1_layout.proofs.Chain.{drawn_if_not, drawn_if_so}
 use Rattle.gen1_action.proofs.Knowledge.{does_still, leaves}
 use Rattle.gen1_action.specs.Alone.{just_begun}
 use Rattle.gen1_multiturn.proofs.Underways.{not-stored, stored-is}

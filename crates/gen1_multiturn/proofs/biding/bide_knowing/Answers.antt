@@ -1,10 +1,8 @@
-use Rattle.std.proofs.Common.{None, Option, Some, arith, refl, sym, ◌∙◌}
+use Rattle.gen1_layout.proofs.Words.{None, Option, Some, arith, given, if_not, if_so, refl, seeing, stays, sym, underway_in, ◌∙◌}
 use Rattle.gen1_machine.specs.Conditions.{energy_with, Storing}
 use Rattle.gen1_machine.specs.GoingOn.{bide_goes_on, bide_on}
 use Rattle.gen1_machine.specs.Layout.{energy_of}
-use Rattle.gen1_machine.specs.Progress.{given, last_damage}
-use Rattle.gen1_machine.specs.State.{underway_in}
-use Rattle.gen1_layout.proofs.Chain.{if_not, if_so, seeing, stays}
+use Rattle.gen1_machine.specs.Progress.{last_damage}
 use Rattle.gen1_status.proofs.Comparing.{at_most, not_at_most}
 use Rattle.gen1_multiturn.proofs.Underways.{not-stored, stored-is}
 use Rattle.gen1_multiturn.proofs.biding.bide_knowing.Goals as goal

@@ -1,12 +1,9 @@
-use Rattle.std.proofs.Common.{ap, refl, true, ◌==◌}
-use Rattle.gen1_machine.specs.declared.health.Who.{Who}
+use Rattle.gen1_layout.proofs.Words.{Action, Field, Who, acted, ap, changed_conditions, ends, goes, put_damage, refl, told_so, true, who_in, ◌==◌}
 use Rattle.gen1_machine.specs.declared.event.Event.TheVariants as events
 use Rattle.gen1_machine.specs.declared.event.Volatile.TheVariants as volatiles
 use Rattle.gen1_machine.specs.Conditions.{without_bide}
 use Rattle.gen1_machine.specs.GoingOn.{let_energy_go, set_letting_go}
-use Rattle.gen1_machine.specs.Progress.{ends, set_missed, Action}
-use Rattle.gen1_machine.specs.State.{changed_conditions, who_in, Field}
-use Rattle.gen1_layout.proofs.Chain.{acted, goes, put_damage, told_so}
+use Rattle.gen1_machine.specs.Progress.{set_missed}
 use Rattle.gen1_multiturn.proofs.biding.let_energy_go.Goals as goal
 
 pub returns-clause-shown : goal.returns-clause-shown

@@ -1,6 +1,5 @@
-use Rattle.std.proofs.Common.{refl}
+use Rattle.gen1_layout.proofs.Words.{drawing, refl, still}
 use Rattle.gen1_machine.specs.LateEffects.{bide_for, start_bide}
-use Rattle.gen1_layout.proofs.Chain.{drawing, still}
 use Rattle.gen1_multiturn.proofs.Underways.{alone-biding}
 use Rattle.gen1_multiturn.proofs.biding.start_bide.Goals as goal
 

@@ -1,19 +1,15 @@
-use Rattle.std.proofs.Common.{Option, ap, arith, subst}
-use Rattle.gen1_machine.specs.declared.health.Who.{Who}
+use Rattle.gen1_layout.proofs.Words.{Field, Option, Who, active_ok, ap, arith, changed_conditions, conditions_in, goes, halted, subst, told_so, who_in}
 use Rattle.gen1_machine.specs.declared.event.Event.TheVariants as events
 use Rattle.gen1_machine.specs.declared.event.Volatile.TheVariants as volatiles
 use Rattle.gen1_machine.specs.Conditions.{with_bide_storing, Storing}
 use Rattle.gen1_machine.specs.GoingOn.{store_energy}
-use Rattle.gen1_machine.specs.Progress.{goes_on}
-use Rattle.gen1_machine.specs.State.{changed_conditions, conditions_in, who_in, Field}
+use Rattle.gen1_machine.specs.Progress.{lasts}
 use Rattle.gen1_layout.specs.Storable.{IsStorableBide}
-use Rattle.gen1_layout.proofs.Chain.{goes, halted, told_so}
-use Rattle.gen1_layout.proofs.Steps.{active_ok}
 use Rattle.gen1_multiturn.proofs.Underways.{beside-bide, more_energy}
 use Rattle.gen1_multiturn.proofs.biding.store_energy.Goals as goal
 
 pub returns-clause-shown : goal.returns-clause-shown
-unfolding store_energy goes_on
+unfolding store_energy lasts
 returns-clause-shown c g p damage b is few much h =
     let s = c.args.side in
     let now = conditions_in s p.field in

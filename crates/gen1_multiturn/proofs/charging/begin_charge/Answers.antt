@@ -1,14 +1,10 @@
-use Rattle.std.proofs.Common.{ap, false, lit<, refl, subst}
+use Rattle.gen1_layout.proofs.Words.{Field, Shows, Who, ap, false, goes, halted, lit<, noted, on_conditions, put_on_conditions, refl, subst, who_in}
 use Rattle.gen1_tables.specs.declared.effect.Effect.{Effect}
-use Rattle.gen1_machine.specs.declared.health.Who.{Who}
 use Rattle.gen1_machine.specs.declared.event.Event.TheVariants as events
 use Rattle.gen1_machine.specs.Charging.{begin_charge, make_current}
 use Rattle.gen1_machine.specs.Conditions.{with_charging, with_invulnerability}
 use Rattle.gen1_machine.specs.Moves.{hides}
-use Rattle.gen1_machine.specs.Progress.{on_conditions, only}
-use Rattle.gen1_machine.specs.State.{who_in, Field}
-use Rattle.gen1_layout.specs.Shows.{Shows}
-use Rattle.gen1_layout.proofs.Chain.{goes, halted, noted, put_on_conditions}
+use Rattle.gen1_machine.specs.Progress.{only}
 use Rattle.gen1_multiturn.proofs.Hiding.{charged-same}
 use Rattle.gen1_multiturn.proofs.charging.begin_charge.Goals as goal
 

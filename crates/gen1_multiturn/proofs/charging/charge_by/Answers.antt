@@ -1,7 +1,6 @@
-use Rattle.std.proofs.Common.{ap, refl, sym, ◌∙◌}
+use Rattle.gen1_layout.proofs.Words.{ap, if_not, if_so, refl, stays, sym, ◌∙◌}
 use Rattle.gen1_machine.specs.Charging.{charge}
 use Rattle.gen1_machine.specs.Moves.{charges}
-use Rattle.gen1_layout.proofs.Chain.{if_not, if_so, stays}
 use Rattle.gen1_multiturn.proofs.charging.charge_by.Goals as goal
 
 pub returns-then-not-charges-clause-shown : goal.returns-then-not-charges-clause-shown

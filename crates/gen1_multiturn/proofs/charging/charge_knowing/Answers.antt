@@ -1,6 +1,5 @@
-use Rattle.std.proofs.Common.{refl}
+use Rattle.gen1_layout.proofs.Words.{refl, still}
 use Rattle.gen1_machine.specs.Moves.{move_at}
-use Rattle.gen1_layout.proofs.Chain.{still}
 use Rattle.gen1_action.specs.Knowing.{knowing}
 use Rattle.gen1_action.proofs.Planning.{before-valid, used-fits}
 use Rattle.gen1_multiturn.proofs.charging.charge_knowing.Goals as goal

@@ -1,7 +1,6 @@
-use Rattle.std.proofs.Common.{lit<, refl}
+use Rattle.gen1_layout.proofs.Words.{goes, lit<, put_on_conditions, refl}
 use Rattle.gen1_machine.specs.Charging.{end_charge}
 use Rattle.gen1_machine.specs.Conditions.{without_charging, without_invulnerability}
-use Rattle.gen1_layout.proofs.Chain.{goes, put_on_conditions}
 use Rattle.gen1_status.proofs.Clearing.{charging-same, invulnerability-same}
 use Rattle.gen1_multiturn.proofs.charging.end_charge.Goals as goal
 

@@ -1,6 +1,5 @@
-use Rattle.std.proofs.Common.{lit<, refl, sym, ◌∙◌}
+use Rattle.gen1_layout.proofs.Words.{if_not, if_so, lit<, put_on_conditions, refl, stays, sym, ◌∙◌}
 use Rattle.gen1_machine.specs.Conditions.{with_invulnerability}
-use Rattle.gen1_layout.proofs.Chain.{if_not, if_so, put_on_conditions, stays}
 use Rattle.gen1_multiturn.proofs.Hiding.{hidden-same}
 use Rattle.gen1_multiturn.proofs.charging.hide.Goals as goal
 

@@ -1,7 +1,6 @@
-use Rattle.std.proofs.Common.{arith, refl, sym, ◌∙◌}
+use Rattle.gen1_layout.proofs.Words.{arith, if_so, past, refl, seeing, stops, sym, ◌∙◌}
 use Rattle.gen1_machine.specs.EarlyEffects.{make_substitute, pay_for_substitute}
 use Rattle.gen1_machine.specs.Progress.{fails_if}
-use Rattle.gen1_layout.proofs.Chain.{if_so, past, seeing, stops}
 use Rattle.gen1_status.proofs.Comparing.{below, not_below}
 use Rattle.gen1_multiturn.proofs.substituting.make_substitute.Goals as goal
 

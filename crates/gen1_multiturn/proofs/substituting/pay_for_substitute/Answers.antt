@@ -1,12 +1,9 @@
-use Rattle.std.proofs.Common.{ap, arith, refl}
-use Rattle.gen1_machine.specs.declared.health.Who.{Who}
+use Rattle.gen1_layout.proofs.Words.{Field, Who, ap, arith, changed_conditions, goes, refl, told_so, who_in}
 use Rattle.gen1_machine.specs.declared.event.Event.TheVariants as events
 use Rattle.gen1_machine.specs.declared.event.Volatile.TheVariants as volatiles
 use Rattle.gen1_machine.specs.Conditions.{with_substitute}
 use Rattle.gen1_machine.specs.EarlyEffects.{pay_for_substitute}
 use Rattle.gen1_machine.specs.Progress.{starts}
-use Rattle.gen1_machine.specs.State.{changed_conditions, who_in, Field}
-use Rattle.gen1_layout.proofs.Chain.{goes, told_so}
 use Rattle.gen1_multiturn.proofs.substituting.pay_for_substitute.Goals as goal
 
 pub returns-clause-shown : goal.returns-clause-shown

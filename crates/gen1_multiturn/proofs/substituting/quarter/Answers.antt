@@ -1,5 +1,4 @@
-use Rattle.std.proofs.Common.{arith}
-use Rattle.gen1_layout.proofs.Steps.{member_ok}
+use Rattle.gen1_layout.proofs.Words.{arith, member_ok}
 use Rattle.gen1_multiturn.proofs.substituting.quarter.Goals as goal
 
 pub returns-clause-stands : goal.returns-clause-stands

@@ -1,10 +1,8 @@
-use Rattle.std.proofs.Common.{ap, arith, refl, ℕ, ◌%◌, ◌+◌}
+use Rattle.gen1_layout.proofs.Words.{active_in, ap, arith, drawing, drawn_goes, on_conditions, on_field, put_on_active, put_on_conditions, refl, still, ℕ, ◌%◌, ◌+◌}
 use Rattle.gen1_machine.specs.Conditions.{with_thrash}
 use Rattle.gen1_machine.specs.GoingOn.{thrash_for}
 use Rattle.gen1_machine.specs.Moves.{accuracy_byte}
-use Rattle.gen1_machine.specs.Progress.{on_conditions, on_field}
-use Rattle.gen1_machine.specs.State.{active_in, with_kept_accuracy}
-use Rattle.gen1_layout.proofs.Chain.{drawing, drawn_goes, put_on_active, put_on_conditions, still}
+use Rattle.gen1_machine.specs.State.{with_kept_accuracy}
 use Rattle.gen1_multiturn.proofs.thrashing.begin_thrashing.Goals as goal
 
 pub returns : goal.returns

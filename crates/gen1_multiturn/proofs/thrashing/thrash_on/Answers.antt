@@ -1,10 +1,7 @@
-use Rattle.std.proofs.Common.{Option, Some, ap, arith, refl, subst, sym, ℕ, ◌∙◌}
+use Rattle.gen1_layout.proofs.Words.{Option, Some, active_ok, ap, arith, conditions_in, drawn_goes, drawn_if_not, drawn_if_so, drawn_stays, put_on_conditions, refl, still, subst, sym, ℕ, ◌∙◌}
 use Rattle.gen1_machine.specs.Conditions.{with_thrash_one_less, without_thrash}
-use Rattle.gen1_machine.specs.State.{conditions_in}
 use Rattle.gen1_machine.specs.GoingOn.{thrash_less}
 use Rattle.gen1_machine.specs.Valid.{IsCount}
-use Rattle.gen1_layout.proofs.Chain.{drawn_goes, drawn_if_not, drawn_if_so, drawn_stays, put_on_conditions, still}
-use Rattle.gen1_layout.proofs.Steps.{active_ok}
 use Rattle.gen1_status.proofs.Comparing.{at_most, not_at_most}
 use Rattle.gen1_multiturn.proofs.Underways.{beside-thrash, less_thrash}
 use Rattle.gen1_multiturn.proofs.thrashing.thrash_on.Goals as goal

@@ -1,7 +1,5 @@
-use Rattle.std.proofs.Common.{Option, ap, sym, ℕ, ◌∙◌}
+use Rattle.gen1_layout.proofs.Words.{Action, Option, ap, drawn_if_not, drawn_if_so, drawn_seeing, sym, ℕ, ◌∙◌}
 use Rattle.gen1_machine.specs.GoingOn.{thrash_about, thrash_less}
-use Rattle.gen1_machine.specs.Progress.{Action}
-use Rattle.gen1_layout.proofs.Chain.{drawn_if_not, drawn_if_so, drawn_seeing}
 use Rattle.gen1_action.specs.Knowing.{knowing}
 use Rattle.gen1_multiturn.proofs.Underways.{alone-thrashing}
 use Rattle.gen1_multiturn.proofs.thrashing.thrash_with.Goals as goal

@@ -1,9 +1,6 @@
-use Rattle.std.proofs.Common.{ap, arith, lit<, refl, ◌+◌, ◌∙◌}
+use Rattle.gen1_layout.proofs.Words.{ap, arith, conditions_in, drawn_goes, lit<, on_conditions, on_field, put_on_conditions, refl, still, ◌+◌, ◌∙◌}
 use Rattle.gen1_machine.specs.Conditions.{with_trapping, without_recharge, Underway}
-use Rattle.gen1_machine.specs.State.{conditions_in}
-use Rattle.gen1_machine.specs.Progress.{on_conditions, on_field}
 use Rattle.gen1_machine.specs.GoingOn.{trap_for}
-use Rattle.gen1_layout.proofs.Chain.{drawn_goes, put_on_conditions, still}
 use Rattle.gen1_status.proofs.Clearing.{recharge-same}
 use Rattle.gen1_multiturn.proofs.Underways.{foe-apart}
 use Rattle.gen1_multiturn.proofs.trapping.begin_trapping.Goals as goal

@@ -1,7 +1,5 @@
-use Rattle.std.proofs.Common.{ap, ◌∙◌}
+use Rattle.gen1_layout.proofs.Words.{Action, ap, drawn_if_not, drawn_if_so, ◌∙◌}
 use Rattle.gen1_machine.specs.GoingOn.{trap}
-use Rattle.gen1_machine.specs.Progress.{Action}
-use Rattle.gen1_layout.proofs.Chain.{drawn_if_not, drawn_if_so}
 use Rattle.gen1_action.proofs.Knowledge.{plain_still}
 use Rattle.gen1_action.proofs.Planning.{alone-trapping}
 use Rattle.gen1_action.specs.Knowing.{knowing}

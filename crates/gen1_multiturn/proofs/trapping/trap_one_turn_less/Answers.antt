@@ -1,10 +1,6 @@
-use Rattle.std.proofs.Common.{Option, Some, ap, arith, subst, sym, ℕ, ◌∙◌}
-use Rattle.gen1_machine.specs.Conditions.{with_trapping_one_less, Conditions}
-use Rattle.gen1_machine.specs.State.{active_in, changed_conditions, conditions_in, Active, Field}
+use Rattle.gen1_layout.proofs.Words.{Active, ActiveConditions, Field, Option, Some, Within, active_in, active_ok, ap, arith, changed_conditions, conditions_in, put_on_conditions, subst, sym, ℕ, ◌∙◌}
+use Rattle.gen1_machine.specs.Conditions.{with_trapping_one_less}
 use Rattle.gen1_machine.specs.Valid.{IsCount}
-use Rattle.gen1_layout.specs.Within.{Within}
-use Rattle.gen1_layout.proofs.Chain.{put_on_conditions}
-use Rattle.gen1_layout.proofs.Steps.{active_ok}
 use Rattle.gen1_status.proofs.Unchanged.{changed_active-same}
 use Rattle.gen1_multiturn.proofs.Underways.{beside-trapping, less_trapping, none_trapping}
 use Rattle.gen1_multiturn.proofs.trapping.trap_one_turn_less.Goals as goal
@@ -31,6 +27,6 @@ returns-in-None c = record {
       let s = c.args.side in
       let is = sym (c.trapping.ensures.stands _ _ h.within) ∙ c.in-None.is in
       let same = changed_active-same s (λ (a : Active). record a { conditions = with_trapping_one_less a.conditions }) p.field
-      (ap (λ (x : Conditions). record (active_in s p.field) { conditions = x }) (none_trapping (conditions_in s p.field) is)) in
+      (ap (λ (x : ActiveConditions). record (active_in s p.field) { conditions = x }) (none_trapping (conditions_in s p.field) is)) in
       put_on_conditions h s with_trapping_one_less (subst (λ (f : Field). Within g.setting c.args.battle.now f) (sym same) h.within);
 }
