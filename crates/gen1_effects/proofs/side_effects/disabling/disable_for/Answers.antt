@@ -1,5 +1,4 @@
-use Rattle.std.proofs.Common.{Bool, ap, arith, false, length, nat_lt, refl, true, ◌%◌, ◌&&◌, ◌+◌, ◌<◌, ◌≡◌}
-use Rattle.std.proofs.lemmas.Bool.Decides.{nat_tests}
+use Rattle.std.proofs.Common.{ap, arith, length, refl, ◌%◌, ◌+◌, ◌<◌}
 use Rattle.gen1_machine.specs.declared.event.Event.TheVariants as events
 use Rattle.gen1_machine.specs.declared.event.Volatile.TheVariants as volatiles
 use Rattle.gen1_machine.specs.declared.health.Who.{Who}

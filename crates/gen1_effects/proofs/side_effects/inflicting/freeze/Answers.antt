@@ -1,6 +1,6 @@
 use Rattle.std.proofs.Common.{lit<, refl, sym, ◌∙◌}
 use Rattle.gen1_machine.specs.Conditions.{without_recharge}
-use Rattle.gen1_machine.specs.Ruling.{freezes_under, freeze_freely, freeze_only_one}
+use Rattle.gen1_machine.specs.Ruling.{freeze_freely}
 use Rattle.gen1_machine.specs.Sides.{other}
 use Rattle.gen1_layout.proofs.Chain.{goes, put_on_conditions}
 use Rattle.gen1_status.proofs.Clearing.{recharge-same}

@@ -1,8 +1,5 @@
-use Rattle.std.proofs.Common.{ap, refl, sym, ◌&&◌, ◌∙◌}
-use Rattle.gen1_tables.specs.declared.element.Element.TheVariants.{Fire}
-use Rattle.gen1_tables.specs.Types.{same_type}
+use Rattle.std.proofs.Common.{ap, refl, sym, ◌∙◌}
 use Rattle.gen1_stats.specs.declared.status.Status.TheVariants.{Healthy}
-use Rattle.gen1_stats.specs.Members.{is_frozen}
 use Rattle.gen1_machine.specs.declared.event.Event.TheVariants as events
 use Rattle.gen1_machine.specs.declared.health.Kind.TheVariants as kinds
 use Rattle.gen1_machine.specs.declared.health.Who.{Who}
