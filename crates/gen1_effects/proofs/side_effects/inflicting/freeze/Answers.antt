@@ -1,6 +1,6 @@
 use Rattle.gen1_layout.proofs.Words.{goes, lit<, put_on_conditions, refl, sym, ◌∙◌}
 use Rattle.gen1_machine.specs.Conditions.{without_recharge}
-use Rattle.gen1_machine.specs.Ruling.{freezes_under, freeze_freely, freeze_only_one}
+use Rattle.gen1_machine.specs.Ruling.{freeze_freely}
 use Rattle.gen1_machine.specs.Sides.{other}
 use Rattle.gen1_status.proofs.Clearing.{recharge-same}
 use Rattle.gen1_effects.proofs.SideEffects.{freezes, refuses}
