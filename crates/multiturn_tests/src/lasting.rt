@@ -1,0 +1,239 @@
+//! Moves that last, by the words of docs/MECHANICS.md, "Going on" and "Charging", and the offsets of docs/LAYOUT.md. Both
+//! sides have a Tauros out: 353 HP, of which a quarter is 88.
+use arrayvec::ArrayVec;
+use gen1_layout::{Conditions, Packed};
+use gen1_machine::{DamageSource, Event, EventList, Side, Volatile};
+use gen1_multiturn::{bide, charge, substitute, thrash, trap};
+use gen1_rolls::{LinkRandom, Rolls, Sweep};
+use gen1_stats::{MemberSpec, Team};
+use gen1_tables::{Element, MoveId, Species};
+use std::test::Fail;
+
+const USER: Side = Side::One;
+
+const FOE: Side = Side::Two;
+
+// Where the user's condition bits, turns, energy and kept accuracy stand, and the last damage.
+const FLAGS: usize = 185;
+
+const TURNS: usize = 194;
+
+const ENERGY: usize = 195;
+
+const KEPT: usize = 199;
+
+const LAST: usize = 3;
+
+fn named(name: &str) -> Result<MoveId, Fail> {
+    Ok(MoveId::from_name(name).ok_or("no such move")?)
+}
+
+fn two_tauros() -> Result<Packed, Fail> {
+    let mut moves = ArrayVec::new();
+    moves.push((named("Strength")?, 0));
+    let spec = MemberSpec {
+        species: Species::from_name("Tauros").ok_or("no such species")?,
+        level: 100,
+        dvs: [15; 4],
+        exp: [65535; 5],
+        moves,
+    };
+    let team = Team::new(&[spec])?;
+    let mut battle = Packed::new(&team, &team, [0; 10]);
+    for side in [USER, FOE] {
+        battle.put_sent_out(
+            side,
+            1,
+            Element::Normal,
+            Element::Normal,
+            [298, 288, 318, 238],
+        );
+    }
+    Ok(battle)
+}
+
+fn bytes_of(battle: &Packed) -> [u8; 384] {
+    let mut bytes = [0; 384];
+    for (place, byte) in bytes.iter_mut().zip(battle.as_bytes()) {
+        *place = *byte;
+    }
+    bytes
+}
+
+// These bytes with some others in their places.
+fn with(mut bytes: [u8; 384], changes: &[(usize, u8)]) -> [u8; 384] {
+    for change in changes {
+        if let Some(place) = bytes.get_mut(change.0) {
+            *place = change.1;
+        }
+    }
+    bytes
+}
+
+#[test]
+fn a_trap_begins(rt: HostRuntime) -> Result<(), Fail> {
+    // The first draw counts where its low bits are 0 or 1; else the next draw does.
+    for (byte, turns, draws) in [(0, 1, 1), (1, 2, 1), (2, 4, 2), (3, 1, 2), (5, 2, 1)] {
+        let mut battle = two_tauros()?;
+        battle.put_flag(FOE, Conditions::RECHARGE, true);
+        let before = bytes_of(&two_tauros()?);
+        let mut sweep = Sweep::new(byte);
+        trap(&mut battle, USER, &mut sweep);
+        assert_eq!(rt;
+            bytes_of(&battle),
+            with(before, &[(FLAGS, 4), (TURNS, turns)])
+        );
+        assert_eq!(rt; sweep.draw(), byte.wrapping_add(draws));
+    }
+    let mut battle = two_tauros()?;
+    let mut link = LinkRandom::new([3; 10]);
+    trap(&mut battle, USER, &mut link);
+    assert_eq!(rt; (battle.trapping(USER), link.index()), (Some(4), 2));
+    Ok(())
+}
+
+#[test]
+fn thrashing_begins(rt: HostRuntime) -> Result<(), Fail> {
+    for (byte, turns) in [(0, 2), (1, 3), (254, 2)] {
+        let mut battle = two_tauros()?;
+        let before = bytes_of(&battle);
+        let mut events = EventList::new();
+        let mut sweep = Sweep::new(byte);
+        thrash(&mut battle, USER, &mut sweep, &mut events);
+        assert_eq!(rt;
+            bytes_of(&battle),
+            with(before, &[(FLAGS, 2), (TURNS, turns), (KEPT, 255)])
+        );
+        assert_eq!(rt; (events.len(), sweep.draw()), (0, byte.wrapping_add(1)));
+    }
+    let mut battle = two_tauros()?;
+    let mut link = LinkRandom::new([7; 10]);
+    thrash(&mut battle, USER, &mut link, &mut EventList::new());
+    assert_eq!(rt; (battle.thrash(USER), link.index()), (Some(3), 1));
+    Ok(())
+}
+
+#[test]
+fn bide_begins_stores_and_lets_go(rt: HostRuntime) -> Result<(), Fail> {
+    let mut battle = two_tauros()?;
+    let before = bytes_of(&battle);
+    let mut events = EventList::new();
+    let mut link = LinkRandom::new([4; 10]);
+    assert_eq!(rt; bide(&mut battle, USER, &mut link, &mut events), None);
+    assert_eq!(rt; bytes_of(&battle), with(before, &[(FLAGS, 1), (TURNS, 2)]));
+    assert_eq!(rt; link.index(), 1);
+    // 300 is 44 and 1 times 256.
+    battle.put_last_damage(300);
+    assert_eq!(rt; bide(&mut battle, USER, &mut link, &mut events), None);
+    assert_eq!(rt;
+        bytes_of(&battle),
+        with(
+            before,
+            &[
+                (LAST, 44),
+                (LAST + 1, 1),
+                (FLAGS, 1),
+                (TURNS, 1),
+                (ENERGY, 44),
+                (ENERGY + 1, 1)
+            ]
+        )
+    );
+    // Twice 301 is 602, which is 90 and 2 times 256.
+    battle.put_last_damage(1);
+    assert_eq!(rt; bide(&mut battle, USER, &mut link, &mut events), Some(602));
+    assert_eq!(rt;
+        bytes_of(&battle),
+        with(before, &[(LAST, 90), (LAST + 1, 2)])
+    );
+    assert_eq!(rt; link.index(), 1);
+    let told = [
+        Event::Start(battle.who(USER), Volatile::Bide),
+        Event::Activate(battle.who(USER), Volatile::Bide),
+        Event::End(battle.who(USER), Volatile::Bide),
+    ];
+    assert_eq!(rt; events.as_slice(), told.as_slice());
+    Ok(())
+}
+
+#[test]
+fn an_energy_of_32768_lets_out_0(rt: HostRuntime) -> Result<(), Fail> {
+    let mut battle = two_tauros()?;
+    let before = bytes_of(&battle);
+    battle.put_bide(USER, 1, 32767);
+    battle.put_last_damage(1);
+    let mut sweep = Sweep::new(9);
+    let energy = bide(&mut battle, USER, &mut sweep, &mut EventList::new());
+    assert_eq!(rt; (energy, sweep.draw()), (Some(0), 9));
+    assert_eq!(rt; bytes_of(&battle), before);
+    Ok(())
+}
+
+#[test]
+fn a_charge_hides_who_digs(rt: HostRuntime) -> Result<(), Fail> {
+    // Charging is bit 4, and Invulnerable bit 5.
+    for (name, flags) in [
+        ("Dig", 48),
+        ("Fly", 48),
+        ("Solar Beam", 16),
+        ("Strength", 0),
+    ] {
+        let id = named(name)?;
+        let mut battle = two_tauros()?;
+        let before = bytes_of(&battle);
+        let mut events = EventList::new();
+        charge(&mut battle, USER, id, &mut events);
+        assert_eq!(rt;
+            bytes_of(&battle),
+            with(before, &[(FLAGS, flags)]),
+            "{name}"
+        );
+        assert_eq!(rt;
+            events.first() == Some(&Event::Prepare(battle.who(USER), id)),
+            flags != 0
+        );
+        charge(&mut battle, USER, id, &mut events);
+        assert_eq!(rt; bytes_of(&battle), before, "{name}");
+        assert_eq!(rt; events.len(), if flags == 0 { 0 } else { 1 });
+    }
+    Ok(())
+}
+
+#[test]
+fn a_substitute_costs_a_quarter(rt: HostRuntime) -> Result<(), Fail> {
+    // 353 and 265 are 97 and 9 beside 256; the condition is bit 9, and 88 its HP.
+    for (hp, low, high) in [(353, 9, 1), (89, 1, 0), (88, 0, 0)] {
+        let mut battle = two_tauros()?;
+        battle.put_hp(USER, hp);
+        let before = bytes_of(&battle);
+        let mut events = EventList::new();
+        substitute(&mut battle, USER, &mut events);
+        let after = with(before, &[(28, low), (29, high), (FLAGS + 1, 2), (189, 88)]);
+        assert_eq!(rt; bytes_of(&battle), after);
+        let health = battle.health(USER).ok_or("no health")?;
+        let told = [
+            Event::Start(battle.who(USER), Volatile::Substitute),
+            Event::Damage(battle.who(USER), health, DamageSource::Direct),
+        ];
+        assert_eq!(rt; events.as_slice(), told.as_slice());
+        // One is up.
+        events.clear();
+        substitute(&mut battle, USER, &mut events);
+        assert_eq!(rt; bytes_of(&battle), after);
+        assert_eq!(rt;
+            events.as_slice(),
+            [Event::Fail(battle.who(USER))].as_slice()
+        );
+    }
+    let mut battle = two_tauros()?;
+    battle.put_hp(USER, 87);
+    let before = bytes_of(&battle);
+    let mut events = EventList::new();
+    substitute(&mut battle, USER, &mut events);
+    assert_eq!(rt; bytes_of(&battle), before);
+    assert_eq!(rt;
+        events.as_slice(),
+        [Event::Fail(battle.who(USER))].as_slice()
+    );
+    Ok(())
+}
