@@ -5,7 +5,6 @@
 #[cfg(test)]
 mod early;
 #[cfg(test)]
-mod side_effects;
-//! Tests of `gen1_effects`, through its public functions. A crate with tests is proved twice, so they stand in a crate of
-//! their own.
 mod late;
+#[cfg(test)]
+mod side_effects;

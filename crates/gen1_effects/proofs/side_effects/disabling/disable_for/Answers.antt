@@ -1,5 +1,4 @@
-use Rattle.gen1_layout.proofs.Words.{Bool, Field, Who, ap, arith, changed_conditions, false, length, nat_lt, nat_tests, refl, told_so, true, who_in, ◌%◌, ◌&&◌, ◌+◌, ◌<◌, ◌≡◌}
-use Rattle.std.proofs.Common.{ap, arith, length, refl, ◌%◌, ◌+◌, ◌<◌}
+use Rattle.gen1_layout.proofs.Words.{Field, Who, ap, arith, changed_conditions, length, refl, told_so, who_in, ◌%◌, ◌+◌, ◌<◌}
 use Rattle.gen1_machine.specs.declared.event.Event.TheVariants as events
 use Rattle.gen1_machine.specs.declared.event.Volatile.TheVariants as volatiles
 use Rattle.gen1_machine.specs.Conditions.{with_disabled}

@@ -1,13 +1,7 @@
-use Rattle.gen1_layout.proofs.Words.{Progress, Side, ap, drawn_seeing, rules, ◌∙◌}
-use Rattle.gen1_stats.specs.declared.known_move.KnownMove.{KnownMove}
+use Rattle.gen1_layout.proofs.Words.{Progress, Side, ap, drawn_seeing, rules}
 use Rattle.gen1_machine.specs.Progress.{draw_until, member}
 use Rattle.gen1_machine.specs.Sides.{other}
-use Rattle.gen1_machine.specs.SideEffects.{disable_slot, has_pp, names_slot}
-use Rattle.std.proofs.Common.{ap, rules}
-use Rattle.gen1_machine.specs.declared.side.Side.{Side}
-use Rattle.gen1_machine.specs.Progress.{draw_until, member, Progress}
 use Rattle.gen1_machine.specs.SideEffects.{disable_slot, names_slot}
-use Rattle.gen1_layout.proofs.Chain.{drawn_seeing}
 use Rattle.gen1_effects.proofs.Chances.{finding, finding_none}
 use Rattle.gen1_effects.proofs.side_effects.disabling.draw_slot.Goals as goal
 

@@ -1,7 +1,4 @@
-use Rattle.gen1_layout.proofs.Words.{Field, Who, ap, changed_member, if_not, if_so, refl, stays, sym, told_so, who_in, ◌&&◌, ◌∙◌}
-use Rattle.gen1_tables.specs.declared.element.Element.TheVariants.{Fire}
-use Rattle.gen1_tables.specs.Types.{same_type}
-use Rattle.std.proofs.Common.{ap, refl, sym, ◌∙◌}
+use Rattle.gen1_layout.proofs.Words.{Field, Who, ap, changed_member, if_not, if_so, refl, stays, sym, told_so, who_in, ◌∙◌}
 use Rattle.gen1_stats.specs.declared.status.Status.TheVariants.{Healthy}
 use Rattle.gen1_machine.specs.declared.event.Event.TheVariants as events
 use Rattle.gen1_machine.specs.declared.health.Kind.TheVariants as kinds
