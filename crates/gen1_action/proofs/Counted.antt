@@ -1,5 +1,6 @@
 -- A count that is drawn, by its one draw or its two.
-use Rattle.gen1_layout.proofs.Words.{Bool, Event, Frame, List, Parts, Phase, Progress, ShowsDrawn, ap, choose-false, choose-true, draw, false, nat_le, refl, sym, true, ℕ, ◌%◌, ◌+◌, ◌∙◌, ◌≡◌}
+use Rattle.std.proofs.Common.{◌%◌, ◌+◌, ◌≡◌}
+use Rattle.gen1_layout.proofs.Words.{Bool, Event, Frame, List, Parts, Phase, Progress, ShowsDrawn, ap, choose-false, choose-true, draw, false, nat_le, refl, sym, true, ℕ, ◌∙◌}
 use Rattle.gen1_rolls.specs.Streams.{byte_at, Stream}
 use Rattle.gen1_rolls.proofs.Standing.{byte_drawn, stands_after_draw}
 use Rattle.gen1_machine.specs.GoingOn.{count_again, count_by_draw, draw_count}

@@ -1,5 +1,6 @@
 -- A foe is immune where a row of 0 has one of its types.
-use Rattle.gen1_layout.proofs.Words.{Active, Bool, List, [], ap, false, refl, true, ◌&&◌, ◌==◌, ◌||◌, ◌∙◌, ◌∷◌, ◌≡◌}
+use Rattle.std.proofs.Common.{◌&&◌, ◌==◌, ◌||◌, ◌∷◌, ◌≡◌}
+use Rattle.gen1_layout.proofs.Words.{Active, Bool, List, [], ap, false, refl, true, ◌∙◌}
 use Rattle.gen1_tables.specs.declared.element.Element.{Element}
 use Rattle.gen1_tables.specs.declared.element.Element.TheVariants.{Normal}
 use Rattle.gen1_tables.specs.Types.{TypeRow, any, same_type, type_rows}

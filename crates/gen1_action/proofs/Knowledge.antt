@@ -1,6 +1,7 @@
 -- How what is shown, beside what is known of the action, goes through phases. What gen1_layout's Chain says of a frame holds of
 -- `knowing k g`: a change of what is known is one of that frame, by computation.
-use Rattle.gen1_layout.proofs.Words.{Bool, Event, Frame, List, Parts, Phase, Progress, Side, drawn_stops, false, refl, still, true, ℕ, ◌≡◌, ◌▸◌}
+use Rattle.std.proofs.Common.{◌≡◌}
+use Rattle.gen1_layout.proofs.Words.{Bool, Event, Frame, List, Parts, Phase, Progress, Side, drawn_stops, false, refl, still, true, ℕ, ◌▸◌}
 use Rattle.gen1_machine.specs.Progress.{on_action, unless_stopped}
 use Rattle.gen1_machine.specs.Action.{begin}
 use Rattle.gen1_layout.specs.Shows.{Does}

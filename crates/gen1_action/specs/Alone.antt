@@ -1,6 +1,7 @@
 -- What a call shows that stands for itself: an operation of an action that has just begun, of which nothing is known yet. It
 -- leaves the bytes, the events and the generator of its phase; what the phase comes to know besides is of no account.
-use Rattle.gen1_layout.specs.Words.{Event, Frame, List, Phase, Progress, Side, Within, false, ℕ, ◌≡◌}
+use Rattle.std.specs.Prelude.{◌≡◌}
+use Rattle.gen1_layout.specs.Words.{Event, Frame, List, Phase, Progress, Side, Within, false, ℕ}
 use Rattle.gen1_tables.specs.declared.effect.Effect.{Effect}
 use Rattle.gen1_rolls.specs.Draws.{StandsAt}
 use Rattle.gen1_machine.specs.Ruling.{Ruling, ruling_of}

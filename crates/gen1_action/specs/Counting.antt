@@ -1,5 +1,6 @@
 -- How often a move hits or holds, as it is drawn (docs/MECHANICS.md, "Many hits", "Going on").
-use Rattle.gen1_layout.specs.Words.{Event, Frame, List, Phase, Progress, ShowsDrawn, false, ℕ, ◌≡◌}
+use Rattle.std.specs.Prelude.{◌≡◌}
+use Rattle.gen1_layout.specs.Words.{Event, Frame, List, Phase, Progress, ShowsDrawn, false, ℕ}
 use Rattle.gen1_machine.specs.GoingOn.{draw_count}
 use Rattle.gen1_layout.specs.Parts.{Parts}
 

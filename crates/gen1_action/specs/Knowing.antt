@@ -1,7 +1,8 @@
 -- What an action knows, as the code holds it: the machine's record of the action, and whether Haze met a sleeper. An operation
 -- that comes to know something is said by its phase, as every other: from what is shown before, beside what was known, follows
 -- what is shown after, beside what is known then.
-use Rattle.gen1_layout.specs.Words.{Bool, Event, Frame, List, None, Phase, Progress, Shows, ShowsDrawn, Side, false, ℕ, ◌≡◌}
+use Rattle.std.specs.Prelude.{◌≡◌}
+use Rattle.gen1_layout.specs.Words.{Bool, Event, Frame, List, None, Phase, Progress, Shows, ShowsDrawn, Side, false, ℕ}
 use Rattle.gen1_machine.specs.declared.side.Side.TheVariants.{One}
 use Rattle.gen1_machine.specs.Progress.{Action}
 use Rattle.gen1_layout.specs.Parts.{Parts}

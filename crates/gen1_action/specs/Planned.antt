@@ -1,6 +1,7 @@
 -- What operations show for a side that plans a move: which move it is about to use, or is using, so that what the move begins
 -- is explained by it (gen1_machine, `Plans.antt`). What they ask for is a premise, which their callers hand on.
-use Rattle.gen1_layout.specs.Words.{Bool, Event, Frame, List, Phase, Progress, Side, false, ℕ, ◌≡◌}
+use Rattle.std.specs.Prelude.{◌≡◌}
+use Rattle.gen1_layout.specs.Words.{Bool, Event, Frame, List, Phase, Progress, Side, false, ℕ}
 use Rattle.gen1_tables.specs.declared.effect.Effect.{Effect}
 use Rattle.gen1_machine.specs.declared.picks.Pick.{Pick}
 use Rattle.gen1_machine.specs.declared.picks.Pick.TheVariants.{Use}

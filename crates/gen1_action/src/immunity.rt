@@ -1,5 +1,6 @@
 //! Which types a move has no effect on (docs/MECHANICS.md, "Types").
-ghost use Rattle.gen1_layout.specs.Words.{Reads, active_in, ◌≡◌};
+ghost use Rattle.std.specs.Prelude.{◌≡◌};
+ghost use Rattle.gen1_layout.specs.Words.{Reads, active_in};
 ghost use Rattle.gen1_machine.specs.HitTest.{is_immune};
 ghost use Rattle.gen1_action.specs.Immunity.{has_no_effect};
 

@@ -1,6 +1,7 @@
 //! What the clauses count: living members of a side that sleep by the foe's moves, or are frozen (docs/MECHANICS.md, "Rules
 //! (sleep clause, freeze clause)").
-ghost use Rattle.gen1_layout.specs.Words.{Reads, ReadsPacked, is_frozen, is_living, member_at, party, ◌&&◌, ◌≡◌, ◌≤◌};
+ghost use Rattle.std.specs.Prelude.{◌&&◌, ◌≡◌, ◌≤◌};
+ghost use Rattle.gen1_layout.specs.Words.{Reads, ReadsPacked, is_frozen, is_living, member_at, party};
 ghost use Rattle.gen1_stats.specs.Members.{is_marked};
 ghost use Rattle.gen1_machine.specs.State.{any_living};
 ghost use Rattle.gen1_action.specs.Living.{counts};

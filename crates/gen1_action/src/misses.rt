@@ -1,6 +1,6 @@
 //! The hit test of an action, and how a miss is told (docs/MECHANICS.md, "Hit test", "Action").
-ghost use Rattle.gen1_layout.specs.Words.{Adds, AddsAtMost, AddsNone, Does, Event, HasRoom, List, Reads, active_in, false, move_at, true, ◌≡◌};
-ghost use Rattle.std.specs.Prelude.{if◌then◌else◌};
+ghost use Rattle.gen1_layout.specs.Words.{Adds, AddsAtMost, AddsNone, Does, Event, HasRoom, List, Reads, active_in, false, move_at, true};
+ghost use Rattle.std.specs.Prelude.{if◌then◌else◌, ◌≡◌};
 ghost use Rattle.gen1_machine.specs.Moves.{accuracy_byte};
 ghost use Rattle.gen1_machine.specs.HitTest.{hit_or_miss, miss_event, must_hit, note_miss};
 ghost use Rattle.gen1_action.specs.Knowing.{DoesKnowingDrawing, IsUncounted};

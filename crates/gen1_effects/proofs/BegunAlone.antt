@@ -1,5 +1,6 @@
 -- An operation that stands for itself, from an action that has just begun; that its action then ends is of no account.
-use Rattle.gen1_layout.proofs.Words.{Bool, Event, Frame, List, Parts, Phase, Progress, Side, false, refl, stop, subst, then-goes, then-stops, true, ℕ, ◌≡◌, ◌▸◌}
+use Rattle.std.proofs.Common.{◌≡◌}
+use Rattle.gen1_layout.proofs.Words.{Bool, Event, Frame, List, Parts, Phase, Progress, Side, false, refl, stop, subst, then-goes, then-stops, true, ℕ, ◌▸◌}
 use Rattle.gen1_action.specs.declared.known.Known.{Known}
 use Rattle.gen1_action.specs.Alone.{just_begun, Leaves}
 use Rattle.gen1_action.specs.Knowing.{ShowsKnown}

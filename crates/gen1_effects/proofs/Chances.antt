@@ -1,5 +1,6 @@
 -- How what is shown goes through a draw by chance, and through draws until a byte meets a test.
-use Rattle.gen1_layout.proofs.Words.{Bool, Event, Frame, List, None, Option, Parts, Phase, Progress, ShowsDrawn, Some, ap, choose-false, drawing, drawn_if_not, drawn_if_so, drawn_stays, false, nat_lt, refl, stay, sym, then-goes, true, ℕ, ◌+◌, ◌∙◌, ◌≡◌, ◌▸◌}
+use Rattle.std.proofs.Common.{◌+◌, ◌≡◌}
+use Rattle.gen1_layout.proofs.Words.{Bool, Event, Frame, List, None, Option, Parts, Phase, Progress, ShowsDrawn, Some, ap, choose-false, drawing, drawn_if_not, drawn_if_so, drawn_stays, false, nat_lt, refl, stay, sym, then-goes, true, ℕ, ◌∙◌, ◌▸◌}
 use Rattle.gen1_rolls.specs.Draws.{FindsDraw, FindsNone}
 use Rattle.gen1_rolls.specs.Streams.{Stream, byte_at, first, span}
 use Rattle.gen1_rolls.proofs.Standing.{byte_found, first-found, first-none, stands_after_found, stands_after_none, stands_there}

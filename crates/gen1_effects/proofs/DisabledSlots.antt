@@ -1,6 +1,6 @@
 -- Which slots Disable may draw: the first four of a list are all there are, and a slot holds a move where a number stands in it.
-use Rattle.gen1_layout.proofs.Words.{Bool, IsBetween, List, [], ap, arith, false, inl, inr, known_in, length, nat_lt, nat_tests, refl, suc, sym, true, zero, ℕ, ◌%◌, ◌&&◌, ◌+◌, ◌-◌, ◌<◌, ◌||◌, ◌∙◌, ◌∷◌, ◌≡◌, ◌≤◌, ◌⊎◌}
-use Rattle.std.proofs.Common.{All, add-zero, get_or}
+use Rattle.gen1_layout.proofs.Words.{Bool, IsBetween, List, [], ap, arith, false, inl, inr, known_in, length, nat_lt, nat_tests, refl, suc, sym, true, zero, ℕ, ◌∙◌}
+use Rattle.std.proofs.Common.{All, add-zero, get_or, ◌%◌, ◌&&◌, ◌+◌, ◌-◌, ◌<◌, ◌||◌, ◌∷◌, ◌≡◌, ◌≤◌, ◌⊎◌}
 use Rattle.gen1_stats.specs.declared.known_move.KnownMove.{KnownMove}
 use Rattle.gen1_stats.specs.Members.{nothing_known}
 use Rattle.gen1_machine.specs.SideEffects.{has_pp, names_slot}

@@ -1,5 +1,6 @@
 -- An early effect is that of its way.
-use Rattle.gen1_layout.proofs.Words.{Phase, Side, ap, true, ◌≡◌}
+use Rattle.std.proofs.Common.{◌≡◌}
+use Rattle.gen1_layout.proofs.Words.{Phase, Side, ap, true}
 use Rattle.gen1_tables.specs.declared.effect.Effect.{Effect}
 use Rattle.gen1_tables.specs.declared.effect.Effect.TheVariants as effects
 use Rattle.gen1_machine.specs.Moves.{Move}

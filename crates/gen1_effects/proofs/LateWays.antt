@@ -1,5 +1,6 @@
 -- What a late effect comes to, by the effect of the move.
-use Rattle.gen1_layout.proofs.Words.{Bool, Phase, Progress, Side, ap, false, refl, stop, true, ℕ, ◌≡◌, ◌▸◌}
+use Rattle.std.proofs.Common.{◌≡◌}
+use Rattle.gen1_layout.proofs.Words.{Bool, Phase, Progress, Side, ap, false, refl, stop, true, ℕ, ◌▸◌}
 use Rattle.std.proofs.lemmas.Bool.{false≢true}
 use Rattle.gen1_tables.specs.declared.effect.Effect.{Effect}
 use Rattle.gen1_tables.specs.declared.effect.Effect.TheVariants as effects

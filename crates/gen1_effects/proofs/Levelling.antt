@@ -1,5 +1,6 @@
 -- Stages that go back to the middle, one after the other.
-use Rattle.gen1_layout.proofs.Words.{Active, Field, Side, arith, changed_active, refl, ℕ, ◌≡◌, ◌≤◌}
+use Rattle.std.proofs.Common.{◌≡◌, ◌≤◌}
+use Rattle.gen1_layout.proofs.Words.{Active, Field, Side, arith, changed_active, refl, ℕ}
 use Rattle.gen1_machine.specs.declared.side.Side.TheVariants.{One, Two}
 use Rattle.gen1_machine.specs.EarlyEffects.{with_levelled_stats}
 use Rattle.gen1_machine.specs.Stages.{at_stage}

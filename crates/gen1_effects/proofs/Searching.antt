@@ -1,5 +1,6 @@
 -- How what is shown goes through draws until one meets a test, and through the end of an action.
-use Rattle.gen1_layout.proofs.Words.{Bool, Event, Frame, List, None, Option, Parts, Phase, Progress, ShowsDrawn, Some, ap, drawn_goes, drawn_stops, false, halted, refl, still, stop, sym, true, ℕ, ◌+◌, ◌∙◌, ◌≡◌, ◌▸◌}
+use Rattle.std.proofs.Common.{◌+◌, ◌≡◌}
+use Rattle.gen1_layout.proofs.Words.{Bool, Event, Frame, List, None, Option, Parts, Phase, Progress, ShowsDrawn, Some, ap, drawn_goes, drawn_stops, false, halted, refl, still, stop, sym, true, ℕ, ◌∙◌, ◌▸◌}
 use Rattle.gen1_rolls.specs.Draws.{FindsDraw, FindsNone}
 use Rattle.gen1_rolls.specs.Streams.{Stream, byte_at, first, span}
 use Rattle.gen1_rolls.proofs.Standing.{found_then, none_then, stands_there}

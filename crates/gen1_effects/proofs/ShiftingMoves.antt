@@ -1,5 +1,6 @@
 -- The moves of the table that move a stage move it by one or two.
-use Rattle.gen1_layout.proofs.Words.{Bool, IsBetween, List, [], ap, arith, nat_le, nat_tests, refl, suc, sym, true, zero, ℕ, ◌&&◌, ◌-◌, ◌∙◌, ◌∷◌, ◌≡◌}
+use Rattle.std.proofs.Common.{◌&&◌, ◌-◌, ◌∷◌, ◌≡◌}
+use Rattle.gen1_layout.proofs.Words.{Bool, IsBetween, List, [], ap, arith, nat_le, nat_tests, refl, suc, sym, true, zero, ℕ, ◌∙◌}
 use Rattle.std.specs.Prelude.{slice_index_or}
 use Rattle.gen1_tables.specs.declared.element.Element.TheVariants.{Normal}
 use Rattle.gen1_tables.specs.declared.effect.Effect.{Effect}

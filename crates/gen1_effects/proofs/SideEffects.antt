@@ -1,5 +1,6 @@
 -- What a move may do besides its damage, by the way of its effect; and conditions without a number that begin.
-use Rattle.gen1_layout.proofs.Words.{ActiveConditions, Bool, Event, Frame, List, Parts, Phase, Progress, Shows, Side, false, if_not, if_so, refl, stay, stays, true, ◌&&◌, ◌≡◌}
+use Rattle.std.proofs.Common.{◌&&◌, ◌≡◌}
+use Rattle.gen1_layout.proofs.Words.{ActiveConditions, Bool, Event, Frame, List, Parts, Phase, Progress, Shows, Side, false, if_not, if_so, refl, stay, stays, true}
 use Rattle.gen1_tables.specs.declared.effect.Effect.{Effect}
 use Rattle.gen1_tables.specs.declared.effect.Effect.TheVariants as effects
 use Rattle.gen1_machine.specs.declared.health.Kind.{Kind}

@@ -1,6 +1,7 @@
 //! Moves that act where others deal their damage: stages that rise and fall, and sleep (docs/MECHANICS.md, "Late effects").
 //! Bide, which lasts, is none of these.
-ghost use Rattle.gen1_layout.specs.Words.{AddsAtMost, HasRoom, move_at, stop, true, ◌≡◌, ◌▸◌};
+ghost use Rattle.std.specs.Prelude.{◌≡◌};
+ghost use Rattle.gen1_layout.specs.Words.{AddsAtMost, HasRoom, move_at, stop, true, ◌▸◌};
 ghost use Rattle.gen1_machine.specs.LateEffects.{late_effect};
 ghost use Rattle.gen1_action.specs.Alone.{DoesAlone};
 ghost use Rattle.gen1_action.specs.Planned.{DoesUnder};

@@ -1,5 +1,6 @@
 //! What a move may do besides its damage (docs/MECHANICS.md, "Side effects").
-ghost use Rattle.gen1_layout.specs.Words.{AddsAtMost, HasRoom, move_at, ◌≡◌};
+ghost use Rattle.std.specs.Prelude.{◌≡◌};
+ghost use Rattle.gen1_layout.specs.Words.{AddsAtMost, HasRoom, move_at};
 ghost use Rattle.gen1_machine.specs.SideEffects.{side_effect};
 ghost use Rattle.gen1_action.specs.Alone.{DoesAlone};
 ghost use Rattle.gen1_action.specs.Knowing.{IsUncounted};

@@ -1,5 +1,6 @@
 -- The landing of the last damage, for who calls `land` with it.
-use Rattle.gen1_layout.proofs.Words.{Bool, Event, Frame, List, Parts, Progress, Shows, Side, choose, given, nat_lt, refl, subst, ℕ, ◌≡◌}
+use Rattle.std.proofs.Common.{◌≡◌}
+use Rattle.gen1_layout.proofs.Words.{Bool, Event, Frame, List, Parts, Progress, Shows, Side, choose, given, nat_lt, refl, subst, ℕ}
 use Rattle.gen1_machine.specs.Progress.{last_damage, only}
 use Rattle.gen1_machine.specs.Landing.{land, land_damage}
 

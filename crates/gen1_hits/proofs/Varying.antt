@@ -1,5 +1,6 @@
 -- The machine's factor, and what is shown of it once `factor` has drawn and its result was written as the last damage.
-use Rattle.gen1_layout.proofs.Words.{Bool, Event, Frame, List, None, Option, Parts, Phase, Progress, Shows, ShowsDrawn, Some, Within, ap, choose-false, choose-true, false, nat_le, on_field, put_damage, refl, set_last_damage, true, with_last_damage, ℕ, ◌+◌, ◌∙◌, ◌≡◌}
+use Rattle.std.proofs.Common.{◌+◌, ◌≡◌}
+use Rattle.gen1_layout.proofs.Words.{Bool, Event, Frame, List, None, Option, Parts, Phase, Progress, Shows, ShowsDrawn, Some, Within, ap, choose-false, choose-true, false, nat_le, on_field, put_damage, refl, set_last_damage, true, with_last_damage, ℕ, ◌∙◌}
 use Rattle.gen1_rolls.specs.Streams.{Stream, byte_at, first, span}
 use Rattle.gen1_machine.specs.Damage.{is_factor, rotated_right_1, times_factor, varied_by, vary}
 use Rattle.gen1_machine.specs.Progress.{draw_until}

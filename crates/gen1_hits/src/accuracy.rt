@@ -1,6 +1,6 @@
 //! The hit test (docs/MECHANICS.md, "Hit test").
-ghost use Rattle.gen1_layout.specs.Words.{Event, Frame, List, Progress, Reads, Shows, ShowsDrawn, draw, false, is_asleep, move_at, not, status_in, ◌&&◌, ◌*◌, ◌+◌, ◌/◌, ◌≡◌, ◌≤◌};
-ghost use Rattle.std.specs.Prelude.{max};
+ghost use Rattle.gen1_layout.specs.Words.{Event, Frame, List, Progress, Reads, Shows, ShowsDrawn, draw, false, is_asleep, move_at, not, status_in};
+ghost use Rattle.std.specs.Prelude.{max, ◌&&◌, ◌*◌, ◌+◌, ◌/◌, ◌≡◌, ◌≤◌};
 ghost use Rattle.gen1_machine.specs.Stages.{percent_at};
 ghost use Rattle.gen1_machine.specs.HitTest.{eats_dreams, hit_test, hits_below, lowers, miss, never_misses, scaled_in, settled_hit_in};
 ghost use Rattle.gen1_hits.specs.Tested.{with_miss_unless, with_test};

@@ -1,5 +1,6 @@
 //! Critical hits (docs/MECHANICS.md, "Critical hits").
-ghost use Rattle.gen1_layout.specs.Words.{Event, Frame, List, Progress, ShowsDrawn, false, move_at, ◌≡◌};
+ghost use Rattle.std.specs.Prelude.{◌≡◌};
+ghost use Rattle.gen1_layout.specs.Words.{Event, Frame, List, Progress, ShowsDrawn, false, move_at};
 ghost use Rattle.gen1_tables.specs.Species.{species_row};
 ghost use Rattle.gen1_machine.specs.Moves.{is_often_critical};
 ghost use Rattle.gen1_machine.specs.CriticalHits.{critical_bound, roll_critical, rotated_left_3};

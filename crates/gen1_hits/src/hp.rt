@@ -1,5 +1,6 @@
 //! HP that the member that is out loses and gains, and the events that tell of it (docs/MECHANICS.md, "Order of events").
-ghost use Rattle.gen1_layout.specs.Words.{AddsAtMost, Changes, Does, HasRoom, Reads, changed_member, false, healed_by, hurt_by, is_living, member_in, nat_lt, ◌&&◌};
+ghost use Rattle.std.specs.Prelude.{◌&&◌};
+ghost use Rattle.gen1_layout.specs.Words.{AddsAtMost, Changes, Does, HasRoom, Reads, changed_member, false, healed_by, hurt_by, is_living, member_in, nat_lt};
 ghost use Rattle.gen1_machine.specs.Progress.{gain_hp, lose_hp};
 
 use gen1_layout::Packed;

@@ -1,5 +1,6 @@
 //! Where damage lands (docs/MECHANICS.md, "Landing"): on the HP, or on a Substitute.
-ghost use Rattle.gen1_layout.specs.Words.{AddsAtMost, Does, Frame, HasRoom, Progress, Reads, Shows, Some, conditions_in, false, nat_lt, other, ◌≡◌};
+ghost use Rattle.std.specs.Prelude.{◌≡◌};
+ghost use Rattle.gen1_layout.specs.Words.{AddsAtMost, Does, Frame, HasRoom, Progress, Reads, Shows, Some, conditions_in, false, nat_lt, other};
 ghost use Rattle.gen1_machine.specs.Progress.{only};
 ghost use Rattle.gen1_machine.specs.Landing.{breaks, land_damage, land_on_hp, land_on_substitute};
 ghost use Rattle.gen1_hits.specs.Landed.{has_broken, landed_on, with_break};

@@ -1,5 +1,6 @@
 //! The numbers of a hit, out of a battle.
-ghost use Rattle.gen1_layout.specs.Words.{Reads, [], active_in, conditions_in, member_in, move_at, now_in, other, unmodified, ◌∷◌, ◌≡◌};
+ghost use Rattle.std.specs.Prelude.{◌∷◌, ◌≡◌};
+ghost use Rattle.gen1_layout.specs.Words.{Reads, [], active_in, conditions_in, member_in, move_at, now_in, other, unmodified};
 ghost use Rattle.gen1_machine.specs.Damage.{attacking, defending, doubled_if, fitted_attack, fitted_defense, is_screened, numbers_in, quartered};
 ghost use Rattle.gen1_machine.specs.HitOnItself.{own_numbers_in};
 ghost use Rattle.gen1_machine.specs.Moves.{explodes};

@@ -1,6 +1,6 @@
 -- The parts of a battle that is made from zeros.
-use Rattle.gen1_layout.proofs.Words.{List, Member, Parts, Side, [], ap, arith, length, map, nobody, refl, suc, sym, zero, ℕ, ◌++◌, ◌+◌, ◌-◌, ◌<◌, ◌∙◌, ◌∷◌, ◌≡◌, ◌≤◌}
-use Rattle.std.proofs.Common.{get_or, replicate, set, take, length-append}
+use Rattle.gen1_layout.proofs.Words.{List, Member, Parts, Side, [], ap, arith, length, map, nobody, refl, suc, sym, zero, ℕ, ◌∙◌}
+use Rattle.std.proofs.Common.{get_or, replicate, set, take, length-append, ◌++◌, ◌+◌, ◌-◌, ◌<◌, ◌∷◌, ◌≡◌, ◌≤◌}
 use Rattle.std.proofs.lemmas.List.{length-replicate, length-take-le}
 use Rattle.gen1_machine.specs.declared.side.Side.TheVariants.{One, Two}
 use Rattle.gen1_machine.specs.Layout.{member_block, member_blocks}

@@ -1,6 +1,6 @@
 -- An active block passes its test exactly where, but for its current stats, it is that of a valid active.
-use Rattle.gen1_layout.proofs.Words.{Active, ActiveConditions, Bool, DisabledSlot, IsBetween, List, Member, None, Option, Some, [], ap, arith, false, inl, inr, is_some, known_in, length, nat_le, nat_tests, nobody, refl, slice_index, slice_index_or, subst, suc, sym, true, zero, ℕ, ◌%◌, ◌&&◌, ◌*◌, ◌+◌, ◌-◌, ◌/◌, ◌<◌, ◌==◌, ◌||◌, ◌∙◌, ◌∷◌, ◌≡◌, ◌≤◌}
-use Rattle.std.proofs.Common.{drop, if◌then◌else◌, unwrap_or}
+use Rattle.gen1_layout.proofs.Words.{Active, ActiveConditions, Bool, DisabledSlot, IsBetween, List, Member, None, Option, Some, [], ap, arith, false, inl, inr, is_some, known_in, length, nat_le, nat_tests, nobody, refl, slice_index, slice_index_or, subst, suc, sym, true, zero, ℕ, ◌∙◌}
+use Rattle.std.proofs.Common.{drop, if◌then◌else◌, unwrap_or, ◌%◌, ◌&&◌, ◌*◌, ◌+◌, ◌-◌, ◌/◌, ◌<◌, ◌==◌, ◌||◌, ◌∷◌, ◌≡◌, ◌≤◌}
 use Rattle.std.proofs.lemmas.List.{get_or-drop, get_or-take}
 use Rattle.std.specs.Int.{bit_at}
 use Rattle.gen1_tables.specs.declared.element.Element.{Element}

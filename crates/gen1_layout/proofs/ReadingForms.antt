@@ -1,6 +1,6 @@
 -- Exactly the packings of valid states pass all tests.
-use Rattle.gen1_layout.proofs.Words.{Active, Bool, IsBetween, List, Member, ap, arith, false, inl, inr, length, nat_tests, nobody, refl, slice_index, subst, sym, ℕ, ◌*◌, ◌++◌, ◌+◌, ◌-◌, ◌<◌, ◌==◌, ◌∙◌, ◌≡◌, ◌≤◌}
-use Rattle.std.proofs.Common.{All, replicate, if◌then◌else◌}
+use Rattle.gen1_layout.proofs.Words.{Active, Bool, IsBetween, List, Member, ap, arith, false, inl, inr, length, nat_tests, nobody, refl, slice_index, subst, sym, ℕ, ◌∙◌}
+use Rattle.std.proofs.Common.{All, replicate, if◌then◌else◌, ◌*◌, ◌++◌, ◌+◌, ◌-◌, ◌<◌, ◌==◌, ◌≡◌, ◌≤◌}
 use Rattle.std.proofs.lemmas.Bool.{cases_lt}
 use Rattle.std.proofs.lemmas.List.{get_or-take}
 use Rattle.std.proofs.lemmas.List.Elements.{All-replicate}

@@ -1,6 +1,6 @@
 -- The bytes of a side pass the test of its members exactly where they are those of valid members.
-use Rattle.gen1_layout.proofs.Words.{Bool, IsBetween, List, Member, [], ap, arith, false, inl, inr, known_in, length, map, nat_le, nat_tests, refl, slice_index, slice_index_or, subst, suc, sym, true, zero, ℕ, ◌%◌, ◌&&◌, ◌*◌, ◌++◌, ◌+◌, ◌-◌, ◌<◌, ◌==◌, ◌∙◌, ◌∷◌, ◌≡◌, ◌≤◌, ◌⊎◌}
-use Rattle.std.proofs.Common.{All, AllPairs, drop, not, replicate, take, ◌≢◌}
+use Rattle.gen1_layout.proofs.Words.{Bool, IsBetween, List, Member, [], ap, arith, false, inl, inr, known_in, length, map, nat_le, nat_tests, refl, slice_index, slice_index_or, subst, suc, sym, true, zero, ℕ, ◌∙◌}
+use Rattle.std.proofs.Common.{All, AllPairs, drop, not, replicate, take, ◌≢◌, ◌%◌, ◌&&◌, ◌*◌, ◌++◌, ◌+◌, ◌-◌, ◌<◌, ◌==◌, ◌∷◌, ◌≡◌, ◌≤◌, ◌⊎◌}
 use Rattle.std.proofs.lemmas.Bool.{eqb-true}
 use Rattle.std.proofs.lemmas.List.{take-replicate}
 use Rattle.std.proofs.lemmas.List.Elements.{All-cons, All-head, All-nil, All-replicate, All-tail}

@@ -1,5 +1,6 @@
 -- What the tests of reading say together, once some have passed.
-use Rattle.gen1_layout.proofs.Words.{IsBetween, List, arith, length, slice_index, subst, ℕ, ◌<◌, ◌≡◌}
+use Rattle.std.proofs.Common.{◌<◌, ◌≡◌}
+use Rattle.gen1_layout.proofs.Words.{IsBetween, List, arith, length, slice_index, subst, ℕ}
 use Rattle.gen1_layout.specs.declared.reading.ReadFault.{ReadFault}
 use Rattle.gen1_layout.specs.declared.reading.ReadFault.TheVariants as faults
 use Rattle.gen1_layout.specs.Reading.{number_of, PassesOfActives, PassesOfMembers, PassesOfRequests, PassesOfStats, PassesTest}

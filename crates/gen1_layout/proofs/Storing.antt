@@ -1,5 +1,6 @@
 -- A field of a battle is storable, and a packed battle that stands for a started state is within an update of it.
-use Rattle.gen1_layout.proofs.Words.{Bool, DisabledSlot, Field, List, Member, None, Option, Parts, Some, Within, arith, false, inl, inr, is_some, lit≤, refl, subst, sym, true, ℕ, ◌+◌, ◌≤◌}
+use Rattle.std.proofs.Common.{◌+◌, ◌≤◌}
+use Rattle.gen1_layout.proofs.Words.{Bool, DisabledSlot, Field, List, Member, None, Option, Parts, Some, Within, arith, false, inl, inr, is_some, lit≤, refl, subst, sym, true, ℕ}
 use Rattle.gen1_tables.specs.declared.effect.Effect.{Effect}
 use Rattle.gen1_tables.specs.declared.effect.Effect.TheVariants.{Bide, Thrash, Trapping}
 use Rattle.gen1_machine.specs.Rules.{bit_of, Rules}

@@ -1,7 +1,8 @@
 -- The words of contracts: one for each thing that many of them say, and those that they speak of, passed on.
 use Rattle.arrayvec.specs.ArrayVec.{ArrayVec, array_vec_len}
 use Rattle.gen1_layout.specs.Parts.{Parts}
-pub use Rattle.std.specs.Prelude.{Bool, IsTrue, List, None, Option, Some, [], false, is_some, length, map, nat_le, nat_lt, not, slice_index_or, slice_set, true, zero, ℕ, ◌%◌, ◌&&◌, ◌*◌, ◌+◌, ◌-◌, ◌/◌, ◌<◌, ◌^◌, ◌||◌, ◌↔◌, ◌∷◌, ◌≡◌, ◌≢◌, ◌≤◌}
+use Rattle.std.specs.Prelude.{◌+◌, ◌≡◌, ◌≤◌}
+pub use Rattle.std.specs.Prelude.{Bool, IsTrue, List, None, Option, Some, [], false, is_some, length, map, nat_le, nat_lt, not, slice_index_or, slice_set, true, zero, ℕ}
 pub use Rattle.gen1_stats.specs.Members.{IsBetween, Member, is_asleep, is_frozen, is_living, is_paralysed}
 pub use Rattle.gen1_machine.specs.declared.side.Side.{Side}
 pub use Rattle.gen1_machine.specs.declared.event.Event.{Event}

@@ -1,5 +1,6 @@
 //! The fields of an active block (docs/LAYOUT.md, "Active block"), but for conditions.
-ghost use Rattle.gen1_layout.specs.Words.{Active, Field, Member, Packs, Reads, Setting, Within, WritesActive, WritesActiveIf, active_in, changed_active, false, has_number, length, member_at, member_in, now, now_in, party, stage_of, true, ℕ, ◌≡◌, ◌≤◌};
+ghost use Rattle.std.specs.Prelude.{◌≡◌, ◌≤◌};
+ghost use Rattle.gen1_layout.specs.Words.{Active, Field, Member, Packs, Reads, Setting, Within, WritesActive, WritesActiveIf, active_in, changed_active, false, has_number, length, member_at, member_in, now, now_in, party, stage_of, true, ℕ};
 ghost use Rattle.gen1_tables.specs.declared.effect.Stat.TheVariants.{Attack, Defense, Special, Speed};
 ghost use Rattle.gen1_machine.specs.Valid.{IsUsedMove};
 ghost use Rattle.gen1_machine.specs.Layout.{active_block};

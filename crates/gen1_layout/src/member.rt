@@ -1,5 +1,6 @@
 //! The fields of a member (docs/LAYOUT.md, "Member"): of any by its place, and of the one that is out.
-ghost use Rattle.gen1_layout.specs.Words.{Field, Member, Reads, ReadsPacked, Setting, Within, WritesMember, WritesMemberIf, active_in, changed_member, is_living, known_in, length, member_at, member_in, party, slice_set, unmodified, ◌-◌, ◌≡◌, ◌≤◌};
+ghost use Rattle.std.specs.Prelude.{◌-◌, ◌≡◌, ◌≤◌};
+ghost use Rattle.gen1_layout.specs.Words.{Field, Member, Reads, ReadsPacked, Setting, Within, WritesMember, WritesMemberIf, active_in, changed_member, is_living, known_in, length, member_at, member_in, party, slice_set, unmodified};
 ghost use Rattle.gen1_tables.specs.Types.{any};
 ghost use Rattle.gen1_stats.specs.Members.{is_marked};
 ghost use Rattle.gen1_stats.specs.declared.status.Status.TheVariants.{Healthy};

@@ -1,5 +1,6 @@
 //! A packed battle, and the parts of it that are lent and read.
-ghost use Rattle.gen1_layout.specs.Words.{Field, Packs, Reads, ReadsPacked, Setting, active_in, length, member_at, member_in, other, party, ◌+◌, ◌-◌, ◌≡◌, ◌≤◌};
+ghost use Rattle.std.specs.Prelude.{◌+◌, ◌-◌, ◌≡◌, ◌≤◌};
+ghost use Rattle.gen1_layout.specs.Words.{Field, Packs, Reads, ReadsPacked, Setting, active_in, length, member_at, member_in, other, party};
 ghost use Rattle.std.specs.Borrow.{sem};
 ghost use Rattle.gen1_machine.specs.State.{State};
 ghost use Rattle.gen1_machine.specs.Layout.{active_block, bytes_of, header_block, member_block};

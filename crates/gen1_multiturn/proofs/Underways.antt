@@ -1,5 +1,6 @@
 -- What is underway for a member that is out, of which one thing at most is on, and what a turn makes of its counts.
-use Rattle.gen1_layout.proofs.Words.{ActiveConditions, Field, None, Option, Progress, Side, Some, ap, arith, changed_active, changed_conditions, false, is_some, refl, subst, sym, true, underway_in, ℕ, ◌+◌, ◌-◌, ◌∙◌, ◌≡◌, ◌≤◌}
+use Rattle.std.proofs.Common.{◌+◌, ◌-◌, ◌≡◌, ◌≤◌}
+use Rattle.gen1_layout.proofs.Words.{ActiveConditions, Field, None, Option, Progress, Side, Some, ap, arith, changed_active, changed_conditions, false, is_some, refl, subst, sym, true, underway_in, ℕ, ◌∙◌}
 use Rattle.std.proofs.lemmas.Bool.{false≢true}
 use Rattle.gen1_tables.specs.declared.effect.Effect.{Effect}
 use Rattle.gen1_tables.specs.declared.effect.Effect.TheVariants as effects

@@ -1,5 +1,6 @@
 //! Bide, which begins, stores the last damage, and lets it out twice over (docs/MECHANICS.md, "Going on").
-ghost use Rattle.gen1_layout.specs.Words.{Adds, AddsAtMost, Frame, HasRoom, None, Progress, Reads, Shows, Some, false, true, underway_in, ℕ, ◌-◌, ◌≡◌};
+ghost use Rattle.std.specs.Prelude.{◌-◌, ◌≡◌};
+ghost use Rattle.gen1_layout.specs.Words.{Adds, AddsAtMost, Frame, HasRoom, None, Progress, Reads, Shows, Some, false, true, underway_in, ℕ};
 ghost use Rattle.gen1_tables.specs.declared.effect.Effect.{Effect};
 ghost use Rattle.gen1_tables.specs.declared.effect.Effect.TheVariants.{Bide};
 ghost use Rattle.gen1_machine.specs.Conditions.{Storing, energy_with};

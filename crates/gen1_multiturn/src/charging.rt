@@ -1,5 +1,6 @@
 //! Moves that charge for a turn before they strike (docs/MECHANICS.md, "Charging").
-ghost use Rattle.gen1_layout.specs.Words.{Adds, AddsAtMost, Does, Event, Frame, HasRoom, List, Progress, Shows, active_in, false, length, member_in, move_at, true, ◌≡◌};
+ghost use Rattle.std.specs.Prelude.{◌≡◌};
+ghost use Rattle.gen1_layout.specs.Words.{Adds, AddsAtMost, Does, Event, Frame, HasRoom, List, Progress, Shows, active_in, false, length, member_in, move_at, true};
 ghost use Rattle.gen1_machine.specs.declared.picks.Pick.TheVariants.{Continue};
 ghost use Rattle.gen1_machine.specs.Charging.{begin_charge, charge, end_charge, make_current};
 ghost use Rattle.gen1_machine.specs.Conditions.{with_invulnerability};

@@ -1,5 +1,6 @@
 //! A substitute that is made (docs/MECHANICS.md, "Early effects").
-ghost use Rattle.gen1_layout.specs.Words.{AddsAtMost, Does, HasRoom, Reads, false, member_in, ◌/◌, ◌≤◌};
+ghost use Rattle.std.specs.Prelude.{◌/◌, ◌≤◌};
+ghost use Rattle.gen1_layout.specs.Words.{AddsAtMost, Does, HasRoom, Reads, false, member_in};
 ghost use Rattle.gen1_machine.specs.EarlyEffects.{make_substitute, pay_for_substitute};
 ghost use Rattle.gen1_multiturn.specs.Anyway.{DoesAnyway};
 

@@ -1,5 +1,6 @@
 //! Thrashing, which begins, goes on, and ends in confusion (docs/MECHANICS.md, "Going on").
-ghost use Rattle.gen1_layout.specs.Words.{AddsAtMost, Event, Frame, HasRoom, List, None, Progress, ShowsDrawn, draw, false, move_at, true, ◌≡◌};
+ghost use Rattle.std.specs.Prelude.{◌≡◌};
+ghost use Rattle.gen1_layout.specs.Words.{AddsAtMost, Event, Frame, HasRoom, List, None, Progress, ShowsDrawn, draw, false, move_at, true};
 ghost use Rattle.gen1_tables.specs.declared.effect.Effect.{Effect};
 ghost use Rattle.gen1_tables.specs.declared.effect.Effect.TheVariants.{Thrash};
 ghost use Rattle.gen1_machine.specs.Moves.{Move, accuracy_byte, thrashes};

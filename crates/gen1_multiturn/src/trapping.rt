@@ -1,5 +1,6 @@
 //! Trapping, which begins or goes on (docs/MECHANICS.md, "Going on").
-ghost use Rattle.gen1_layout.specs.Words.{Does, Event, Frame, List, None, Progress, ShowsDrawn, false, other, true, ◌≡◌, ◌▸◌};
+ghost use Rattle.std.specs.Prelude.{◌≡◌};
+ghost use Rattle.gen1_layout.specs.Words.{Does, Event, Frame, List, None, Progress, ShowsDrawn, false, other, true, ◌▸◌};
 ghost use Rattle.gen1_tables.specs.declared.effect.Effect.{Effect};
 ghost use Rattle.gen1_tables.specs.declared.effect.Effect.TheVariants.{Trapping};
 ghost use Rattle.gen1_machine.specs.Conditions.{with_trapping_one_less, without_recharge};

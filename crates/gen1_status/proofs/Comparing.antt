@@ -1,5 +1,6 @@
 -- Tests of numbers, by what they test, and one test or another.
-use Rattle.gen1_layout.proofs.Words.{Bool, arith, false, nat_le, nat_lt, nat_tests, sym, true, ℕ, ◌<◌, ◌||◌, ◌∙◌, ◌≡◌, ◌≤◌}
+use Rattle.std.proofs.Common.{◌<◌, ◌||◌, ◌≡◌, ◌≤◌}
+use Rattle.gen1_layout.proofs.Words.{Bool, arith, false, nat_le, nat_lt, nat_tests, sym, true, ℕ, ◌∙◌}
 
 pub at_most : (a b : ℕ) → a ≤ b → nat_le a b ≡ true
 at_most a b h = grind (arith, nat_tests)

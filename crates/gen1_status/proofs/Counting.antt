@@ -1,5 +1,6 @@
 -- What a turn makes of a count.
-use Rattle.gen1_layout.proofs.Words.{ActiveConditions, DisabledSlot, Some, refl, ℕ, ◌-◌, ◌≡◌}
+use Rattle.std.proofs.Common.{◌-◌, ◌≡◌}
+use Rattle.gen1_layout.proofs.Words.{ActiveConditions, DisabledSlot, Some, refl, ℕ}
 use Rattle.gen1_machine.specs.Conditions.{with_confusion_one_less, with_disable_one_less}
 
 pub less_disabled : (c : ActiveConditions) (d : DisabledSlot) → c.disabled ≡ Some d

@@ -1,5 +1,6 @@
 -- A member that is out at another stage, and the number that then stands there.
-use Rattle.gen1_layout.proofs.Words.{Active, Field, Member, Side, refl, true, ℕ, ◌≡◌}
+use Rattle.std.proofs.Common.{◌≡◌}
+use Rattle.gen1_layout.proofs.Words.{Active, Field, Member, Side, refl, true, ℕ}
 use Rattle.std.proofs.lemmas.Bool.{eqb-true}
 use Rattle.gen1_tables.specs.declared.effect.Stat.{Stat}
 use Rattle.gen1_tables.specs.declared.effect.Stat.TheVariants.{Accuracy, Attack, Defense, Evasion, Special, Speed}

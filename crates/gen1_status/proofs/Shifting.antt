@@ -1,6 +1,6 @@
 -- What a shift comes to: it fails at once, it fails once the stage has moved and moved back, or it succeeds.
-use Rattle.gen1_layout.proofs.Words.{Bool, Event, Frame, IsBetween, List, Parts, Phase, Progress, Shows, Side, add-one, arith, choose, choose-false, choose-true, false, goes, nat_tests, on_active, refl, subst, then-goes, true, ℕ, ◌∙◌, ◌≡◌, ◌▸◌}
-use Rattle.std.proofs.Common.{negsuc, pos, ℤ}
+use Rattle.gen1_layout.proofs.Words.{Bool, Event, Frame, IsBetween, List, Parts, Phase, Progress, Shows, Side, add-one, arith, choose, choose-false, choose-true, false, goes, nat_tests, on_active, refl, subst, then-goes, true, ℕ, ◌∙◌, ◌▸◌}
+use Rattle.std.proofs.Common.{negsuc, pos, ℤ, ◌≡◌}
 use Rattle.gen1_status.specs.Shifting.{IsShift, ShowsShifted, shift_stage}
 use lib.IntN.{nat_abs}
 use lib.Signed.{lt_z}

@@ -1,5 +1,6 @@
 -- What a turn of sleep makes of a sleeper.
-use Rattle.gen1_layout.proofs.Words.{Bool, Member, arith, refl, ℕ, ◌-◌, ◌<◌, ◌≡◌, ◌≤◌}
+use Rattle.std.proofs.Common.{◌-◌, ◌<◌, ◌≡◌, ◌≤◌}
+use Rattle.gen1_layout.proofs.Words.{Bool, Member, arith, refl, ℕ}
 use Rattle.gen1_stats.specs.declared.status.Status.TheVariants.{Asleep, Healthy}
 use Rattle.gen1_machine.specs.Rules.{Rules}
 use Rattle.gen1_machine.specs.State.{with_sleep_one_less}

@@ -1,5 +1,6 @@
 -- How answers of the gate go through phases; and no test but the hit on itself says how the battle stands.
-use Rattle.gen1_layout.proofs.Words.{Action, ActiveConditions, Bool, Event, Field, Frame, List, Parts, Phase, Progress, Shows, ShowsDrawn, Side, Some, ap, changed_active, changed_conditions, changed_member, choose, choose-false, choose-true, draw, false, given, refl, still, subst, sym, then-goes, then-stops, true, with_last_damage, ℕ, ◌+◌, ◌∙◌, ◌≡◌, ◌▸◌}
+use Rattle.std.proofs.Common.{◌+◌, ◌≡◌}
+use Rattle.gen1_layout.proofs.Words.{Action, ActiveConditions, Bool, Event, Field, Frame, List, Parts, Phase, Progress, Shows, ShowsDrawn, Side, Some, ap, changed_active, changed_conditions, changed_member, choose, choose-false, choose-true, draw, false, given, refl, still, subst, sym, then-goes, then-stops, true, with_last_damage, ℕ, ◌∙◌, ◌▸◌}
 use Rattle.gen1_rolls.specs.Streams.{Stream, byte_at}
 use Rattle.gen1_rolls.proofs.Standing.{byte_drawn, stands_after_draw}
 use Rattle.gen1_machine.specs.declared.terms.Outcome.{Outcome}

@@ -1,5 +1,6 @@
 -- A change that leaves what is there changes nothing.
-use Rattle.gen1_layout.proofs.Words.{Active, Field, Side, active_in, ap, changed_active, ◌≡◌}
+use Rattle.std.proofs.Common.{◌≡◌}
+use Rattle.gen1_layout.proofs.Words.{Active, Field, Side, active_in, ap, changed_active}
 use Rattle.gen1_machine.specs.declared.side.Side.TheVariants.{One, Two}
 use Rattle.gen1_machine.specs.State.{with_party}
 

@@ -1,6 +1,7 @@
 -- Where there is nothing to test or to take: the gate of a member that is held, that of one that nothing but its status can
 -- keep from acting, and the residual of one that has nothing to suffer from.
-use Rattle.gen1_layout.proofs.Words.{Bool, DisabledSlot, Field, None, Option, Phase, Progress, Side, Some, [], active_in, ap, choose, choose-false, conditions_in, false, given, is_some, member_in, refl, stay, stop, then-goes, true, underway_in, ◌||◌, ◌∙◌, ◌∷◌, ◌≡◌, ◌▸◌}
+use Rattle.std.proofs.Common.{◌||◌, ◌∷◌, ◌≡◌}
+use Rattle.gen1_layout.proofs.Words.{Bool, DisabledSlot, Field, None, Option, Phase, Progress, Side, Some, [], active_in, ap, choose, choose-false, conditions_in, false, given, is_some, member_in, refl, stay, stop, then-goes, true, underway_in, ◌∙◌, ◌▸◌}
 use Rattle.gen1_stats.specs.declared.status.Status.{Status}
 use Rattle.gen1_stats.specs.declared.status.Status.TheVariants.{Asleep, Burned, Frozen, Healthy, Paralysed, Poisoned}
 use Rattle.gen1_stats.specs.Members.{is_frozen, is_living, is_paralysed}

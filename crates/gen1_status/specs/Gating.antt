@@ -1,5 +1,6 @@
 -- Who is held, who is free but for its status, and who acts with no test (docs/MECHANICS.md, "Gate").
-use Rattle.gen1_layout.specs.Words.{Bool, Field, None, Side, conditions_in, false, other, status_in, true, underway_in, ◌≡◌}
+use Rattle.std.specs.Prelude.{◌≡◌}
+use Rattle.gen1_layout.specs.Words.{Bool, Field, None, Side, conditions_in, false, other, status_in, true, underway_in}
 use Rattle.gen1_stats.specs.declared.status.Status.{Status}
 use Rattle.gen1_stats.specs.declared.status.Status.TheVariants.{Asleep, Frozen, Paralysed}
 use Rattle.gen1_machine.specs.declared.picks.Pick.{Pick}

@@ -1,6 +1,6 @@
 -- A shift of a stage, whose failure is left to its caller (docs/MECHANICS.md, "Stage shift").
-use Rattle.gen1_layout.specs.Words.{Active, Bool, Event, Frame, IsBetween, List, Phase, Progress, Shows, Side, false, true, with_stage, ℕ, ◌+◌, ◌≡◌, ◌≤◌}
-use Rattle.std.specs.Prelude.{ℤ, negsuc, pos}
+use Rattle.gen1_layout.specs.Words.{Active, Bool, Event, Frame, IsBetween, List, Phase, Progress, Shows, Side, false, true, with_stage, ℕ}
+use Rattle.std.specs.Prelude.{ℤ, negsuc, pos, ◌+◌, ◌≡◌, ◌≤◌}
 use Rattle.gen1_tables.specs.declared.effect.Stat.{Stat}
 use Rattle.gen1_tables.specs.declared.effect.Stat.TheVariants.{Accuracy, Attack, Defense, Evasion, Special, Speed}
 use Rattle.gen1_machine.specs.StageShift.{lower_stage, raise_stage}

@@ -1,5 +1,6 @@
 -- What an answer of the gate tells of the phase that it stands for: whether that stopped, and how the battle stands then.
-use Rattle.gen1_layout.specs.Words.{Bool, Event, Frame, List, Phase, Progress, Shows, ShowsDrawn, false, true, ℕ, ◌≡◌}
+use Rattle.std.specs.Prelude.{◌≡◌}
+use Rattle.gen1_layout.specs.Words.{Bool, Event, Frame, List, Phase, Progress, Shows, ShowsDrawn, false, true, ℕ}
 use Rattle.gen1_machine.specs.declared.terms.Outcome.{Outcome}
 use Rattle.gen1_machine.specs.declared.terms.Outcome.TheVariants as outcomes
 use Rattle.gen1_machine.specs.Progress.{Action}

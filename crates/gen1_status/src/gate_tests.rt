@@ -1,5 +1,6 @@
 //! What can keep a member from acting (docs/MECHANICS.md, "Gate"): tests in their order, of which the first that stops decides.
-ghost use Rattle.gen1_layout.specs.Words.{AddsAtMost, Does, Field, HasRoom, Setting, Within, true, ◌≡◌};
+ghost use Rattle.std.specs.Prelude.{◌≡◌};
+ghost use Rattle.gen1_layout.specs.Words.{AddsAtMost, Does, Field, HasRoom, Setting, Within, true};
 ghost use Rattle.gen1_machine.specs.Action.{gate_or_held};
 ghost use Rattle.gen1_machine.specs.Gate.{cant, gate};
 ghost use Rattle.gen1_status.specs.Gating.{ActsAtOnce, is_held, keeps_from_acting};

@@ -1,5 +1,6 @@
 //! The hit of a confused member on itself (docs/MECHANICS.md, "Hit on itself").
-ghost use Rattle.gen1_layout.specs.Words.{AddsAtMost, Frame, HasRoom, Progress, Shows, conditions, false, other, stop, ◌≡◌, ◌≢◌, ◌▸◌};
+ghost use Rattle.std.specs.Prelude.{◌≡◌, ◌≢◌};
+ghost use Rattle.gen1_layout.specs.Words.{AddsAtMost, Frame, HasRoom, Progress, Shows, conditions, false, other, stop, ◌▸◌};
 ghost use Rattle.gen1_machine.specs.HitOnItself.{hurt_itself, hurt_itself_by, land_on_foes_substitute};
 ghost use Rattle.gen1_status.specs.Telling.{Tells, frame_after};
 

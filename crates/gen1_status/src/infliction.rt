@@ -1,5 +1,6 @@
 //! Statuses that a member gets (docs/MECHANICS.md, "Penalties", "Order of events").
-ghost use Rattle.gen1_layout.specs.Words.{AddsAtMost, Does, Frame, HasRoom, Progress, Shows, false, ◌≡◌};
+ghost use Rattle.std.specs.Prelude.{◌≡◌};
+ghost use Rattle.gen1_layout.specs.Words.{AddsAtMost, Does, Frame, HasRoom, Progress, Shows, false};
 ghost use Rattle.gen1_machine.specs.Progress.{inflict};
 ghost use Rattle.gen1_machine.specs.Valid.{IsStatus};
 ghost use Rattle.gen1_status.specs.Inflicted.{IsCountOf, status_of_kind};

@@ -1,5 +1,6 @@
 //! What a side's choice comes to as the turn begins (docs/MECHANICS.md, "Picks").
-ghost use Rattle.gen1_layout.specs.Words.{Reads, underway_in, zero, ℕ, ◌≡◌};
+ghost use Rattle.std.specs.Prelude.{◌≡◌};
+ghost use Rattle.gen1_layout.specs.Words.{Reads, underway_in, zero, ℕ};
 ghost use Rattle.gen1_machine.specs.Picks.{must_continue, pick_in, sleeps_or_freezes};
 
 use gen1_layout::{Conditions, Packed};

@@ -1,5 +1,6 @@
 //! What poison, a burn and Leech Seed take (docs/MECHANICS.md, "Residual").
-ghost use Rattle.gen1_layout.specs.Words.{AddsAtMost, Does, Event, HasRoom, List, Reads, conditions_in, false, is_living, member_in, status_in, ◌||◌, ◌≡◌, ◌≤◌};
+ghost use Rattle.std.specs.Prelude.{◌||◌, ◌≡◌, ◌≤◌};
+ghost use Rattle.gen1_layout.specs.Words.{AddsAtMost, Does, Event, HasRoom, List, Reads, conditions_in, false, is_living, member_in, status_in};
 ghost use Rattle.gen1_machine.specs.Conditions.{one_more};
 ghost use Rattle.gen1_machine.specs.Residual.{residual, residual_in, suffer, suffer_seed, suffer_status, times_poisoned, worsen};
 ghost use Rattle.gen1_status.specs.Hurting.{takes_hp};

@@ -1,5 +1,6 @@
 //! Stages that rise and fall in battle (docs/MECHANICS.md, "Stage shift").
-ghost use Rattle.gen1_layout.specs.Words.{AddsAtMost, Does, Event, HasRoom, IsBetween, List, false, ◌≤◌};
+ghost use Rattle.std.specs.Prelude.{◌≤◌};
+ghost use Rattle.gen1_layout.specs.Words.{AddsAtMost, Does, Event, HasRoom, IsBetween, List, false};
 ghost use Rattle.gen1_machine.specs.StageShift.{lower_stage, note_boost, note_unboost, raise_stage, shift_to};
 ghost use Rattle.gen1_status.specs.Shifting.{IsShift, Shifts, shift_stage};
 

@@ -1,5 +1,6 @@
 //! A stage, and the number that stands at it (docs/MECHANICS.md, "Stages").
-ghost use Rattle.gen1_layout.specs.Words.{Active, Field, Reads, Setting, Within, active_in, changed_active, has_number, member_in, now, true, ℕ, ◌≡◌, ◌≤◌};
+ghost use Rattle.std.specs.Prelude.{◌≡◌, ◌≤◌};
+ghost use Rattle.gen1_layout.specs.Words.{Active, Field, Reads, Setting, Within, active_in, changed_active, has_number, member_in, now, true, ℕ};
 ghost use Rattle.gen1_machine.specs.CurrentStats.{recomputed_at};
 ghost use Rattle.gen1_machine.specs.Stages.{stage_number};
 ghost use Rattle.gen1_machine.specs.StageShift.{stands_at};

@@ -1,5 +1,6 @@
 -- What the clause of the gate says of a generator that begins at its own stream, and of a member that is free.
-use Rattle.gen1_layout.proofs.Words.{Bool, Event, Field, List, Parts, Progress, Setting, Side, ap, choose, choose-true, draw, false, nat_lt, note, on_conditions, on_field, refl, stay, stop, sym, true, ℕ, ◌∙◌, ◌≡◌, ◌▸◌}
+use Rattle.std.proofs.Common.{◌≡◌}
+use Rattle.gen1_layout.proofs.Words.{Bool, Event, Field, List, Parts, Progress, Setting, Side, ap, choose, choose-true, draw, false, nat_lt, note, on_conditions, on_field, refl, stay, stop, sym, true, ℕ, ◌∙◌, ◌▸◌}
 use Rattle.gen1_rolls.specs.Draws.{stream_of}
 use Rattle.gen1_rolls.specs.Streams.{byte_at, iterate}
 use Rattle.gen1_stats.specs.declared.status.Status.TheVariants.{Healthy, Paralysed}

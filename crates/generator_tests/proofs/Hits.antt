@@ -1,6 +1,6 @@
 -- What the clauses of the operations of a hit say of a generator that begins at its own stream.
-use Rattle.gen1_layout.proofs.Words.{Action, Bool, Field, None, Option, Parts, Progress, Setting, ShowsDrawn, Side, Some, [], ap, arith, choose, draw, false, given, nat_le, nat_lt, nat_tests, on_conditions, on_field, refl, set_last_damage, stay, sym, true, with_last_damage, ℕ, ◌+◌, ◌<◌, ◌∙◌, ◌≡◌, ◌≤◌, ◌▸◌}
-use Rattle.std.proofs.Common.{if◌then◌else◌, not}
+use Rattle.gen1_layout.proofs.Words.{Action, Bool, Field, None, Option, Parts, Progress, Setting, ShowsDrawn, Side, Some, [], ap, arith, choose, draw, false, given, nat_le, nat_lt, nat_tests, on_conditions, on_field, refl, set_last_damage, stay, sym, true, with_last_damage, ℕ, ◌∙◌, ◌▸◌}
+use Rattle.std.proofs.Common.{if◌then◌else◌, not, ◌+◌, ◌<◌, ◌≡◌, ◌≤◌}
 use Rattle.gen1_rolls.specs.Draws.{draws_of, stream_of}
 use Rattle.gen1_rolls.specs.Streams.{byte_at, first, iterate, Stream}
 use Rattle.gen1_machine.specs.declared.side.Side.TheVariants.{One}

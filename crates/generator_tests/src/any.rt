@@ -1,5 +1,6 @@
 //! The operations that draw, with any generator: what a caller knows that is itself generic, from their contracts alone.
-ghost use Rattle.gen1_layout.specs.Words.{Field, HasRoom, None, Setting, Some, Within, move_at, nat_lt, status_in, ℕ, ◌+◌, ◌<◌, ◌≡◌, ◌≤◌};
+ghost use Rattle.std.specs.Prelude.{◌+◌, ◌<◌, ◌≡◌, ◌≤◌};
+ghost use Rattle.gen1_layout.specs.Words.{Field, HasRoom, None, Setting, Some, Within, move_at, nat_lt, status_in, ℕ};
 ghost use Rattle.gen1_rolls.specs.Draws.{draws_of, stream_of};
 ghost use Rattle.gen1_rolls.specs.Streams.{first, iterate};
 ghost use Rattle.gen1_stats.specs.declared.status.Status.TheVariants.{Healthy, Paralysed};

@@ -14,6 +14,8 @@ use gen1_status::{Gate, gate};
 use gen1_tables::{Element, MoveId, Species};
 use std::test::Fail;
 
+mod effects;
+
 const USER: Side = Side::One;
 
 const STRENGTH: UsedMove = UsedMove::Slot(1);

@@ -1,5 +1,6 @@
 //! Haze (docs/MECHANICS.md, "Early effects").
-ghost use Rattle.gen1_layout.specs.Words.{AddsAtMost, Does, Event, HasRoom, List, false, status_of, stop, true, ◌≡◌, ◌▸◌};
+ghost use Rattle.std.specs.Prelude.{◌≡◌};
+ghost use Rattle.gen1_layout.specs.Words.{AddsAtMost, Does, Event, HasRoom, List, false, status_of, stop, true, ◌▸◌};
 ghost use Rattle.gen1_machine.specs.EarlyEffects.{clear_side, cure_kind, haze, haze_cures};
 ghost use Rattle.gen1_machine.specs.Picks.{sleeps_or_freezes};
 ghost use Rattle.gen1_machine.specs.Progress.{given};

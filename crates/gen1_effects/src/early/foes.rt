@@ -1,5 +1,6 @@
 //! What a move finds at a member (docs/MECHANICS.md, "Early effects").
-ghost use Rattle.gen1_layout.specs.Words.{Reads, active_in, conditions_in, is_some, not, status_in, ◌&&◌, ◌≡◌};
+ghost use Rattle.std.specs.Prelude.{◌&&◌, ◌≡◌};
+ghost use Rattle.gen1_layout.specs.Words.{Reads, active_in, conditions_in, is_some, not, status_in};
 ghost use Rattle.gen1_stats.specs.Members.{is_healthy};
 ghost use Rattle.gen1_tables.specs.declared.element.Element.TheVariants.{Electric, Ground};
 ghost use Rattle.gen1_tables.specs.Types.{same_type};

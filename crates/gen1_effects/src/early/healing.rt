@@ -1,6 +1,6 @@
 //! Recover, Soft-Boiled and Rest (docs/MECHANICS.md, "Early effects").
-ghost use Rattle.gen1_layout.specs.Words.{AddsAtMost, Does, HasRoom, Reads, false, member_in, move_at, stop, true, ◌-◌, ◌≡◌, ◌▸◌};
-ghost use Rattle.std.specs.Prelude.{◌==◌};
+ghost use Rattle.gen1_layout.specs.Words.{AddsAtMost, Does, HasRoom, Reads, false, member_in, move_at, stop, true, ◌▸◌};
+ghost use Rattle.std.specs.Prelude.{◌==◌, ◌-◌, ◌≡◌};
 ghost use Rattle.gen1_machine.specs.EarlyEffects.{heal, recover, resists_healing, rest_up};
 ghost use Rattle.gen1_machine.specs.Moves.{rest};
 

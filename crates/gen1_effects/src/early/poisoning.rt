@@ -1,6 +1,6 @@
 //! Poison Powder, Poison Gas and Toxic (docs/MECHANICS.md, "Early effects").
-ghost use Rattle.gen1_layout.specs.Words.{AddsAtMost, Does, HasRoom, false, move_at, stop, true, ◌≡◌, ◌▸◌};
-ghost use Rattle.std.specs.Prelude.{◌==◌};
+ghost use Rattle.gen1_layout.specs.Words.{AddsAtMost, Does, HasRoom, false, move_at, stop, true, ◌▸◌};
+ghost use Rattle.std.specs.Prelude.{◌==◌, ◌≡◌};
 ghost use Rattle.gen1_machine.specs.EarlyEffects.{poison_foe};
 ghost use Rattle.gen1_machine.specs.Moves.{toxic};
 ghost use Rattle.gen1_machine.specs.Progress.{inflict, on_conditions, only};

@@ -1,5 +1,6 @@
 //! Leech Seed (docs/MECHANICS.md, "Early effects").
-ghost use Rattle.gen1_layout.specs.Words.{AddsAtMost, HasRoom, Reads, active_in, conditions_in, move_at, stop, true, ◌||◌, ◌▸◌};
+ghost use Rattle.std.specs.Prelude.{◌||◌};
+ghost use Rattle.gen1_layout.specs.Words.{AddsAtMost, HasRoom, Reads, active_in, conditions_in, move_at, stop, true, ◌▸◌};
 ghost use Rattle.gen1_machine.specs.EarlyEffects.{seed_foe};
 ghost use Rattle.gen1_machine.specs.State.{has_type};
 ghost use Rattle.gen1_tables.specs.declared.element.Element.TheVariants.{Grass};

@@ -1,6 +1,6 @@
 //! Mist, Focus Energy and the screens, which stay up, and fail where they are up (docs/MECHANICS.md, "Early effects").
-ghost use Rattle.gen1_layout.specs.Words.{ActiveConditions, AddsAtMost, Does, HasRoom, conditions, false, move_at, slice_index_or, slice_set, stop, true, ℕ, ◌<◌, ◌^◌, ◌≡◌, ◌▸◌};
-ghost use Rattle.std.specs.Prelude.{◌==◌};
+ghost use Rattle.gen1_layout.specs.Words.{ActiveConditions, AddsAtMost, Does, HasRoom, conditions, false, move_at, slice_index_or, slice_set, stop, true, ℕ, ◌▸◌};
+ghost use Rattle.std.specs.Prelude.{◌==◌, ◌<◌, ◌^◌, ◌≡◌};
 ghost use Rattle.gen1_machine.specs.EarlyEffects.{set_focus_energy, set_mist, set_screen};
 ghost use Rattle.gen1_machine.specs.Layout.{condition_bits};
 ghost use Rattle.gen1_machine.specs.Moves.{light_screen_move};

@@ -1,5 +1,6 @@
 //! Moves that put the foe to sleep (docs/MECHANICS.md, "Late effects", "Rules (sleep clause, freeze clause)").
-ghost use Rattle.gen1_layout.specs.Words.{AddsAtMost, Frame, HasRoom, Progress, Shows, ShowsDrawn, false, move_at, true, ◌≡◌};
+ghost use Rattle.std.specs.Prelude.{◌≡◌};
+ghost use Rattle.gen1_layout.specs.Words.{AddsAtMost, Frame, HasRoom, Progress, Shows, ShowsDrawn, false, move_at, true};
 ghost use Rattle.gen1_stats.specs.Members.{is_healthy};
 ghost use Rattle.gen1_machine.specs.LateEffects.{put_to_sleep, ready_to_sleep};
 ghost use Rattle.gen1_machine.specs.Ruling.{fall_asleep, is_sleep_count, sleep_for, sleep_only_one, sleeps_under};

@@ -1,5 +1,6 @@
 //! Disable, with its draws (docs/MECHANICS.md, "Side effects").
-ghost use Rattle.gen1_layout.specs.Words.{AddsAtMost, DoesDrawing, DoesSeeing, Field, Frame, HasRoom, Progress, Reads, Setting, ShowsDrawn, Within, false, member_in, move_at, other, true, ◌≡◌};
+ghost use Rattle.std.specs.Prelude.{◌≡◌};
+ghost use Rattle.gen1_layout.specs.Words.{AddsAtMost, DoesDrawing, DoesSeeing, Field, Frame, HasRoom, Progress, Reads, Setting, ShowsDrawn, Within, false, member_in, move_at, other, true};
 ghost use Rattle.gen1_machine.specs.Progress.{member};
 ghost use Rattle.gen1_machine.specs.SideEffects.{disable, disable_for, disable_slot, has_pp, names_slot};
 ghost use Rattle.gen1_action.specs.Knowing.{DoesKnowingDrawing, IsUncounted};

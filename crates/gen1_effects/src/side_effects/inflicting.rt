@@ -1,5 +1,6 @@
 //! Statuses by chance, and the thaw (docs/MECHANICS.md, "Side effects", "Rules (sleep clause, freeze clause)").
-ghost use Rattle.gen1_layout.specs.Words.{AddsAtMost, Does, DoesDrawing, Field, Frame, HasRoom, Progress, Reads, Setting, Shows, Within, active_in, false, is_frozen, move_at, not, party, status_in, ◌&&◌, ◌||◌, ◌≡◌};
+ghost use Rattle.std.specs.Prelude.{◌&&◌, ◌||◌, ◌≡◌};
+ghost use Rattle.gen1_layout.specs.Words.{AddsAtMost, Does, DoesDrawing, Field, Frame, HasRoom, Progress, Reads, Setting, Shows, Within, active_in, false, is_frozen, move_at, not, party, status_in};
 ghost use Rattle.gen1_tables.specs.declared.element.Element.TheVariants.{Fire, Poison};
 ghost use Rattle.gen1_tables.specs.Types.{same_type};
 ghost use Rattle.gen1_stats.specs.Members.{is_healthy};

@@ -1,5 +1,6 @@
 //! The tests that rule out any action: sleep, frost, and the foe's trapping.
-ghost use Rattle.gen1_layout.specs.Words.{AddsAtMost, AddsNone, Does, DoesSeeing, HasRoom, false, is_frozen, status_of, true, ◌≡◌};
+ghost use Rattle.std.specs.Prelude.{◌≡◌};
+ghost use Rattle.gen1_layout.specs.Words.{AddsAtMost, AddsNone, Does, DoesSeeing, HasRoom, false, is_frozen, status_of, true};
 ghost use Rattle.gen1_machine.specs.Gate.{frozen_test, gate_of_status, sleep_test, trapped_test};
 
 use super::cant;

@@ -1,5 +1,6 @@
 //! The test of confusion, which counts down and ends at 0; until then the member may hit itself.
-ghost use Rattle.gen1_layout.specs.Words.{AddsAtMost, Does, Frame, HasRoom, Progress, ShowsDrawn, Some, conditions, draw, false, ◌≡◌, ◌▸◌};
+ghost use Rattle.std.specs.Prelude.{◌≡◌};
+ghost use Rattle.gen1_layout.specs.Words.{AddsAtMost, Does, Frame, HasRoom, Progress, ShowsDrawn, Some, conditions, draw, false, ◌▸◌};
 ghost use Rattle.gen1_machine.specs.declared.event.Volatile.TheVariants as volatiles;
 ghost use Rattle.gen1_machine.specs.Conditions.{with_confusion_one_less, without_confusion};
 ghost use Rattle.gen1_machine.specs.Progress.{ends, lasts};

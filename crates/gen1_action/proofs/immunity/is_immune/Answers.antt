@@ -1,4 +1,5 @@
-use Rattle.gen1_layout.proofs.Words.{active_in, ap, false, sym, true, ◌||◌, ◌∙◌, ◌≡◌}
+use Rattle.std.proofs.Common.{◌||◌, ◌≡◌}
+use Rattle.gen1_layout.proofs.Words.{active_in, ap, false, sym, true, ◌∙◌}
 use Rattle.gen1_action.specs.Immunity.{has_no_effect}
 use Rattle.gen1_action.proofs.Immunities.{immune-is}
 use Rattle.gen1_action.proofs.immunity.is_immune.Goals as goal

@@ -1,4 +1,5 @@
-use Rattle.gen1_layout.proofs.Words.{arith, drawing, false, if_not, if_so, nat_lt, nat_tests, refl, stays, still, true, ◌≡◌}
+use Rattle.std.proofs.Common.{◌≡◌}
+use Rattle.gen1_layout.proofs.Words.{arith, drawing, false, if_not, if_so, nat_lt, nat_tests, refl, stays, still, true}
 use Rattle.gen1_machine.specs.HitTest.{hits_below}
 use Rattle.gen1_hits.proofs.accuracy.draw_below.Goals as goal
 

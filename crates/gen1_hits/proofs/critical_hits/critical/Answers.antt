@@ -1,4 +1,5 @@
-use Rattle.gen1_layout.proofs.Words.{Action, acted, drawing, drawn_seeing, nat_lt, refl, still, ℕ, ◌≡◌}
+use Rattle.std.proofs.Common.{◌≡◌}
+use Rattle.gen1_layout.proofs.Words.{Action, acted, drawing, drawn_seeing, nat_lt, refl, still, ℕ}
 use Rattle.gen1_machine.specs.Moves.{move_at}
 use Rattle.gen1_machine.specs.CriticalHits.{critical_bound_in, critical_by, roll_critical, rotated_left_3, set_critical}
 use Rattle.gen1_hits.proofs.critical_hits.critical.Goals as goal

@@ -1,4 +1,5 @@
-use Rattle.gen1_layout.proofs.Words.{arith, false, lit<, nat_le, nat_tests, refl, rules, true, ◌+◌, ◌∙◌, ◌≡◌}
+use Rattle.std.proofs.Common.{◌+◌, ◌≡◌}
+use Rattle.gen1_layout.proofs.Words.{arith, false, lit<, nat_le, nat_tests, refl, rules, true, ◌∙◌}
 use Rattle.gen1_rolls.proofs.Standing.{found_then}
 use Rattle.gen1_machine.specs.Damage.{is_factor}
 use Rattle.gen1_hits.proofs.Varying.{vary-draws, vary-keeps}

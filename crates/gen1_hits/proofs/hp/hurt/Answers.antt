@@ -1,4 +1,5 @@
-use Rattle.gen1_layout.proofs.Words.{ap, arith, member_in, member_ok, sym, ℕ, ◌-◌, ◌∙◌, ◌≡◌}
+use Rattle.std.proofs.Common.{◌-◌, ◌≡◌}
+use Rattle.gen1_layout.proofs.Words.{ap, arith, member_in, member_ok, sym, ℕ, ◌∙◌}
 use Rattle.gen1_machine.specs.State.{hurt_by}
 use Rattle.gen1_hits.proofs.hp.hurt.Goals as goal
 

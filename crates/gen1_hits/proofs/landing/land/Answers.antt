@@ -1,4 +1,5 @@
-use Rattle.gen1_layout.proofs.Words.{arith, false, if_not, if_so, nat_lt, nat_tests, seeing, stays, sym, true, ◌≡◌}
+use Rattle.std.proofs.Common.{◌≡◌}
+use Rattle.gen1_layout.proofs.Words.{arith, false, if_not, if_so, nat_lt, nat_tests, seeing, stays, sym, true}
 use Rattle.gen1_machine.specs.Landing.{land_by, land_damage}
 use Rattle.gen1_hits.proofs.landing.land.Goals as goal
 

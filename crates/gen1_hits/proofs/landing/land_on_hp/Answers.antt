@@ -1,5 +1,5 @@
-use Rattle.gen1_layout.proofs.Words.{ap, goes, member_in, put_damage, refl, seeing, ◌∙◌, ◌≡◌}
-use Rattle.std.proofs.Common.{min}
+use Rattle.gen1_layout.proofs.Words.{ap, goes, member_in, put_damage, refl, seeing, ◌∙◌}
+use Rattle.std.proofs.Common.{min, ◌≡◌}
 use Rattle.gen1_machine.specs.Progress.{member}
 use Rattle.gen1_machine.specs.Landing.{land_on_hp}
 use Rattle.gen1_hits.proofs.landing.land_on_hp.Goals as goal

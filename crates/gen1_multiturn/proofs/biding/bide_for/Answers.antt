@@ -1,4 +1,5 @@
-use Rattle.gen1_layout.proofs.Words.{Field, Who, ap, arith, changed_conditions, refl, told_so, who_in, ◌%◌, ◌+◌}
+use Rattle.std.proofs.Common.{◌%◌, ◌+◌}
+use Rattle.gen1_layout.proofs.Words.{Field, Who, ap, arith, changed_conditions, refl, told_so, who_in}
 use Rattle.gen1_machine.specs.declared.event.Event.TheVariants as events
 use Rattle.gen1_machine.specs.declared.event.Volatile.TheVariants as volatiles
 use Rattle.gen1_machine.specs.Conditions.{with_bide}

@@ -1,4 +1,5 @@
-use Rattle.gen1_layout.proofs.Words.{Action, Field, Who, acted, ap, changed_conditions, ends, goes, put_damage, refl, told_so, true, who_in, ◌==◌}
+use Rattle.std.proofs.Common.{◌==◌}
+use Rattle.gen1_layout.proofs.Words.{Action, Field, Who, acted, ap, changed_conditions, ends, goes, put_damage, refl, told_so, true, who_in}
 use Rattle.gen1_machine.specs.declared.event.Event.TheVariants as events
 use Rattle.gen1_machine.specs.declared.event.Volatile.TheVariants as volatiles
 use Rattle.gen1_machine.specs.Conditions.{without_bide}

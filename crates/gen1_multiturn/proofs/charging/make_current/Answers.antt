@@ -1,4 +1,5 @@
-use Rattle.gen1_layout.proofs.Words.{Active, active_in, ap, length, member_in, on_active, put_on_active, refl, seeing, subst, sym, ◌∙◌, ◌≡◌}
+use Rattle.std.proofs.Common.{◌≡◌}
+use Rattle.gen1_layout.proofs.Words.{Active, active_in, ap, length, member_in, on_active, put_on_active, refl, seeing, subst, sym, ◌∙◌}
 use Rattle.gen1_machine.specs.declared.picks.UsedMove.{UsedMove}
 use Rattle.gen1_machine.specs.Picks.{used_by}
 use Rattle.gen1_machine.specs.State.{with_current_move}

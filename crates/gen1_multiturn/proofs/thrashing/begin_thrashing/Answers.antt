@@ -1,4 +1,5 @@
-use Rattle.gen1_layout.proofs.Words.{active_in, ap, arith, drawing, drawn_goes, on_conditions, on_field, put_on_active, put_on_conditions, refl, still, ℕ, ◌%◌, ◌+◌}
+use Rattle.std.proofs.Common.{◌%◌, ◌+◌}
+use Rattle.gen1_layout.proofs.Words.{active_in, ap, arith, drawing, drawn_goes, on_conditions, on_field, put_on_active, put_on_conditions, refl, still, ℕ}
 use Rattle.gen1_machine.specs.Conditions.{with_thrash}
 use Rattle.gen1_machine.specs.GoingOn.{thrash_for}
 use Rattle.gen1_machine.specs.Moves.{accuracy_byte}

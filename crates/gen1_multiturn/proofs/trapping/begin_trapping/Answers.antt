@@ -1,4 +1,5 @@
-use Rattle.gen1_layout.proofs.Words.{ap, arith, conditions_in, drawn_goes, lit<, on_conditions, on_field, put_on_conditions, refl, still, ◌+◌, ◌∙◌}
+use Rattle.std.proofs.Common.{◌+◌}
+use Rattle.gen1_layout.proofs.Words.{ap, arith, conditions_in, drawn_goes, lit<, on_conditions, on_field, put_on_conditions, refl, still, ◌∙◌}
 use Rattle.gen1_machine.specs.Conditions.{with_trapping, without_recharge, Underway}
 use Rattle.gen1_machine.specs.GoingOn.{trap_for}
 use Rattle.gen1_status.proofs.Clearing.{recharge-same}

@@ -1,4 +1,5 @@
-use Rattle.gen1_layout.proofs.Words.{stays, ◌||◌, ◌∙◌}
+use Rattle.std.proofs.Common.{◌||◌}
+use Rattle.gen1_layout.proofs.Words.{stays, ◌∙◌}
 use Rattle.gen1_machine.specs.HitOnItself.{land_on_foes_substitute}
 use Rattle.gen1_status.proofs.Told.{broken_so}
 use Rattle.gen1_status.proofs.hit_on_itself.land_on_foes_substitute.Goals as goal

@@ -1,5 +1,5 @@
-use Rattle.gen1_layout.proofs.Words.{active_in, active_ok, add-one, arith, member_in, refl, ℕ, ◌+◌, ◌/◌, ◌≡◌}
-use Rattle.std.proofs.Common.{max}
+use Rattle.gen1_layout.proofs.Words.{active_in, active_ok, add-one, arith, member_in, refl, ℕ}
+use Rattle.std.proofs.Common.{max, ◌+◌, ◌/◌, ◌≡◌}
 use Rattle.gen1_stats.specs.declared.status.Status.TheVariants.{Asleep, Burned, Frozen, Healthy, Paralysed, Poisoned}
 use Rattle.gen1_machine.specs.CurrentStats.{with_penalty_of}
 use Rattle.gen1_machine.specs.Stages.{at_stage, divided_times}

@@ -1,4 +1,5 @@
-use Rattle.gen1_layout.proofs.Words.{active_in, active_ok, arith, false, given, member_in, nat_le, nat_tests, put_on_active, sym, true, ◌+◌, ◌-◌, ◌∙◌, ◌≡◌}
+use Rattle.std.proofs.Common.{◌+◌, ◌-◌, ◌≡◌}
+use Rattle.gen1_layout.proofs.Words.{active_in, active_ok, arith, false, given, member_in, nat_le, nat_tests, put_on_active, sym, true, ◌∙◌}
 use Rattle.gen1_machine.specs.CurrentStats.{at_new_stage, penalties_of, unmodified}
 use Rattle.gen1_machine.specs.StageShift.{lower_from, lower_stage, note_unboost, stage_in}
 use Rattle.gen1_status.proofs.Fitting.{stage_of-fits}

@@ -1,4 +1,5 @@
-use Rattle.gen1_layout.proofs.Words.{active_in, arith, false, given, member_in, nat_le, nat_tests, put_on_active, sym, true, ◌-◌, ◌∙◌, ◌≡◌}
+use Rattle.std.proofs.Common.{◌-◌, ◌≡◌}
+use Rattle.gen1_layout.proofs.Words.{active_in, arith, false, given, member_in, nat_le, nat_tests, put_on_active, sym, true, ◌∙◌}
 use Rattle.gen1_machine.specs.CurrentStats.{at_new_stage, penalties_of, unmodified}
 use Rattle.gen1_machine.specs.StageShift.{note_boost, raise_from, raise_stage, raised, stage_in}
 use Rattle.gen1_status.proofs.Restaging.{at_new_stage-is, now-at_new_stage, stands_at-now}

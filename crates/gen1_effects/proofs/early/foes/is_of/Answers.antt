@@ -1,4 +1,5 @@
-use Rattle.gen1_layout.proofs.Words.{active_in, ap, false, sym, true, ◌∙◌, ◌≡◌}
+use Rattle.std.proofs.Common.{◌≡◌}
+use Rattle.gen1_layout.proofs.Words.{active_in, ap, false, sym, true, ◌∙◌}
 use Rattle.gen1_tables.specs.Types.{same_type}
 use Rattle.gen1_effects.proofs.SameTypes.{same-is}
 use Rattle.gen1_effects.proofs.early.foes.is_of.Goals as goal

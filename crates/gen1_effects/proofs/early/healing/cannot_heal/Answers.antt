@@ -1,4 +1,5 @@
-use Rattle.gen1_layout.proofs.Words.{ap, member_in, refl, ◌-◌, ◌∙◌, ◌≡◌}
+use Rattle.std.proofs.Common.{◌-◌, ◌≡◌}
+use Rattle.gen1_layout.proofs.Words.{ap, member_in, refl, ◌∙◌}
 use Rattle.gen1_machine.specs.EarlyEffects.{resists_healing}
 use Rattle.gen1_effects.proofs.early.healing.cannot_heal.Goals as goal
 

@@ -1,4 +1,5 @@
-use Rattle.gen1_layout.proofs.Words.{Member, ap, ℕ, ◌/◌}
+use Rattle.std.proofs.Common.{◌/◌}
+use Rattle.gen1_layout.proofs.Words.{Member, ap, ℕ}
 use Rattle.gen1_machine.specs.EarlyEffects.{recover}
 use Rattle.gen1_machine.specs.Progress.{gain_hp, member}
 use Rattle.gen1_effects.proofs.Partly.{seeing_part}

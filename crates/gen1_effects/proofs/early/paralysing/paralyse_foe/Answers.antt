@@ -1,4 +1,5 @@
-use Rattle.gen1_layout.proofs.Words.{Bool, Progress, Side, ap, drawn_goes, drawn_settled, drawn_stops, sym, ◌&&◌, ◌∙◌}
+use Rattle.std.proofs.Common.{◌&&◌}
+use Rattle.gen1_layout.proofs.Words.{Bool, Progress, Side, ap, drawn_goes, drawn_settled, drawn_stops, sym, ◌∙◌}
 use Rattle.gen1_tables.specs.declared.element.Element.{Element}
 use Rattle.gen1_tables.specs.declared.element.Element.TheVariants.{Electric, Ground}
 use Rattle.gen1_tables.specs.Types.{same_type}

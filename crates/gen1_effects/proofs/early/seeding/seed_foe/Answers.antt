@@ -1,4 +1,5 @@
-use Rattle.gen1_layout.proofs.Words.{Bool, Field, Progress, Side, Who, ap, changed_conditions, conditions_in, drawn_goes, drawn_settled, drawn_stops, lit<, refl, still, sym, told_so, who_in, ◌||◌, ◌∙◌}
+use Rattle.std.proofs.Common.{◌||◌}
+use Rattle.gen1_layout.proofs.Words.{Bool, Field, Progress, Side, Who, ap, changed_conditions, conditions_in, drawn_goes, drawn_settled, drawn_stops, lit<, refl, still, sym, told_so, who_in, ◌∙◌}
 use Rattle.gen1_tables.specs.declared.element.Element.TheVariants.{Grass}
 use Rattle.gen1_machine.specs.declared.event.Event.TheVariants as events
 use Rattle.gen1_machine.specs.declared.event.Volatile.TheVariants as volatiles

@@ -1,4 +1,5 @@
-use Rattle.gen1_layout.proofs.Words.{conditions_in, false, refl, sym, true, ◌∙◌, ◌≡◌}
+use Rattle.std.proofs.Common.{◌≡◌}
+use Rattle.gen1_layout.proofs.Words.{conditions_in, false, refl, sym, true, ◌∙◌}
 use Rattle.gen1_effects.proofs.early.seeding.takes_no_seed.Goals as goal
 
 pub returns-then-is_on : goal.returns-then-is_on

@@ -1,4 +1,5 @@
-use Rattle.gen1_layout.proofs.Words.{IsBetween, arith, nat_lt, nat_tests, true, ℕ, ◌%◌, ◌∙◌, ◌≡◌}
+use Rattle.std.proofs.Common.{◌%◌, ◌≡◌}
+use Rattle.gen1_layout.proofs.Words.{IsBetween, arith, nat_lt, nat_tests, true, ℕ, ◌∙◌}
 use Rattle.gen1_machine.specs.Ruling.{sleep_for}
 use Rattle.gen1_effects.proofs.late.sleep.sleep_for.Goals as goal
 

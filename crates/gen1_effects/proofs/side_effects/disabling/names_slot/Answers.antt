@@ -1,4 +1,5 @@
-use Rattle.gen1_layout.proofs.Words.{member_in, member_ok, refl, ◌%◌}
+use Rattle.std.proofs.Common.{◌%◌}
+use Rattle.gen1_layout.proofs.Words.{member_in, member_ok, refl}
 use Rattle.gen1_effects.proofs.DisabledSlots.{holds_move}
 use Rattle.gen1_effects.proofs.side_effects.disabling.names_slot.Goals as goal
 

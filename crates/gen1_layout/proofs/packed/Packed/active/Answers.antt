@@ -1,4 +1,5 @@
-use Rattle.gen1_layout.proofs.Words.{active_holds, arith, sym, ◌+◌, ◌-◌, ◌∙◌, ◌≡◌}
+use Rattle.std.proofs.Common.{◌+◌, ◌-◌, ◌≡◌}
+use Rattle.gen1_layout.proofs.Words.{active_holds, arith, sym, ◌∙◌}
 use Rattle.gen1_layout.proofs.Views.{active-part}
 use Rattle.gen1_layout.proofs.packed.Packed.active.Goals as goal
 

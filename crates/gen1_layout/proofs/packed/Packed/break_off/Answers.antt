@@ -1,4 +1,5 @@
-use Rattle.gen1_layout.proofs.Words.{ActiveConditions, active_holds, active_ok, arith, conditions_in, conditions_written, false, lit<, lit≤, number_small, refl, slice_set, top_byte, ◌∙◌, ◌≡◌}
+use Rattle.std.proofs.Common.{◌≡◌}
+use Rattle.gen1_layout.proofs.Words.{ActiveConditions, active_holds, active_ok, arith, conditions_in, conditions_written, false, lit<, lit≤, number_small, refl, slice_set, top_byte, ◌∙◌}
 use Rattle.gen1_machine.specs.Conditions.{broken_off}
 use Rattle.gen1_machine.specs.Layout.{condition_bits, conditions_number}
 use Rattle.gen1_layout.proofs.packed.Packed.break_off.Goals as goal

@@ -1,4 +1,5 @@
-use Rattle.gen1_layout.proofs.Words.{List, Parts, active_in, ap, arith, out_holds, refl, slice_index, sym, ℕ, ◌%◌, ◌*◌, ◌+◌, ◌-◌, ◌∙◌, ◌≡◌}
+use Rattle.std.proofs.Common.{◌%◌, ◌*◌, ◌+◌, ◌-◌, ◌≡◌}
+use Rattle.gen1_layout.proofs.Words.{List, Parts, active_in, ap, arith, out_holds, refl, slice_index, sym, ℕ, ◌∙◌}
 use Rattle.gen1_layout.specs.Parts.{member_at, member_of}
 use Rattle.gen1_layout.proofs.Blocks.{party_in}
 use Rattle.gen1_layout.proofs.Views.{member-part}

@@ -1,4 +1,5 @@
-use Rattle.gen1_layout.proofs.Words.{List, ap, member_in, slice_index, ℕ, ◌+◌, ◌∙◌, ◌≡◌}
+use Rattle.std.proofs.Common.{◌+◌, ◌≡◌}
+use Rattle.gen1_layout.proofs.Words.{List, ap, member_in, slice_index, ℕ, ◌∙◌}
 use Rattle.gen1_machine.specs.Layout.{member_block}
 use Rattle.gen1_layout.proofs.WaysBack.{id_at}
 use Rattle.gen1_layout.proofs.packed.Packed.move_in.Goals as goal

@@ -1,4 +1,5 @@
-use Rattle.gen1_layout.proofs.Words.{ActiveConditions, Some, active_holds, active_ok, arith, conditions_in, conditions_written, lit<, lit≤, number_small, refl, top_byte, underway_in, ◌∙◌, ◌≡◌}
+use Rattle.std.proofs.Common.{◌≡◌}
+use Rattle.gen1_layout.proofs.Words.{ActiveConditions, Some, active_holds, active_ok, arith, conditions_in, conditions_written, lit<, lit≤, number_small, refl, top_byte, underway_in, ◌∙◌}
 use Rattle.gen1_machine.specs.Layout.{condition_bits, conditions_number}
 use Rattle.gen1_layout.proofs.packed.Packed.put_bide.Goals as goal
 

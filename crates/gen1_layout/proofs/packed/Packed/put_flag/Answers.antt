@@ -1,4 +1,5 @@
-use Rattle.gen1_layout.proofs.Words.{ActiveConditions, active_holds, active_ok, ap, arith, conditions_in, conditions_written, length, member_in, number_small, refl, sym, top_byte, ◌∙◌, ◌≡◌}
+use Rattle.std.proofs.Common.{◌≡◌}
+use Rattle.gen1_layout.proofs.Words.{ActiveConditions, active_holds, active_ok, ap, arith, conditions_in, conditions_written, length, member_in, number_small, refl, sym, top_byte, ◌∙◌}
 use Rattle.gen1_machine.specs.Layout.{condition_bits, conditions_number, number_of_bits}
 use Rattle.gen1_layout.proofs.Counts.{same_storable}
 use Rattle.gen1_layout.proofs.packed.Packed.put_flag.Goals as goal

@@ -1,4 +1,5 @@
-use Rattle.gen1_layout.proofs.Words.{arith, header_packed, header_packs, packed_of, refl, still_within, ◌%◌, ◌+◌, ◌≡◌}
+use Rattle.std.proofs.Common.{◌%◌, ◌+◌, ◌≡◌}
+use Rattle.gen1_layout.proofs.Words.{arith, header_packed, header_packs, packed_of, refl, still_within}
 use Rattle.gen1_machine.specs.State.{with_next_turn}
 use Rattle.gen1_layout.proofs.packed.Packed.put_next_turn.Goals as goal
 

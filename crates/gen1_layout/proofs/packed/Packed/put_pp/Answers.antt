@@ -1,5 +1,5 @@
-use Rattle.gen1_layout.proofs.Words.{member_in, member_ok, member_written, out_holds, refl, ◌+◌, ◌-◌, ◌∙◌}
-use Rattle.std.proofs.Common.{length-set, set}
+use Rattle.gen1_layout.proofs.Words.{member_in, member_ok, member_written, out_holds, refl, ◌∙◌}
+use Rattle.std.proofs.Common.{length-set, set, ◌+◌, ◌-◌}
 use Rattle.gen1_layout.proofs.Rewriting.{refill-same}
 use Rattle.gen1_layout.proofs.Slots.{pp_block, pp_ok, with_pp}
 use Rattle.gen1_layout.specs.Parts.{member_of}
