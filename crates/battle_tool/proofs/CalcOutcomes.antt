@@ -3,10 +3,11 @@ use Rattle.std.proofs.Common.{Err, List, None, Some, [], false, length, nat_lt, 
 use Rattle.std.specs.Prelude.{ok_or}
 use Rattle.gen1_stats.specs.Teams.{team_refusal}
 use Rattle.gen1_machine.specs.Moves.{move_at}
-use Rattle.battle_tool.specs.Asked.{input_limit, json_of}
+use Rattle.battle_input.specs.Sheets.{json_of}
+use Rattle.battle_tool.specs.Asked.{input_limit}
 use Rattle.battle_tool.specs.Calc.{damages_due, damages_of, has_usual_damage}
-use Rattle.battle_tool.specs.CalcSheets.{calc_sheet_of}
-use Rattle.battle_tool.specs.declared.calc_sheet.CalcSheet.{CalcSheet}
+use Rattle.battle_input.specs.CalcSheets.{calc_sheet_of}
+use Rattle.battle_input.specs.declared.calc_sheet.CalcSheet.{CalcSheet}
 use Rattle.battle_tool.specs.declared.fault.ToolFault.TheVariants.{Calc, TooLong}
 
 -- neither team is refused, and the move has the usual damage

@@ -1,5 +1,3 @@
-pub mod Reading
-pub mod JsonLemmas
 pub mod Standing
 pub mod Outcomes
 pub mod Duels

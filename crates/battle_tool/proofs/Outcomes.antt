@@ -1,13 +1,14 @@
--- What is answered where nothing is printed.
-use Rattle.std.proofs.Common.{◌≡◌, ◌||◌, ℕ, ◌<◌, Bool, true, false, List, [], length, Option, Some, None, Result, Ok, Err, IfSome, refl, sym, subst, rules}
+-- What is answered for an input: where nothing is printed, and where its battle is played.
+use Rattle.std.proofs.Common.{◌≡◌, ◌||◌, ℕ, ◌<◌, Bool, true, false, List, [], length, Option, Some, None, Result, Ok, Err, IfSome, refl, sym, subst, ap, ◌∙◌, rules}
 use Rattle.std.proofs.KnownBytes.{Appends-nil}
-use Rattle.battle_tool.specs.Answers.{Plays, is_write_fault}
-use Rattle.battle_tool.specs.Asked.{asked_of, input_limit}
-use Rattle.battle_tool.specs.Due.{Due, IsDue, refused}
+use Rattle.serde_json.specs.Data.{Data}
+use Rattle.gen1_machine.specs.State.{State}
+use Rattle.battle_tool.specs.Answers.{Answers, is_write_fault}
+use Rattle.battle_tool.specs.Asked.{Asked, asked_of, input_limit}
+use Rattle.battle_tool.specs.Due.{Due, due_if, refused}
 use Rattle.battle_tool.specs.Opening.{IsAskedFault}
 use Rattle.battle_tool.specs.declared.fault.ToolFault.{ToolFault}
 use Rattle.battle_tool.specs.declared.fault.ToolFault.TheVariants.{Json, TooLong, Team, Pair, Log, Calc, Read, Write, Memory}
-use Rattle.battle_tool.proofs.Standing.{some_due}
 
 -- a fact of what there may be follows from another
 pub some_along : {A : Type 0} (o : Option A) (P Q : A → Type 0) → ((x : A) → P x → Q x) → IfSome o P → IfSome o Q
@@ -18,53 +19,53 @@ pub some_all : {A : Type 0} (o : Option A) (P : A → Type 0) → ((x : A) → P
 some_all None P f = tt
 some_all (Some x) P f = f x
 
-due_of_asked : (asked : Result (List (ℕ × ℕ)) ToolFault) → (due : Due) × IsDue asked due
-due_of_asked (Err fault) = (refused fault, refl)
-due_of_asked (Ok pairs) = some_due 0 pairs
+-- whatever was due, nothing of it was written
 
-pub plays_unread : {T : Type 0} (input : List ℕ) (old : Option (List ℕ)) → Plays {T = T} input old old (Err Read)
-plays_unread input old =
-    let (due, is) = due_of_asked (asked_of input) in
-    record { due = due; is_due = is; answers = record { front = []; rest = due.text; split = refl; written = Appends-nil old } }
+pub answers_unread : {T : Type 0} (due : Due) (old : Option (List ℕ)) → Answers {T = T} due old old (Err Read)
+answers_unread due old = record { front = []; rest = due.text; split = refl; written = Appends-nil old }
 
-pub plays_unheld : {T : Type 0} (input : List ℕ) (old : Option (List ℕ)) → Plays {T = T} input old old (Err Memory)
-plays_unheld input old =
-    let (due, is) = due_of_asked (asked_of input) in
-    record { due = due; is_due = is; answers = record { front = []; rest = due.text; split = refl; written = Appends-nil old } }
+pub answers_unheld : {T : Type 0} (due : Due) (old : Option (List ℕ)) → Answers {T = T} due old old (Err Memory)
+answers_unheld due old = record { front = []; rest = due.text; split = refl; written = Appends-nil old }
 
-asks_fault : (asked : Result (List (ℕ × ℕ)) ToolFault) (fault : ToolFault) → asked ≡ Err fault → IsDue asked (refused fault)
-asks_fault asked fault e =
-    let P : Result (List (ℕ × ℕ)) ToolFault → Type 0 = λ r. IsDue r (refused fault) in
-    subst P (sym e) refl
-
-too_long : (input : List ℕ) → input_limit < length input → asked_of input ≡ Err TooLong
+too_long : {A : Type 0} (key : List ℕ) (meaning : Data → Option A) (input : List ℕ) → input_limit < length input → asked_of key meaning input ≡ Err TooLong
 unfolding asked_of
-too_long input h = search rules
+too_long key meaning input h = search rules
 
-pub plays_too_long : {T : Type 0} (input : List ℕ) (old : Option (List ℕ)) → input_limit < length input → Plays {T = T} input old old (Err TooLong)
-plays_too_long input old h = record { due = refused TooLong; is_due = asks_fault (asked_of input) TooLong (too_long input h); answers = (refl, Appends-nil old) }
+pub answers_too_long : {T A : Type 0} (due : State → List A → Due) (key : List ℕ) (meaning : Data → Option A) (input : List ℕ) (old : Option (List ℕ)) → input_limit < length input
+    → Answers {T = T} (due_if due (asked_of key meaning input)) old old (Err TooLong)
+answers_too_long {T = T} due key meaning input old h =
+    subst (λ (d : Due). Answers {T = T} d old old (Err TooLong)) (sym (ap (due_if due) (too_long key meaning input h))) (refl, Appends-nil old)
 
--- no bout was opened
-unopened : {T : Type 0} (fault : ToolFault) (input : List ℕ) (old : Option (List ℕ)) → IsAskedFault fault (asked_of input) → Plays {T = T} input old old (Err fault)
-unopened Memory input old h = plays_unheld input old
-unopened Read input old h = absurd h
-unopened Write input old h = absurd h
-unopened Json input old h = record { due = refused Json; is_due = asks_fault (asked_of input) Json h; answers = (refl, Appends-nil old) }
-unopened TooLong input old h = record { due = refused TooLong; is_due = asks_fault (asked_of input) TooLong h; answers = (refl, Appends-nil old) }
-unopened (Team side place refusal) input old h =
-    record { due = refused (Team side place refusal); is_due = asks_fault (asked_of input) (Team side place refusal) h; answers = (refl, Appends-nil old) }
-unopened (Pair number refusal) input old h =
-    record { due = refused (Pair number refusal); is_due = asks_fault (asked_of input) (Pair number refusal) h; answers = (refl, Appends-nil old) }
-unopened (Log number) input old h = record { due = refused (Log number); is_due = asks_fault (asked_of input) (Log number) h; answers = (refl, Appends-nil old) }
-unopened Calc input old h = record { due = refused Calc; is_due = asks_fault (asked_of input) Calc h; answers = (refl, Appends-nil old) }
+-- no battle was opened
 
--- no bout was opened for the bytes that were read
-pub plays_unopened : (T : Type 0) (fault : ToolFault) (told : Option (List ℕ)) (items slice : List ℕ) (old : Option (List ℕ)) → slice ≡ items
-    → IsAskedFault fault (asked_of slice) → IfSome told (λ input. items ≡ input) → IfSome told (λ input. Plays {T = T} input old old (Err fault))
-plays_unopened T fault told items slice old lent opens read =
-    let P : List ℕ → Type 0 = λ bytes. IsAskedFault fault (asked_of bytes) in
-    some_along told (λ input. items ≡ input) (λ input. Plays {T = T} input old old (Err fault))
-    (λ input same. unopened {T = T} fault input old (subst P same (subst P lent opens))) read
+unopened : {T A : Type 0} (due : State → List A → Due) (fault : ToolFault) (asked : Result (Asked A) ToolFault) (old : Option (List ℕ)) → IsAskedFault fault asked
+    → Answers {T = T} (due_if due asked) old old (Err fault)
+unopened due Memory asked old h = answers_unheld (due_if due asked) old
+unopened due Read asked old h = absurd h
+unopened due Write asked old h = absurd h
+unopened {T = T} due Json asked old h = subst (λ (d : Due). Answers {T = T} d old old (Err Json)) (sym (ap (due_if due) h)) (refl, Appends-nil old)
+unopened {T = T} due TooLong asked old h = subst (λ (d : Due). Answers {T = T} d old old (Err TooLong)) (sym (ap (due_if due) h)) (refl, Appends-nil old)
+unopened {T = T} due (Team side place refusal) asked old h =
+    subst (λ (d : Due). Answers {T = T} d old old (Err (Team side place refusal))) (sym (ap (due_if due) h)) (refl, Appends-nil old)
+unopened {T = T} due (Pair number refusal) asked old h =
+    subst (λ (d : Due). Answers {T = T} d old old (Err (Pair number refusal))) (sym (ap (due_if due) h)) (refl, Appends-nil old)
+unopened {T = T} due (Log number) asked old h = subst (λ (d : Due). Answers {T = T} d old old (Err (Log number))) (sym (ap (due_if due) h)) (refl, Appends-nil old)
+unopened {T = T} due Calc asked old h = subst (λ (d : Due). Answers {T = T} d old old (Err Calc)) (sym (ap (due_if due) h)) (refl, Appends-nil old)
+
+-- for the bytes that were read
+pub answers_unopened : {T A : Type 0} (due : State → List A → Due) (asked : List ℕ → Result (Asked A) ToolFault) (fault : ToolFault) (told : Option (List ℕ)) (items slice : List ℕ) (old : Option (List ℕ))
+    → slice ≡ items → IsAskedFault fault (asked slice) → IfSome told (λ input. items ≡ input) → IfSome told (λ input. Answers {T = T} (due_if due (asked input)) old old (Err fault))
+answers_unopened {T = T} due asked fault told items slice old lent opens read =
+    some_along told (λ input. items ≡ input) (λ input. Answers {T = T} (due_if due (asked input)) old old (Err fault))
+    (λ input same. unopened {T = T} due fault (asked input) old (subst (λ bytes. IsAskedFault fault (asked bytes)) (lent ∙ same) opens)) read
+
+-- what is asked for was done
+pub answers_opened : {T A : Type 0} (due : State → List A → Due) (asked : List ℕ → Result (Asked A) ToolFault) (x : Asked A) (told : Option (List ℕ)) (items slice : List ℕ) (old new : Option (List ℕ)) (result : Result T ToolFault)
+    → slice ≡ items → asked slice ≡ Ok x → IfSome told (λ input. items ≡ input) → Answers (due x.state x.items) old new result
+    → IfSome told (λ input. Answers (due_if due (asked input)) old new result)
+answers_opened due asked x told items slice old new result lent is read done =
+    some_along told (λ input. items ≡ input) (λ input. Answers (due_if due (asked input)) old new result)
+    (λ input same. subst (λ (d : Due). Answers d old new result) (sym (ap (λ bytes. due_if due (asked bytes)) (sym (lent ∙ same)) ∙ ap (due_if due) is)) done) read
 
 or_false : (b : Bool) → b ≡ (b || false)
 or_false true = refl

@@ -2,8 +2,7 @@
 use Rattle.std.specs.Prelude.{◌≡◌, ◌||◌, ℕ, List, Bool, true, false, Option, Some, None, Result, Ok, Err}
 use Rattle.std.specs.Io.KnownBytes.{Appends}
 use Rattle.gen1_machine.specs.Sending.{AppendsFront}
-use Rattle.battle_tool.specs.Asked.{asked_of}
-use Rattle.battle_tool.specs.Due.{Due, IsDue, IsDueFrom}
+use Rattle.battle_tool.specs.Due.{Due}
 use Rattle.battle_tool.specs.declared.fault.ToolFault.{ToolFault}
 use Rattle.battle_tool.specs.declared.fault.ToolFault.TheVariants.{Read, Write, Memory}
 
@@ -25,17 +24,3 @@ is_write_fault _ = false
 abbrev pub is_read_fault : {T : Type 0} → Result T ToolFault → Bool
 is_read_fault (Err Read) = true
 is_read_fault _ = false
-
--- Something that is due for the pairs is answered, and a write fault exactly where the sink has failed in this call.
-pub record PlaysPairs {T : Type 0} (pairs : List (ℕ × ℕ)) (old new : Option (List ℕ)) (failed fails : Bool) (result : Result T ToolFault) : Type 0 where
-  pub due : Due
-  pub is_due : IsDueFrom 0 pairs due
-  pub answers : Answers due old new result
-  pub fault : fails ≡ (failed || is_write_fault result)
-  pub no_read : is_read_fault result ≡ false
-
--- Something that is due for an input is answered.
-pub record Plays {T : Type 0} (input : List ℕ) (old new : Option (List ℕ)) (result : Result T ToolFault) : Type 0 where
-  pub due : Due
-  pub is_due : IsDue (asked_of input) due
-  pub answers : Answers due old new result

@@ -9,11 +9,12 @@ use Rattle.gen1_machine.specs.Moves.{Move, move_at}
 use Rattle.gen1_machine.specs.Sending.{AppendsFront}
 use Rattle.gen1_machine.specs.declared.side.Side.TheVariants.{One}
 use Rattle.gen1_hits.specs.Factors.{damages}
-use Rattle.battle_tool.specs.Asked.{input_limit, json_of, unless}
-use Rattle.battle_tool.specs.CalcSheets.{calc_sheet_of}
+use Rattle.battle_input.specs.Sheets.{json_of}
+use Rattle.battle_tool.specs.Asked.{input_limit, unless}
+use Rattle.battle_input.specs.CalcSheets.{calc_sheet_of}
 use Rattle.battle_tool.specs.Duel.{duel}
 use Rattle.battle_tool.specs.NumberLine.{number_line}
-use Rattle.battle_tool.specs.declared.calc_sheet.CalcSheet.{CalcSheet}
+use Rattle.battle_input.specs.declared.calc_sheet.CalcSheet.{CalcSheet}
 use Rattle.battle_tool.specs.declared.fault.ToolFault.{ToolFault}
 use Rattle.battle_tool.specs.declared.fault.ToolFault.TheVariants.{Calc, Json, Memory, Read, TooLong, Write}
 

@@ -1,8 +1,7 @@
 -- The exit status of each fault, and the number of each refused pair.
 use Rattle.std.specs.Prelude.{ℕ}
 use Rattle.gen1_machine.specs.declared.side.Side.TheVariants.{One, Two}
-use Rattle.battle_tool.specs.declared.battle.PairRefusal.{PairRefusal}
-use Rattle.battle_tool.specs.declared.battle.PairRefusal.TheVariants.{Over, NotOffered}
+use Rattle.gen1_machine.specs.Step.{NotOffered, Over, Refusal}
 use Rattle.battle_tool.specs.declared.fault.ToolFault.{ToolFault}
 use Rattle.battle_tool.specs.declared.fault.ToolFault.TheVariants.{Json, TooLong, Team, Pair, Log, Calc, Read, Write, Memory}
 
@@ -17,7 +16,7 @@ status_of Read = 3
 status_of Write = 3
 status_of Memory = 4
 
-abbrev pub refusal_number : PairRefusal → ℕ
-refusal_number Over = 1
-refusal_number (NotOffered One) = 2
-refusal_number (NotOffered Two) = 3
+abbrev pub number_of_refusal : Refusal → ℕ
+number_of_refusal Over = 1
+number_of_refusal (NotOffered One) = 2
+number_of_refusal (NotOffered Two) = 3

@@ -1,12 +1,10 @@
-pub mod Sheets
-pub mod CalcSheets
 pub mod Duel
 pub mod NumberLine
 pub mod Calc
-pub mod SheetViews
 pub mod Asked
 pub mod Due
 pub mod Answers
 pub mod Opening
 pub mod Faults
 pub mod Logs
+pub mod Rooms

@@ -1,18 +1,17 @@
 //! The damage numbers that an input asks for.
 ghost use Rattle.std.specs.Prelude.{◌≡◌, ◌≤◌, ◌||◌, length, IfSome, option_and_then};
 ghost use Rattle.battle_tool.specs.Answers.{is_read_fault, is_write_fault};
-ghost use Rattle.battle_tool.specs.Asked.{json_of};
+ghost use Rattle.battle_input.specs.Sheets.{json_of};
 ghost use Rattle.battle_tool.specs.Calc.{PrintsDamages, damages_due};
-ghost use Rattle.battle_tool.specs.CalcSheets.{calc_sheet_of};
+ghost use Rattle.battle_input.specs.CalcSheets.{calc_sheet_of};
 ghost use Rattle.battle_tool.specs.Opening.{Finds};
-ghost use Rattle.battle_tool.specs.SheetViews.{Gives};
+ghost use Rattle.battle_input.specs.SheetViews.{Gives};
 
-use crate::calc_sheet::{CalcSheet, read_calc_sheet};
 use crate::damages::{damages, has_usual_damage};
 use crate::fault::ToolFault;
 use crate::number_line::number_line;
-use crate::playing::INPUT_LIMIT;
-use crate::sheet::{SheetFault, value_in};
+use crate::opening::INPUT_LIMIT;
+use battle_input::{CalcSheet, SheetFault, read_calc_sheet, value_in};
 use gen1_machine::{InputFault, Sink, Source, read_whole, send};
 use gen1_stats::Team;
 use std::alloc::Global;

@@ -2,6 +2,7 @@ use crate::calc::play_calc;
 use crate::fault::ToolFault;
 use crate::logs::play_print;
 use crate::playing::play;
+use crate::rooms::play_room;
 use clap::error::ErrorKind;
 use clap::{Arg, ArgAction, ArgMatches, Command, Error};
 use gen1_machine::{Device, Sink, Source, send};
@@ -34,6 +35,11 @@ const CALC_ABOUT: &str = "Prints the damage numbers of a move";
 const CALC_INPUT: &str =
     "Reads {\"attacker\":member,\"defender\":member,\"move\":name,\"critical\":true or false}, with members as in run. Prints the damage at each factor from 217 to 255 in one line, of the move that the attacker uses on the defender, both just sent out. Of a move without the usual damage it prints nothing.";
 
+const ROOM_ABOUT: &str = "Runs a room of two players and prints what each is answered";
+
+const ROOM_INPUT: &str =
+    "Reads the object of run with \"submissions\":[[side,number,byte],..] in place of choices: the side, 1 or 2, the number of the pair that is meant, from 0, and the choice. Prints the lines of the start, and for each submission |room|waiting, |room|advanced with the lines of the pair, or |room|refused|N.";
+
 const FILE_HELP: &str = "The input; without FILE it is standard input";
 
 /// A subcommand that reads a FILE, or standard input where none is named.
@@ -60,7 +66,8 @@ fn command<'a>(alloc: Global) -> Result<Command<'a>, AllocError> {
         .subcommand_required(true)
         .subcommand(reading(alloc, "run", RUN_ABOUT, RUN_INPUT)?)?
         .subcommand(reading(alloc, "print", PRINT_ABOUT, PRINT_INPUT)?)?
-        .subcommand(reading(alloc, "calc", CALC_ABOUT, CALC_INPUT)?)
+        .subcommand(reading(alloc, "calc", CALC_ABOUT, CALC_INPUT)?)?
+        .subcommand(reading(alloc, "room", ROOM_ABOUT, ROOM_INPUT)?)
 }
 
 /// Tells a fault on standard error, and answers its status. A fault of that stream changes nothing.
@@ -104,6 +111,7 @@ fn run_named<A: AllocGlobal, I: Source, O: Sink>(
     match name {
         "print" => play_print(rt, input, out),
         "calc" => play_calc(rt, input, out),
+        "room" => play_room(rt, input, out),
         _ => play(rt, input, out),
     }
 }

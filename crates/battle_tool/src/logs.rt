@@ -4,7 +4,7 @@ ghost use Rattle.battle_tool.specs.Answers.{is_read_fault, is_write_fault};
 ghost use Rattle.battle_tool.specs.Logs.{PrintsLog};
 
 use crate::fault::ToolFault;
-use crate::playing::INPUT_LIMIT;
+use crate::opening::INPUT_LIMIT;
 use gen1_machine::{InputFault, Sink, Source, read_whole, send};
 use gen1_printer::{PrintFault, print_log};
 

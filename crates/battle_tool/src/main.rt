@@ -2,17 +2,16 @@
 //! (docs/PROGRAM.md).
 #![tactic(auto)]
 
-mod battle;
 mod calc;
-mod calc_sheet;
 mod commands;
 mod damages;
 mod duel;
 mod fault;
 mod logs;
 mod number_line;
+mod opening;
 mod playing;
-mod sheet;
+mod rooms;
 #[cfg(test)]
 mod tests;
 

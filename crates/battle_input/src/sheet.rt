@@ -1,31 +1,38 @@
-ghost use Rattle.std.specs.Prelude.{◌≡◌, codes, option_map};
+//! What an input asks for, as JSON (docs/PROGRAM.md).
+ghost use Rattle.std.specs.Prelude.{Option, ◌≡◌, codes, option_and_then, option_map};
+ghost use Rattle.serde_json.specs.Data.{Data};
 ghost use Rattle.serde_json.specs.View.{view};
-ghost use Rattle.battle_tool.specs.Asked.{json_of};
-ghost use Rattle.battle_tool.specs.Sheets.{byte_of, word_of, numbers_of, pair_of, move_of, moves_of, member_of, list_of, field_of, rules_of, limit_of, sheet_of};
-ghost use Rattle.battle_tool.specs.SheetViews.{sheet_view, Gives};
+ghost use Rattle.battle_input.specs.Sheets.{battle_of, byte_of, json_of, word_of, long_of, numbers_of, pair_of, side_of, submission_of, move_of, moves_of, member_of, list_of, field_of, rules_of, limit_of, sheet_of};
+ghost use Rattle.battle_input.specs.SheetViews.{Gives, battle_view, sheet_view};
 
 use arrayvec::ArrayVec;
-use gen1_machine::{Rules, TurnLimit};
+use gen1_machine::{Rules, Side, TurnLimit};
 use gen1_stats::MemberSpec;
 use gen1_tables::{MoveId, Species};
 use serde_json::Value;
 use std::alloc::Global;
 
-/// What the input asks the program to run (docs/PROGRAM.md), before any test of the teams.
+/// A battle that is asked for, before any test of the teams.
 #[derive(Debug, Drop)]
-pub struct Sheet {
+pub struct BattleSheet {
     pub seed: [u8; 10],
     pub one: Vec<MemberSpec>,
     pub two: Vec<MemberSpec>,
-    pub choices: Vec<(u8, u8)>,
     pub rules: Rules,
     pub limit: TurnLimit,
+}
+
+/// A battle, and what is done in it: pairs of choices, or submissions to a room.
+#[derive(Drop)]
+pub struct Sheet<T> {
+    pub battle: BattleSheet,
+    pub items: Vec<T>,
 }
 
 /// Why there is no sheet.
 #[derive(Clone, Copy, Debug, PartialEq, Eq)]
 pub enum SheetFault {
-    /// The value has not the shape of a sheet.
+    /// The value has not the shape that is asked for.
     Shape,
     /// Memory was refused.
     Memory,
@@ -60,6 +67,13 @@ fn read_word(value: &Value) -> Option<u16>
 {
     let n = value.as_u64()?;
     if n < 65536 { Some(n as u16) } else { None }
+}
+
+fn read_long(value: &Value) -> Option<u32>
+    ensures { result ≡ long_of (view value.now) }
+{
+    let n = value.as_u64()?;
+    if n < 4294967296 { Some(n as u32) } else { None }
 }
 
 #[tactic(auto, using(crate::proofs::Reading::each_of_set, crate::proofs::Reading::each_of_stop, crate::proofs::Reading::each_of_full, crate::proofs::Reading::each_of_start, crate::proofs::Reading::count_of_view))]
@@ -103,6 +117,30 @@ fn read_pair(value: &Value) -> Option<(u8, u8)>
     let one = read_byte(&items[0])?;
     let two = read_byte(&items[1])?;
     Some((one, two))
+}
+
+fn read_side(value: &Value) -> Option<Side>
+    ensures { result ≡ side_of (view value.now) }
+{
+    match read_byte(value)? {
+        1 => Some(Side::One),
+        2 => Some(Side::Two),
+        _ => None,
+    }
+}
+
+#[tactic(auto, using(crate::proofs::Reading::three_of_wrong))]
+fn read_submission(value: &Value) -> Option<(Side, u32, u8)>
+    ensures { result ≡ submission_of (view value.now) }
+{
+    let items = value.as_array()?;
+    if items.len() != 3 {
+        return None;
+    }
+    let side = read_side(&items[0])?;
+    let number = read_long(&items[1])?;
+    let choice = read_byte(&items[2])?;
+    Some((side, number, choice))
 }
 
 #[tactic(auto, using(crate::proofs::Reading::both_of_wrong))]
@@ -152,60 +190,72 @@ pub fn read_member(value: &Value) -> Option<MemberSpec>
     })
 }
 
-#[tactic(auto, using(crate::proofs::Reading::each_of_more, crate::proofs::Reading::each_of_stop, crate::proofs::Reading::each_of_end, crate::proofs::Reading::each_of_start, crate::proofs::Reading::count_of_view))]
-fn read_members(alloc: Global, value: &Value) -> Result<Vec<MemberSpec>, SheetFault>
-    ensures { Gives (λ v. v.items) result (list_of member_of (view value.now)) }
-{
-    let Some(items) = value.as_array() else {
-        return Err(SheetFault::Shape);
-    };
-    let mut members = Vec::new(alloc);
-    for item in items {
-        let Some(member) = read_member(item) else {
-            return Err(SheetFault::Shape);
-        };
-        if members.push(member).is_err() {
-            return Err(SheetFault::Memory);
-        }
+/// What stands in a list of an input.
+pub trait Item: Sized {
+    // What a value stands for, if it stands for one.
+    ghost meaning: { Data → Option Self };
+
+    /// The item that a value stands for, if it stands for one.
+    fn read(value: &Value) -> Option<Self>
+        ensures { result ≡ meaning (view value.now) };
+}
+
+impl Item for MemberSpec {
+    ghost meaning = { member_of };
+
+    fn read(value: &Value) -> Option<MemberSpec> {
+        read_member(value)
     }
-    Ok(members)
+}
+
+/// The choices of a pair, each as a byte.
+impl Item for (u8, u8) {
+    ghost meaning = { pair_of };
+
+    fn read(value: &Value) -> Option<(u8, u8)> {
+        read_pair(value)
+    }
+}
+
+/// A submission to a room: a side, the number of the pair that it is meant for, and a choice as a byte.
+impl Item for (Side, u32, u8) {
+    ghost meaning = { submission_of };
+
+    fn read(value: &Value) -> Option<(Side, u32, u8)> {
+        read_submission(value)
+    }
 }
 
 #[tactic(auto, using(crate::proofs::Reading::each_of_more, crate::proofs::Reading::each_of_stop, crate::proofs::Reading::each_of_end, crate::proofs::Reading::each_of_start, crate::proofs::Reading::count_of_view))]
-fn read_pairs(alloc: Global, value: &Value) -> Result<Vec<(u8, u8)>, SheetFault>
-    ensures { Gives (λ v. v.items) result (list_of pair_of (view value.now)) }
+fn read_list<T: Item>(alloc: Global, value: &Value) -> Result<Vec<T>, SheetFault>
+    ensures { Gives (λ v. v.items) result (list_of T.meaning (view value.now)) }
 {
-    let Some(items) = value.as_array() else {
+    let Some(values) = value.as_array() else {
         return Err(SheetFault::Shape);
     };
-    let mut pairs = Vec::new(alloc);
-    for item in items {
-        let Some(pair) = read_pair(item) else {
+    let mut items = Vec::new(alloc);
+    for value in values {
+        let Some(item) = T::read(value) else {
             return Err(SheetFault::Shape);
         };
-        if pairs.push(pair).is_err() {
+        if items.push(item).is_err() {
             return Err(SheetFault::Memory);
         }
     }
-    Ok(pairs)
+    Ok(items)
 }
 
-/// The members of the object under a key.
-fn read_side(alloc: Global, value: &Value, key: &str) -> Result<Vec<MemberSpec>, SheetFault>
-    ensures { Gives (λ v. v.items) result (field_of key.now (list_of member_of) (view value.now)) }
+/// The list that stands under a key. `Shape` where there is none, or a value in it is no such item.
+pub fn read_list_at<T: Item>(
+    alloc: Global,
+    value: &Value,
+    key: &str,
+) -> Result<Vec<T>, SheetFault>
+    ensures { Gives (λ v. v.items) result (field_of key.now (list_of T.meaning) (view value.now)) }
 {
     match value.get(key) {
         None => Err(SheetFault::Shape),
-        Some(members) => read_members(alloc, members),
-    }
-}
-
-fn read_choices(alloc: Global, value: &Value) -> Result<Vec<(u8, u8)>, SheetFault>
-    ensures { Gives (λ v. v.items) result (field_of (codes "choices") (list_of pair_of) (view value.now)) }
-{
-    match value.get("choices") {
-        None => Err(SheetFault::Shape),
-        Some(pairs) => read_pairs(alloc, pairs),
+        Some(list) => read_list(alloc, list),
     }
 }
 
@@ -233,30 +283,42 @@ fn read_limit(value: &Value) -> Option<TurnLimit>
     }
 }
 
-/// The sheet that a JSON value stands for. `Shape` where it has not that shape: a key that is
-/// asked for is missing, a list is of another length, a number is no whole one or out of range, or a
-/// name is unknown.
-pub fn read_sheet(alloc: Global, value: &Value) -> Result<Sheet, SheetFault>
-    ensures { Gives sheet_view result (sheet_of (view value.now)) }
+/// The battle that a JSON value asks for. `Shape` where it has not that shape: a key that is asked for
+/// is missing, a list is of another length, a number is no whole one or out of range, or a name is
+/// unknown.
+pub fn read_battle(alloc: Global, value: &Value) -> Result<BattleSheet, SheetFault>
+    ensures { Gives battle_view result (battle_of (view value.now)) }
 {
     let Some(seed) = read_seed(value) else {
         return Err(SheetFault::Shape);
     };
-    let one = read_side(alloc, value, "one")?;
-    let two = read_side(alloc, value, "two")?;
-    let choices = read_choices(alloc, value)?;
+    let one = read_list_at(alloc, value, "one")?;
+    let two = read_list_at(alloc, value, "two")?;
     let Some(rules) = read_rules(value) else {
         return Err(SheetFault::Shape);
     };
     let Some(limit) = read_limit(value) else {
         return Err(SheetFault::Shape);
     };
-    Ok(Sheet {
+    Ok(BattleSheet {
         seed,
         one,
         two,
-        choices,
         rules,
         limit,
     })
+}
+
+/// The sheet of an input that is JSON, with the list that stands under a key.
+pub fn read_sheet<T: Item>(
+    alloc: Global,
+    input: &[u8],
+    key: &str,
+) -> Result<Sheet<T>, SheetFault>
+    ensures { Gives sheet_view result (option_and_then (sheet_of key.now T.meaning) (json_of input.now)) }
+{
+    let value = value_in(alloc, input)?;
+    let battle = read_battle(alloc, &value)?;
+    let items = read_list_at(alloc, &value, key)?;
+    Ok(Sheet { battle, items })
 }

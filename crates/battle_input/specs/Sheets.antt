@@ -1,16 +1,20 @@
--- What a JSON value asks the program to run: a seed, two lists of members, pairs of choices, rules and a turn limit.
-use Rattle.std.specs.Prelude.{ℕ, ◌+◌, ◌==◌, ◌&&◌, List, [], ◌∷◌, nat_lt, nat_le, if◌then◌else◌, codes, Option, Some, None, option_map, option_and_then}
+-- What a JSON value asks for: a battle (a seed, two lists of members, rules and a turn limit), and what is done in it (pairs of
+-- choices, or submissions to a room).
+use Rattle.std.specs.Prelude.{ℕ, ◌+◌, ◌==◌, ◌&&◌, ◌×◌, List, [], ◌∷◌, nat_lt, nat_le, if◌then◌else◌, codes, Option, Some, None, option_map, option_and_then}
+use Rattle.std.specs.Str.{is_utf8}
 use Rattle.serde_json.specs.Data.{Data, Items, no_items, item}
+use Rattle.serde_json.specs.Read.{read}
 use Rattle.serde_json.specs.Find.{get, as_array, as_number, as_str, as_u64}
 use Rattle.gen1_tables.specs.Names.{species_named, move_named}
 use Rattle.gen1_stats.specs.Sheets.{Sheet as MemberSheet}
+use Rattle.gen1_machine.specs.declared.side.Side.{Side}
+use Rattle.gen1_machine.specs.declared.side.Side.TheVariants.{One, Two}
 use Rattle.gen1_machine.specs.Rules.{Rules, no_rules, rules_of as rules_of_bits}
 
-pub record SheetData : Type 0 where
+pub record BattleData : Type 0 where
   pub seed : List ℕ
   pub one : List MemberSheet
   pub two : List MemberSheet
-  pub choices : List (ℕ × ℕ)
   pub rules : Rules
   pub limit : ℕ
 
@@ -36,6 +40,9 @@ byte_of = number_below 256
 abbrev pub word_of : Data → Option ℕ
 word_of = number_below 65536
 
+abbrev pub long_of : Data → Option ℕ
+long_of = number_below 4294967296
+
 -- a list of so many numbers
 abbrev pub numbers_of : (Data → Option ℕ) → ℕ → Data → Option (List ℕ)
 numbers_of f n d = option_and_then (λ ds. if count_of ds == n then each_of f ds else None) (as_array d)
@@ -47,6 +54,23 @@ both_of f g ds = None
 
 abbrev pub pair_of : Data → Option (ℕ × ℕ)
 pair_of d = option_and_then (both_of byte_of byte_of) (as_array d)
+
+abbrev pub side_numbered : ℕ → Option Side
+side_numbered 1 = Some One
+side_numbered 2 = Some Two
+side_numbered n = None
+
+abbrev pub side_of : Data → Option Side
+side_of d = option_and_then side_numbered (byte_of d)
+
+-- what the three items of an array are
+abbrev pub three_of : {A B C : Type 0} → (Data → Option A) → (Data → Option B) → (Data → Option C) → Items → Option (A × B × C)
+three_of f g h (item d (item e (item i no_items))) = option_and_then (λ x. option_and_then (λ y. option_map (λ z. (x, y, z)) (h i)) (g e)) (f d)
+three_of f g h ds = None
+
+-- a side, the number of the pair that is meant, and a byte for its choice
+abbrev pub submission_of : Data → Option (Side × ℕ × ℕ)
+submission_of d = option_and_then (three_of side_of long_of byte_of) (as_array d)
 
 -- a move by its name, and its PP ups
 abbrev pub move_of : Data → Option (ℕ × ℕ)
@@ -82,9 +106,17 @@ member_of d =
     (field_of (codes "dvs") (numbers_of byte_of 4) d)) (field_of (codes "level") byte_of d))
     (field_of (codes "species") (λ e. option_and_then species_named (as_str e)) d)
 
-abbrev pub sheet_of : Data → Option SheetData
-sheet_of d =
-    option_and_then (λ seed. option_and_then (λ one. option_and_then (λ two. option_and_then (λ choices. option_and_then (λ rules. option_map
-    (λ limit. record { seed = seed; one = one; two = two; choices = choices; rules = rules; limit = limit })
-    (limit_of d)) (rules_of d)) (field_of (codes "choices") (list_of pair_of) d)) (field_of (codes "two") (list_of member_of) d))
+abbrev pub battle_of : Data → Option BattleData
+battle_of d =
+    option_and_then (λ seed. option_and_then (λ one. option_and_then (λ two. option_and_then (λ rules. option_map
+    (λ limit. record { seed = seed; one = one; two = two; rules = rules; limit = limit })
+    (limit_of d)) (rules_of d)) (field_of (codes "two") (list_of member_of) d))
     (field_of (codes "one") (list_of member_of) d)) (field_of (codes "seed") (numbers_of byte_of 10) d)
+
+-- a battle, and a list under a key
+abbrev pub sheet_of : {A : Type 0} → List ℕ → (Data → Option A) → Data → Option (BattleData × List A)
+sheet_of key meaning d = option_and_then (λ battle. option_map (λ items. (battle, items)) (field_of key (list_of meaning) d)) (battle_of d)
+
+-- the JSON value that the bytes are, if they are text and JSON
+abbrev pub json_of : List ℕ → Option Data
+json_of bytes = if is_utf8 bytes then read bytes else None

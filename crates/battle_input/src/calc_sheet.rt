@@ -1,6 +1,6 @@
 ghost use Rattle.std.specs.Prelude.{◌≡◌};
 ghost use Rattle.serde_json.specs.View.{view};
-ghost use Rattle.battle_tool.specs.CalcSheets.{calc_sheet_of};
+ghost use Rattle.battle_input.specs.CalcSheets.{calc_sheet_of};
 
 use crate::sheet::read_member;
 use gen1_stats::MemberSpec;

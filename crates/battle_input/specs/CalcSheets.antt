@@ -3,8 +3,8 @@ use Rattle.std.specs.Prelude.{codes, Option, option_and_then, option_map}
 use Rattle.serde_json.specs.Data.{Data}
 use Rattle.serde_json.specs.Find.{as_bool, as_str}
 use Rattle.gen1_tables.specs.Names.{move_named}
-use Rattle.battle_tool.specs.Sheets.{field_of, member_of}
-use Rattle.battle_tool.specs.declared.calc_sheet.CalcSheet.{CalcSheet}
+use Rattle.battle_input.specs.Sheets.{field_of, member_of}
+use Rattle.battle_input.specs.declared.calc_sheet.CalcSheet.{CalcSheet}
 
 abbrev pub calc_sheet_of : Data → Option CalcSheet
 calc_sheet_of d =

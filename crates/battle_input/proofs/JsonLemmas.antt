@@ -4,7 +4,7 @@ use Rattle.std.specs.Str.{is_utf8}
 use Rattle.std.proofs.lemmas.Str.{is_utf8-from_IsUtf8, IsUtf8-from_is_utf8}
 use Rattle.serde_json.specs.Data.{Data}
 use Rattle.serde_json.specs.Read.{read}
-use Rattle.battle_tool.specs.Asked.{json_of}
+use Rattle.battle_input.specs.Sheets.{json_of}
 
 pub json_some : (bytes : List ℕ) (d : Data) → IsUtf8 bytes → read bytes ≡ Some d → json_of bytes ≡ Some d
 json_some bytes d text is = ap (λ b. if b then read bytes else None) (is_utf8-from_IsUtf8 bytes text) ∙ is
