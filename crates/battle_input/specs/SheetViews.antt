@@ -1,5 +1,5 @@
 -- What was asked for, as the code holds it.
-use Rattle.std.specs.Prelude.{◌≡◌, ◌×◌, List, Option, Some, None, Result, Ok, Err}
+use Rattle.std.specs.Prelude.{◌≡◌, List, Option, Some, None, Result, Ok, Err}
 use Rattle.battle_input.specs.Sheets.{BattleData}
 use Rattle.battle_input.specs.declared.sheet.BattleSheet.{BattleSheet}
 use Rattle.battle_input.specs.declared.sheet.SheetFault.{SheetFault}

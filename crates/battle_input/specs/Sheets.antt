@@ -1,6 +1,6 @@
 -- What a JSON value asks for: a battle (a seed, two lists of members, rules and a turn limit), and what is done in it (pairs of
 -- choices, or submissions to a room).
-use Rattle.std.specs.Prelude.{ℕ, ◌+◌, ◌==◌, ◌&&◌, ◌×◌, List, [], ◌∷◌, nat_lt, nat_le, if◌then◌else◌, codes, Option, Some, None, option_map, option_and_then}
+use Rattle.std.specs.Prelude.{ℕ, ◌+◌, ◌==◌, ◌&&◌, List, [], ◌∷◌, nat_lt, nat_le, if◌then◌else◌, codes, Option, Some, None, option_map, option_and_then}
 use Rattle.std.specs.Str.{is_utf8}
 use Rattle.serde_json.specs.Data.{Data, Items, no_items, item}
 use Rattle.serde_json.specs.Read.{read}
@@ -56,9 +56,7 @@ abbrev pub pair_of : Data → Option (ℕ × ℕ)
 pair_of d = option_and_then (both_of byte_of byte_of) (as_array d)
 
 abbrev pub side_numbered : ℕ → Option Side
-side_numbered 1 = Some One
-side_numbered 2 = Some Two
-side_numbered n = None
+side_numbered n = if n == 1 then Some One else if n == 2 then Some Two else None
 
 abbrev pub side_of : Data → Option Side
 side_of d = option_and_then side_numbered (byte_of d)

@@ -227,7 +227,7 @@ impl Item for (Side, u32, u8) {
 }
 
 #[tactic(auto, using(crate::proofs::Reading::each_of_more, crate::proofs::Reading::each_of_stop, crate::proofs::Reading::each_of_end, crate::proofs::Reading::each_of_start, crate::proofs::Reading::count_of_view))]
-fn read_list<T: Item>(alloc: Global, value: &Value) -> Result<Vec<T>, SheetFault>
+fn read_list<T: Item + Drop>(alloc: Global, value: &Value) -> Result<Vec<T>, SheetFault>
     ensures { Gives (λ v. v.items) result (list_of T.meaning (view value.now)) }
 {
     let Some(values) = value.as_array() else {
@@ -246,7 +246,7 @@ fn read_list<T: Item>(alloc: Global, value: &Value) -> Result<Vec<T>, SheetFault
 }
 
 /// The list that stands under a key. `Shape` where there is none, or a value in it is no such item.
-pub fn read_list_at<T: Item>(
+pub fn read_list_at<T: Item + Drop>(
     alloc: Global,
     value: &Value,
     key: &str,
@@ -310,7 +310,7 @@ pub fn read_battle(alloc: Global, value: &Value) -> Result<BattleSheet, SheetFau
 }
 
 /// The sheet of an input that is JSON, with the list that stands under a key.
-pub fn read_sheet<T: Item>(
+pub fn read_sheet<T: Item + Drop>(
     alloc: Global,
     input: &[u8],
     key: &str,

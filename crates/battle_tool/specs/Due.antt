@@ -1,5 +1,5 @@
 -- What is due for an input: the text to print, and the fault to answer after it.
-use Rattle.std.specs.Prelude.{ℕ, ◌+◌, List, [], ◌∷◌, ◌++◌, ◌×◌, Option, Some, None, Result, Ok, Err}
+use Rattle.std.specs.Prelude.{ℕ, ◌+◌, List, [], ◌∷◌, ◌++◌, Option, Some, None, Result, Ok, Err}
 use Rattle.gen1_machine.specs.Lines.{lines}
 use Rattle.gen1_machine.specs.State.{State}
 use Rattle.gen1_machine.specs.Step.{Answer, Accepted, Refused}

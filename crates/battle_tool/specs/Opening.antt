@@ -1,5 +1,5 @@
 -- What opening a battle and finding damage numbers answer.
-use Rattle.std.specs.Prelude.{◌≡◌, ◌×◌, ℕ, List, Result, Ok, Err}
+use Rattle.std.specs.Prelude.{◌≡◌, ℕ, List, Result, Ok, Err}
 use Rattle.gen1_layout.specs.Within.{Stands}
 use Rattle.battle_tool.specs.Asked.{Asked}
 use Rattle.battle_tool.specs.declared.fault.ToolFault.{ToolFault}
