@@ -2,21 +2,7 @@
 //! (docs/PROGRAM.md).
 #![tactic(auto)]
 
-mod calc;
-mod commands;
-mod damages;
-mod duel;
-mod fault;
-mod logs;
-mod number_line;
-mod opening;
-mod playing;
-mod rooms;
-#[cfg(test)]
-mod tests;
-
-use crate::commands::{COMMAND_LINE_REFUSED, report, tool};
-use crate::fault::ToolFault;
+use battle_commands::{COMMAND_LINE_REFUSED, ToolFault, report, tool};
 use gen1_machine::Device;
 use std::alloc::AllocError;
 use std::process::ExitCode;

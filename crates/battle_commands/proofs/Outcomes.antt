@@ -1,0 +1,84 @@
+-- What is answered for an input: where nothing is printed, and where its battle is played.
+use Rattle.std.proofs.Common.{◌≡◌, ◌||◌, ℕ, ◌<◌, Bool, true, false, List, [], length, Option, Some, None, Result, Ok, Err, IfSome, refl, sym, subst, ap, ◌∙◌, rules}
+use Rattle.std.proofs.KnownBytes.{Appends-nil}
+use Rattle.serde_json.specs.Data.{Data}
+use Rattle.gen1_machine.specs.State.{State}
+use Rattle.battle_commands.specs.Answers.{Answers, is_write_fault}
+use Rattle.battle_commands.specs.Asked.{Asked, asked_of, input_limit}
+use Rattle.battle_commands.specs.Due.{Due, due_if, refused}
+use Rattle.battle_commands.specs.Opening.{IsAskedFault}
+use Rattle.battle_commands.specs.declared.fault.ToolFault.{ToolFault}
+use Rattle.battle_commands.specs.declared.fault.ToolFault.TheVariants.{Json, TooLong, Team, Pair, Log, Calc, Read, Write, Memory}
+
+-- a fact of what there may be follows from another
+pub some_along : {A : Type 0} (o : Option A) (P Q : A → Type 0) → ((x : A) → P x → Q x) → IfSome o P → IfSome o Q
+some_along None P Q f h = tt
+some_along (Some x) P Q f h = f x h
+
+pub some_all : {A : Type 0} (o : Option A) (P : A → Type 0) → ((x : A) → P x) → IfSome o P
+some_all None P f = tt
+some_all (Some x) P f = f x
+
+-- whatever was due, nothing of it was written
+
+pub answers_unread : {T : Type 0} (due : Due) (old : Option (List ℕ)) → Answers {T = T} due old old (Err Read)
+answers_unread due old = record { front = []; rest = due.text; split = refl; written = Appends-nil old }
+
+pub answers_unheld : {T : Type 0} (due : Due) (old : Option (List ℕ)) → Answers {T = T} due old old (Err Memory)
+answers_unheld due old = record { front = []; rest = due.text; split = refl; written = Appends-nil old }
+
+too_long : {A : Type 0} (key : List ℕ) (meaning : Data → Option A) (input : List ℕ) → input_limit < length input → asked_of key meaning input ≡ Err TooLong
+unfolding asked_of
+too_long key meaning input h = search rules
+
+pub answers_too_long : {T A : Type 0} (due : State → List A → Due) (key : List ℕ) (meaning : Data → Option A) (input : List ℕ) (old : Option (List ℕ)) → input_limit < length input
+    → Answers {T = T} (due_if due (asked_of key meaning input)) old old (Err TooLong)
+answers_too_long {T = T} due key meaning input old h =
+    subst (λ (d : Due). Answers {T = T} d old old (Err TooLong)) (sym (ap (due_if due) (too_long key meaning input h))) (refl, Appends-nil old)
+
+-- no battle was opened
+
+unopened : {T A : Type 0} (due : State → List A → Due) (fault : ToolFault) (asked : Result (Asked A) ToolFault) (old : Option (List ℕ)) → IsAskedFault fault asked
+    → Answers {T = T} (due_if due asked) old old (Err fault)
+unopened due Memory asked old h = answers_unheld (due_if due asked) old
+unopened due Read asked old h = absurd h
+unopened due Write asked old h = absurd h
+unopened {T = T} due Json asked old h = subst (λ (d : Due). Answers {T = T} d old old (Err Json)) (sym (ap (due_if due) h)) (refl, Appends-nil old)
+unopened {T = T} due TooLong asked old h = subst (λ (d : Due). Answers {T = T} d old old (Err TooLong)) (sym (ap (due_if due) h)) (refl, Appends-nil old)
+unopened {T = T} due (Team side place refusal) asked old h =
+    subst (λ (d : Due). Answers {T = T} d old old (Err (Team side place refusal))) (sym (ap (due_if due) h)) (refl, Appends-nil old)
+unopened {T = T} due (Pair number refusal) asked old h =
+    subst (λ (d : Due). Answers {T = T} d old old (Err (Pair number refusal))) (sym (ap (due_if due) h)) (refl, Appends-nil old)
+unopened {T = T} due (Log number) asked old h = subst (λ (d : Due). Answers {T = T} d old old (Err (Log number))) (sym (ap (due_if due) h)) (refl, Appends-nil old)
+unopened {T = T} due Calc asked old h = subst (λ (d : Due). Answers {T = T} d old old (Err Calc)) (sym (ap (due_if due) h)) (refl, Appends-nil old)
+
+-- for the bytes that were read
+pub answers_unopened : {T A : Type 0} (due : State → List A → Due) (asked : List ℕ → Result (Asked A) ToolFault) (fault : ToolFault) (told : Option (List ℕ)) (items slice : List ℕ) (old : Option (List ℕ))
+    → slice ≡ items → IsAskedFault fault (asked slice) → IfSome told (λ input. items ≡ input) → IfSome told (λ input. Answers {T = T} (due_if due (asked input)) old old (Err fault))
+answers_unopened {T = T} due asked fault told items slice old lent opens read =
+    some_along told (λ input. items ≡ input) (λ input. Answers {T = T} (due_if due (asked input)) old old (Err fault))
+    (λ input same. unopened {T = T} due fault (asked input) old (subst (λ bytes. IsAskedFault fault (asked bytes)) (lent ∙ same) opens)) read
+
+-- what is asked for was done
+pub answers_opened : {T A : Type 0} (due : State → List A → Due) (asked : List ℕ → Result (Asked A) ToolFault) (x : Asked A) (told : Option (List ℕ)) (items slice : List ℕ) (old new : Option (List ℕ)) (result : Result T ToolFault)
+    → slice ≡ items → asked slice ≡ Ok x → IfSome told (λ input. items ≡ input) → Answers (due x.state x.items) old new result
+    → IfSome told (λ input. Answers (due_if due (asked input)) old new result)
+answers_opened due asked x told items slice old new result lent is read done =
+    some_along told (λ input. items ≡ input) (λ input. Answers (due_if due (asked input)) old new result)
+    (λ input same. subst (λ (d : Due). Answers d old new result) (sym (ap (λ bytes. due_if due (asked bytes)) (sym (lent ∙ same)) ∙ ap (due_if due) is)) done) read
+
+or_false : (b : Bool) → b ≡ (b || false)
+or_false true = refl
+or_false false = refl
+
+-- and so no write has failed
+pub unopened_writes : (T : Type 0) {A : Type 0} (fault : ToolFault) (asked : Result A ToolFault) (b : Bool) → IsAskedFault fault asked → b ≡ (b || is_write_fault {T = T} (Err fault))
+unopened_writes T Write asked b h = absurd h
+unopened_writes T Read asked b h = or_false b
+unopened_writes T Memory asked b h = or_false b
+unopened_writes T Json asked b h = or_false b
+unopened_writes T TooLong asked b h = or_false b
+unopened_writes T (Team side place refusal) asked b h = or_false b
+unopened_writes T (Pair number refusal) asked b h = or_false b
+unopened_writes T (Log number) asked b h = or_false b
+unopened_writes T Calc asked b h = or_false b

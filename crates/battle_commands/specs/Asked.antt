@@ -1,0 +1,43 @@
+-- What an input asks for: a battle and what is done in it, or the fault that is answered instead.
+use Rattle.std.specs.Prelude.{ℕ, List, length, nat_lt, if◌then◌else◌, codes, Option, Some, None, option_and_then, Result, Ok, Err}
+use Rattle.serde_json.specs.Data.{Data}
+use Rattle.gen1_stats.specs.Refusals.{number_of, place_of}
+use Rattle.gen1_stats.specs.Teams.{team_of, team_refusal}
+use Rattle.gen1_stats.specs.declared.refusal.TeamRefusal.{TeamRefusal}
+use Rattle.gen1_machine.specs.declared.side.Side.{Side}
+use Rattle.gen1_machine.specs.State.{State, first_state}
+use Rattle.battle_input.specs.Sheets.{BattleData, json_of, pair_of, sheet_of, submission_of}
+use Rattle.battle_commands.specs.declared.fault.ToolFault.{ToolFault}
+use Rattle.battle_commands.specs.declared.fault.ToolFault.TheVariants.{Json, TooLong, Team}
+
+-- a battle that has not begun, and what is done in it
+pub record Asked (A : Type 0) : Type 0 where
+  pub state : State
+  pub items : List A
+
+abbrev pub begins : BattleData → State
+begins battle = first_state (record { rules = battle.rules; limit = battle.limit }) (team_of battle.one) (team_of battle.two) battle.seed
+
+-- the fault of a side's team, if it is refused, in the place of what is asked
+abbrev pub unless : {T : Type 0} → ℕ → Option TeamRefusal → Result T ToolFault → Result T ToolFault
+unless side (Some refusal) asked = Err (Team side (place_of refusal) (number_of refusal))
+unless side None asked = asked
+
+-- side 1's team is tested whole before side 2's
+abbrev pub asked_by : {A : Type 0} → Option (BattleData × List A) → Result (Asked A) ToolFault
+asked_by None = Err Json
+asked_by (Some sheet) = unless 1 (team_refusal sheet.0.one) (unless 2 (team_refusal sheet.0.two) (Ok (record { state = begins sheet.0; items = sheet.1 })))
+
+abbrev pub input_limit : ℕ
+input_limit = 1048576
+
+unfoldable pub asked_of : {A : Type 0} → List ℕ → (Data → Option A) → List ℕ → Result (Asked A) ToolFault
+asked_of key meaning input = if nat_lt input_limit (length input) then Err TooLong else asked_by (option_and_then (sheet_of key meaning) (json_of input))
+
+-- pairs of choices are asked for, or submissions to a room
+
+abbrev pub asked_to_run : List ℕ → Result (Asked (ℕ × ℕ)) ToolFault
+asked_to_run = asked_of (codes "choices") pair_of
+
+abbrev pub asked_of_room : List ℕ → Result (Asked (Side × ℕ × ℕ)) ToolFault
+asked_of_room = asked_of (codes "submissions") submission_of

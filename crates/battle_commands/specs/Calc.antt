@@ -1,0 +1,54 @@
+-- What is due from `calc` for an input, and what it has written and answers.
+use Rattle.std.specs.Prelude.{Bool, Err, List, None, Ok, Option, Result, Some, [], false, if◌then◌else◌, length, nat_lt, not, ok_or, option_and_then, true, ℕ, ◌&&◌, ◌∷◌, ◌≡◌}
+use Rattle.std.specs.Io.KnownBytes.{Appends}
+use Rattle.gen1_tables.specs.declared.effect.Effect.{Effect}
+use Rattle.gen1_tables.specs.declared.effect.Effect.TheVariants.{Counter, FixedDamage, OneHitKnockOut, SuperFang}
+use Rattle.gen1_stats.specs.Teams.{member_of as begun_of, team_refusal}
+use Rattle.gen1_machine.specs.Damage.{numbers_in}
+use Rattle.gen1_machine.specs.Moves.{Move, move_at}
+use Rattle.gen1_machine.specs.Sending.{AppendsFront}
+use Rattle.gen1_machine.specs.declared.side.Side.TheVariants.{One}
+use Rattle.gen1_hits.specs.Factors.{damages}
+use Rattle.battle_input.specs.Sheets.{json_of}
+use Rattle.battle_commands.specs.Asked.{input_limit, unless}
+use Rattle.battle_input.specs.CalcSheets.{calc_sheet_of}
+use Rattle.battle_commands.specs.Duel.{duel}
+use Rattle.battle_commands.specs.NumberLine.{number_line}
+use Rattle.battle_input.specs.declared.calc_sheet.CalcSheet.{CalcSheet}
+use Rattle.battle_commands.specs.declared.fault.ToolFault.{ToolFault}
+use Rattle.battle_commands.specs.declared.fault.ToolFault.TheVariants.{Calc, Json, Memory, Read, TooLong, Write}
+
+abbrev pub has_own_damage : Effect → Bool
+has_own_damage Counter = true
+has_own_damage FixedDamage = true
+has_own_damage OneHitKnockOut = true
+has_own_damage SuperFang = true
+has_own_damage _ = false
+
+-- whether a move has power, and no damage of its own rule
+abbrev pub has_usual_damage : Move → Bool
+has_usual_damage move = nat_lt 0 move.power && not (has_own_damage move.effect)
+
+-- the damage at each factor from 217 to 255, of the attacker's move against the defender; none where the divisor is 0
+unfoldable pub damages_of : CalcSheet → Option (List ℕ)
+damages_of s = damages (numbers_in One (move_at s.id) s.critical (duel (begun_of s.attacker) (begun_of s.defender)))
+
+-- the teams of one, the attacker's before the defender's, and then the move
+abbrev pub due_by : Option CalcSheet → Result (List ℕ) ToolFault
+due_by None = Err Json
+due_by (Some s) =
+    unless 1 (team_refusal (s.attacker ∷ []))
+    (unless 2 (team_refusal (s.defender ∷ []))
+    (if has_usual_damage (move_at s.id) then ok_or (damages_of s) Calc else Err Calc))
+
+-- the damage numbers that are due for an input, or the fault that is answered instead
+unfoldable pub damages_due : List ℕ → Result (List ℕ) ToolFault
+damages_due input = if nat_lt input_limit (length input) then Err TooLong else due_by (option_and_then calc_sheet_of (json_of input))
+
+-- The line is written, or a front of it where a write fails. With any other fault nothing is.
+abbrev pub PrintsDamages : {T : Type 0} → Result (List ℕ) ToolFault → Option (List ℕ) → Option (List ℕ) → Result T ToolFault → Type 0
+PrintsDamages due old new (Ok done) = (numbers : List ℕ) × (due ≡ Ok numbers) × Appends old new (number_line numbers)
+PrintsDamages due old new (Err Write) = (numbers : List ℕ) × (due ≡ Ok numbers) × AppendsFront old new (number_line numbers)
+PrintsDamages due old new (Err Read) = Appends old new []
+PrintsDamages due old new (Err Memory) = Appends old new []
+PrintsDamages due old new (Err fault) = (due ≡ Err fault) × Appends old new []

@@ -1,0 +1,45 @@
+-- What is due for an input: the text to print, and the fault to answer after it.
+use Rattle.std.specs.Prelude.{ℕ, ◌+◌, List, [], ◌∷◌, ◌++◌, Option, Some, None, Result, Ok, Err}
+use Rattle.gen1_machine.specs.Lines.{lines}
+use Rattle.gen1_machine.specs.State.{State}
+use Rattle.gen1_machine.specs.Step.{Answer, Accepted, Refused}
+use Rattle.gen1_engine.specs.Replaying.{step_by_bytes}
+use Rattle.battle_commands.specs.Asked.{Asked, asked_to_run}
+use Rattle.battle_commands.specs.Faults.{number_of_refusal}
+use Rattle.battle_commands.specs.declared.fault.ToolFault.{ToolFault}
+use Rattle.battle_commands.specs.declared.fault.ToolFault.TheVariants.{Pair}
+
+pub record Due : Type 0 where
+  pub text : List ℕ
+  pub fault : Option ToolFault
+
+abbrev pub done : Due
+done = record { text = []; fault = None }
+
+abbrev pub refused : ToolFault → Due
+refused fault = record { text = []; fault = Some fault }
+
+abbrev pub only : List ℕ → Due
+only text = record { text = text; fault = None }
+
+abbrev pub after : List ℕ → Due → Due
+after text due = record { text = text ++ due.text; fault = due.fault }
+
+-- a refused pair ends it; an accepted one has the lines of its events, and what is due behind them
+abbrev pub due_by : ℕ → Answer → Due → Due
+due_by number (Refused why) rest = refused (Pair number (number_of_refusal why))
+due_by number (Accepted events) rest = after (lines events) rest
+
+-- from a state and the number of a pair on: the lines of the machine's run, up to the first pair that it refuses
+unfoldable pub due_from : ℕ → State → List (ℕ × ℕ) → Due
+due_from number s [] = done
+due_from number s (pair ∷ pairs) = due_by number (step_by_bytes s pair).answer (due_from (number + 1) (step_by_bytes s pair).state pairs)
+
+-- what is due for what was asked
+abbrev pub due_if : {A : Type 0} → (State → List A → Due) → Result (Asked A) ToolFault → Due
+due_if due (Err fault) = refused fault
+due_if due (Ok asked) = due asked.state asked.items
+
+-- what is due for an input of `run`
+abbrev pub run_due : List ℕ → Due
+run_due input = due_if (due_from 0) (asked_to_run input)

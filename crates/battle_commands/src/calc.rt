@@ -1,0 +1,96 @@
+//! The damage numbers that an input asks for.
+ghost use Rattle.std.specs.Prelude.{◌≡◌, ◌≤◌, ◌||◌, length, IfSome, option_and_then};
+ghost use Rattle.battle_commands.specs.Answers.{is_read_fault, is_write_fault};
+ghost use Rattle.battle_input.specs.Sheets.{json_of};
+ghost use Rattle.battle_commands.specs.Calc.{PrintsDamages, damages_due};
+ghost use Rattle.battle_input.specs.CalcSheets.{calc_sheet_of};
+ghost use Rattle.battle_commands.specs.Opening.{Finds};
+ghost use Rattle.battle_input.specs.SheetViews.{Gives};
+
+use crate::damages::{damages, has_usual_damage};
+use crate::fault::ToolFault;
+use crate::number_line::number_line;
+use crate::opening::INPUT_LIMIT;
+use battle_input::{CalcSheet, SheetFault, read_calc_sheet, value_in};
+use gen1_machine::{InputFault, Sink, Source, read_whole, send};
+use gen1_stats::Team;
+use std::alloc::Global;
+
+/// Reads what `calc` is asked for, and writes the damage numbers in one line (docs/PROGRAM.md).
+///
+/// The input is read whole, then its sheet, then the attacker's team is tested, then the
+/// defender's, and then the move. The line is sent in one call, and with any fault but that of this
+/// call nothing is written.
+pub fn play_calc<A: AllocGlobal, R: Source, W: Sink>(
+    rt: &A,
+    reader: &mut R,
+    writer: &mut W,
+) -> Result<(), ToolFault>
+    // Where the source tells its bytes, what is due for them is written and answered.
+    ensures answers { IfSome (R.remaining reader.old)
+        (λ input. PrintsDamages (damages_due input) (W.contents writer.old) (W.contents writer.new) result) }
+
+    // A fault of a device is answered exactly where that device has failed in this call.
+    ensures read { R.has_failed reader.new ≡ (R.has_failed reader.old || is_read_fault result) }
+    ensures write { W.has_failed writer.new ≡ (W.has_failed writer.old || is_write_fault result) }
+{
+    let input = match read_whole(rt.alloc(), reader, INPUT_LIMIT) {
+        Ok(input) => input,
+        Err(InputFault::Device) => return Err(ToolFault::Read),
+        Err(InputFault::TooLong) => return Err(ToolFault::TooLong),
+        Err(InputFault::Memory) => return Err(ToolFault::Memory),
+    };
+    let numbers = match find_numbers(rt.alloc(), input.as_slice()) {
+        Ok(numbers) => numbers,
+        Err(fault) => return Err(fault),
+    };
+    match send(writer, number_line(&numbers).as_str().as_bytes()) {
+        Ok(()) => Ok(()),
+        Err(_) => Err(ToolFault::Write),
+    }
+}
+
+/// The damage numbers that an input asks for.
+#[tactic(auto, unfolding(crate::specs::Calc::damages_due))]
+fn find_numbers(alloc: Global, input: &[u8]) -> Result<[u16; 39], ToolFault>
+    requires { length input.now ≤ INPUT_LIMIT }
+    ensures { Finds result (damages_due input.now) }
+{
+    let sheet = match calc_sheet_in(alloc, input) {
+        Ok(sheet) => sheet,
+        Err(SheetFault::Shape) => return Err(ToolFault::Json),
+        Err(SheetFault::Memory) => return Err(ToolFault::Memory),
+    };
+    let CalcSheet {
+        attacker,
+        defender,
+        id,
+        critical,
+    } = sheet;
+    let one = match Team::new(&[attacker]) {
+        Ok(team) => team,
+        Err(refusal) => return Err(ToolFault::of_team(1, refusal)),
+    };
+    let two = match Team::new(&[defender]) {
+        Ok(team) => team,
+        Err(refusal) => return Err(ToolFault::of_team(2, refusal)),
+    };
+    if !has_usual_damage(id) {
+        return Err(ToolFault::Calc);
+    }
+    match damages(&one, &two, id, critical) {
+        Some(numbers) => Ok(numbers),
+        None => Err(ToolFault::Calc),
+    }
+}
+
+/// The sheet of an input.
+fn calc_sheet_in(alloc: Global, input: &[u8]) -> Result<CalcSheet, SheetFault>
+    ensures { Gives (λ sheet. sheet) result (option_and_then calc_sheet_of (json_of input.now)) }
+{
+    let value = value_in(alloc, input)?;
+    match read_calc_sheet(&value) {
+        Some(sheet) => Ok(sheet),
+        None => Err(SheetFault::Shape),
+    }
+}

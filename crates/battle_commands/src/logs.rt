@@ -1,0 +1,42 @@
+//! The lines of a log.
+ghost use Rattle.std.specs.Prelude.{◌≡◌, ◌||◌, IfSome};
+ghost use Rattle.battle_commands.specs.Answers.{is_read_fault, is_write_fault};
+ghost use Rattle.battle_commands.specs.Logs.{PrintsLog};
+
+use crate::fault::ToolFault;
+use crate::opening::INPUT_LIMIT;
+use gen1_machine::{InputFault, Sink, Source, read_whole, send};
+use gen1_printer::{PrintFault, print_log};
+
+/// Reads the bytes of a log, and writes the lines of its events (docs/PROGRAM.md).
+///
+/// The input is read whole before anything is written, and of bytes that are no log nothing is.
+pub fn play_print<A: AllocGlobal, R: Source, W: Sink>(
+    rt: &A,
+    reader: &mut R,
+    writer: &mut W,
+) -> Result<(), ToolFault>
+    // Where the source tells its bytes, they are the log that is printed.
+    ensures answers { IfSome (R.remaining reader.old)
+        (λ log. PrintsLog log (W.contents writer.old) (W.contents writer.new) result) }
+
+    // A fault of a device is answered exactly where that device has failed in this call.
+    ensures read { R.has_failed reader.new ≡ (R.has_failed reader.old || is_read_fault result) }
+    ensures write { W.has_failed writer.new ≡ (W.has_failed writer.old || is_write_fault result) }
+{
+    let log = match read_whole(rt.alloc(), reader, INPUT_LIMIT) {
+        Ok(log) => log,
+        Err(InputFault::Device) => return Err(ToolFault::Read),
+        Err(InputFault::TooLong) => return Err(ToolFault::TooLong),
+        Err(InputFault::Memory) => return Err(ToolFault::Memory),
+    };
+    let text = match print_log(rt.alloc(), log.as_slice()) {
+        Ok(text) => text,
+        Err(PrintFault::Log(fault)) => return Err(ToolFault::Log(fault.number())),
+        Err(_) => return Err(ToolFault::Memory),
+    };
+    match send(writer, text.as_bytes()) {
+        Ok(()) => Ok(()),
+        Err(_) => Err(ToolFault::Write),
+    }
+}

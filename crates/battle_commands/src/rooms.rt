@@ -1,0 +1,154 @@
+//! Two players' submissions to a room, and what each is answered.
+ghost use Rattle.std.specs.Prelude.{List, [], ◌++◌, ◌∷◌, ◌≡◌, ◌||◌, IfSome, codes, false};
+ghost use Rattle.gen1_machine.specs.Lines.{joined, lines};
+ghost use Rattle.gen1_machine.specs.Room.{Course, after as follows, reply_to};
+ghost use Rattle.gen1_machine.specs.declared.event.Event.{Event as Told};
+ghost use Rattle.gen1_events.specs.Splits.{IsReading};
+ghost use Rattle.gen1_room.specs.Rooms.{Holds, submission_at, why_of};
+ghost use Rattle.battle_commands.specs.Answers.{Answers, is_read_fault, is_write_fault};
+ghost use Rattle.battle_commands.specs.Due.{only};
+ghost use Rattle.battle_commands.specs.Rooms.{pieces_of_refusal, replies_due, room_due, text_of_reply};
+
+use crate::fault::ToolFault;
+use crate::opening::{INPUT_LIMIT, open_bout};
+use arrayvec::ArrayString;
+use gen1_machine::{InputFault, Side, Sink, Source, read_whole, send};
+use gen1_printer::print_log;
+use gen1_room::{Room, RoomRefusal, Submitted};
+use itoa::Buffer;
+use std::alloc::Global;
+
+/// The most bytes of a refusal's line, of which ten are the digits of the current pair's number.
+const REFUSAL_LENGTH: usize = 27;
+
+/// Reads what `room` is asked for, and writes the lines of the start and what each submission is
+/// answered (docs/PROGRAM.md).
+///
+/// The input is read whole, then its sheet, then side 1's team, then side 2's, and then the
+/// submissions are handed in.
+pub fn play_room<A: AllocGlobal, R: Source, W: Sink>(
+    rt: &A,
+    reader: &mut R,
+    writer: &mut W,
+) -> Result<(), ToolFault>
+    // Where the source tells its bytes, what is due for them is written and answered.
+    ensures answers { IfSome (R.remaining reader.old)
+        (λ input. Answers (room_due input) (W.contents writer.old) (W.contents writer.new) result) }
+
+    // A fault of a device is answered exactly where that device has failed in this call.
+    ensures read { R.has_failed reader.new ≡ (R.has_failed reader.old || is_read_fault result) }
+    ensures write { W.has_failed writer.new ≡ (W.has_failed writer.old || is_write_fault result) }
+{
+    let input = match read_whole(rt.alloc(), reader, INPUT_LIMIT) {
+        Ok(input) => input,
+        Err(InputFault::Device) => return Err(ToolFault::Read),
+        Err(InputFault::TooLong) => return Err(ToolFault::TooLong),
+        Err(InputFault::Memory) => return Err(ToolFault::Memory),
+    };
+    let bout = match open_bout::<(Side, u32, u8)>(rt.alloc(), input.as_slice(), "submissions") {
+        Ok(bout) => bout,
+        Err(fault) => return Err(fault),
+    };
+    let mut room = Room::new(bout.battle);
+    match send_lines(rt.alloc(), room.log(), writer) {
+        Ok(()) => {}
+        Err(fault) => return Err(fault),
+    }
+    hand_in_all(rt.alloc(), &mut room, bout.items.as_slice(), writer)
+}
+
+/// Hands in submissions, and tells what each is answered.
+fn hand_in_all<W: Sink>(
+    alloc: Global,
+    room: &mut Room,
+    submissions: &[(Side, u32, u8)],
+    sink: &mut W,
+) -> Result<(), ToolFault>
+    ensures answers { (c : Course) → Holds room.old c → Answers (replies_due c submissions.now) (W.contents sink.old) (W.contents sink.new) result }
+    ensures write { W.has_failed sink.new ≡ (W.has_failed sink.old || is_write_fault result) }
+    ensures read { is_read_fault result ≡ false }
+{
+    for submission in submissions {
+        match hand_in(alloc, room, *submission, sink) {
+            Ok(()) => {}
+            Err(fault) => return Err(fault),
+        }
+    }
+    Ok(())
+}
+
+/// Hands in a submission, and tells what it is answered, with the lines of the pair that it ended.
+fn hand_in<W: Sink>(
+    alloc: Global,
+    room: &mut Room,
+    submission: (Side, u32, u8),
+    sink: &mut W,
+) -> Result<(), ToolFault>
+    ensures holds { (c : Course) → Holds room.old c → Holds room.new (follows c (submission_at submission)) }
+    ensures answers { (c : Course) → Holds room.old c
+        → Answers (only (text_of_reply (reply_to c (submission_at submission)) (follows c (submission_at submission)).events)) (W.contents sink.old) (W.contents sink.new) result }
+    ensures write { W.has_failed sink.new ≡ (W.has_failed sink.old || is_write_fault result) }
+    ensures read { is_read_fault result ≡ false }
+{
+    match room.submit(submission.0, submission.1, submission.2) {
+        Ok(Submitted::Waiting) => send_text(sink, "|room|waiting\n"),
+        Ok(Submitted::Advanced(_)) => send_advanced(alloc, room.log(), sink),
+        Err(refusal) => send_text(sink, refusal_line(refusal).as_str()),
+    }
+}
+
+/// Tells of a pair that ended, with its lines.
+fn send_advanced<W: Sink>(alloc: Global, log: &[u8], sink: &mut W) -> Result<(), ToolFault>
+    ensures answers { (events : List Told) → IsReading log.now events
+        → Answers (only (codes "|room|advanced\n" ++ lines events)) (W.contents sink.old) (W.contents sink.new) result }
+    ensures write { W.has_failed sink.new ≡ (W.has_failed sink.old || is_write_fault result) }
+    ensures read { is_read_fault result ≡ false }
+{
+    match send_text(sink, "|room|advanced\n") {
+        Ok(()) => send_lines(alloc, log, sink),
+        Err(fault) => Err(fault),
+    }
+}
+
+/// Sends the lines of a log.
+fn send_lines<W: Sink>(alloc: Global, log: &[u8], sink: &mut W) -> Result<(), ToolFault>
+    ensures answers { (events : List Told) → IsReading log.now events
+        → Answers (only (lines events)) (W.contents sink.old) (W.contents sink.new) result }
+    ensures write { W.has_failed sink.new ≡ (W.has_failed sink.old || is_write_fault result) }
+    ensures read { is_read_fault result ≡ false }
+{
+    match print_log(alloc, log) {
+        Ok(text) => send_text(sink, text.as_str()),
+        Err(_) => Err(ToolFault::Memory),
+    }
+}
+
+fn send_text<W: Sink>(sink: &mut W, text: &str) -> Result<(), ToolFault>
+    ensures answers { Answers (only text.now) (W.contents sink.old) (W.contents sink.new) result }
+    ensures write { W.has_failed sink.new ≡ (W.has_failed sink.old || is_write_fault result) }
+    ensures read { is_read_fault result ≡ false }
+{
+    match send(sink, text.as_bytes()) {
+        Ok(()) => Ok(()),
+        Err(_) => Err(ToolFault::Write),
+    }
+}
+
+fn refusal_line(refusal: RoomRefusal) -> ArrayString<REFUSAL_LENGTH>
+    ensures { result.bytes ≡ joined (codes "|room|refused|" ∷ pieces_of_refusal (why_of refusal) ++ codes "\n" ∷ []) }
+{
+    let mut line = ArrayString::new();
+    line.push_str("|room|refused|");
+    match refusal {
+        RoomRefusal::Over => line.push_str("1"),
+        RoomRefusal::Stale(current) => {
+            let mut digits = Buffer::new();
+            line.push_str("2|");
+            line.push_str(digits.format(current));
+        }
+        RoomRefusal::AlreadyChosen => line.push_str("3"),
+        RoomRefusal::NotOffered => line.push_str("4"),
+    }
+    line.push_str("\n");
+    line
+}

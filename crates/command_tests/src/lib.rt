@@ -1,0 +1,5 @@
+//! Tests of the subcommands of `battle_tool`: whole inputs, and devices and heaps that fail.
+#![tactic(auto)]
+
+#[cfg(test)]
+mod tests;
