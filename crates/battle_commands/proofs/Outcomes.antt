@@ -67,18 +67,21 @@ answers_opened due asked x told items slice old new result lent is read done =
     some_along told (λ input. items ≡ input) (λ input. Answers (due_if due (asked input)) old new result)
     (λ input same. subst (λ (d : Due). Answers d old new result) (sym (ap (λ bytes. due_if due (asked bytes)) (sym (lent ∙ same)) ∙ ap (due_if due) is)) done) read
 
-or_false : (b : Bool) → b ≡ (b || false)
-or_false true = refl
-or_false false = refl
+unfailed : (b : Bool) → b ≡ (b || false)
+unfailed true = refl
+unfailed false = refl
+
+pub or_false : (b : Bool) → (b || false) ≡ b
+or_false b = sym (unfailed b)
 
 -- and so no write has failed
 pub unopened_writes : (T : Type 0) {A : Type 0} (fault : ToolFault) (asked : Result A ToolFault) (b : Bool) → IsAskedFault fault asked → b ≡ (b || is_write_fault {T = T} (Err fault))
 unopened_writes T Write asked b h = absurd h
-unopened_writes T Read asked b h = or_false b
-unopened_writes T Memory asked b h = or_false b
-unopened_writes T Json asked b h = or_false b
-unopened_writes T TooLong asked b h = or_false b
-unopened_writes T (Team side place refusal) asked b h = or_false b
-unopened_writes T (Pair number refusal) asked b h = or_false b
-unopened_writes T (Log number) asked b h = or_false b
-unopened_writes T Calc asked b h = or_false b
+unopened_writes T Read asked b h = unfailed b
+unopened_writes T Memory asked b h = unfailed b
+unopened_writes T Json asked b h = unfailed b
+unopened_writes T TooLong asked b h = unfailed b
+unopened_writes T (Team side place refusal) asked b h = unfailed b
+unopened_writes T (Pair number refusal) asked b h = unfailed b
+unopened_writes T (Log number) asked b h = unfailed b
+unopened_writes T Calc asked b h = unfailed b

@@ -1,5 +1,6 @@
 -- What was written so far, and what is due from there on.
 use Rattle.std.proofs.Common.{Err, List, Ok, Option, [], ap, append-nil, append_assoc, arith, drop, drop_of_length-le, get_or, length, refl, subst, suc, sym, ℕ, ◌++◌, ◌+◌, ◌<◌, ◌≡◌, ◌≤◌, ◌∙◌}
+use Rattle.arrayvec.specs.ArrayVec.{ArrayVec}
 use Rattle.std.specs.Io.KnownBytes.{Appends}
 use Rattle.std.proofs.KnownBytes.{Appends-nil, Appends-trans}
 use Rattle.std.proofs.Math.Seq.{drop-cons}
@@ -12,10 +13,25 @@ use Rattle.gen1_machine.proofs.SendingLemmas.{appends_front_after}
 use Rattle.gen1_layout.specs.Parts.{Parts}
 use Rattle.gen1_layout.specs.Within.{Stands}
 use Rattle.gen1_engine.specs.Replaying.{step_by_bytes}
+use Rattle.gen1_engine.specs.Updating.{AnswersAs, TellsAs, refusal_of}
+use Rattle.gen1_engine.specs.declared.result.BattleResult.{BattleResult}
+use Rattle.gen1_engine.specs.declared.result.Refusal.{Refusal as Why}
 use Rattle.battle_commands.specs.Answers.{Answers}
 use Rattle.battle_commands.specs.Due.{Due, after, due_by, due_from}
 use Rattle.battle_commands.specs.Faults.{number_of_refusal}
 use Rattle.battle_commands.specs.declared.fault.ToolFault.TheVariants.{Memory, Pair, Write}
+
+-- what an update by bytes answered
+
+pub answered_ok : (answer : Answer) (next : State) (old new : Parts) (old_events events : ArrayVec Event) (result : BattleResult) → AnswersAs answer next old new (Ok result) → TellsAs answer old_events events
+    → (answer ≡ Accepted events.items) × Stands new next
+answered_ok (Refused reason) next old new old_events events result h t = absurd (let e = h.0 in cc)
+answered_ok (Accepted told) next old new old_events events result h t = (ap Accepted (sym t), h.1)
+
+pub answered_err : (answer : Answer) (next : State) (old new : Parts) (why : Why) → AnswersAs answer next old new (Err why)
+    → (reason : Refusal) × (answer ≡ Refused reason) × (why ≡ refusal_of reason)
+answered_err (Refused reason) next old new why h = (reason, refl, (let e = h.0 in cc))
+answered_err (Accepted events) next old new why h = absurd (let e = h.0 in cc)
 
 -- the pairs before a number were played, and their lines written: what is due for all is these and what is due from there on
 pub record Stood (s : State) (pairs : List (ℕ × ℕ)) (number : ℕ) (battle : Parts) (old now : Option (List ℕ)) : Type 0 where
