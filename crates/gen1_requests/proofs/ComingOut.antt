@@ -1,5 +1,5 @@
 -- A member that comes out: the bytes, and what is told.
-use Rattle.gen1_layout.proofs.Words.{Active, Field, IsBetween, List, Member, None, Option, Parts, Progress, Setting, Shows, Side, [], ap, arith, changed_active, changed_conditions, given, length, lit≤, member_at, note, on_active, on_conditions, on_field, party, refl, subst, sym, then-goes, underway_in, ℕ}
+use Rattle.gen1_layout.proofs.Words.{Active, Field, IsBetween, List, Member, None, Option, Parts, Progress, Setting, Shows, Side, [], ap, arith, changed_active, changed_conditions, given, length, lit≤, note, on_active, on_conditions, on_field, party, refl, subst, sym, then-goes, underway_in, ℕ}
 use Rattle.std.proofs.Common.{false, ◌++◌, ◌∷◌, ◌≡◌, ◌∙◌}
 use Rattle.gen1_layout.specs.Words.{Event, Packs}
 use Rattle.gen1_tables.specs.Species.{species_row}
@@ -11,7 +11,7 @@ use Rattle.gen1_machine.specs.Rules.{Rules}
 use Rattle.gen1_machine.specs.Sides.{other}
 use Rattle.gen1_machine.specs.Conditions.{without_trapping}
 use Rattle.gen1_machine.specs.CurrentStats.{with_penalty_of}
-use Rattle.gen1_machine.specs.State.{nobody_out, State, Terms}
+use Rattle.gen1_machine.specs.State.{member_at, nobody_out, State, Terms}
 use Rattle.gen1_machine.specs.SwitchingIn.{send_out, sent_out, start, switch_event, with_sent_out}
 use Rattle.gen1_machine.specs.Step.{opened}
 use Rattle.gen1_machine.specs.Valid.{IsMembersUnder, IsOutcome, IsUnstarted}

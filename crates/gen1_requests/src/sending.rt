@@ -47,7 +47,7 @@ fn coming_out(battle: &Packed, side: Side, place: Place) -> Option<Event>
     ensures packs { (g : Setting) (f : Field) → Packs g battle.now f → InRange side place f
         → result ≡ Some (coming_out side place (member_at place (party side f))) }
 {
-    let at = place.number().into();
+    let at = place.number() as usize;
     let species = battle.species_from(side, at)?;
     let level = battle.level_from(side, at)?;
     let health = battle.health_from(side, at)?;
@@ -59,7 +59,7 @@ fn put_out(battle: &mut Packed, side: Side, place: Place)
     ensures packs { (g : Setting) (f : Field) → Packs g battle.old f → InRange side place f → Packs g battle.new (with_out side place f) }
 {
     let number = place.number();
-    let at = number.into();
+    let at = number as usize;
     let status = battle.status_at(side, at);
     let [attack, defense, speed, special] = battle.own_stats_at(side, at);
     let stats = [

@@ -1,5 +1,6 @@
 use Rattle.std.proofs.Common.{◌≡◌, ◌∙◌}
-use Rattle.gen1_layout.proofs.Words.{member_at, packed_of, party, refl}
+use Rattle.gen1_layout.proofs.Words.{packed_of, party, refl}
+use Rattle.gen1_machine.specs.State.{member_at}
 use Rattle.gen1_machine.specs.SwitchingIn.{with_sent_out}
 use Rattle.gen1_requests.specs.ComingOut.{halvings_of, quarterings_of}
 use Rattle.gen1_requests.proofs.ComingOut.{sent_made}
