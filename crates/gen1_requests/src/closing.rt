@@ -111,8 +111,8 @@ fn end_if_decided(battle: &mut Packed, events: &mut EventList) -> bool
 {
     let one = battle.has_living(Side::One);
     let two = battle.has_living(Side::Two);
-    let neither = !one & !two;
     let late = battle.limit() <= battle.turn();
+    let neither = !one & !two;
     if neither {
         battle_ends(battle, Outcome::Tie, Event::Tie, events);
         return true;
