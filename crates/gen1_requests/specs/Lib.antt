@@ -1,2 +1,4 @@
 -- What an update is begun for, and how it leaves the bytes, the events and the generator.
 pub mod Updates
+-- What each side may choose, as a set.
+pub mod Offering
