@@ -21,7 +21,7 @@ packs_of {p = p} {s = s} h = by h.valid.field
 
 -- who is asked for a move or a switch has a member out, and so has its foe
 
-asks_nothing : (side : Side) (terms : Terms) (f : Field) → IsUnstarted terms f → request_of side f ≡ requests.Pass
+pub asks_nothing : (side : Side) (terms : Terms) (f : Field) → IsUnstarted terms f → request_of side f ≡ requests.Pass
 asks_nothing One terms f u = u.requests.one
 asks_nothing Two terms f u = u.requests.two
 
