@@ -3,7 +3,7 @@ pub mod ComingOut
 -- How an update closes.
 pub mod Closed
 -- What the choices that are offered give to an update.
-pub mod Offered
+pub mod OfferedChoices
 -- The machine's step, by which update it is.
 pub mod Stepped
 -- What is read of a battle between two updates.

@@ -1,5 +1,7 @@
 -- The bytes of the machine's offered choices rise.
-use Rattle.std.proofs.Common.{All-get_or, Bool, List, Option, [], arith, get_or, inl, inr, length, map, map-append, not, nat_lt, refl, slice_index, subst, suc, sym, true, false, zero, ℕ, ◌&&◌, ◌++◌, ◌+◌, ◌-◌, ◌<◌, ◌==◌, ◌≡◌, ◌≤◌, ◌∙◌, ◌∷◌, ◌⊎◌, ap}
+use Rattle.std.proofs.Common.{Bool, List, Option, [], arith, get_or, inl, inr, length, map, not, nat_lt, refl, slice_index, subst, suc, sym, true, false, zero, ℕ, ◌&&◌, ◌++◌, ◌+◌, ◌-◌, ◌<◌, ◌==◌, ◌≡◌, ◌≤◌, ◌∙◌, ◌∷◌, ◌⊎◌, ap}
+use Rattle.std.proofs.lemmas.List.Elements.{All-get_or}
+use Rattle.std.proofs.lemmas.List.{map-append}
 use Rattle.std.specs.Prelude.{if◌then◌else◌}
 use Rattle.std.specs.List.Sorted.{IsStrictlyIncreasing}
 use Rattle.gen1_stats.specs.declared.known_move.KnownMove.{KnownMove}
@@ -34,11 +36,15 @@ in_turn : (a b c : ℕ) (xs ys : List ℕ) → Rises a b xs → Rises b c ys →
 in_turn a b c [] ys h k = wider b c a c ys h (omega arith) k
 in_turn a b c (x ∷ xs) ys h k = (h.0, in_turn (x + 1) b c xs ys h.1 k)
 
+rising_at : (low high : ℕ) (xs : List ℕ) → Rises low high xs → (k : ℕ) → suc k < length xs → slice_index xs k < slice_index xs (suc k)
+rising_at low high [] h k inside = absurd (omega arith)
+rising_at low high (x ∷ []) h k inside = absurd (omega arith)
+rising_at low high (x ∷ y ∷ ys) h zero inside = omega (arith, h.1.0)
+rising_at low high (x ∷ y ∷ ys) h (suc k) inside = rising_at (x + 1) high (y ∷ ys) h.1 k (omega arith)
+
 increasing : (low high : ℕ) (xs : List ℕ) → Rises low high xs → IsStrictlyIncreasing xs
-increasing low high [] h k inside = absurd (omega arith)
-increasing low high (x ∷ []) h k inside = absurd (omega arith)
-increasing low high (x ∷ y ∷ ys) h zero inside = omega (arith, h.1.0)
-increasing low high (x ∷ y ∷ ys) h (suc k) inside = increasing (x + 1) high (y ∷ ys) h.1 k (omega arith)
+increasing low high xs h k inside =
+    subst (λ (n : ℕ). slice_index xs k < slice_index xs n) (let e : suc k ≡ k + 1 = omega arith in e) (rising_at low high xs h k (omega arith))
 
 usable-rise : (k : ℕ) (disabled : Option DisabledSlot) (ms : List KnownMove) → Rises (0x10 + k) (0x10 + k + length ms) (map byte_of_choice (usable_from k disabled ms))
 usable-rise k disabled [] = omega arith
@@ -87,7 +93,7 @@ rising requests.Move s f few = by (is_committed (underway_in s f))
 four_moves : (terms : Terms) (t : Party) → IsParty terms.rules t → length (member_at t.active.place t).moves ≤ 4
 four_moves terms t h =
     let inside : t.active.place - 1 < length t.members = omega (arith, h.place.0, h.place.1) in
-    (All-get_or (IsMemberUnder terms.rules) t.members nobody (t.active.place - 1) inside h.members.each).numbers.slots.1
+    (All-get_or (IsMemberUnder terms.rules) t.members (t.active.place - 1) nobody inside h.members.each).numbers.slots.1
 
 four_in : (s : Side) (terms : Terms) (f : Field) → IsField terms f → length (member_in s f).moves ≤ 4
 four_in One terms f h = four_moves terms f.one h.one
