@@ -112,6 +112,7 @@ fn end_if_decided(battle: &mut Packed, events: &mut EventList) -> bool
     let one = battle.has_living(Side::One);
     let two = battle.has_living(Side::Two);
     let neither = !one & !two;
+    let late = battle.limit() <= battle.turn();
     if neither {
         battle_ends(battle, Outcome::Tie, Event::Tie, events);
         return true;
@@ -124,7 +125,6 @@ fn end_if_decided(battle: &mut Packed, events: &mut EventList) -> bool
         battle_ends(battle, Outcome::WinOne, Event::Win(Side::One), events);
         return true;
     }
-    let late = battle.limit() <= battle.turn();
     if late {
         battle_ends(battle, Outcome::Tie, Event::Tie, events);
         return true;

@@ -79,11 +79,7 @@ fn halvings(status: Status) -> u8
 {
     match status {
         Status::Burned => 1,
-        Status::Healthy => 0,
-        Status::Asleep { .. } => 0,
-        Status::Poisoned => 0,
-        Status::Frozen => 0,
-        Status::Paralysed => 0,
+        _ => 0,
     }
 }
 
@@ -92,10 +88,6 @@ fn quarterings(status: Status) -> u8
 {
     match status {
         Status::Paralysed => 1,
-        Status::Healthy => 0,
-        Status::Asleep { .. } => 0,
-        Status::Poisoned => 0,
-        Status::Burned => 0,
-        Status::Frozen => 0,
+        _ => 0,
     }
 }
