@@ -98,7 +98,7 @@ impl Packed {
     }
 
     /// The 24 bytes of a member (docs/LAYOUT.md, "Member"), by its place from 1, for writing.
-    pub fn member_mut(&mut self, side: Side, place: usize) -> &mut [u8]
+    pub fn member_mut(&mut self, side: Side, place: u8) -> &mut [u8]
         requires low { 1 ≤ place }
         requires high { place ≤ 6 }
         ensures* writes_back { sem 𝓛 (LendsMember side place self.entry result) }
@@ -147,7 +147,7 @@ impl Packed {
     }
 
     /// The 24 bytes of a member, by its place from 1.
-    pub fn member(&self, side: Side, place: usize) -> &[u8]
+    pub fn member(&self, side: Side, place: u8) -> &[u8]
         requires low { 1 ≤ place }
         requires high { place ≤ 6 }
         ensures value { result.now ≡ member_of side place self.now }
@@ -195,13 +195,13 @@ fn start_of_side(side: Side) -> usize
     }
 }
 
-fn start_of_member(side: Side, place: usize) -> usize
+fn start_of_member(side: Side, place: u8) -> usize
     requires low { 1 ≤ place }
     requires high { place ≤ 6 }
     ensures at { result ≡ member_starts side place }
     ensures within { result + 24 ≤ 384 }
 {
-    start_of_side(side) + 24 * (place - 1)
+    start_of_side(side) + 24 * (place as usize - 1)
 }
 
 const _: () = prove!(std::mem::size_of::<Packed>() == 384);

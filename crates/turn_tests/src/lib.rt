@@ -5,6 +5,8 @@
 #[cfg(test)]
 mod closing;
 #[cfg(test)]
+mod offers;
+#[cfg(test)]
 mod setting;
 #[cfg(test)]
 mod starting;

@@ -9,7 +9,7 @@ use Rattle.gen1_machine.specs.Step.{close_update, opened}
 use Rattle.gen1_layout.specs.Within.{setting_of, Stands}
 use Rattle.gen1_layout.proofs.Storing.{within_of}
 use Rattle.gen1_requests.specs.Updates.{beginning, Plays, Updated}
-use Rattle.gen1_requests.proofs.Offered.{comes_offered, reopened, started}
+use Rattle.gen1_requests.proofs.OfferedChoices.{comes_offered, reopened, started}
 use Rattle.gen1_requests.proofs.Stepped.{replaced-so}
 use Rattle.gen1_requests.proofs.updates.replace.Goals as goal
 

@@ -5,7 +5,7 @@ use Rattle.gen1_machine.specs.SwitchingIn.{start}
 use Rattle.gen1_machine.specs.Step.{close_update, opened}
 use Rattle.gen1_layout.specs.Within.{setting_of, Stands}
 use Rattle.gen1_requests.specs.Updates.{beginning, Starts, Updated}
-use Rattle.gen1_requests.proofs.Offered.{reopened}
+use Rattle.gen1_requests.proofs.OfferedChoices.{reopened}
 use Rattle.gen1_requests.proofs.Stepped.{started-so}
 use Rattle.gen1_requests.proofs.updates.start.Goals as goal
 
