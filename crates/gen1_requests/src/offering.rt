@@ -103,7 +103,7 @@ fn is_usable(battle: &Packed, side: Side, slot: u8) -> bool
     requires high { slot ≤ 4 }
     ensures { Reads battle.now result λ f. nat_lt 0 (known_in slot (member_in side f).moves).pp && not (bars_slot (conditions_in side f).disabled slot) }
 {
-    battle.pp(side, slot as usize) > 0 && !is_disabled(battle, side, slot)
+    battle.pp(side, slot) > 0 && !is_disabled(battle, side, slot)
 }
 
 fn is_disabled(battle: &Packed, side: Side, slot: u8) -> bool
@@ -121,7 +121,7 @@ fn add_switches(battle: &Packed, side: Side, choices: &mut Choices)
     ensures { (g : Setting) (f : Field) → Within g battle.now f
         → choices.new.items ≡ choices.old.items ++ switches_offered side f }
 {
-    let out = battle.place(side) as u8;
+    let out = battle.place(side);
     for place in 1..7_u8 {
         add_if(
             may_come_out(battle, side, place, out),
@@ -137,7 +137,7 @@ fn may_come_out(battle: &Packed, side: Side, place: u8, out: u8) -> bool
     ensures apart { IsTrue result → place ≢ out }
     ensures stands { Reads battle.now result λ f. is_living (member_at place (party side f)) && not (place == out) }
 {
-    battle.hp_at(side, place as usize) > 0 && place != out
+    battle.hp_at(side, place) > 0 && place != out
 }
 
 fn add_if(holds: bool, choice: Choice, choices: &mut Choices)
