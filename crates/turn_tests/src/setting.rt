@@ -2,7 +2,9 @@
 //! greatest DVs and experience. Their stats are by docs/MECHANICS.md, "Stats", and their bytes by docs/LAYOUT.md.
 use arrayvec::ArrayVec;
 use gen1_layout::Packed;
-use gen1_machine::{Event, EventList, Health, Kind, Level, Place, Rules, Side, TurnLimit, TurnNumber, Who};
+use gen1_machine::{
+    Event, EventList, Health, Kind, Level, Place, Rules, Side, TurnLimit, TurnNumber, Who,
+};
 use gen1_requests::start;
 use gen1_stats::{MemberSpec, Team};
 use gen1_tables::{MoveId, Species};
@@ -22,8 +24,8 @@ pub(crate) const TAUROS_OUT: [u8; 36] = [
 ];
 
 pub(crate) const GENGAR_OUT: [u8; 36] = [
-    2, 7, 3, 6, 6, 6, 6, 6, 6, 228, 0, 218, 0, 62, 1, 102, 1, 0, 0, 0, 0, 0, 0, 0, 0, 0, 0, 0, 0, 0,
-    0, 0, 0, 0, 0, 0,
+    2, 7, 3, 6, 6, 6, 6, 6, 6, 228, 0, 218, 0, 62, 1, 102, 1, 0, 0, 0, 0, 0, 0, 0, 0, 0, 0, 0, 0,
+    0, 0, 0, 0, 0, 0, 0,
 ];
 
 fn member(name: &str) -> Result<MemberSpec, Fail> {
