@@ -73,7 +73,10 @@ fn two_counters_both_miss(rt: HostRuntime) -> Result<(), Fail> {
         battle.put_picked_move(side, Slot(1));
     }
     battle.put_last_damage(100);
-    assert_eq!(rt; (counter(&battle, USER), counter(&battle, FOE)), (None, None));
+    assert_eq!(rt;
+        (counter(&battle, USER), counter(&battle, FOE)),
+        (None, None)
+    );
     Ok(())
 }
 
@@ -109,7 +112,10 @@ fn a_counter_that_hits(rt: HostRuntime) -> Result<(), Fail> {
     let mut battle = picked(&FIRST, Slot(1))?;
     let mut link = LinkRandom::new([254; 10]);
     let known = countered(&mut battle, &mut link)?;
-    assert_eq!(rt; (known.missed, battle.last_damage(), link.index()), (false, 200, 2));
+    assert_eq!(rt;
+        (known.missed, battle.last_damage(), link.index()),
+        (false, 200, 2)
+    );
     Ok(())
 }
 

@@ -16,11 +16,7 @@ fn of_level(level: u8) -> Result<Packed, Fail> {
 }
 
 // A use of a move, after a damage of 75: whether it ended by the fault, and what is known then.
-fn used<R: Rolls>(
-    battle: &mut Packed,
-    name: &str,
-    random: &mut R,
-) -> Result<(bool, Known), Fail> {
+fn used<R: Rolls>(battle: &mut Packed, name: &str, random: &mut R) -> Result<(bool, Known), Fail> {
     battle.put_last_damage(75);
     let mut known = Known::new().begun(USER);
     let ended = fixed_knowing(battle, USER, named(name)?, &mut known, random);
@@ -53,7 +49,11 @@ fn numbers_of_moves(rt: HostRuntime) -> Result<(), Fail> {
         let battle = of_level(level)?;
         let mut sweep = Sweep::new(7);
         let id = named(name)?;
-        assert_eq!(rt; fixed(&battle, USER, id, &mut sweep), Some(damage), "{name}");
+        assert_eq!(rt;
+            fixed(&battle, USER, id, &mut sweep),
+            Some(damage),
+            "{name}"
+        );
         assert_eq!(rt; sweep.draw(), 7);
     }
     Ok(())
@@ -109,7 +109,10 @@ fn psywave_at_level_1_is_a_fault(rt: HostRuntime) -> Result<(), Fail> {
     let (ended, known) = used(&mut battle, "Psywave", &mut sweep)?;
     assert_eq!(rt; (ended, known.missed), (true, false));
     assert_eq!(rt; battle.outcome(), Outcome::Fault(2));
-    assert_eq!(rt; bytes_of(&battle), with(before, &[(OUTCOME, 5), (LAST, 75)]));
+    assert_eq!(rt;
+        bytes_of(&battle),
+        with(before, &[(OUTCOME, 5), (LAST, 75)])
+    );
     assert_eq!(rt; sweep.draw(), 204);
     // Where it misses it is a miss alone.
     let mut battle = of_level(1)?;
@@ -135,7 +138,11 @@ fn a_hit_test_comes_first(rt: HostRuntime) -> Result<(), Fail> {
         let (ended, known) = used(&mut battle, name, &mut sweep)?;
         assert_eq!(rt; (ended, known.missed), (false, false));
         assert_eq!(rt; known.accuracy_tested, Some(byte + 1));
-        assert_eq!(rt; bytes_of(&battle), with(before, &[(LAST, damage)]), "{name}");
+        assert_eq!(rt;
+            bytes_of(&battle),
+            with(before, &[(LAST, damage)]),
+            "{name}"
+        );
         // The next draw misses.
         let (ended, known) = used(&mut battle, name, &mut sweep)?;
         assert_eq!(rt; (ended, known.missed), (false, true));
@@ -150,7 +157,10 @@ fn psywave_draws_after_its_hit_test(rt: HostRuntime) -> Result<(), Fail> {
     let mut battle = of_level(2)?;
     let mut sweep = Sweep::new(1);
     let (ended, known) = used(&mut battle, "Psywave", &mut sweep)?;
-    assert_eq!(rt; (ended, known.missed, known.critical), (false, false, false));
+    assert_eq!(rt;
+        (ended, known.missed, known.critical),
+        (false, false, false)
+    );
     assert_eq!(rt; (battle.last_damage(), sweep.draw()), (2, 3));
     let mut link = LinkRandom::new([203, 9, 1, 0, 0, 0, 0, 0, 0, 0]);
     let (ended, known) = used(&mut battle, "Psywave", &mut link)?;

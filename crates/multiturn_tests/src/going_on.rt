@@ -28,7 +28,10 @@ fn a_trap_goes_on(rt: HostRuntime) -> Result<(), Fail> {
         battle.put_trapping(USER, turns);
         let mut sweep = Sweep::new(7);
         trap_knowing(&mut battle, USER, &going_on(), &mut sweep);
-        assert_eq!(rt; bytes_of(&battle), with(before, &[(FLAGS, 4), (TURNS, left)]));
+        assert_eq!(rt;
+            bytes_of(&battle),
+            with(before, &[(FLAGS, 4), (TURNS, left)])
+        );
         assert_eq!(rt; sweep.draw(), 7);
     }
     Ok(())
@@ -45,7 +48,10 @@ fn thrashing_goes_on(rt: HostRuntime) -> Result<(), Fail> {
     let id = named("Thrash")?;
     for left in [2, 1] {
         thrash_knowing(&mut battle, USER, id, &going_on(), &mut sweep, &mut events);
-        assert_eq!(rt; bytes_of(&battle), with(before, &[(FLAGS, 2), (TURNS, left)]));
+        assert_eq!(rt;
+            bytes_of(&battle),
+            with(before, &[(FLAGS, 2), (TURNS, left)])
+        );
     }
     assert_eq!(rt; (events.len(), sweep.draw()), (0, 7));
     Ok(())
@@ -63,7 +69,10 @@ fn thrashing_ends_in_confusion(rt: HostRuntime) -> Result<(), Fail> {
         let mut link = LinkRandom::new([byte; 10]);
         let id = named("Petal Dance")?;
         thrash_knowing(&mut battle, USER, id, &going_on(), &mut link, &mut events);
-        assert_eq!(rt; bytes_of(&battle), with(before, &[(FLAGS, 64), (FLAGS + 5, count), (KEPT, 255)]));
+        assert_eq!(rt;
+            bytes_of(&battle),
+            with(before, &[(FLAGS, 64), (FLAGS + 5, count), (KEPT, 255)])
+        );
         let told = [Event::Start(battle.who(USER), Volatile::Confusion)];
         assert_eq!(rt; (events.as_slice(), link.index()), (told.as_slice(), 1));
     }
@@ -90,7 +99,10 @@ fn a_ghost_is_held_for_0(rt: HostRuntime) -> Result<(), Fail> {
         let mut events = EventList::new();
         land(&mut battle, USER, damage, &mut events);
         let flags = if held { 4 } else { 0 };
-        assert_eq!(rt; bytes_of(&battle), with(before, &[(FLAGS, flags), (TURNS, turns)]));
+        assert_eq!(rt;
+            bytes_of(&battle),
+            with(before, &[(FLAGS, flags), (TURNS, turns)])
+        );
         assert_eq!(rt; events.len(), 0);
     }
     Ok(())

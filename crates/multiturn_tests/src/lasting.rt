@@ -1,6 +1,8 @@
 //! Moves that last, by the words of docs/MECHANICS.md, "Going on" and "Charging", and the offsets of docs/LAYOUT.md. Both
 //! sides have a Tauros out: 353 HP, of which a quarter is 88.
-use crate::duel::{CURRENT, ENERGY, FLAGS, FOE, KEPT, LAST, TURNS, USER, bytes_of, named, two_tauros, with};
+use crate::duel::{
+    CURRENT, ENERGY, FLAGS, FOE, KEPT, LAST, TURNS, USER, bytes_of, named, two_tauros, with,
+};
 use gen1_layout::Conditions;
 use gen1_machine::{DamageSource, Event, EventList, UsedMove, Volatile};
 use gen1_multiturn::{bide, charge, substitute, thrash, trap};
@@ -140,7 +142,10 @@ fn what_is_picked_is_charged(rt: HostRuntime) -> Result<(), Fail> {
     assert_eq!(rt; (ended, events.len()), (false, 0));
     assert_eq!(rt; bytes_of(&battle), before);
     charge(&mut battle, USER, named("Skull Bash")?, &mut events);
-    assert_eq!(rt; bytes_of(&battle), with(before, &[(FLAGS, 16), (CURRENT, 1)]));
+    assert_eq!(rt;
+        bytes_of(&battle),
+        with(before, &[(FLAGS, 16), (CURRENT, 1)])
+    );
     Ok(())
 }
 

@@ -39,7 +39,11 @@ fn the_faster_one_knocks_out(rt: HostRuntime) -> Result<(), Fail> {
         let known = used(&mut battle, name, &mut link)?;
         assert_eq!(rt; (known.missed, known.critical), (false, true));
         assert_eq!(rt; known.accuracy_tested, Some(76));
-        assert_eq!(rt; bytes_of(&battle), with(before, &[(LAST, 255), (LAST + 1, 255)]), "{name}");
+        assert_eq!(rt;
+            bytes_of(&battle),
+            with(before, &[(LAST, 255), (LAST + 1, 255)]),
+            "{name}"
+        );
         assert_eq!(rt; link.index(), 4);
     }
     Ok(())
@@ -51,7 +55,10 @@ fn a_sweep_comes_to_a_factor(rt: HostRuntime) -> Result<(), Fail> {
     let mut battle = two_tauros()?;
     let mut sweep = Sweep::new(253);
     let known = used(&mut battle, "Guillotine", &mut sweep)?;
-    assert_eq!(rt; (known.missed, battle.last_damage(), sweep.draw()), (false, 65535, 1));
+    assert_eq!(rt;
+        (known.missed, battle.last_damage(), sweep.draw()),
+        (false, 65535, 1)
+    );
     // From 177 on: the critical draw, 178, the factor 217, and a miss at 180.
     let mut battle = two_tauros()?;
     let before = bytes_of(&battle);
@@ -74,7 +81,10 @@ fn the_hit_test_is_at_76(rt: HostRuntime) -> Result<(), Fail> {
         let mut link = LinkRandom::new([0, 255, byte, 0, 0, 0, 0, 0, 0, 0]);
         let known = used(&mut battle, "Horn Drill", &mut link)?;
         assert_eq!(rt; known.missed, missed);
-        assert_eq!(rt; bytes_of(&battle), with(before, &[(LAST, low), (LAST + 1, low)]));
+        assert_eq!(rt;
+            bytes_of(&battle),
+            with(before, &[(LAST, low), (LAST + 1, low)])
+        );
         assert_eq!(rt; link.index(), 3);
     }
     Ok(())

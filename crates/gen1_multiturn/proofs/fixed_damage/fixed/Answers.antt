@@ -34,7 +34,10 @@ pub returns : goal.returns
 returns t c = record {
   deals = λ origin g events p h.
       let level = c.from.ensures ∙ c.level-2.ensures.stands _ _ h.shows.within in
-      let not : (n : ℕ) → c.number-number.result ≢ n → c.args.id ≢ n = λ n differs is. differs (c.number-number.ensures.value ∙ is) in
-      (p.drawn, h, deals_level c.args.side c.args.id p (not _ c.if-number-eq-SONIC_BOOM.false) (not _ c.if-number-eq-DRAGON_RAGE.false) (not _ c.if-number.false) (not _ c.if-number-2.false)
-      ∙ ap (λ (n : ℕ). set_last_damage n p) (sym level));
+      let not : (n : ℕ) → c.number-number.result ≢ n → c.args.id ≢ n = λ n differs is. differs (c.number-number.ensures.value ∙ is) in (
+        p.drawn,
+        h,
+        deals_level c.args.side c.args.id p (not _ c.if-number-eq-SONIC_BOOM.false) (not _ c.if-number-eq-DRAGON_RAGE.false) (not _ c.if-number.false) (not _ c.if-number-2.false)
+            ∙ ap (λ (n : ℕ). set_last_damage n p) (sym level),
+      );
 }
