@@ -2,3 +2,7 @@
 pub mod Underways
 -- A charge that begins.
 pub mod Hiding
+-- What Counter sees.
+pub mod Countered
+-- What a move of fixed damage deals.
+pub mod Dealing

@@ -2,3 +2,9 @@
 pub mod Energy
 -- What a call shows that stands for itself and draws nothing.
 pub mod Anyway
+-- What Counter deals.
+pub mod Countered
+-- What a move of fixed damage deals.
+pub mod Dealt
+-- A charge of the move that was picked last.
+pub mod Picked

@@ -3,4 +3,14 @@
 #![tactic(auto)]
 
 #[cfg(test)]
+mod countering;
+#[cfg(test)]
+mod duel;
+#[cfg(test)]
+mod fixed_damage;
+#[cfg(test)]
+mod going_on;
+#[cfg(test)]
 mod lasting;
+#[cfg(test)]
+mod one_hit;
