@@ -78,11 +78,11 @@ apart t u e d = by (same_type d t) refl
 
 pub rows-apart : (tenths : ℕ) (t u v : Element) → same_type u v ≡ false → rows_against tenths t u v ≡ rows_at tenths t u + rows_at tenths t v
 rows-apart tenths t u v e =
-    let has (row : TypeRow) = row.tenths == tenths in
-    let by (w : Element) = filter (λ (row : TypeRow). same_type row.attacker t && same_type row.defender w) type_rows in
+    let has : TypeRow → Bool = λ row. row.tenths == tenths in
+    let rows : Element → List TypeRow = λ w. filter (λ row. same_type row.attacker t && same_type row.defender w) type_rows in
     sym (length-filter has (filter (λ (row : TypeRow). same_type row.attacker t && (same_type row.defender u || same_type row.defender v)) type_rows))
     ∙ length-either has (λ row. same_type row.attacker t) (λ row. same_type row.defender u) (λ row. same_type row.defender v) type_rows (λ row. apart u v e row.defender)
-    ∙ rw (length-filter has (by u), length-filter has (by v)) refl
+    ∙ rw (length-filter has (rows u), length-filter has (rows v)) refl
 
 -- and for one that stands twice its own
 
