@@ -6,3 +6,7 @@ pub mod Hiding
 pub mod Countered
 -- What a move of fixed damage deals.
 pub mod Dealing
+-- The hits of a move, by its effect.
+pub mod ManyHits
+-- How many type rows apply to a hit.
+pub mod Rows

@@ -8,3 +8,7 @@ pub mod Countered
 pub mod Dealt
 -- A charge of the move that was picked last.
 pub mod Picked
+-- How many hits a move plans, and what each brings.
+pub mod Hitting
+-- The type rows that apply to a hit.
+pub mod Effectiveness
