@@ -1,0 +1,2 @@
+-- What an action shows.
+pub mod Acting
