@@ -9,7 +9,7 @@ mod thrashing;
 mod trapping;
 
 pub use biding::{bide, bide_knowing, start_bide};
-pub use charging::{charge, charge_knowing, make_current};
+pub use charging::{charge, charge_knowing, make_current, used_by};
 pub use substituting::{make_substitute, substitute};
 pub use thrashing::{thrash, thrash_knowing};
 pub use trapping::{trap, trap_knowing};

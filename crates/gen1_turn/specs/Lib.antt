@@ -1,2 +1,6 @@
 -- What an action shows.
 pub mod Acting
+-- The phases of an action from a place on.
+pub mod Tails
+-- How a move comes by its damage, and which moves make a substitute.
+pub mod Ways

@@ -2,5 +2,12 @@
 #![tactic(auto)]
 
 mod acting;
+mod carrying_out;
+mod damaging;
+mod leading_up;
+mod parts;
+mod striking;
+mod taking;
+mod using;
 
 pub use acting::act;
