@@ -3,12 +3,13 @@ ghost use Rattle.std.specs.Prelude.{◌&&◌, ◌||◌, ◌≡◌};
 ghost use Rattle.gen1_layout.specs.Words.{AddsAtMost, AddsNone, Event, HasRoom, List, false, move_at, stop, ◌▸◌};
 ghost use Rattle.gen1_machine.specs.Action.{carry_out, damage_of, lands_at_once, lead_up, lets_energy_go};
 ghost use Rattle.gen1_machine.specs.LateEffects.{is_late, late_effect};
-ghost use Rattle.gen1_machine.specs.Moves.{bides, traps};
+ghost use Rattle.gen1_machine.specs.Moves.{traps};
 ghost use Rattle.gen1_machine.specs.Progress.{only, unless};
 ghost use Rattle.gen1_action.specs.Knowing.{DoesKnowingDrawing, IsUncounted};
 ghost use Rattle.gen1_action.specs.Planned.{DoesAt, DoesTaking};
 ghost use Rattle.gen1_turn.specs.Tails.{late_part, strikes};
 
+use crate::by_effect::{bides, traps};
 use crate::damaging::damage_of;
 use crate::leading_up::lead_up;
 use crate::striking::strike;
@@ -107,7 +108,7 @@ fn damage_unless_landing<R: Rolls>(
 fn lands_at_once(known: &Known, effect: Effect) -> bool
     ensures { result ≡ (known.now.letting_go || (known.now.going_on && traps effect)) }
 {
-    known.letting_go || (known.going_on && matches!(effect, Effect::Trapping))
+    known.letting_go || (known.going_on && traps(effect))
 }
 
 fn late_part<R: Rolls>(
@@ -154,10 +155,4 @@ fn late_effect<R: Rolls>(
         return true;
     }
     false
-}
-
-fn bides(effect: Effect) -> bool
-    ensures { result ≡ bides effect }
-{
-    matches!(effect, Effect::Bide)
 }

@@ -4,13 +4,12 @@ ghost use Rattle.std.specs.Prelude.{◌≡◌};
 ghost use Rattle.gen1_layout.specs.Words.{AddsAtMost, AddsNone, HasRoom, false, move_at, stop, ◌▸◌};
 ghost use Rattle.gen1_machine.specs.Action.{lead_up, prelude};
 ghost use Rattle.gen1_machine.specs.EarlyEffects.{early_effect, is_early};
-ghost use Rattle.gen1_machine.specs.Moves.{thrashes, traps};
 ghost use Rattle.gen1_machine.specs.Progress.{only};
 ghost use Rattle.gen1_action.specs.Knowing.{DoesKnowingDrawing};
 ghost use Rattle.gen1_action.specs.Planned.{DoesAt, DoesTaking};
 ghost use Rattle.gen1_turn.specs.Tails.{begin_move};
-ghost use Rattle.gen1_turn.specs.Ways.{makes_substitute};
 
+use crate::by_effect::{makes_substitute, thrashes, traps};
 use crate::using::use_move;
 use gen1_action::Known;
 use gen1_effects::{group_one_knowing, is_group_one};
@@ -18,7 +17,7 @@ use gen1_layout::Packed;
 use gen1_machine::{EventList, Pick, Side};
 use gen1_multiturn::{charge_knowing, make_substitute, thrash_knowing, trap_knowing};
 use gen1_rolls::Rolls;
-use gen1_tables::{Effect, MoveId};
+use gen1_tables::MoveId;
 
 pub(crate) fn lead_up<R: Rolls>(
     battle: &mut Packed,
@@ -89,12 +88,6 @@ fn early_effect<R: Rolls>(
     false
 }
 
-fn makes_substitute(effect: Effect) -> bool
-    ensures { result ≡ makes_substitute effect }
-{
-    matches!(effect, Effect::Substitute)
-}
-
 // What trapping and thrashing do before their damage.
 fn prelude<R: Rolls>(
     battle: &mut Packed,
@@ -115,16 +108,4 @@ fn prelude<R: Rolls>(
     if thrashes(id.effect()) {
         thrash_knowing(battle, side, id, known, random, events);
     }
-}
-
-fn traps(effect: Effect) -> bool
-    ensures { result ≡ traps effect }
-{
-    matches!(effect, Effect::Trapping)
-}
-
-fn thrashes(effect: Effect) -> bool
-    ensures { result ≡ thrashes effect }
-{
-    matches!(effect, Effect::Thrash)
 }

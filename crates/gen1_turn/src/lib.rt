@@ -2,6 +2,7 @@
 #![tactic(auto)]
 
 mod acting;
+mod by_effect;
 mod carrying_out;
 mod damaging;
 mod leading_up;

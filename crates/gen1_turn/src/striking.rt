@@ -7,11 +7,11 @@ ghost use Rattle.gen1_action.specs.Knowing.{IsUncounted};
 ghost use Rattle.gen1_action.specs.Planned.{DoesUnder};
 ghost use Rattle.gen1_turn.specs.Tails.{hits_with_effect};
 
-use crate::parts::{hits, missed_move};
 use gen1_action::Known;
 use gen1_effects::side_effect_knowing;
 use gen1_layout::Packed;
 use gen1_machine::{EventList, Side};
+use gen1_multiturn::{hits, missed_move};
 use gen1_rolls::Rolls;
 use gen1_tables::MoveId;
 

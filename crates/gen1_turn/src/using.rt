@@ -9,11 +9,12 @@ ghost use Rattle.gen1_machine.specs.State.{with_pp_spent};
 ghost use Rattle.gen1_machine.specs.Valid.{IsUsedMove};
 ghost use Rattle.gen1_action.specs.Knowing.{DoesKnowing, knowing};
 
+use crate::by_effect::bides;
 use gen1_action::Known;
 use gen1_layout::Packed;
 use gen1_machine::{Event, EventList, Pick, Side, UsedMove};
 use gen1_multiturn::make_current;
-use gen1_tables::{Effect, MoveId};
+use gen1_tables::MoveId;
 
 // A move is used; Bide has no event for it.
 pub(crate) fn use_move(
@@ -84,10 +85,4 @@ fn note_move(battle: &Packed, side: Side, id: MoveId, events: &mut EventList)
         return;
     }
     events.push(Event::Move(battle.who(side), id, battle.who(side.other())));
-}
-
-fn bides(effect: Effect) -> bool
-    ensures { result ≡ bides effect }
-{
-    matches!(effect, Effect::Bide)
 }
