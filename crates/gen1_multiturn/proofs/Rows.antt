@@ -40,15 +40,16 @@ halving t u = refl
 -- rows that meet one of two tests, where none meets both
 
 length-more : {A : Type 0} (k : A → Bool) (x : A) (xs : List A) (b : Bool) → length (filter k (cond b (x ∷ xs) xs)) ≡ cond (b && k x) 1 0 + length (filter k xs)
-length-more k x xs true = elim (k x) as (λ b. length (cond b (x ∷ filter k xs) (filter k xs)) ≡ cond b 1 0 + length (filter k xs)) [ true ↦ refl | false ↦ refl ]
-length-more k x xs false = refl
+length-more k x xs true = elim (k x) as (λ b. length (cond b (x ∷ filter k xs) (filter k xs)) ≡ cond b 1 0 + length (filter k xs)) [ true ↦ omega arith | false ↦ omega arith ]
+length-more k x xs false = omega arith
 
 one_of_two : (a b c d : Bool) → (b && c) ≡ false → cond ((a && (b || c)) && d) 1 0 ≡ cond ((a && b) && d) 1 0 + cond ((a && c) && d) 1 0
 one_of_two false b c d e = refl
 one_of_two true true true d e = cc
 one_of_two true true false true e = refl
 one_of_two true true false false e = refl
-one_of_two true false true d e = refl
+one_of_two true false true true e = refl
+one_of_two true false true false e = refl
 one_of_two true false false d e = refl
 
 length-either : {A : Type 0} (k p q r : A → Bool) (xs : List A) → ((x : A) → (q x && r x) ≡ false)
