@@ -1,0 +1,2 @@
+-- How the parts of a turn follow one another.
+pub mod Turns

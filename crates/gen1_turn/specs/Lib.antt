@@ -1,2 +1,4 @@
 -- What an action shows.
 pub mod Acting
+-- What the parts of a turn show.
+pub mod Turning

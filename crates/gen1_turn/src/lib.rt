@@ -2,5 +2,11 @@
 #![tactic(auto)]
 
 mod acting;
+mod ordering;
+mod turn_parts;
+mod turning;
+mod updating;
 
 pub use acting::act;
+pub use gen1_requests::{replace, send_out, start};
+pub use updating::turn;
