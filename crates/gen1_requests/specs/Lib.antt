@@ -1,2 +1,6 @@
 -- What an update is begun for, and how it leaves the bytes, the events and the generator.
 pub mod Updates
+-- A member that comes out.
+pub mod ComingOut
+-- The end of an update.
+pub mod Closing

@@ -9,10 +9,10 @@ use Rattle.gen1_machine.specs.declared.terms.Outcome.TheVariants.{Ongoing}
 use Rattle.gen1_machine.specs.declared.terms.Request.{Request}
 use Rattle.gen1_machine.specs.State.{State}
 use Rattle.gen1_machine.specs.Progress.{new_action}
-use Rattle.gen1_machine.specs.Step.{offers, opened}
+use Rattle.gen1_machine.specs.Step.{offers, opened, step, Accepted}
 use Rattle.gen1_machine.specs.Valid.{IsUnstarted}
 use Rattle.gen1_layout.specs.Parts.{Parts}
-use Rattle.gen1_layout.specs.Within.{setting_of}
+use Rattle.gen1_layout.specs.Within.{setting_of, Stands}
 
 -- an update as it begins
 abbrev pub beginning : State → Frame
@@ -45,3 +45,8 @@ pub record UpdatedDrawing {A : Type 0} (byte : A → ℕ) (next : A → A) (widt
   pub within : Within g parts q.field
   pub written : events ≡ q.events
   pub stands : StandsAt byte next width origin stream q.drawn now
+
+-- the bytes stand for the state that follows by a pair of choices, which was accepted with these events
+pub record Steps (s : State) (one two : Choice) (parts : Parts) (events : List Event) : Type 0 where
+  pub stands : Stands parts (step s one two).state
+  pub answers : (step s one two).answer ≡ Accepted events

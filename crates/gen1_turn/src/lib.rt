@@ -6,9 +6,15 @@ mod by_effect;
 mod carrying_out;
 mod damaging;
 mod leading_up;
+mod ordering;
 mod parts;
 mod striking;
 mod taking;
+mod turn_parts;
+mod turning;
+mod updating;
 mod using;
 
 pub use acting::act;
+pub use gen1_requests::{replace, send_out, start};
+pub use updating::turn;
