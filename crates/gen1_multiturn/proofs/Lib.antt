@@ -2,3 +2,7 @@
 pub mod Underways
 -- A charge that begins.
 pub mod Hiding
+-- The hits of a move, by its effect.
+pub mod ManyHits
+-- How many type rows apply to a hit.
+pub mod Rows

@@ -2,3 +2,7 @@
 pub mod Energy
 -- What a call shows that stands for itself and draws nothing.
 pub mod Anyway
+-- How many hits a move plans, and what each brings.
+pub mod Hitting
+-- The type rows that apply to a hit.
+pub mod Effectiveness

@@ -2,10 +2,18 @@
 #![tactic(auto)]
 
 mod acting;
+mod by_effect;
+mod carrying_out;
+mod damaging;
+mod leading_up;
 mod ordering;
+mod parts;
+mod striking;
+mod taking;
 mod turn_parts;
 mod turning;
 mod updating;
+mod using;
 
 pub use acting::act;
 pub use gen1_requests::{replace, send_out, start};
