@@ -14,11 +14,16 @@ use Rattle.gen1_machine.specs.Sides.{other}
 use Rattle.gen1_multiturn.specs.Effectiveness.{as_number, has_row, once_each, rows_against}
 
 -- a critical hit has the same types
-pub rows-are : (tenths : ℕ) (s : Side) (move : Move) (p : Progress)
+rows-are : (tenths : ℕ) (s : Side) (move : Move) (p : Progress)
     → rows_of tenths (numbers s move p) ≡ rows_against tenths move.kind (active_in (other s) p.field).first_type (active_in (other s) p.field).second_type
 rows-are tenths s move p =
     elim p.action.critical as (λ b. rows_of tenths (numbers_in s move b p.field)
     ≡ rows_against tenths move.kind (active_in (other s) p.field).first_type (active_in (other s) p.field).second_type) [ true ↦ refl | false ↦ refl ]
+
+-- what the code counts, by what it read
+pub counted : (tenths : ℕ) (s : Side) (move : Move) (p : Progress) {n : ℕ} {t u v : Element} → t ≡ move.kind → u ≡ (active_in (other s) p.field).first_type
+    → v ≡ (active_in (other s) p.field).second_type → n ≡ rows_against tenths t u v → rows_of tenths (numbers s move p) ≡ n
+counted tenths s move p kind first second is = rows-are tenths s move p ∙ rw (is, kind, first, second) refl
 
 -- rows of one type against one other
 

@@ -3,4 +3,18 @@
 #![tactic(auto)]
 
 #[cfg(test)]
+mod duel;
+#[cfg(test)]
+mod first_hit;
+#[cfg(test)]
+mod hit_effects;
+#[cfg(test)]
+mod hitting;
+#[cfg(test)]
 mod lasting;
+#[cfg(test)]
+mod many_hits;
+#[cfg(test)]
+mod misses;
+#[cfg(test)]
+mod raging;
