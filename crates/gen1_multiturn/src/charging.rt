@@ -56,8 +56,8 @@ pub fn make_current(battle: &mut Packed, side: Side, pick: Pick)
     battle.put_current_move(side, used);
 }
 
-// What a pick uses, beside the current move.
-fn used_by(pick: Pick, current: UsedMove) -> UsedMove
+/// What a pick uses: the move that is picked, or else the current one (docs/MECHANICS.md, "Picks").
+pub fn used_by(pick: Pick, current: UsedMove) -> UsedMove
     ensures { result ≡ used_by pick current }
 {
     match pick {
