@@ -6,3 +6,7 @@ pub mod Hiding
 pub mod ManyHits
 -- How many type rows apply to a hit.
 pub mod Rows
+-- What Counter sees.
+pub mod Countered
+-- What a move of fixed damage deals.
+pub mod Dealing

@@ -6,3 +6,9 @@ pub mod Anyway
 pub mod Hitting
 -- The type rows that apply to a hit.
 pub mod Effectiveness
+-- What Counter deals.
+pub mod Countered
+-- What a move of fixed damage deals.
+pub mod Dealt
+-- A charge of the move that was picked last.
+pub mod Picked

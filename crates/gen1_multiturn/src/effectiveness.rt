@@ -11,11 +11,7 @@ use gen1_tables::Element::{
 pub(crate) fn rows_of_20(kind: Element, first: Element, second: Element) -> u8
     ensures { result ≡ rows_against 20 kind first second }
 {
-    once_each(
-        doubles(kind, first),
-        doubles(kind, second),
-        first == second,
-    )
+    once_each(doubles(kind, first), doubles(kind, second), first == second)
 }
 
 // The rows of 5.

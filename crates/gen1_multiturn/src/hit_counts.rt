@@ -78,12 +78,7 @@ pub(crate) fn hits_left(planned: Option<u8>) -> u8
 }
 
 // Tells how many hits were made, where a number was settled.
-pub(crate) fn note_hit_count(
-    battle: &Packed,
-    target: Side,
-    known: &Known,
-    events: &mut EventList,
-)
+pub(crate) fn note_hit_count(battle: &Packed, target: Side, known: &Known, events: &mut EventList)
     requires room { HasRoom 1 events.old }
     requires made { (1 ≤ known.now.hits_made) × (known.now.hits_made ≤ 5) }
     ensures shown { DoesKnowing battle.now events.old.items known.now battle.now events.new.items known.now false (when (λ p. is_some p.action.hits_planned) (given (λ p. p.action.hits_made) (note_hit_count target))) }

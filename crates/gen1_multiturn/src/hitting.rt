@@ -65,13 +65,7 @@ fn hits_more(effect: Effect) -> bool
 }
 
 // The hit of a move that makes one.
-fn hit_once(
-    battle: &mut Packed,
-    side: Side,
-    id: MoveId,
-    known: &mut Known,
-    events: &mut EventList,
-)
+fn hit_once(battle: &mut Packed, side: Side, id: MoveId, known: &mut Known, events: &mut EventList)
     requires room { HasRoom 4 events.old }
     requires one { hits_more (move_at id).effect ≡ false }
     requires made { known.old.hits_made ≤ 4 }

@@ -4,11 +4,14 @@
 
 mod biding;
 mod charging;
+mod countering;
 mod effectiveness;
 mod first_hit;
+mod fixed_damage;
 mod hit_counts;
 mod hit_effects;
 mod hitting;
+mod knocking_out;
 mod missing;
 mod raging;
 mod substituting;
@@ -17,7 +20,10 @@ mod trapping;
 
 pub use biding::{bide, bide_knowing, start_bide};
 pub use charging::{charge, charge_knowing, make_current, used_by};
+pub use countering::{counter, counter_knowing};
+pub use fixed_damage::{fixed, fixed_knowing};
 pub use hitting::hits;
+pub use knocking_out::knock_out;
 pub use missing::missed_move;
 pub use raging::rage;
 pub use substituting::{make_substitute, substitute};

@@ -7,11 +7,11 @@ ghost use Rattle.gen1_machine.specs.Progress.{choose, set_last_damage};
 ghost use Rattle.gen1_action.specs.Knowing.{DoesKnowingDrawing, IsUncounted};
 ghost use Rattle.gen1_turn.specs.Ways.{way_of};
 
-use crate::parts::{counter_knowing, fixed_knowing, knock_out};
 use gen1_action::{Known, hit_or_miss};
 use gen1_hits::{critical, damage, factor, numbers, type_steps};
 use gen1_layout::Packed;
 use gen1_machine::{Outcome, Side};
+use gen1_multiturn::{counter_knowing, fixed_knowing, knock_out};
 use gen1_rolls::Rolls;
 use gen1_tables::{Effect, MoveId};
 

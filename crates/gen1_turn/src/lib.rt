@@ -7,7 +7,6 @@ mod carrying_out;
 mod damaging;
 mod leading_up;
 mod ordering;
-mod parts;
 mod striking;
 mod taking;
 mod turn_parts;

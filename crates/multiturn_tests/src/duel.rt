@@ -33,7 +33,10 @@ pub(crate) fn named(name: &str) -> Result<MoveId, Fail> {
 pub(crate) fn tauros(level: u8, names: &[&str]) -> Result<MemberSpec, Fail> {
     let mut moves = ArrayVec::new();
     for name in names {
-        moves.try_push((named(name)?, 0)).ok().ok_or("too many moves")?;
+        moves
+            .try_push((named(name)?, 0))
+            .ok()
+            .ok_or("too many moves")?;
     }
     Ok(MemberSpec {
         species: Species::from_name("Tauros").ok_or("no such species")?,
@@ -60,7 +63,10 @@ pub(crate) fn send_out(battle: &mut Packed, side: Side, place: u8) {
 }
 
 pub(crate) fn two_tauros() -> Result<Packed, Fail> {
-    battle_of(&[tauros(100, &["Strength"])?], &[tauros(100, &["Strength"])?])
+    battle_of(
+        &[tauros(100, &["Strength"])?],
+        &[tauros(100, &["Strength"])?],
+    )
 }
 
 pub(crate) fn bytes_of(battle: &Packed) -> [u8; 384] {

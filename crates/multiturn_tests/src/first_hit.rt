@@ -5,7 +5,9 @@ use gen1_layout::Packed;
 use gen1_machine::{Event, EventList};
 use gen1_multiturn::hits;
 use gen1_rolls::Sweep;
-use gen1_tables::Element::{self, Dragon, Flying, Ghost, Grass, Ground, Normal, Poison, Rock, Water};
+use gen1_tables::Element::{
+    self, Dragon, Flying, Ghost, Grass, Ground, Normal, Poison, Rock, Water,
+};
 use std::test::Fail;
 
 // What is told of a hit of damage 0, of which nothing else is told.
@@ -18,14 +20,7 @@ fn told(
     let id = named(name)?;
     battle.put_types(FOE, foe.0, foe.1);
     let mut events = EventList::new();
-    hits(
-        battle,
-        USER,
-        id,
-        known,
-        &mut Sweep::new(0),
-        &mut events,
-    );
+    hits(battle, USER, id, known, &mut Sweep::new(0), &mut events);
     Ok(events)
 }
 
@@ -41,12 +36,17 @@ fn more_rows_of_20_are_super_effective(rt: HostRuntime) -> Result<(), Fail> {
     for (name, first, second) in [
         ("Thunderbolt", Water, Flying),
         ("Ice Beam", Dragon, Flying),
-        ("Submission", Normal, Normal),
-        ("Submission", Normal, Rock),
+        ("Low Kick", Normal, Normal),
+        ("Low Kick", Normal, Rock),
         ("Leech Life", Poison, Normal),
     ] {
         let mut battle = two_tauros()?;
-        let events = told(&mut battle, name, (first, second), &mut through_types(false))?;
+        let events = told(
+            &mut battle,
+            name,
+            (first, second),
+            &mut through_types(false),
+        )?;
         let expected = [Event::SuperEffective(battle.who(FOE))];
         assert_eq!(rt; events.as_slice(), expected.as_slice(), "{name}");
     }
@@ -83,7 +83,12 @@ fn as_many_of_either_tell_nothing(rt: HostRuntime) -> Result<(), Fail> {
         ("Strength", Ghost, Poison),
     ] {
         let mut battle = two_tauros()?;
-        let events = told(&mut battle, name, (first, second), &mut through_types(false))?;
+        let events = told(
+            &mut battle,
+            name,
+            (first, second),
+            &mut through_types(false),
+        )?;
         assert_eq!(rt; events.len(), 0, "{name}");
     }
     Ok(())

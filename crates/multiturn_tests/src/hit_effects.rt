@@ -26,7 +26,10 @@ fn recoil_is_a_quarter_of_what_landed(rt: HostRuntime) -> Result<(), Fail> {
         ];
         assert_eq!(rt; events.as_slice(), told.as_slice());
         // The user's own Substitute does not take it.
-        assert_eq!(rt; (battle.hp(USER), battle.substitute(USER)), (user, Some(88)));
+        assert_eq!(rt;
+            (battle.hp(USER), battle.substitute(USER)),
+            (user, Some(88))
+        );
     }
     Ok(())
 }
@@ -97,7 +100,10 @@ fn an_exploding_user_falls(rt: HostRuntime) -> Result<(), Fail> {
     let (_, events) = hit(&mut battle, "Explosion", 200, &mut link)?;
     let told = [hurt(&battle, FOE, 153, DamageSource::Direct)?];
     assert_eq!(rt; events.as_slice(), told.as_slice());
-    assert_eq!(rt; (battle.hp(USER), battle.status(USER)), (0, Status::Healthy));
+    assert_eq!(rt;
+        (battle.hp(USER), battle.status(USER)),
+        (0, Status::Healthy)
+    );
     assert_eq!(rt; battle.is_on(USER, Conditions::SEEDED), false);
     assert_eq!(rt; link.index(), 0);
     Ok(())

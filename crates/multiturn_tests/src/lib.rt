@@ -3,9 +3,15 @@
 #![tactic(auto)]
 
 #[cfg(test)]
+mod countering;
+#[cfg(test)]
 mod duel;
 #[cfg(test)]
 mod first_hit;
+#[cfg(test)]
+mod fixed_damage;
+#[cfg(test)]
+mod going_on;
 #[cfg(test)]
 mod hit_effects;
 #[cfg(test)]
@@ -16,5 +22,7 @@ mod lasting;
 mod many_hits;
 #[cfg(test)]
 mod misses;
+#[cfg(test)]
+mod one_hit;
 #[cfg(test)]
 mod raging;

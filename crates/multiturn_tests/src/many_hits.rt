@@ -32,10 +32,7 @@ fn two_to_five_hits_are_drawn(rt: HostRuntime) -> Result<(), Fail> {
         assert_eq!(rt; battle.hp(FOE), 353 - 10 * u16::from(hits));
         assert_eq!(rt; events.last(), Some(&hit_count(&battle, FOE, hits)?));
         assert_eq!(rt; events.len(), usize::from(hits) + 1);
-        assert_eq!(rt;
-            (known.hits_made, known.hits_planned),
-            (hits, Some(hits))
-        );
+        assert_eq!(rt; (known.hits_made, known.hits_planned), (hits, Some(hits)));
         assert_eq!(rt; sweep.draw(), byte.wrapping_add(draws));
     }
     Ok(())

@@ -73,7 +73,10 @@ fn an_explosion_that_misses_fells_its_user(rt: HostRuntime) -> Result<(), Fail> 
         let events = miss(&mut battle, name)?;
         let told = [Event::Miss(battle.who(USER))];
         assert_eq!(rt; events.as_slice(), told.as_slice(), "{name}");
-        assert_eq!(rt; (battle.hp(USER), battle.status(USER)), (0, Status::Healthy));
+        assert_eq!(rt;
+            (battle.hp(USER), battle.status(USER)),
+            (0, Status::Healthy)
+        );
         assert_eq!(rt; battle.is_on(USER, Conditions::SEEDED), false);
         assert_eq!(rt; battle.substitute(USER), Some(88));
     }

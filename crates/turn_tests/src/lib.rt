@@ -1,7 +1,9 @@
-//! Tests of `gen1_requests` and `gen1_turn`, through their public functions. A crate with tests is proved twice, so they stand in
-//! a crate of their own.
+//! Tests of `gen1_requests` and `gen1_turn`, through their public functions. A crate with tests is proved twice, so they stand
+//! in a crate of their own.
 #![tactic(auto)]
 
+#[cfg(test)]
+mod acting;
 #[cfg(test)]
 mod closing;
 #[cfg(test)]

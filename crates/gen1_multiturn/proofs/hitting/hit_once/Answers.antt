@@ -1,11 +1,6 @@
 use Rattle.std.proofs.Common.{◌+◌}
-use Rattle.gen1_layout.proofs.Words.{Action, acted, ap, goes}
-use Rattle.gen1_tables.specs.declared.effect.Effect.{Effect}
-use Rattle.gen1_machine.specs.declared.event.Event.TheVariants.{OneHitKnockOut}
+use Rattle.gen1_layout.proofs.Words.{Action, acted, goes}
 use Rattle.gen1_machine.specs.ManyHits.{count_hit, hit_once}
-use Rattle.gen1_machine.specs.Moves.{knocks_out}
-use Rattle.gen1_machine.specs.Progress.{note, only}
-use Rattle.gen1_layout.specs.Words.{Does, false}
 use Rattle.gen1_multiturn.proofs.hitting.hit_once.Goals as goal
 
 pub returns-clause-shown : goal.returns-clause-shown
