@@ -9,8 +9,14 @@ mod closing;
 #[cfg(test)]
 mod offers;
 #[cfg(test)]
+mod order;
+#[cfg(test)]
+mod recorded;
+#[cfg(test)]
 mod setting;
 #[cfg(test)]
 mod starting;
 #[cfg(test)]
 mod switching;
+#[cfg(test)]
+mod turns;
