@@ -84,10 +84,7 @@ fn the_foe_of_the_last_actor_faints_first(rt: HostRuntime) -> Result<(), Fail> {
 
 #[test]
 fn the_last_to_live_wins(rt: HostRuntime) -> Result<(), Fail> {
-    for (winner, loser, outcome) in [
-        (USER, FOE, Outcome::WinOne),
-        (FOE, USER, Outcome::WinTwo),
-    ] {
+    for (winner, loser, outcome) in [(USER, FOE, Outcome::WinOne), (FOE, USER, Outcome::WinTwo)] {
         let mut battle = started_alone()?;
         let events = closed_with(&mut battle, &[loser]);
         let told = [Event::Faint(who(loser, "Tauros")?), Event::Win(winner)];

@@ -78,7 +78,10 @@ fn a_status_brings_its_penalty(rt: HostRuntime) -> Result<(), Fail> {
         (Status::Poisoned, 298, 318, Some(Kind::Poison)),
         (Status::Frozen, 298, 318, Some(Kind::Freeze)),
         (
-            Status::Asleep { turns: 7, marked: false },
+            Status::Asleep {
+                turns: 7,
+                marked: false,
+            },
             298,
             318,
             Some(Kind::Sleep),
@@ -89,8 +92,9 @@ fn a_status_brings_its_penalty(rt: HostRuntime) -> Result<(), Fail> {
         battle.put_status(USER, status);
         let events = away_and_back(&mut battle)?;
         assert_eq!(rt; events.as_slice(), [tauros_out(USER, 41, kind)?].as_slice());
-        let stats = [Stat::Attack, Stat::Defense, Stat::Speed, Stat::Special]
-            .map(|stat| battle.current_stat(USER, stat));
+        let stats = [Stat::Attack, Stat::Defense, Stat::Speed, Stat::Special].map(
+            |stat| battle.current_stat(USER, stat),
+        );
         assert_eq!(rt; stats, [attack, 288, speed, 238]);
         assert_eq!(rt; battle.status(USER), status);
     }
