@@ -19,7 +19,7 @@ mod thrashing;
 mod trapping;
 
 pub use biding::{bide, bide_knowing, start_bide};
-pub use charging::{charge, charge_knowing, make_current};
+pub use charging::{charge, charge_knowing, make_current, used_by};
 pub use countering::{counter, counter_knowing};
 pub use fixed_damage::{fixed, fixed_knowing};
 pub use hitting::hits;
