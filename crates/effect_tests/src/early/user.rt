@@ -84,21 +84,21 @@ fn recoveries_that_fail(rt: HostRuntime) -> Result<(), Fail> {
 }
 
 // Of a maximum of 703, which is 191 and 2 as bytes, half are 351; and 451 is 195 and 1.
-const RECOVERIES: [(u16, u16, [(usize, u8); 2]); 3] = [
-    (449, 703, [(28, 191), (29, 2)]),
-    (447, 703, [(28, 191), (29, 2)]),
-    (100, 451, [(28, 195), (29, 1)]),
+const RECOVERIES: [(u16, u16, u8, u8); 3] = [
+    (449, 703, 191, 2),
+    (447, 703, 191, 2),
+    (100, 451, 195, 1),
 ];
 
 #[test]
 fn recover(rt: HostRuntime) -> Result<(), Fail> {
     for by in BOTH {
         for name in ["Recover", "Soft-Boiled"] {
-            for (hp, healed, changes) in RECOVERIES {
+            for (hp, healed, low, high) in RECOVERIES {
                 let mut battle = chansey_at(hp)?;
                 let health = Health::new(healed, 703, None).ok_or("no such health")?;
                 let told = [Event::Heal(battle.who(USER), health)];
-                plays(&rt, &mut battle, (name, 0, by), &told, 0, &changes)?;
+                plays(&rt, &mut battle, (name, 0, by), &told, 0, &[(28, low), (29, high)])?;
             }
         }
     }
