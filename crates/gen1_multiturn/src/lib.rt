@@ -1,5 +1,5 @@
-//! Moves that last over turns, and substitutes, over the bytes of a battle (docs/MECHANICS.md, "Going on", "Charging", "Early
-//! effects").
+//! Moves that last over turns, substitutes, the hits of a move and what a miss brings, over the bytes of a battle
+//! (docs/MECHANICS.md, "Going on", "Charging", "Early effects", "Many hits", "Recoil, drain and explosion").
 #![tactic(auto)]
 
 mod biding;
