@@ -1,4 +1,4 @@
-use Rattle.gen1_layout.proofs.Words.{false, subst, ◌∙◌}
+use Rattle.gen1_layout.proofs.Words.{false, ◌∙◌}
 use Rattle.gen1_machine.specs.declared.side.Side.TheVariants.{One, Two}
 use Rattle.gen1_turn.proofs.Turns.{ends_as, ends_still, picked-both, picked-one, play-first_passes, play-moves, play-one, play-second_passes, play-switches, play-two}
 use Rattle.gen1_turn.proofs.turning.play_choices.Goals as goal
