@@ -1,5 +1,5 @@
 -- A member that comes out: the bytes, and what is told.
-use Rattle.gen1_layout.proofs.Words.{Active, Field, IsBetween, List, Member, None, Option, Parts, Progress, Setting, Shows, Side, [], ap, arith, changed_active, changed_conditions, given, length, lit≤, note, on_active, on_conditions, on_field, party, refl, subst, sym, then-goes, underway_in, ℕ}
+use Rattle.gen1_layout.proofs.Words.{Active, Field, List, Member, None, Option, Parts, Progress, Setting, Shows, Side, [], ap, arith, changed_active, changed_conditions, given, lit≤, note, on_active, on_conditions, on_field, party, refl, subst, sym, then-goes, underway_in, ℕ}
 use Rattle.std.proofs.Common.{false, ◌++◌, ◌∷◌, ◌≡◌, ◌∙◌}
 use Rattle.gen1_layout.specs.Words.{Event, Packs}
 use Rattle.gen1_tables.specs.Species.{species_row}
@@ -18,7 +18,7 @@ use Rattle.gen1_machine.specs.Valid.{IsMembersUnder, IsOutcome, IsUnstarted}
 use Rattle.gen1_machine.specs.Plans.{InRange}
 use Rattle.gen1_layout.specs.SentOut.{sent_as}
 use Rattle.gen1_layout.specs.Shows.{ShowsPacked}
-use Rattle.gen1_layout.specs.Storable.{IsStorable, IsStorableActive, IsStorableParty}
+use Rattle.gen1_layout.specs.Storable.{IsStorable, IsStorableParty}
 use Rattle.gen1_layout.proofs.Steps.{within_packed}
 use Rattle.gen1_requests.specs.ComingOut.{coming_out, halvings_of, quarterings_of, with_out}
 use Rattle.gen1_requests.specs.Updates.{beginning}
