@@ -29,11 +29,15 @@ pub(crate) const GENGAR_OUT: [u8; 36] = [
 ];
 
 fn member(name: &str) -> Result<MemberSpec, Fail> {
+    member_with(name, "Strength", 100)
+}
+
+fn member_with(name: &str, known: &str, level: u8) -> Result<MemberSpec, Fail> {
     let mut moves = ArrayVec::new();
-    moves.push((MoveId::from_name("Strength").ok_or("no such move")?, 0));
+    moves.push((MoveId::from_name(known).ok_or("no such move")?, 0));
     Ok(MemberSpec {
         species: Species::from_name(name).ok_or("no such species")?,
-        level: 100,
+        level,
         dvs: [15; 4],
         exp: [65535; 5],
         moves,
@@ -65,6 +69,14 @@ pub(crate) fn unstarted_alone() -> Result<Packed, Fail> {
 
 pub(crate) fn started_alone() -> Result<Packed, Fail> {
     let mut battle = unstarted_alone()?;
+    start(&mut battle, &mut EventList::new());
+    Ok(battle)
+}
+
+// The same with members at this level that know this move alone.
+pub(crate) fn started_with(known: &str, level: u8) -> Result<Packed, Fail> {
+    let team = Team::new(&[member_with("Tauros", known, level)?])?;
+    let mut battle = Packed::new(&team, &team, SEED);
     start(&mut battle, &mut EventList::new());
     Ok(battle)
 }
