@@ -9,6 +9,7 @@ ghost use Rattle.gen1_layout.specs.Parts.{active_of, bytes_of_side, bytes_of_sid
 ghost use Rattle.gen1_layout.specs.Lending.{LendsActive, LendsBothSides, LendsHeader, LendsInTwo, LendsMember, LendsPart, LendsSide, LendsSides};
 
 use gen1_machine::Side;
+use std::alloc::AllocError;
 use std::marker::Model;
 
 /// A battle in 384 bytes (docs/LAYOUT.md), layout version 3.
@@ -26,6 +27,19 @@ impl Model for Packed {
     ghost view = { λ p. parts_of p.0 };
 
     ghost invariant = { λ p. length p.0 ≡ 384 };
+}
+
+impl Clone for Packed {
+    ghost use Rattle.std.specs.Prelude.{◌≡◌, ⊤};
+
+    ghost is_clone = { λ p q. q ≡ p };
+
+    ghost is_infallible = { λ _. ⊤ };
+
+    /// The same 384 bytes.
+    fn clone(&self) -> Result<Packed, AllocError> {
+        Ok(Packed(self.0))
+    }
 }
 
 impl Packed {
