@@ -1,5 +1,5 @@
 -- A member that comes out: the bytes, and what is told.
-use Rattle.gen1_layout.proofs.Words.{Active, Field, IsBetween, List, Member, None, Option, Parts, Progress, Setting, Shows, Side, [], ap, arith, changed_active, changed_conditions, given, length, lit≤, member_at, note, on_active, on_conditions, on_field, party, refl, subst, sym, then-goes, underway_in, ℕ}
+use Rattle.gen1_layout.proofs.Words.{Active, Field, List, Member, None, Option, Parts, Progress, Setting, Shows, Side, [], ap, arith, changed_active, changed_conditions, given, lit≤, note, on_active, on_conditions, on_field, party, refl, subst, sym, then-goes, underway_in, ℕ}
 use Rattle.std.proofs.Common.{false, ◌++◌, ◌∷◌, ◌≡◌, ◌∙◌}
 use Rattle.gen1_layout.specs.Words.{Event, Packs}
 use Rattle.gen1_tables.specs.Species.{species_row}
@@ -11,14 +11,14 @@ use Rattle.gen1_machine.specs.Rules.{Rules}
 use Rattle.gen1_machine.specs.Sides.{other}
 use Rattle.gen1_machine.specs.Conditions.{without_trapping}
 use Rattle.gen1_machine.specs.CurrentStats.{with_penalty_of}
-use Rattle.gen1_machine.specs.State.{nobody_out, State, Terms}
+use Rattle.gen1_machine.specs.State.{member_at, nobody_out, State, Terms}
 use Rattle.gen1_machine.specs.SwitchingIn.{send_out, sent_out, start, switch_event, with_sent_out}
 use Rattle.gen1_machine.specs.Step.{opened}
 use Rattle.gen1_machine.specs.Valid.{IsMembersUnder, IsOutcome, IsUnstarted}
 use Rattle.gen1_machine.specs.Plans.{InRange}
 use Rattle.gen1_layout.specs.SentOut.{sent_as}
 use Rattle.gen1_layout.specs.Shows.{ShowsPacked}
-use Rattle.gen1_layout.specs.Storable.{IsStorable, IsStorableActive, IsStorableParty}
+use Rattle.gen1_layout.specs.Storable.{IsStorable, IsStorableParty}
 use Rattle.gen1_layout.proofs.Steps.{within_packed}
 use Rattle.gen1_requests.specs.ComingOut.{coming_out, halvings_of, quarterings_of, with_out}
 use Rattle.gen1_requests.specs.Updates.{beginning}
@@ -77,50 +77,30 @@ packs_so {g = g} {parts = parts} e h = subst (λ (x : Field). Packs g parts x) e
 
 -- who just came out can be stored, also once it is kept from trapping
 
-free_storable : (count place : ℕ) (x y : Element) (halved quartered : ℕ) (a : Active) → a ≡ sent_as place x y halved quartered
-    → IsStorableActive count (record a { conditions = without_trapping a.conditions })
-unfolding without_trapping
-free_storable count place x y halved quartered a e = rw e (record {
-  stages = record { attack = lit≤ tt; defense = lit≤ tt; speed = lit≤ tt; special = lit≤ tt; accuracy = lit≤ tt; evasion = lit≤ tt };
-  current_move = tt;
-  picked_move = tt;
-  kept_accuracy = lit≤ tt;
-  conditions = record { underway = record { bide = tt; thrash = tt; trapping = tt; alone = lit≤ tt }; confused = tt; substitute = tt; bad_poison = tt; disabled = tt };
-})
-
-sent_storable : (count place : ℕ) (m : Member) → IsStorableActive count (sent_out place m)
-sent_storable count place m = rw (sent_made place m) (record {
-  stages = record { attack = lit≤ tt; defense = lit≤ tt; speed = lit≤ tt; special = lit≤ tt; accuracy = lit≤ tt; evasion = lit≤ tt };
-  current_move = tt;
-  picked_move = tt;
-  kept_accuracy = lit≤ tt;
-  conditions = record { underway = record { bide = tt; thrash = tt; trapping = tt; alone = lit≤ tt }; confused = tt; substitute = tt; bad_poison = tt; disabled = tt };
-})
-
-party_sent : (rules : Rules) (members : List Member) → IsMembersUnder rules members
-    → IsStorableParty rules (record { members = members; active = sent_out 1 (member_at 1 (record { members = members; active = nobody_out })) })
-party_sent rules members h =
-    let m = member_at 1 (record { members = members; active = nobody_out }) in
-    record {
-      members = h;
-      place = subst (λ (k : ℕ). IsBetween 1 (length members) k) (sym (place_out 1 m)) (lit≤ tt, h.size.0);
-      active = sent_storable _ 1 m;
-    }
-
--- likewise where the foe has come out since
-party_freed : (rules : Rules) (members : List Member) → IsMembersUnder rules members → (a : Active) (x y : Element) (halved quartered : ℕ) → a ≡ sent_as 1 x y halved quartered
-    → IsStorableParty rules (record { members = members; active = record a { conditions = without_trapping a.conditions } })
-party_freed rules members h a x y halved quartered e = record {
+out_storable : (rules : Rules) (members : List Member) → IsMembersUnder rules members → (a : Active) (x y : Element) (halved quartered : ℕ) → a ≡ sent_as 1 x y halved quartered
+    → IsStorableParty rules (record { members = members; active = a })
+out_storable rules members h a x y halved quartered e = subst (λ (b : Active). IsStorableParty rules (record { members = members; active = b })) (sym e) (record {
   members = h;
-  place = subst (λ (k : ℕ). IsBetween 1 (length members) k) (sym (ap (λ (b : Active). b.place) e)) (lit≤ tt, h.size.0);
-  active = free_storable _ 1 x y halved quartered a e;
-}
+  place = (lit≤ tt, h.size.0);
+  active = record {
+    stages = record { attack = lit≤ tt; defense = lit≤ tt; speed = lit≤ tt; special = lit≤ tt; accuracy = lit≤ tt; evasion = lit≤ tt };
+    current_move = tt;
+    picked_move = tt;
+    kept_accuracy = lit≤ tt;
+    conditions = record { underway = record { bide = tt; thrash = tt; trapping = tt; alone = lit≤ tt }; confused = tt; substitute = tt; bad_poison = tt; disabled = tt };
+  };
+})
+
+freed : (place : ℕ) (m : Member) → let a = sent_out place m in record a { conditions = without_trapping a.conditions }
+    ≡ sent_as place (species_row m.species).first_type (species_row m.species).second_type (halvings_of m.status) (quarterings_of m.status)
+unfolding without_trapping
+freed place m = ap (λ (a : Active). record a { conditions = without_trapping a.conditions }) (sent_made place m)
 
 both_storable : (terms : Terms) (f : Field) → IsUnstarted terms f → IsStorable terms (out_and_free Two 1 (out_and_free One 1 f))
 unfolding changed_active changed_conditions with_sent_out
 both_storable terms f h = record {
-  one = party_freed terms.rules f.one.members h.members_one (sent_out 1 (member_at 1 f.one)) _ _ _ _ (sent_made 1 (member_at 1 f.one));
-  two = party_sent terms.rules f.two.members h.members_two;
+  one = out_storable terms.rules f.one.members h.members_one _ _ _ _ _ (freed 1 (member_at 1 f.one));
+  two = out_storable terms.rules f.two.members h.members_two _ _ _ _ _ (sent_made 1 (member_at 1 f.two));
   last_damage = h.last_damage;
   turn = omega (arith, h.turn);
   outcome = subst IsOutcome (sym h.outcome) tt;

@@ -12,7 +12,6 @@ use Rattle.gen1_machine.specs.State.{is_over, State}
 use Rattle.gen1_machine.specs.Ruling.{ruling_of, Ruling}
 use Rattle.gen1_machine.specs.OfferedChoices.{offered}
 use Rattle.gen1_machine.specs.SwitchingIn.{replace, start}
-use Rattle.gen1_machine.specs.Turn.{turn}
 use Rattle.gen1_machine.specs.Step.{accepted, answered, close_update, offers, opened, run_by, step, step_by, update, update_for, Accepted, Stepped}
 use Rattle.gen1_machine.specs.Valid.{IsState}
 use Rattle.gen1_machine.proofs.ValidStates.{states_stay_valid}
@@ -38,19 +37,17 @@ starts-as s starts =
     step_accepts s Pass Pass starts.goes_on (rw (going, one) refl) (rw (going, two) refl) ∙ rw (one, two) refl
 
 replaces-as : (s : State) (one two : Choice) → Plays s requests.Switch one two → step s one two ≡ accepted s (close_update (ruling_of s.terms) (replace one two (opened s)))
-unfolding update
+unfolding update update_for
 replaces-as s one two plays =
     step_accepts s one two plays.goes_on plays.first plays.second
     ∙ ap (λ (q : Progress). accepted s (close_update (ruling_of s.terms) q)) (by (ruling_of s.terms) s.field.request_one s.field.request_two plays.asked_for (opened s))
   where
     second : (r : Ruling) (a : Request) (p : Progress) → update_for r a requests.Switch one two p ≡ replace one two p
-    unfolding update_for
     second r requests.Move p = refl
     second r requests.Switch p = refl
     second r requests.Pass p = refl
 
     first : (r : Ruling) (b : Request) (p : Progress) → update_for r requests.Switch b one two p ≡ replace one two p
-    unfolding update_for
     first r requests.Move p = refl
     first r requests.Switch p = refl
     first r requests.Pass p = refl

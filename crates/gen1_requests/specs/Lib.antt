@@ -4,3 +4,5 @@ pub mod Updates
 pub mod ComingOut
 -- The end of an update.
 pub mod Closing
+-- What each side may choose, as a set.
+pub mod Offering

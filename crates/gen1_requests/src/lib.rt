@@ -3,9 +3,12 @@
 #![tactic(auto)]
 
 mod closing;
+pub mod laws;
+mod offering;
 mod sending;
 mod updates;
 
 pub use closing::close;
+pub use offering::{Choices, offered};
 pub use sending::send_out;
 pub use updates::{replace, start};

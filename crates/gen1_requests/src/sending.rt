@@ -47,7 +47,7 @@ fn coming_out(battle: &Packed, side: Side, place: Place) -> Option<Event>
     ensures packs { (g : Setting) (f : Field) → Packs g battle.now f → InRange side place f
         → result ≡ Some (coming_out side place (member_at place (party side f))) }
 {
-    let at = place.number().into();
+    let at = place.number();
     let species = battle.species_from(side, at)?;
     let level = battle.level_from(side, at)?;
     let health = battle.health_from(side, at)?;
@@ -58,8 +58,7 @@ fn put_out(battle: &mut Packed, side: Side, place: Place)
     ensures stands { (g : Setting) (f : Field) → Within g battle.old f → InRange side place f → Within g battle.new (with_out side place f) }
     ensures packs { (g : Setting) (f : Field) → Packs g battle.old f → InRange side place f → Packs g battle.new (with_out side place f) }
 {
-    let number = place.number();
-    let at = number.into();
+    let at = place.number();
     let status = battle.status_at(side, at);
     let [attack, defense, speed, special] = battle.own_stats_at(side, at);
     let stats = [
@@ -70,7 +69,7 @@ fn put_out(battle: &mut Packed, side: Side, place: Place)
     ];
     if let Some(species) = battle.species_from(side, at) {
         let [first, second] = species.types();
-        battle.put_sent_out(side, number, first, second, stats);
+        battle.put_sent_out(side, at, first, second, stats);
     }
 }
 
@@ -79,11 +78,7 @@ fn halvings(status: Status) -> u8
 {
     match status {
         Status::Burned => 1,
-        Status::Healthy => 0,
-        Status::Asleep { .. } => 0,
-        Status::Poisoned => 0,
-        Status::Frozen => 0,
-        Status::Paralysed => 0,
+        _ => 0,
     }
 }
 
@@ -92,10 +87,6 @@ fn quarterings(status: Status) -> u8
 {
     match status {
         Status::Paralysed => 1,
-        Status::Healthy => 0,
-        Status::Asleep { .. } => 0,
-        Status::Poisoned => 0,
-        Status::Burned => 0,
-        Status::Frozen => 0,
+        _ => 0,
     }
 }

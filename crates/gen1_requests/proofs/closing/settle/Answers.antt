@@ -12,4 +12,4 @@ pub returns-clause-shown : goal.returns-clause-shown
 unfolding settle
 returns-clause-shown c g p h =
     let d = rw c.if-end_if_decided.false at (c.end_if_decided.ensures.shown g p h) in
-    (false, passing _ _ d.0 d.1 (c.ask.ensures.shown g p d.2 d.1))
+    (false, passing _ _ d.0 d.1 (c.ask_next.ensures.shown g p d.2 d.1))

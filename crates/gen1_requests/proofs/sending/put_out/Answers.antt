@@ -1,5 +1,6 @@
 use Rattle.std.proofs.Common.{◌≡◌, ◌∙◌}
-use Rattle.gen1_layout.proofs.Words.{member_at, packed_of, party, refl}
+use Rattle.gen1_layout.proofs.Words.{packed_of, party, refl}
+use Rattle.gen1_machine.specs.State.{member_at}
 use Rattle.gen1_machine.specs.SwitchingIn.{with_sent_out}
 use Rattle.gen1_requests.specs.ComingOut.{halvings_of, quarterings_of}
 use Rattle.gen1_requests.proofs.ComingOut.{sent_made}
@@ -11,7 +12,7 @@ returns-in-Some c =
     record {
       stands = λ g f h there.
           let k = packed_of h in
-          let number = c.number-number.ensures.value in
+          let number = c.number-at.ensures.value in
           let m = member_at c.args.place (party c.args.side f) in
           let species : c.in-Some.species ≡ m.species = let e = rw number at (c.in-Some.ensures.packs g f k (rw number there.1)) in cc in
           let status = c.status_at-status.ensures.packs g f k in
@@ -20,7 +21,7 @@ returns-in-Some c =
           (sent_made c.args.place m ∙ (rw (number, c.types.ensures, species) refl)) (rw number there.0) (rw number there.1)
           (rw (number, c.now.ensures, c.now-2.ensures, c.now-3.ensures, c.now-4.ensures, c.halvings.ensures, c.quarterings.ensures, status, own, number) refl);
       packs = λ g f k there.
-          let number = c.number-number.ensures.value in
+          let number = c.number-at.ensures.value in
           let m = member_at c.args.place (party c.args.side f) in
           let species : c.in-Some.species ≡ m.species = let e = rw number at (c.in-Some.ensures.packs g f k (rw number there.1)) in cc in
           let status = c.status_at-status.ensures.packs g f k in
@@ -33,6 +34,6 @@ returns-in-Some c =
 pub returns-in_default : goal.returns-in_default
 returns-in_default c =
     record {
-      stands = λ g f h there. let none = c.in_default.ensures.packs g f (packed_of h) (rw c.number-number.ensures.value there.1) in cc;
-      packs = λ g f k there. let none = c.in_default.ensures.packs g f k (rw c.number-number.ensures.value there.1) in cc;
+      stands = λ g f h there. let none = c.in_default.ensures.packs g f (packed_of h) (rw c.number-at.ensures.value there.1) in cc;
+      packs = λ g f k there. let none = c.in_default.ensures.packs g f k (rw c.number-at.ensures.value there.1) in cc;
     }

@@ -1,5 +1,6 @@
 use Rattle.std.proofs.Common.{◌≡◌, ◌∙◌}
-use Rattle.gen1_layout.proofs.Words.{member_at, party, refl, sym}
+use Rattle.gen1_layout.proofs.Words.{party, refl, sym}
+use Rattle.gen1_machine.specs.State.{member_at}
 use Rattle.gen1_machine.specs.Sides.{other}
 use Rattle.gen1_requests.specs.ComingOut.{coming_out}
 use Rattle.gen1_requests.proofs.ComingOut.{foe_stays, packs_so, sends_as, told_is, untrapped}

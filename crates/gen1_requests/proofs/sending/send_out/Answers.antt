@@ -1,5 +1,6 @@
 use Rattle.std.proofs.Common.{◌≡◌, ◌∙◌}
-use Rattle.gen1_layout.proofs.Words.{member_at, packed_of, party, refl, sym}
+use Rattle.gen1_layout.proofs.Words.{packed_of, party, refl, sym}
+use Rattle.gen1_machine.specs.State.{member_at}
 use Rattle.gen1_machine.specs.Conditions.{without_trapping}
 use Rattle.gen1_requests.specs.ComingOut.{coming_out}
 use Rattle.gen1_requests.proofs.ComingOut.{sends_as, told_is}

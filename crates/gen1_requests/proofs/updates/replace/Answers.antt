@@ -9,7 +9,7 @@ use Rattle.gen1_machine.specs.Step.{close_update, opened}
 use Rattle.gen1_layout.specs.Within.{setting_of, Stands}
 use Rattle.gen1_layout.proofs.Storing.{within_of}
 use Rattle.gen1_requests.specs.Updates.{beginning, Plays, Updated}
-use Rattle.gen1_requests.proofs.Offered.{comes_offered, reopened, started}
+use Rattle.gen1_requests.proofs.OfferedChoices.{comes_offered, reopened, started}
 use Rattle.gen1_requests.proofs.Stepped.{replaced-so}
 use Rattle.gen1_requests.proofs.updates.replace.Goals as goal
 
@@ -17,8 +17,8 @@ pub returns : goal.returns
 unfolding close_update
 returns c = record { updated = left; stepped = λ s stands plays. replaced-so s c.args.one c.args.two stands.valid plays (left s stands plays) }
   where
-    left : (s : State) → Stands c.args.battle.old s → Plays s Switch c.args.one c.args.two
-        → Updated (setting_of s) c.args.battle.new c.args.events.new.items (close_update (ruling_of s.terms) (replace c.args.one c.args.two (opened s)))
+    left : (s : State) → Stands c.args.battle.now s → Plays s Switch c.args.one c.args.two
+        → Updated (setting_of s) c.close.new.battle c.close.new.events.items (close_update (ruling_of s.terms) (replace c.args.one c.args.two (opened s)))
     left s stands plays =
         let apart : (Pass ≡ Switch → ⊥) = λ e. cc in
         let v = started s Switch c.args.one c.args.two stands.valid apart plays in

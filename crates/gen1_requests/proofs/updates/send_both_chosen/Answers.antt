@@ -1,6 +1,6 @@
 use Rattle.gen1_layout.proofs.Words.{goes}
 use Rattle.gen1_machine.specs.SwitchingIn.{replace}
-use Rattle.gen1_requests.proofs.Offered.{comes-after}
+use Rattle.gen1_requests.proofs.OfferedChoices.{comes-after}
 use Rattle.gen1_requests.proofs.updates.send_both_chosen.Goals as goal
 
 pub returns-clause-shown : goal.returns-clause-shown

@@ -1,0 +1,52 @@
+-- What a view knows that was told all events of a battle from its start (docs/MECHANICS.md, "Spectator's view").
+use Rattle.std.specs.Prelude.{Err, List, Ok, [], ℕ, ◌++◌, ◌≡◌, ◌∷◌}
+use Rattle.std.specs.List.{flat_map}
+use Rattle.gen1_stats.specs.Members.{IsTeam, Member}
+use Rattle.gen1_machine.specs.declared.choice.Choice.{Choice}
+use Rattle.gen1_machine.specs.declared.event.Event.{Event}
+use Rattle.gen1_machine.specs.State.{first_state, Terms}
+use Rattle.gen1_machine.specs.Step.{Answer, events_of, run, Ran}
+use Rattle.gen1_machine.specs.View.{first_view, sees_all, shows, View}
+use Rattle.gen1_events.specs.declared.fault.LogFault.{LogFault}
+use Rattle.gen1_events.specs.Reader.{part, Reading}
+use Rattle.gen1_events.specs.Splits.{IsReading, Reads}
+use Rattle.gen1_spectator.specs.Following.{Follows}
+
+-- the log of each update has the update's events as its reading; a refused pair has neither
+abbrev pub AreRead : List (List ℕ) → List Answer → Type 0
+AreRead [] [] = Unit {0}
+AreRead (log ∷ logs) (answer ∷ answers) = IsReading log (events_of answer) × AreRead logs answers
+AreRead _ _ = ⊥
+
+-- one after the other
+abbrev pub joined : List (List ℕ) → List ℕ
+joined logs = flat_map (λ (log : List ℕ). log) logs
+
+-- the bytes that a view followed, of a new reader, piece by piece and without a fault
+pub data Followed (first : View) : List ℕ → Reading → View → Type 0 where
+  begun : Followed first [] (part []) first
+  piece : (taken : List ℕ) (old new : Reading) (before after : View) (bytes : List ℕ)
+      → Followed first taken old before → Follows old bytes before (Ok tt) new after → Followed first (taken ++ bytes) new after
+
+-- what is said of the logs of any run from the start of a battle of two teams
+abbrev pub OfBattles : ((one two : List Member) → Ran → List ℕ → Type 0) → Type 0
+OfBattles says = (t : Terms) (one two : List Member) (seed : List ℕ) (pairs : List (Choice × Choice)) (logs : List (List ℕ))
+    → IsTeam one → IsTeam two → AreRead logs (run (first_state t one two seed) pairs).answers
+    → says one two (run (first_state t one two seed) pairs) (joined logs)
+
+-- a reader that took all of the log and has nothing to hand out handed out events that tell what the battle shows
+abbrev pub WatchersAgree : Type 0
+WatchersAgree = OfBattles (λ one two ran log.
+    (seen : List Event) → Reads log seen (part []) → sees_all seen (first_view one two) ≡ shows ran.state.field)
+
+-- a view that followed all of the log is what the battle shows, and its reader holds nothing
+abbrev pub FollowersAgree : Type 0
+FollowersAgree = OfBattles (λ one two ran log.
+    (reader : Reading) (view : View) → Followed (first_view one two) log reader view
+    → (reader ≡ part []) × (view ≡ shows ran.state.field))
+
+-- no piece of the log has a fault
+abbrev pub FollowersMeetNoFault : Type 0
+FollowersMeetNoFault = OfBattles (λ one two ran log.
+    (taken bytes more : List ℕ) (old new : Reading) (before after : View) (fault : LogFault) → log ≡ (taken ++ bytes) ++ more
+    → Followed (first_view one two) taken old before → Follows old bytes before (Err fault) new after → ⊥)

@@ -1,0 +1,90 @@
+ghost use Rattle.std.specs.Prelude.{min, ◌+◌, ◌-◌, ◌≡◌, ◌≤◌};
+ghost use Rattle.gen1_machine.specs.CurrentStats.{stage_of, with_stage};
+ghost use Rattle.gen1_machine.specs.State.{level_stages};
+
+use gen1_tables::Stat;
+use std::marker::Model;
+
+/// The stages of the member that is out, from 0 to 12, with 6 in the middle.
+#[derive(Clone, Copy, Debug, PartialEq, Eq, Drop)]
+pub(crate) struct Stages {
+    attack: u8,
+    defense: u8,
+    speed: u8,
+    special: u8,
+    accuracy: u8,
+    evasion: u8,
+}
+
+impl Model for Stages {
+    ghost use Rattle.std.specs.Prelude.{◌≤◌};
+    ghost use Rattle.gen1_machine.specs.State.{Stages};
+
+    ghost Value = { Stages };
+
+    ghost view = { λ s. record { attack = s.attack; defense = s.defense; speed = s.speed; special = s.special; accuracy = s.accuracy; evasion = s.evasion } };
+
+    ghost invariant = { λ s. (s.attack ≤ 12) × (s.defense ≤ 12) × (s.speed ≤ 12) × (s.special ≤ 12) × (s.accuracy ≤ 12) × (s.evasion ≤ 12) };
+
+    ghost inverse = { λ s. record { attack = s.attack; defense = s.defense; speed = s.speed; special = s.special; accuracy = s.accuracy; evasion = s.evasion } };
+}
+
+impl Stages {
+    pub(crate) fn level() -> Self
+        ensures { result ≡ level_stages }
+    {
+        Stages {
+            attack: 6,
+            defense: 6,
+            speed: 6,
+            special: 6,
+            accuracy: 6,
+            evasion: 6,
+        }
+    }
+
+    pub(crate) fn stage(self, stat: Stat) -> u8
+        ensures value { result ≡ stage_of stat self }
+        ensures high { result ≤ 12 }
+    {
+        match stat {
+            Stat::Attack => self.attack,
+            Stat::Defense => self.defense,
+            Stat::Speed => self.speed,
+            Stat::Special => self.special,
+            Stat::Accuracy => self.accuracy,
+            Stat::Evasion => self.evasion,
+        }
+    }
+
+    fn with(self, stat: Stat, stage: u8) -> Self
+        requires { stage ≤ 12 }
+        ensures { result ≡ with_stage stat stage self }
+    {
+        let mut stages = self;
+        match stat {
+            Stat::Attack => stages.attack = stage,
+            Stat::Defense => stages.defense = stage,
+            Stat::Speed => stages.speed = stage,
+            Stat::Special => stages.special = stage,
+            Stat::Accuracy => stages.accuracy = stage,
+            Stat::Evasion => stages.evasion = stage,
+        }
+        stages
+    }
+
+    /// A stat's stage rises, to 12 at most.
+    pub(crate) fn raised(self, stat: Stat, count: u8) -> Self
+        requires { count ≤ 2 }
+        ensures { result ≡ with_stage stat (min 12 (stage_of stat self + count)) self }
+    {
+        self.with(stat, (self.stage(stat) + count).min(12))
+    }
+
+    /// A stat's stage falls, to 0 at least.
+    pub(crate) fn lowered(self, stat: Stat, count: u8) -> Self
+        ensures { result ≡ with_stage stat (stage_of stat self - count) self }
+    {
+        self.with(stat, self.stage(stat).saturating_sub(count))
+    }
+}

@@ -1,0 +1,10 @@
+//! Tests of `gen1_spectator` and `gen1_room`, through their public functions. A crate with tests is proved twice, so they stand
+//! in a crate of their own.
+#![tactic(auto)]
+
+#[cfg(test)]
+mod following;
+#[cfg(test)]
+mod teams;
+#[cfg(test)]
+mod watching;

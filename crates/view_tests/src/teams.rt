@@ -1,0 +1,29 @@
+//! Teams for the tests. At level 100, with DVs of 15 and all experience, Tauros has 353 HP and Chansey 703.
+use arrayvec::ArrayVec;
+use gen1_stats::{MemberSpec, Team};
+use gen1_tables::{MoveId, Species};
+use std::test::Fail;
+
+pub(crate) fn member(species: &str, moves: &[&str]) -> Result<MemberSpec, Fail> {
+    let mut known = ArrayVec::new();
+    for name in moves {
+        let _ = known.try_push((MoveId::from_name(name).ok_or("no such move")?, 3));
+    }
+    Ok(MemberSpec {
+        species: Species::from_name(species).ok_or("no such species")?,
+        level: 100,
+        dvs: [15; 4],
+        exp: [65535; 5],
+        moves: known,
+    })
+}
+
+pub(crate) fn tauros() -> Result<Team, Fail> {
+    Ok(Team::new(&[member("Tauros", &["Strength"])?])?)
+}
+
+pub(crate) fn tauros_and_chansey() -> Result<Team, Fail> {
+    let lead = member("Tauros", &["Strength"])?;
+    let other = member("Chansey", &["Strength"])?;
+    Ok(Team::new(&[lead, other])?)
+}
