@@ -1,6 +1,7 @@
 -- Any calls of an update, one after the other.
 use Rattle.std.proofs.Common.{Bool, Err, List, Ok, Result, [], ap, false, refl, subst, sym, true, ℕ, ◌+◌, ◌∙◌, ◌∷◌, ◌≡◌, ◌≤◌}
 use Rattle.std.specs.Prelude.{cond, count_by, is_ok}
+use Rattle.std.proofs.lemmas.List.Sums.{sum_by-cons}
 use Rattle.gen1_machine.specs.declared.side.Side.TheVariants.{One, Two}
 use Rattle.gen1_machine.specs.declared.choice.Choice.{Choice}
 use Rattle.gen1_machine.specs.Laws.{accepted_in, is_accepted}
@@ -43,8 +44,10 @@ all_calls s old new (pair ∷ pairs) (result ∷ results) h all =
     let later = all_calls (step s pair.0 pair.1).state all.0 new pairs results here.0 all.2 in
     (
       later.0,
-      ap (λ (b : Bool). cond b 1 0 + count_by is_ok results) here.1
-      ∙ ap (λ (n : ℕ). cond (is_accepted (step s pair.0 pair.1).answer) 1 0 + n) later.1,
+      sum_by-cons (λ (r : Result BattleResult Refusal). cond (is_ok r) 1 0) result results
+      ∙ ap (λ (b : Bool). cond b 1 0 + count_by is_ok results) here.1
+      ∙ ap (λ (n : ℕ). cond (is_accepted (step s pair.0 pair.1).answer) 1 0 + n) later.1
+      ∙ sym (sum_by-cons (λ (a : Answer). cond (is_accepted a) 1 0) (step s pair.0 pair.1).answer (run (step s pair.0 pair.1).state pairs).answers),
     )
 
 pub calls_are_the_run : CallsAreTheRun
