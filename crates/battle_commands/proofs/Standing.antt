@@ -13,12 +13,11 @@ use Rattle.gen1_machine.proofs.SendingLemmas.{appends_front_after}
 use Rattle.gen1_layout.specs.Parts.{Parts}
 use Rattle.gen1_layout.specs.Within.{Stands}
 use Rattle.gen1_engine.specs.Replaying.{step_by_bytes}
-use Rattle.gen1_engine.specs.Updating.{AnswersAs, TellsAs, refusal_of}
+use Rattle.gen1_engine.specs.Updating.{AnswersAs, TellsAs, refusal_number, refusal_of}
 use Rattle.gen1_engine.specs.declared.result.BattleResult.{BattleResult}
 use Rattle.gen1_engine.specs.declared.result.Refusal.{Refusal as Why}
 use Rattle.battle_commands.specs.Answers.{Answers}
 use Rattle.battle_commands.specs.Due.{Due, after, due_by, due_from}
-use Rattle.battle_commands.specs.Faults.{number_of_refusal}
 use Rattle.battle_commands.specs.declared.fault.ToolFault.TheVariants.{Memory, Pair, Write}
 
 -- what an update by bytes answered
@@ -79,9 +78,9 @@ stood_more pairs number {a = a} {b = b} {c = c} h events inside e stands wrote =
 
 pub answers_refused : (T : Type 0) {s : State} (pairs : List (ℕ × ℕ)) (number : ℕ) {battle : Parts} {a b : Option (List ℕ)} (h : Stood s pairs number battle a b) (why : Refusal)
     → number < length pairs → (step_by_bytes h.state (get_or pairs number (0, 0))).answer ≡ Refused why
-    → Answers {T = T} (due_from 0 s pairs) a b (Err (Pair number (number_of_refusal why)))
+    → Answers {T = T} (due_from 0 s pairs) a b (Err (Pair number (refusal_number (refusal_of why))))
 answers_refused T pairs number {a = a} {b = b} h why inside e =
-    subst (λ (d : Due). Answers {T = T} d a b (Err (Pair number (number_of_refusal why)))) (sym (due_then pairs number h (Refused why) inside e))
+    subst (λ (d : Due). Answers {T = T} d a b (Err (Pair number (refusal_number (refusal_of why))))) (sym (due_then pairs number h (Refused why) inside e))
     (refl, subst (λ (l : List ℕ). Appends a b l) (sym (append-nil h.said)) h.written)
 
 pub answers_memory : (T : Type 0) {s : State} (pairs : List (ℕ × ℕ)) (number : ℕ) {battle : Parts} {a b : Option (List ℕ)} → Stood s pairs number battle a b

@@ -4,8 +4,8 @@ use Rattle.gen1_machine.specs.Lines.{lines}
 use Rattle.gen1_machine.specs.State.{State}
 use Rattle.gen1_machine.specs.Step.{Answer, Accepted, Refused}
 use Rattle.gen1_engine.specs.Replaying.{step_by_bytes}
+use Rattle.gen1_engine.specs.Updating.{refusal_number, refusal_of}
 use Rattle.battle_commands.specs.Asked.{Asked, asked_to_run}
-use Rattle.battle_commands.specs.Faults.{number_of_refusal}
 use Rattle.battle_commands.specs.declared.fault.ToolFault.{ToolFault}
 use Rattle.battle_commands.specs.declared.fault.ToolFault.TheVariants.{Pair}
 
@@ -27,7 +27,7 @@ after text due = record { text = text ++ due.text; fault = due.fault }
 
 -- a refused pair ends it; an accepted one has the lines of its events, and what is due behind them
 abbrev pub due_by : ℕ → Answer → Due → Due
-due_by number (Refused why) rest = refused (Pair number (number_of_refusal why))
+due_by number (Refused why) rest = refused (Pair number (refusal_number (refusal_of why)))
 due_by number (Accepted events) rest = after (lines events) rest
 
 -- from a state and the number of a pair on: the lines of the machine's run, up to the first pair that it refuses

@@ -21,6 +21,11 @@ abbrev pub refusal_of : Reason → Refusal
 refusal_of Over = refusals.Over
 refusal_of (NotOffered side) = refusals.NotOffered side
 
+abbrev pub refusal_number : Refusal → ℕ
+refusal_number refusals.Over = 1
+refusal_number (refusals.NotOffered One) = 2
+refusal_number (refusals.NotOffered Two) = 3
+
 -- a refused pair leaves the bytes as they are; after an accepted one they stand for the next state, whose result is answered
 abbrev pub AnswersAs : Answer → State → Parts → Parts → Result BattleResult Refusal → Type 0
 AnswersAs (Refused why) next old new result = (result ≡ Err (refusal_of why)) × (new ≡ old)

@@ -7,10 +7,10 @@ ghost use Rattle.gen1_machine.specs.State.{State, first_state, usual_terms};
 ghost use Rattle.gen1_layout.specs.Reading.{IsLoadedAs};
 ghost use Rattle.gen1_layout.specs.ReadingMeaning.{IsBattle, StandsForSome};
 ghost use Rattle.gen1_layout.specs.Within.{Stands};
-ghost use Rattle.gen1_engine.specs.Replaying.{AnswersBytes, LogsBytes, Replays, is_write_fault};
+ghost use Rattle.gen1_engine.specs.Replaying.{AnswersBytes, LogsBytes, Replays, TellsBytes, is_write_fault};
 ghost use Rattle.gen1_engine.specs.Updating.{Answers, IsBounded, Logs, Tells, result_of};
 
-use crate::replaying::{ReplayFault, replay, update_by_bytes};
+use crate::replaying::{ReplayFault, replay, update_by_bytes, update_events_by_bytes};
 use crate::result::{BattleResult, Refusal};
 use crate::updating::{result, update, update_events};
 use gen1_events::LogBuf;
@@ -203,6 +203,25 @@ impl Battle {
         ensures short { IsOk result → length (codes_of events.new.items) ≤ 512 }
     {
         update_events(&mut self.packed, one, two, events)
+    }
+
+    /// The same by two bytes, of which one that stands for no choice is not offered.
+    ///
+    /// # Errors
+    ///
+    /// As `update` has them; battle and list stay as they are.
+    pub fn update_events_by_bytes(
+        &mut self,
+        one: u8,
+        two: u8,
+        events: &mut EventList,
+    ) -> Result<BattleResult, Refusal>
+        ensures answers { (s : State) → Stands self.old s → AnswersBytes s (one, two) self.old self.new result }
+        ensures tells { (s : State) → Stands self.old s → TellsBytes s (one, two) events.old events.new }
+        // There is room for their bytes in a buffer.
+        ensures short { IsOk result → length (codes_of events.new.items) ≤ 512 }
+    {
+        update_events_by_bytes(&mut self.packed, one, two, events)
     }
 
     /// Updates by pairs of bytes of choices, one after the other, and writes the log bytes of each.

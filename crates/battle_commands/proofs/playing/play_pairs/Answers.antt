@@ -1,5 +1,6 @@
 use Rattle.std.proofs.Common.{Err, Some, ap, arith, get_or, length, refl, sym, ◌<◌, ◌∙◌}
 use Rattle.gen1_engine.specs.Replaying.{step_by_bytes}
+use Rattle.gen1_engine.specs.Updating.{refusal_number}
 use Rattle.battle_commands.specs.declared.fault.ToolFault.TheVariants.{Pair}
 use Rattle.battle_commands.proofs.Outcomes.{or_false}
 use Rattle.battle_commands.proofs.Standing.{answered_err, answered_ok, answers_memory, answers_over, answers_refused, answers_write, stood_first, stood_more}
@@ -15,7 +16,7 @@ returns-in-Err-clause-answers g c s h =
     let u = answered_err t.answer t.state _ _ _ (c.in-Err.ensures.answers r.state r.stands) in
     let inside : c.loop-number.number < length c.args.pairs.now = omega arith in
     let a = answers_refused (Unit {0}) c.args.pairs.now c.loop-number.number r u.0 inside u.1 in
-    (a.0 ∙ ap (λ n. Some (Pair c.loop-number.number n)) (sym (c.number-refusal.ensures ∙ ap _ u.2)), a.1)
+    (a.0 ∙ ap (λ n. Some (Pair c.loop-number.number n)) (sym (c.number-refusal.ensures ∙ ap refusal_number u.2)), a.1)
 
 pub returns-in-Err-text_of-clause-answers : goal.returns-in-Err-text_of-clause-answers
 returns-in-Err-text_of-clause-answers g c s h =
