@@ -14,6 +14,9 @@ const QUICK_ATTACK: u8 = 98;
 
 const COUNTER: u8 = 68;
 
+// At equal Speed a draw below this puts side 1 first.
+const SIDE_1_BELOW: u8 = 128;
+
 // The side that acts first: by the picked moves, then by Speed, then by a draw.
 pub(crate) fn first_side<R: Rolls>(battle: &Packed, random: &mut R) -> Side
     ensures shown { Orders R.byte R.next R.SPAN battle.now random.old random.new result in_order }
@@ -40,7 +43,7 @@ fn faster_side<R: Rolls>(battle: &Packed, random: &mut R) -> Side
     if one < two {
         return Side::Two;
     }
-    if random.draw() < 128 {
+    if random.draw() < SIDE_1_BELOW {
         return Side::One;
     }
     Side::Two

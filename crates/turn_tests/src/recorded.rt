@@ -29,17 +29,16 @@ pub(crate) fn played(
     updates: &[Update],
 ) -> Result<usize, Fail> {
     let mut battle = Packed::with_limit(one, two, seed, rules, limit);
-    let mut as_recorded = 0;
-    for update in updates {
+    for (number, update) in updates.iter().enumerate() {
         let first = Choice::from_byte(update.choices.0).ok_or("no such choice")?;
         let second = Choice::from_byte(update.choices.1).ok_or("no such choice")?;
         let events = play(&mut battle, first, second);
-        if !is_log(&events, update.log) || !are_bytes(battle.as_bytes(), &update.bytes) {
-            break;
+        let log = log_of(&events);
+        if !is_written(&log, &[update.log]) || !is_written(battle.as_bytes(), &update.bytes) {
+            return Ok(number);
         }
-        as_recorded += 1;
     }
-    Ok(as_recorded)
+    Ok(updates.len())
 }
 
 // The update that was asked for; a turn draws from the generator in the bytes, and leaves it there.
@@ -58,29 +57,26 @@ fn play(battle: &mut Packed, one: Choice, two: Choice) -> EventList {
     events
 }
 
-fn is_log(events: &EventList, text: &str) -> bool {
+fn log_of(events: &EventList) -> LogBuf {
     let mut log = LogBuf::new();
     for event in events {
         write(event, &mut log);
     }
-    is_written(&log, text)
+    log
 }
 
-fn are_bytes(bytes: &[u8], lines: &[&str; 7]) -> bool {
-    let (header, sides) = bytes.split_at(24);
-    let [first, rest @ ..] = lines;
-    is_written(header, first)
-        && sides
-            .chunks_exact(60)
-            .zip(rest)
-            .all(|(part, line)| is_written(part, line))
-}
-
-// Whether these are the bytes, two digits each.
-fn is_written(bytes: &[u8], text: &str) -> bool {
-    let digits = text.as_bytes();
-    let mut pairs = bytes.iter().zip(digits.chunks_exact(2));
-    digits.len() == 2 * bytes.len() && pairs.all(|(byte, pair)| is_pair(*byte, pair))
+// Whether these are the bytes, two digits each, line after line.
+fn is_written(bytes: &[u8], lines: &[&'static str]) -> bool {
+    let mut left = bytes.iter();
+    for line in lines {
+        for pair in line.as_bytes().chunks_exact(2) {
+            match left.next() {
+                Some(byte) if is_pair(*byte, pair) => {}
+                _ => return false,
+            }
+        }
+    }
+    left.next().is_none()
 }
 
 fn is_pair(byte: u8, pair: &[u8]) -> bool {

@@ -29,9 +29,9 @@ returns-then-one-two t c = record {
       (p.drawn, h, λ begins. choose-false _ _ _ p e ∙ choose-true _ _ _ p e');
 }
 
-pub returns-then-draw-lt128 : goal.returns-then-draw-lt128
+pub returns-then-draw-lt-SIDE_1_BELOW : goal.returns-then-draw-lt-SIDE_1_BELOW
 unfolding in_order_of_speed
-returns-then-draw-lt128 t c = record {
+returns-then-draw-lt-SIDE_1_BELOW t c = record {
   shown = λ origin g events p h.
       let one = c.current_stat-one.ensures.stands _ _ h.shows.within refl in
       let two = c.current_stat-two.ensures.stands _ _ h.shows.within refl in
@@ -40,7 +40,7 @@ returns-then-draw-lt128 t c = record {
         p.drawn + 1,
         drawn_next h c.draw.ensures.left,
         λ begins. choose-false _ _ _ p e ∙ choose-false _ _ _ p e'
-            ∙ tossed_one begins p c.draw.result (drawn_byte c.draw.result h c.draw.ensures.drawn) (below _ _ c.if-draw-lt128.true),
+            ∙ tossed_one begins p c.draw.result (drawn_byte c.draw.result h c.draw.ensures.drawn) (below _ _ c.if-draw-lt-SIDE_1_BELOW.true),
       );
 }
 
@@ -55,6 +55,6 @@ returns t c = record {
         p.drawn + 1,
         drawn_next h c.draw.ensures.left,
         λ begins. choose-false _ _ _ p e ∙ choose-false _ _ _ p e'
-            ∙ tossed_two begins p c.draw.result (drawn_byte c.draw.result h c.draw.ensures.drawn) (not_below _ _ c.if-draw-lt128.false),
+            ∙ tossed_two begins p c.draw.result (drawn_byte c.draw.result h c.draw.ensures.drawn) (not_below _ _ c.if-draw-lt-SIDE_1_BELOW.false),
       );
 }
