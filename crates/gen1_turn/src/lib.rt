@@ -15,5 +15,5 @@ mod updating;
 mod using;
 
 pub use acting::act;
-pub use gen1_requests::{replace, send_out, start};
+pub use gen1_requests::{Choices, offered, replace, send_out, start};
 pub use updating::turn;
