@@ -7,3 +7,5 @@ pub mod Planning
 pub mod Counted
 -- Any living member, place by place.
 pub mod Six
+-- Draws until one meets a test.
+pub mod Searching

@@ -8,8 +8,8 @@ use gen1_layout::Packed;
 use gen1_machine::Side;
 use gen1_tables::Element::{self, Electric, Fighting, Flying, Ghost, Ground, Normal, Psychic};
 
-// Whether a type row of 0 has the type of a move and a type of the member of `side` that is out.
-pub(crate) fn is_immune(battle: &Packed, side: Side, kind: Element) -> bool
+/// Whether a type row of 0 has the type of a move and a type of the member of `side` that is out (docs/MECHANICS.md, "Types").
+pub fn is_immune(battle: &Packed, side: Side, kind: Element) -> bool
     ensures stands { Reads battle.now result λ f. is_immune kind (active_in side f) }
 {
     if has_no_effect(kind, battle.first_type(side)) {

@@ -13,6 +13,7 @@ mod misses;
 pub use confusing::confuse;
 pub use counting::draw_count;
 pub use failing::fail;
+pub use immunity::is_immune;
 pub use known::Known;
 pub use living::{has_frozen_member, has_marked_sleeper};
 pub use misses::{hit_or_miss, must_hit, note_miss};

@@ -45,7 +45,7 @@ fn any_living(battle: &Packed, side: Side, clause: Clause) -> bool
     one | (two | (three | (four | (five | six))))
 }
 
-fn counts_at(battle: &Packed, side: Side, place: usize, clause: Clause) -> bool
+fn counts_at(battle: &Packed, side: Side, place: u8, clause: Clause) -> bool
     requires low { 1 ≤ place }
     requires high { place ≤ 6 }
     ensures packs { ReadsPacked battle.now result λ f. (is_living (member_at place (party side f)) && counts clause (member_at place (party side f)).status) }
@@ -55,7 +55,7 @@ fn counts_at(battle: &Packed, side: Side, place: usize, clause: Clause) -> bool
     living & counted
 }
 
-fn has_what_counts(battle: &Packed, side: Side, place: usize, clause: Clause) -> bool
+fn has_what_counts(battle: &Packed, side: Side, place: u8, clause: Clause) -> bool
     requires low { 1 ≤ place }
     requires high { place ≤ 6 }
     ensures packs { ReadsPacked battle.now result λ f. counts clause (member_at place (party side f)).status }

@@ -1,12 +1,15 @@
 -- The conditions in an active block: the bits as a number, and the numbers beside them.
-use Rattle.std.proofs.Common.{Bool, None, Option, Some, arith, false, is_some, refl, true, unwrap_or, ℕ, ◌+◌, ◌<◌, ◌≡◌, ◌≤◌}
+use Rattle.std.proofs.Common.{Bool, List, None, Option, Some, ap, arith, drop, false, is_some, refl, set, sym, take, true, unwrap_or, ℕ, ◌++◌, ◌+◌, ◌-◌, ◌<◌, ◌≡◌, ◌≤◌, ◌∙◌}
+use Rattle.std.proofs.lemmas.List.{set-append_left, set-append_right}
+use Rattle.gen1_stats.specs.Members.{Member}
 use Rattle.std.specs.Prelude.{if◌then◌else◌}
 use Rattle.gen1_machine.specs.declared.picks.DisabledSlot.{DisabledSlot}
 use Rattle.gen1_machine.specs.Rules.{bit_of}
 use Rattle.gen1_machine.specs.Conditions.{ActiveConditions, Storing, Underway}
-use Rattle.gen1_machine.specs.Layout.{condition_bits, conditions_number, disabled_slot, disabled_turns, energy_of, turns_byte}
+use Rattle.gen1_machine.specs.State.{Active}
+use Rattle.gen1_machine.specs.Layout.{active_block, condition_bits, conditions_number, disabled_slot, disabled_turns, energy_of, turns_byte}
 use Rattle.gen1_layout.specs.Decoding.{turns_stored}
-use Rattle.gen1_layout.specs.Flags.{SameNumbers}
+use Rattle.gen1_layout.specs.Flags.{SameNumbers, count_bytes}
 use Rattle.gen1_layout.specs.Storable.{IsStorableConditions, IsStorableUnderway, IsStorableBide}
 use Rattle.gen1_layout.proofs.Bits.{bits_of-is, bits_of-lt}
 
@@ -23,6 +26,22 @@ count_back (Some n) = refl
 pub disabled_back : (o : Option DisabledSlot) → is_some o ≡ true → Some (record { slot = disabled_slot o; turns = disabled_turns o }) ≡ o
 disabled_back None e = cc
 disabled_back (Some d) e = refl
+
+-- a number that is written, and bits that are
+
+-- the active block once the bits are written
+abbrev pub marked : Member → Active → ActiveConditions → List ℕ
+marked m a new = take 21 (active_block m (record a { conditions = new })) ++ drop 21 (active_block m a)
+
+pub count_block : (at byte : ℕ) (m : Member) (a : Active) (new : ActiveConditions) → 21 ≤ at → at < 29
+    → count_bytes new ≡ set (count_bytes a.conditions) (at - 21) byte
+    → set (marked m a new) at byte ≡ active_block m (record a { conditions = new })
+count_block at byte m a new low high counted =
+    let front = take 21 (active_block m (record a { conditions = new })) in
+    let old = count_bytes a.conditions in
+    let back = drop 29 (active_block m a) in
+    set-append_right front (old ++ back) 21 at byte refl low
+    ∙ ap (λ (l : List ℕ). front ++ l) (set-append_left old back (at - 21) byte (omega arith) ∙ ap (λ (l : List ℕ). l ++ back) (sym counted))
 
 -- Bide, thrashing and trapping, of which one at most is on
 

@@ -223,6 +223,10 @@ module _ {g : Setting} {p : Parts} {f : Field} (h : Packs g p f) where
   pub ok_inside : (s : Side) (place : ℕ) → 1 ≤ place → place ≤ length (party s f).members → IsMemberUnder g.terms.rules (member_at place (party s f))
   ok_inside s place low high = All-get_or (IsMemberUnder g.terms.rules) (party s f).members (place - 1) nobody (omega arith) (members_in s).each
 
+  -- and where there is none
+  pub nobody_past : (s : Side) (place : ℕ) → length (party s f).members < place → member_at place (party s f) ≡ nobody
+  nobody_past s place beyond = get_or-past (party s f).members (place - 1) nobody (omega arith)
+
   pub stats_fit_at : (s : Side) (place : ℕ) → ((member_at place (party s f)).max < 65536) × ((member_at place (party s f)).attack < 65536)
       × ((member_at place (party s f)).defense < 65536) × ((member_at place (party s f)).speed < 65536) × ((member_at place (party s f)).special < 65536)
   stats_fit_at s place = elim (ok_at s place) [

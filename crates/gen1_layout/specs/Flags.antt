@@ -1,6 +1,7 @@
 -- Condition bits: several at once by their places, what stands beside them, and what a change of one bit leaves alone.
-use Rattle.std.specs.Prelude.{Bool, List, [], bit_or, false, slice_index_or, ℕ, ◌^◌, ◌||◌, ◌≡◌, ◌∷◌}
+use Rattle.std.specs.Prelude.{Bool, List, [], bit_or, false, slice_index_or, unwrap_or, ℕ, ◌^◌, ◌||◌, ◌≡◌, ◌∷◌}
 use Rattle.gen1_machine.specs.Conditions.{ActiveConditions}
+use Rattle.gen1_machine.specs.Layout.{disabled_slot, disabled_turns, energy_of, high_byte, low_byte, turns_of}
 
 -- two sets of conditions have the same numbers
 pub record SameNumbers (c d : ActiveConditions) : Type 0 where
@@ -11,6 +12,12 @@ pub record SameNumbers (c d : ActiveConditions) : Type 0 where
   pub substitute : c.substitute ≡ d.substitute
   pub bad_poison : c.bad_poison ≡ d.bad_poison
   pub disabled : c.disabled ≡ d.disabled
+
+-- the bytes of the active block that hold these numbers, from byte 21 on
+abbrev pub count_bytes : ActiveConditions → List ℕ
+count_bytes c =
+    unwrap_or c.substitute 0 ∷ unwrap_or c.confused 0 ∷ disabled_slot c.disabled ∷ disabled_turns c.disabled ∷ unwrap_or c.bad_poison 0
+    ∷ turns_of c.underway ∷ low_byte (energy_of c.underway.bide) ∷ high_byte (energy_of c.underway.bide) ∷ []
 
 -- a set of conditions as a number, by the places of their bits
 abbrev pub set_at : List ℕ → ℕ

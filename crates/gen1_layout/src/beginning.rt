@@ -108,11 +108,11 @@ fn header_bytes(seed: &[u8], rules: Rules, limit: TurnLimit) -> [u8; 24]
 }
 
 // The bytes of the member at a place from 1, or zeros.
-fn block_of(members: &[Member], place: usize) -> [u8; 24]
+fn block_of(members: &[Member], place: u8) -> [u8; 24]
     requires { 1 ≤ place }
     ensures { result ≡ member_block (slice_index_or members.now (place - 1) nobody) }
 {
-    match members.get(place - 1) {
+    match members.get(place as usize - 1) {
         Some(member) => member_bytes(member),
         None => [0; 24],
     }
@@ -155,21 +155,21 @@ fn member_bytes(member: &Member) -> [u8; 24]
     ]
 }
 
-fn id_in(moves: &[KnownMove], slot: usize) -> u8
+fn id_in(moves: &[KnownMove], slot: u8) -> u8
     requires { 1 ≤ slot }
     ensures { result ≡ (known_in slot moves.now).id }
 {
-    match moves.get(slot - 1) {
+    match moves.get(slot as usize - 1) {
         Some(known) => known.id.number(),
         None => 0,
     }
 }
 
-fn pp_in(moves: &[KnownMove], slot: usize) -> u8
+fn pp_in(moves: &[KnownMove], slot: u8) -> u8
     requires { 1 ≤ slot }
     ensures { result ≡ (known_in slot moves.now).pp }
 {
-    match moves.get(slot - 1) {
+    match moves.get(slot as usize - 1) {
         Some(known) => known.pp,
         None => 0,
     }

@@ -1,12 +1,12 @@
 //! The conditions of a member that is out, with their numbers (docs/LAYOUT.md, "Active block", "Condition bits").
 ghost use Rattle.gen1_layout.specs.Words.{ActiveConditions, Changes, Field, List, None, Reads, Setting, Some, Within, WritesConditions, WritesConditionsIf, active_in, changed_conditions, conditions_in, false, length, member_in, slice_index_or, slice_set, underway_in, ℕ};
-ghost use Rattle.std.specs.Prelude.{if◌then◌else◌, slice_index, ◌<◌, ◌^◌, ◌≡◌, ◌≤◌};
+ghost use Rattle.std.specs.Prelude.{if◌then◌else◌, slice_index, ◌-◌, ◌<◌, ◌^◌, ◌≡◌, ◌≤◌};
 ghost use Rattle.gen1_machine.specs.Conditions.{after_haze, broken_off};
 ghost use Rattle.gen1_machine.specs.Layout.{active_block, condition_bits, conditions_number, energy_of, turns_byte};
 ghost use Rattle.gen1_machine.specs.Valid.{IsCount};
 ghost use Rattle.gen1_layout.specs.Decoding.{turns_stored};
-ghost use Rattle.gen1_layout.specs.Flags.{SameNumbers, any_at, set_at};
-ghost use Rattle.gen1_layout.specs.Storable.{IsStorableDisabled};
+ghost use Rattle.gen1_layout.specs.Flags.{SameNumbers, any_at, count_bytes, set_at};
+ghost use Rattle.gen1_layout.specs.Storable.{IsStorableConditions, IsStorableDisabled};
 
 use crate::codes::{byte_of_count, byte_of_disabled_slot, byte_of_disabled_turns};
 use crate::{Conditions, Packed};
@@ -140,40 +140,45 @@ impl Packed {
         put_long!(self.active_mut(side), 17..21, now.bits());
     }
 
+    // Sets or clears a condition, the place of whose bit is k, and writes the byte of the active block that belongs to it.
+    fn put_count(&mut self, side: Side, which: Conditions, on: bool, at: usize, byte: u8)
+        requires first { 21 ≤ at }
+        requires last { at < 29 }
+        ensures stands { (k : ℕ) → which.0 ≡ 2 ^ k → k < 17 → (g : Setting) (f : Field) (change : ActiveConditions → ActiveConditions) (new : ActiveConditions) → Within g self.old f
+            → change (conditions_in side f) ≡ new
+            → condition_bits new ≡ slice_set (condition_bits (conditions_in side f)) k on
+            → count_bytes new ≡ slice_set (count_bytes (conditions_in side f)) (at - 21) byte
+            → IsStorableConditions (length (member_in side f).moves) new
+            → Within g self.new (changed_conditions side change f) }
+    {
+        let set = self.conditions(side).with(which, on);
+        let active = self.active_mut(side);
+        put_long!(active, 17..21, set.bits());
+        active[at] = byte;
+    }
+
     /// Writes the HP of a Substitute, at most 249, or that there is none.
     pub fn put_substitute(&mut self, side: Side, hp: Option<u8>)
         ensures stands { WritesConditionsIf side self.old self.new (λ c. record c { substitute = hp }) λ g f. IsCount 0 249 hp }
     {
-        let on = hp.is_some();
         let byte = byte_of_count(hp);
-        let now = self.conditions(side).with(Conditions::SUBSTITUTE, on);
-        let active = self.active_mut(side);
-        put_long!(active, 17..21, now.bits());
-        active[21] = byte;
+        self.put_count(side, Conditions::SUBSTITUTE, hp.is_some(), 21, byte);
     }
 
     /// Writes for how many turns more it is confused, at most 5, or that it is not.
     pub fn put_confused(&mut self, side: Side, turns: Option<u8>)
         ensures stands { WritesConditionsIf side self.old self.new (λ c. record c { confused = turns }) λ g f. IsCount 0 5 turns }
     {
-        let on = turns.is_some();
         let byte = byte_of_count(turns);
-        let now = self.conditions(side).with(Conditions::CONFUSED, on);
-        let active = self.active_mut(side);
-        put_long!(active, 17..21, now.bits());
-        active[22] = byte;
+        self.put_count(side, Conditions::CONFUSED, turns.is_some(), 22, byte);
     }
 
     /// Writes the counter that Toxic begins, at most 64, or that it is not badly poisoned.
     pub fn put_bad_poison(&mut self, side: Side, count: Option<u8>)
         ensures stands { WritesConditionsIf side self.old self.new (λ c. record c { bad_poison = count }) λ g f. IsCount 0 64 count }
     {
-        let on = count.is_some();
         let byte = byte_of_count(count);
-        let now = self.conditions(side).with(Conditions::BAD_POISON, on);
-        let active = self.active_mut(side);
-        put_long!(active, 17..21, now.bits());
-        active[25] = byte;
+        self.put_count(side, Conditions::BAD_POISON, count.is_some(), 25, byte);
     }
 
     /// Writes what Disable bars, a slot that holds a move for at most 8 turns more, or that it bars none.
@@ -223,10 +228,7 @@ impl Packed {
             → turns ≤ 3 → (underway_in side f).bide ≡ None → (underway_in side f).trapping ≡ None
             → Within g self.new (changed_conditions side change f) }
     {
-        let now = self.conditions(side).with(Conditions::THRASH, true);
-        let active = self.active_mut(side);
-        put_long!(active, 17..21, now.bits());
-        active[26] = turns;
+        self.put_count(side, Conditions::THRASH, true, 26, turns);
     }
 
     /// Writes that thrashing is off.
@@ -234,10 +236,7 @@ impl Packed {
         ensures stands { WritesConditions side self.old self.new λ c. record c { underway = record c.underway { thrash = None } } }
     {
         let turns = self.turns_without(side, Conditions::THRASH);
-        let now = self.conditions(side).with(Conditions::THRASH, false);
-        let active = self.active_mut(side);
-        put_long!(active, 17..21, now.bits());
-        active[26] = turns;
+        self.put_count(side, Conditions::THRASH, false, 26, turns);
     }
 
     /// Writes that it traps the foe for so many turns more, at most 4. Neither Bide nor thrashing is on.
@@ -247,10 +246,7 @@ impl Packed {
             → turns ≤ 4 → (underway_in side f).bide ≡ None → (underway_in side f).thrash ≡ None
             → Within g self.new (changed_conditions side change f) }
     {
-        let now = self.conditions(side).with(Conditions::TRAPPING, true);
-        let active = self.active_mut(side);
-        put_long!(active, 17..21, now.bits());
-        active[26] = turns;
+        self.put_count(side, Conditions::TRAPPING, true, 26, turns);
     }
 
     /// Writes that trapping is off.
@@ -258,10 +254,7 @@ impl Packed {
         ensures stands { WritesConditions side self.old self.new λ c. record c { underway = record c.underway { trapping = None } } }
     {
         let turns = self.turns_without(side, Conditions::TRAPPING);
-        let now = self.conditions(side).with(Conditions::TRAPPING, false);
-        let active = self.active_mut(side);
-        put_long!(active, 17..21, now.bits());
-        active[26] = turns;
+        self.put_count(side, Conditions::TRAPPING, false, 26, turns);
     }
 
     /// Breaks off Bide, thrashing, trapping and charging.

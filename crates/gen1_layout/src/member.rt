@@ -16,12 +16,12 @@ use gen1_tables::Stat;
 
 impl Packed {
     /// The place of the member that is out, from 1 to 6.
-    pub fn place(&self, side: Side) -> usize
+    pub fn place(&self, side: Side) -> u8
         ensures low { 1 ≤ result }
         ensures high { result ≤ 6 }
         ensures stands { Reads self.now result λ f. (active_in side f).place }
     {
-        (self.active(side)[0] as usize).max(1).min(6)
+        self.active(side)[0].max(1).min(6)
     }
 
     /// The level of the member that is out, from 1 to 100.
@@ -69,25 +69,25 @@ impl Packed {
     }
 
     /// The number of the move in a slot from 1 to 4, itself from 1 to 164, or 0 where it has none there.
-    pub fn move_in(&self, side: Side, slot: usize) -> u8
+    pub fn move_in(&self, side: Side, slot: u8) -> u8
         requires low { 1 ≤ slot }
         requires high { slot ≤ 4 }
         ensures stands { Reads self.now result λ f. (known_in slot (member_in side f).moves).id }
     {
-        self.member_out(side)[slot + 14]
+        self.member_out(side)[slot as usize + 14]
     }
 
     /// The PP of the move in a slot from 1 to 4, from 0 to 63; 0 where it has none there.
-    pub fn pp(&self, side: Side, slot: usize) -> u8
+    pub fn pp(&self, side: Side, slot: u8) -> u8
         requires low { 1 ≤ slot }
         requires high { slot ≤ 4 }
         ensures stands { Reads self.now result λ f. (known_in slot (member_in side f).moves).pp }
     {
-        self.member_out(side)[slot + 18]
+        self.member_out(side)[slot as usize + 18]
     }
 
     /// The number of the species of the member at a place from 1 to 6, itself from 1 to 151, or 0 where there is none.
-    pub fn species_at(&self, side: Side, place: usize) -> u8
+    pub fn species_at(&self, side: Side, place: u8) -> u8
         requires low { 1 ≤ place }
         requires high { place ≤ 6 }
         ensures stands { Reads self.now result λ f. (member_at place (party side f)).species }
@@ -97,7 +97,7 @@ impl Packed {
     }
 
     /// The HP of the member at a place from 1 to 6, from 0 to its maximum HP; 0 where there is none.
-    pub fn hp_at(&self, side: Side, place: usize) -> u16
+    pub fn hp_at(&self, side: Side, place: u8) -> u16
         requires low { 1 ≤ place }
         requires high { place ≤ 6 }
         ensures stands { Reads self.now result λ f. (member_at place (party side f)).hp }
@@ -107,7 +107,7 @@ impl Packed {
     }
 
     /// The status of the member at a place from 1 to 6, with 1 to 7 turns for a sleep; healthy where there is none.
-    pub fn status_at(&self, side: Side, place: usize) -> Status
+    pub fn status_at(&self, side: Side, place: u8) -> Status
         requires low { 1 ≤ place }
         requires high { place ≤ 6 }
         ensures stands { Reads self.now result λ f. (member_at place (party side f)).status }
@@ -118,7 +118,7 @@ impl Packed {
     }
 
     /// The level of the member at a place from 1 to 6, from 1 to 100; 0 where there is none.
-    pub fn level_at(&self, side: Side, place: usize) -> u8
+    pub fn level_at(&self, side: Side, place: u8) -> u8
         requires low { 1 ≤ place }
         requires high { place ≤ 6 }
         ensures packs { ReadsPacked self.now result λ f. (member_at place (party side f)).level }
@@ -127,7 +127,7 @@ impl Packed {
     }
 
     /// The most HP that the member at a place from 1 to 6 can have, from 11 to 999; 0 where there is none.
-    pub fn max_hp_at(&self, side: Side, place: usize) -> u16
+    pub fn max_hp_at(&self, side: Side, place: u8) -> u16
         requires low { 1 ≤ place }
         requires high { place ≤ 6 }
         ensures packs { ReadsPacked self.now result λ f. (member_at place (party side f)).max }
@@ -136,7 +136,7 @@ impl Packed {
     }
 
     /// The own Attack, Defense, Speed and Special of the member at a place from 1 to 6, from 5 to 999; 0 where there is none.
-    pub fn own_stats_at(&self, side: Side, place: usize) -> [u16; 4]
+    pub fn own_stats_at(&self, side: Side, place: u8) -> [u16; 4]
         requires low { 1 ≤ place }
         requires high { place ≤ 6 }
         ensures packs { ReadsPacked self.now result λ f. own_stats_of (member_at place (party side f)) }
@@ -152,29 +152,29 @@ impl Packed {
 
     /// The number of the move that the member at a place from 1 to 6 has in a slot from 1 to 4, itself from 1 to 164; 0 where
     /// there is none.
-    pub fn move_at(&self, side: Side, place: usize, slot: usize) -> u8
+    pub fn move_at(&self, side: Side, place: u8, slot: u8) -> u8
         requires low { 1 ≤ place }
         requires high { place ≤ 6 }
         requires low_slot { 1 ≤ slot }
         requires high_slot { slot ≤ 4 }
         ensures packs { ReadsPacked self.now result λ f. (known_in slot (member_at place (party side f)).moves).id }
     {
-        self.member(side, place)[slot + 14]
+        self.member(side, place)[slot as usize + 14]
     }
 
     /// The PP of that move, from 0 to 63; 0 where there is none.
-    pub fn pp_at(&self, side: Side, place: usize, slot: usize) -> u8
+    pub fn pp_at(&self, side: Side, place: u8, slot: u8) -> u8
         requires low { 1 ≤ place }
         requires high { place ≤ 6 }
         requires low_slot { 1 ≤ slot }
         requires high_slot { slot ≤ 4 }
         ensures packs { ReadsPacked self.now result λ f. (known_in slot (member_at place (party side f)).moves).pp }
     {
-        self.member(side, place)[slot + 18]
+        self.member(side, place)[slot as usize + 18]
     }
 
     /// Whether the member at a place from 1 to 6 sleeps by the foe's move, and the sleep clause counts it.
-    pub fn mark(&self, side: Side, place: usize) -> bool
+    pub fn mark(&self, side: Side, place: u8) -> bool
         requires low { 1 ≤ place }
         requires high { place ≤ 6 }
         ensures packs { ReadsPacked self.now result λ f. is_marked (member_at place (party side f)).status }
@@ -195,7 +195,7 @@ impl Packed {
         one | (two | (three | (four | (five | six))))
     }
 
-    fn lives_at(&self, side: Side, place: usize) -> bool
+    fn lives_at(&self, side: Side, place: u8) -> bool
         requires low { 1 ≤ place }
         requires high { place ≤ 6 }
         ensures packs { ReadsPacked self.now result λ f. is_living (member_at place (party side f)) }
@@ -236,7 +236,7 @@ impl Packed {
     }
 
     /// Writes the PP of the move in a slot from 1 to 4, at most 63.
-    pub fn put_pp(&mut self, side: Side, slot: usize, pp: u8)
+    pub fn put_pp(&mut self, side: Side, slot: u8, pp: u8)
         requires low { 1 ≤ slot }
         requires high { slot ≤ 4 }
         ensures stands { (g : Setting) (f : Field) (change : Member → Member) → Within g self.old f
@@ -244,6 +244,6 @@ impl Packed {
             → slot ≤ length (member_in side f).moves → pp ≤ 63 → Within g self.new (changed_member side change f) }
     {
         let place = self.place(side);
-        self.member_mut(side, place)[slot + 18] = pp;
+        self.member_mut(side, place)[slot as usize + 18] = pp;
     }
 }

@@ -9,6 +9,7 @@ ghost use Rattle.gen1_layout.specs.Parts.{active_of, bytes_of_side, bytes_of_sid
 ghost use Rattle.gen1_layout.specs.Lending.{LendsActive, LendsBothSides, LendsHeader, LendsInTwo, LendsMember, LendsPart, LendsSide, LendsSides};
 
 use gen1_machine::Side;
+use std::alloc::AllocError;
 use std::marker::Model;
 
 /// A battle in 384 bytes (docs/LAYOUT.md), layout version 3.
@@ -26,6 +27,19 @@ impl Model for Packed {
     ghost view = { λ p. parts_of p.0 };
 
     ghost invariant = { λ p. length p.0 ≡ 384 };
+}
+
+impl Clone for Packed {
+    ghost use Rattle.std.specs.Prelude.{◌≡◌, ⊤};
+
+    ghost is_clone = { λ p q. q ≡ p };
+
+    ghost is_infallible = { λ _. ⊤ };
+
+    /// The same 384 bytes.
+    fn clone(&self) -> Result<Packed, AllocError> {
+        Ok(Packed(self.0))
+    }
 }
 
 impl Packed {
@@ -98,7 +112,7 @@ impl Packed {
     }
 
     /// The 24 bytes of a member (docs/LAYOUT.md, "Member"), by its place from 1, for writing.
-    pub fn member_mut(&mut self, side: Side, place: usize) -> &mut [u8]
+    pub fn member_mut(&mut self, side: Side, place: u8) -> &mut [u8]
         requires low { 1 ≤ place }
         requires high { place ≤ 6 }
         ensures* writes_back { sem 𝓛 (LendsMember side place self.entry result) }
@@ -147,7 +161,7 @@ impl Packed {
     }
 
     /// The 24 bytes of a member, by its place from 1.
-    pub fn member(&self, side: Side, place: usize) -> &[u8]
+    pub fn member(&self, side: Side, place: u8) -> &[u8]
         requires low { 1 ≤ place }
         requires high { place ≤ 6 }
         ensures value { result.now ≡ member_of side place self.now }
@@ -195,13 +209,13 @@ fn start_of_side(side: Side) -> usize
     }
 }
 
-fn start_of_member(side: Side, place: usize) -> usize
+fn start_of_member(side: Side, place: u8) -> usize
     requires low { 1 ≤ place }
     requires high { place ≤ 6 }
     ensures at { result ≡ member_starts side place }
     ensures within { result + 24 ≤ 384 }
 {
-    start_of_side(side) + 24 * (place - 1)
+    start_of_side(side) + 24 * (place as usize - 1)
 }
 
 const _: () = prove!(std::mem::size_of::<Packed>() == 384);

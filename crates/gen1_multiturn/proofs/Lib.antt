@@ -2,3 +2,11 @@
 pub mod Underways
 -- A charge that begins.
 pub mod Hiding
+-- What Counter sees.
+pub mod Countered
+-- What a move of fixed damage deals.
+pub mod Dealing
+-- The hits of a move, by its effect.
+pub mod ManyHits
+-- How many type rows apply to a hit.
+pub mod Rows

@@ -1,7 +1,6 @@
 //! Moves that charge for a turn before they strike (docs/MECHANICS.md, "Charging").
 ghost use Rattle.std.specs.Prelude.{◌≡◌};
 ghost use Rattle.gen1_layout.specs.Words.{Adds, AddsAtMost, Does, Event, Frame, HasRoom, List, Progress, Shows, active_in, false, length, member_in, move_at, true};
-ghost use Rattle.gen1_machine.specs.declared.picks.Pick.TheVariants.{Continue};
 ghost use Rattle.gen1_machine.specs.Charging.{begin_charge, charge, end_charge, make_current};
 ghost use Rattle.gen1_machine.specs.Conditions.{with_invulnerability};
 ghost use Rattle.gen1_machine.specs.Moves.{charges, hides};
@@ -9,7 +8,7 @@ ghost use Rattle.gen1_machine.specs.Picks.{used_by};
 ghost use Rattle.gen1_machine.specs.Progress.{on_conditions, only};
 ghost use Rattle.gen1_machine.specs.Valid.{IsUsedMove};
 ghost use Rattle.gen1_action.specs.Planned.{DoesTaking};
-ghost use Rattle.gen1_multiturn.specs.Anyway.{DoesAnyway};
+ghost use Rattle.gen1_multiturn.specs.Picked.{charge_picked};
 
 use gen1_action::Known;
 use gen1_layout::{Conditions, Packed};
@@ -17,15 +16,17 @@ use gen1_machine::{Event, EventList, Pick, Side, UsedMove};
 use gen1_rolls::Rolls;
 use gen1_tables::{Effect, MoveId};
 
-/// Charges the current move of `side`, with `Prepare`, if it charges and has not yet; for Fly and Dig the user is Invulnerable
-/// then. If it has, both conditions are cleared. A place in `events` is to be free, and nothing else changes
-/// (docs/MECHANICS.md, "Charging").
-pub fn charge(battle: &mut Packed, side: Side, id: MoveId, events: &mut EventList)
+/// Charges the move that `side` has picked, if it charges. In the first turn the picked move becomes the current one, the user is
+/// Charging, and for Fly and Dig also Invulnerable, and `Prepare` is written; `true` says that the action ends with that. In the
+/// second turn, in which Charging is on, both conditions are cleared. A place in `events` is to be free, and nothing else
+/// changes (docs/MECHANICS.md, "Charging").
+pub fn charge(battle: &mut Packed, side: Side, id: MoveId, events: &mut EventList) -> bool
     requires { HasRoom 1 events.old }
-    ensures shown { DoesAnyway battle.old events.old.items battle.new events.new.items (charge side Continue (move_at id)) }
+    ensures shown { Does battle.old events.old.items battle.new events.new.items result (charge_picked side (move_at id)) }
     ensures room { AddsAtMost 1 events.old events.new }
 {
-    charge_by(battle, side, Pick::Continue, id, events);
+    let pick = Pick::Use(battle.picked_move(side));
+    charge_by(battle, side, pick, id, events)
 }
 
 /// The same of the move that a pick takes up, in an action of which something is known. The answer is `true` where the action
@@ -55,8 +56,8 @@ pub fn make_current(battle: &mut Packed, side: Side, pick: Pick)
     battle.put_current_move(side, used);
 }
 
-// What a pick uses, beside the current move.
-fn used_by(pick: Pick, current: UsedMove) -> UsedMove
+/// What a pick uses: the move that is picked, or else the current one (docs/MECHANICS.md, "Picks").
+pub fn used_by(pick: Pick, current: UsedMove) -> UsedMove
     ensures { result ≡ used_by pick current }
 {
     match pick {

@@ -1,74 +1,13 @@
 //! Moves that last, by the words of docs/MECHANICS.md, "Going on" and "Charging", and the offsets of docs/LAYOUT.md. Both
 //! sides have a Tauros out: 353 HP, of which a quarter is 88.
-use arrayvec::ArrayVec;
-use gen1_layout::{Conditions, Packed};
-use gen1_machine::{DamageSource, Event, EventList, Side, Volatile};
+use crate::duel::{
+    CURRENT, ENERGY, FLAGS, FOE, KEPT, LAST, TURNS, USER, bytes_of, named, two_tauros, with,
+};
+use gen1_layout::Conditions;
+use gen1_machine::{DamageSource, Event, EventList, UsedMove, Volatile};
 use gen1_multiturn::{bide, charge, substitute, thrash, trap};
 use gen1_rolls::{LinkRandom, Rolls, Sweep};
-use gen1_stats::{MemberSpec, Team};
-use gen1_tables::{Element, MoveId, Species};
 use std::test::Fail;
-
-const USER: Side = Side::One;
-
-const FOE: Side = Side::Two;
-
-// Where the user's condition bits, turns, energy and kept accuracy stand, and the last damage.
-const FLAGS: usize = 185;
-
-const TURNS: usize = 194;
-
-const ENERGY: usize = 195;
-
-const KEPT: usize = 199;
-
-const LAST: usize = 3;
-
-fn named(name: &str) -> Result<MoveId, Fail> {
-    Ok(MoveId::from_name(name).ok_or("no such move")?)
-}
-
-fn two_tauros() -> Result<Packed, Fail> {
-    let mut moves = ArrayVec::new();
-    moves.push((named("Strength")?, 0));
-    let spec = MemberSpec {
-        species: Species::from_name("Tauros").ok_or("no such species")?,
-        level: 100,
-        dvs: [15; 4],
-        exp: [65535; 5],
-        moves,
-    };
-    let team = Team::new(&[spec])?;
-    let mut battle = Packed::new(&team, &team, [0; 10]);
-    for side in [USER, FOE] {
-        battle.put_sent_out(
-            side,
-            1,
-            Element::Normal,
-            Element::Normal,
-            [298, 288, 318, 238],
-        );
-    }
-    Ok(battle)
-}
-
-fn bytes_of(battle: &Packed) -> [u8; 384] {
-    let mut bytes = [0; 384];
-    for (place, byte) in bytes.iter_mut().zip(battle.as_bytes()) {
-        *place = *byte;
-    }
-    bytes
-}
-
-// These bytes with some others in their places.
-fn with(mut bytes: [u8; 384], changes: &[(usize, u8)]) -> [u8; 384] {
-    for change in changes {
-        if let Some(place) = bytes.get_mut(change.0) {
-            *place = change.1;
-        }
-    }
-    bytes
-}
 
 #[test]
 fn a_trap_begins(rt: HostRuntime) -> Result<(), Fail> {
@@ -172,30 +111,41 @@ fn an_energy_of_32768_lets_out_0(rt: HostRuntime) -> Result<(), Fail> {
 #[test]
 fn a_charge_hides_who_digs(rt: HostRuntime) -> Result<(), Fail> {
     // Charging is bit 4, and Invulnerable bit 5.
-    for (name, flags) in [
-        ("Dig", 48),
-        ("Fly", 48),
-        ("Solar Beam", 16),
-        ("Strength", 0),
-    ] {
+    for (name, flags) in [("Dig", 48), ("Fly", 48), ("Solar Beam", 16)] {
         let id = named(name)?;
         let mut battle = two_tauros()?;
+        battle.put_picked_move(USER, UsedMove::Slot(1));
         let before = bytes_of(&battle);
         let mut events = EventList::new();
-        charge(&mut battle, USER, id, &mut events);
-        assert_eq!(rt;
-            bytes_of(&battle),
-            with(before, &[(FLAGS, flags)]),
-            "{name}"
-        );
-        assert_eq!(rt;
-            events.first() == Some(&Event::Prepare(battle.who(USER), id)),
-            flags != 0
-        );
-        charge(&mut battle, USER, id, &mut events);
-        assert_eq!(rt; bytes_of(&battle), before, "{name}");
-        assert_eq!(rt; events.len(), if flags == 0 { 0 } else { 1 });
+        // The action ends with the first turn, in which the picked move becomes the current one.
+        assert_eq!(rt; charge(&mut battle, USER, id, &mut events), true);
+        let charging = with(before, &[(FLAGS, flags), (CURRENT, 1)]);
+        assert_eq!(rt; bytes_of(&battle), charging, "{name}");
+        assert_eq!(rt; charge(&mut battle, USER, id, &mut events), false);
+        assert_eq!(rt; bytes_of(&battle), with(before, &[(CURRENT, 1)]), "{name}");
+        let told = [Event::Prepare(battle.who(USER), id)];
+        assert_eq!(rt; events.as_slice(), told.as_slice());
     }
+    Ok(())
+}
+
+#[test]
+fn what_is_picked_is_charged(rt: HostRuntime) -> Result<(), Fail> {
+    // The current move was another: Struggle, which is 5.
+    let mut battle = two_tauros()?;
+    battle.put_current_move(USER, UsedMove::Struggle);
+    battle.put_picked_move(USER, UsedMove::Slot(1));
+    let before = bytes_of(&battle);
+    let mut events = EventList::new();
+    // A move that does not charge changes nothing, and the action goes on.
+    let ended = charge(&mut battle, USER, named("Strength")?, &mut events);
+    assert_eq!(rt; (ended, events.len()), (false, 0));
+    assert_eq!(rt; bytes_of(&battle), before);
+    charge(&mut battle, USER, named("Skull Bash")?, &mut events);
+    assert_eq!(rt;
+        bytes_of(&battle),
+        with(before, &[(FLAGS, 16), (CURRENT, 1)])
+    );
     Ok(())
 }
 

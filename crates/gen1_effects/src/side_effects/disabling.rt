@@ -99,7 +99,7 @@ fn names_slot(battle: &Packed, foe: Side, any_pp: bool, byte: u8) -> bool
     ensures stands { (g : Setting) (f : Field) → Within g battle.now f → any_pp ≡ has_pp (member_in foe f).moves
         → result ≡ names_slot (member_in foe f).moves byte }
 {
-    let slot = (byte % 4) as usize + 1;
+    let slot = byte % 4 + 1;
     let held = battle.move_in(foe, slot) > 0;
     let has_pp = battle.pp(foe, slot) > 0;
     held & (!any_pp | has_pp)

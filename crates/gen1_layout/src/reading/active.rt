@@ -60,7 +60,7 @@ fn is_active(side: &[u8]) -> bool
     if !(1..=6).contains(&place) {
         return false;
     }
-    let member = member_bytes(side, place as usize);
+    let member = member_bytes(side, place);
     member[0] != 0 && is_out(member, active_bytes(side))
 }
 

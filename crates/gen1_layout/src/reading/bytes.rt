@@ -21,14 +21,14 @@ pub(crate) fn long(bytes: &[u8], at: usize) -> u32
 }
 
 // The bytes of the place for a member, from 1 to 6.
-pub(crate) fn member_bytes(side: &[u8], place: usize) -> &[u8]
+pub(crate) fn member_bytes(side: &[u8], place: u8) -> &[u8]
     requires side { length side.now ≡ 180 }
     requires first { 1 ≤ place }
     requires last { place ≤ 6 }
     ensures value { result.now ≡ member_bytes place side.now }
     ensures len { length result.now ≡ 24 }
 {
-    let start = 24 * (place - 1);
+    let start = 24 * (place as usize - 1);
     &side[start..start + 24]
 }
 

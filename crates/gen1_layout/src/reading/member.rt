@@ -108,12 +108,13 @@ fn has_moves(block: &[u8]) -> bool
 }
 
 // Whether a slot is empty, or has a move that comes after other moves.
-fn is_slot(block: &[u8], slot: usize) -> bool
+fn is_slot(block: &[u8], slot: u8) -> bool
     requires block { length block.now ≡ 24 }
     requires first { 1 ≤ slot }
     requires last { slot ≤ 4 }
     ensures { IsTrue result ↔ PassesSlot slot block.now }
 {
+    let slot = slot as usize;
     let (id, pp) = (block[14 + slot], block[18 + slot]);
     if id == 0 {
         return pp == 0;

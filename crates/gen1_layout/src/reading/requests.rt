@@ -109,5 +109,5 @@ fn out_lives(side: &[u8]) -> bool
     requires place { IsBetween 1 6 (slice_index side.now 144) }
     ensures { result ≡ lives (out_bytes side.now) }
 {
-    lives(member_bytes(side, side[144] as usize))
+    lives(member_bytes(side, side[144]))
 }

@@ -31,7 +31,7 @@ fn are_stats_at(side: &[u8], turn: u16) -> bool
     requires active { PassesActiveAt turn side.now }
     ensures { IsTrue result ↔ PassesStatsAt turn side.now }
 {
-    turn == 0 || are_stats(member_bytes(side, side[144] as usize), active_bytes(side))
+    turn == 0 || are_stats(member_bytes(side, side[144]), active_bytes(side))
 }
 
 fn are_stats(member: &[u8], active: &[u8]) -> bool

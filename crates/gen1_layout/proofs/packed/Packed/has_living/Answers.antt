@@ -1,4 +1,4 @@
-use Rattle.gen1_layout.proofs.Words.{party, refl}
+use Rattle.gen1_layout.proofs.Words.{party}
 use Rattle.gen1_layout.proofs.WaysBack.{any_of_six, members_in}
 use Rattle.gen1_layout.proofs.packed.Packed.has_living.Goals as goal
 

@@ -1,4 +1,3 @@
-use Rattle.std.proofs.Common.{refl}
 use Rattle.gen1_stats.specs.Members.{is_marked}
 use Rattle.gen1_machine.specs.State.{member_at, party}
 use Rattle.gen1_layout.proofs.WaysBack.{bit_back}

@@ -1,4 +1,4 @@
-use Rattle.gen1_layout.proofs.Words.{arith, lit≤, member_ok, member_written, out_holds, refl, zero, ◌∙◌}
+use Rattle.gen1_layout.proofs.Words.{arith, member_ok, member_written, out_holds, refl, ◌∙◌}
 use Rattle.gen1_layout.proofs.packed.Packed.put_fallen.Goals as goal
 
 pub returns : goal.returns

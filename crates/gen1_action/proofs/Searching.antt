@@ -1,0 +1,53 @@
+-- How what is shown goes through draws until one meets a test.
+use Rattle.std.proofs.Common.{◌+◌, ◌≡◌}
+use Rattle.gen1_layout.proofs.Words.{Bool, Event, Frame, List, None, Option, Parts, Phase, Progress, ShowsDrawn, Some, ap, false, refl, sym, ℕ, ◌∙◌}
+use Rattle.gen1_rolls.specs.Draws.{FindsDraw, FindsNone}
+use Rattle.gen1_rolls.specs.Streams.{Stream, byte_at, first, span}
+use Rattle.gen1_rolls.proofs.Standing.{found_then, none_then, stands_there}
+use Rattle.gen1_machine.specs.Progress.{draw_until}
+
+-- what a search comes to
+
+searched : (test : ℕ → Bool) (f : ℕ → Phase) (p : Progress) (o : Option ℕ) → first p.stream p.drawn test ≡ o
+    → draw_until test f p ≡ elim o as (λ _. Progress) [ Some k ↦ f (byte_at p.stream k) (record p { drawn = k + 1 }) | None ↦ record p { drawn = p.drawn + span p.stream } ]
+unfolding draw_until
+searched test f p o e =
+    ap (λ (x : Option ℕ). elim x as (λ _. Progress) [ Some k ↦ f (byte_at p.stream k) (record p { drawn = k + 1 }) | None ↦ record p { drawn = p.drawn + span p.stream } ]) e
+
+module _ {A : Type 0} {byte : A → ℕ} {next : A → A} {width : ℕ} {origin : A} {g : Frame} {parts : Parts} {events : List Event} {old new : A} {p : Progress} where
+  -- a byte was found, and what it leads to begins behind it
+  pub found_by_drawing : {found : ℕ} (test : ℕ → Bool) (f : ℕ → Phase)
+      → ShowsDrawn byte next width origin g parts events old false p → FindsDraw byte next width test old found new
+      → (n : ℕ) × ShowsDrawn byte next width origin g parts events new false (record p { drawn = n }) × (draw_until test f p ≡ f found (record p { drawn = n }))
+  found_by_drawing test f a finds =
+      found_then a.stands finds (λ m at is stands.
+      let h = a.shows in
+      let here : first p.stream p.drawn test ≡ Some m = ap (λ (s : Stream). first s p.drawn test) h.stream ∙ at in
+      let bytes = is ∙ ap (λ (s : Stream). byte_at s m) (sym h.stream) in (
+        m + 1,
+        record {
+          shows = record { within = h.within; written = h.written; ends = h.ends; stream = h.stream; drawn = refl; skips = h.skips; action = h.action };
+          stands = stands;
+        },
+        searched test f p (Some m) here ∙ ap (λ (b : ℕ). f b (record p { drawn = m + 1 })) (sym bytes),
+      ))
+
+  pub drawn_until : {parts' : Parts} {events' : List Event} {b' : Bool} {found : ℕ} (test : ℕ → Bool) (f : ℕ → Phase)
+      → ShowsDrawn byte next width origin g parts events old false p → FindsDraw byte next width test old found new
+      → ((q : Progress) → ShowsDrawn byte next width origin g parts events new false q → ShowsDrawn byte next width origin g parts' events' new b' (f found q))
+      → ShowsDrawn byte next width origin g parts' events' new b' (draw_until test f p)
+  drawn_until test f a finds then =
+      let x = found_by_drawing test f a finds in
+      rw x.2 (then (record p { drawn = x.0 }) x.1)
+
+  -- none was
+  pub drawn_none : (test : ℕ → Bool) (f : ℕ → Phase) → ShowsDrawn byte next width origin g parts events old false p → FindsNone byte next width test old new
+      → ShowsDrawn byte next width origin g parts events new false (draw_until test f p)
+  drawn_none test f a finds =
+      none_then a.stands finds (λ none stands.
+      let h = a.shows in
+      let here : first p.stream p.drawn test ≡ None = ap (λ (s : Stream). first s p.drawn test) h.stream ∙ none in
+      rw (searched test f p None here) (record {
+        shows = record { within = h.within; written = h.written; ends = h.ends; stream = h.stream; drawn = refl; skips = h.skips; action = h.action };
+        stands = stands_there stands (ap (λ (s : Stream). p.drawn + span s) (sym h.stream));
+      }))

@@ -1,0 +1,177 @@
+-- Which update a pair of offered choices is, what the machine makes of it, and what was refused.
+use Rattle.std.proofs.Common.{Bool, List, ap, arith, false, inl, inr, length, refl, subst, sym, true, ℕ, ◌+◌, ◌∙◌, ◌≡◌, ◌≤◌, ◌⊎◌}
+use Rattle.gen1_machine.specs.declared.side.Side.{Side}
+use Rattle.gen1_machine.specs.declared.side.Side.TheVariants.{One, Two}
+use Rattle.gen1_machine.specs.declared.terms.Outcome.{Outcome}
+use Rattle.gen1_machine.specs.declared.terms.Outcome.TheVariants as outcomes
+use Rattle.gen1_machine.specs.declared.terms.Request.{Request}
+use Rattle.gen1_machine.specs.declared.terms.Request.TheVariants as requests
+use Rattle.gen1_machine.specs.declared.event.Event.{Event}
+use Rattle.gen1_machine.specs.declared.choice.Choice.{Choice}
+use Rattle.gen1_machine.specs.declared.choice.Choice.TheVariants as choices
+use Rattle.gen1_machine.specs.Bounds.{Bounded}
+use Rattle.gen1_machine.specs.Code.{codes_of}
+use Rattle.gen1_machine.specs.State.{Field, State, Terms, has_fallen_in, is_over}
+use Rattle.gen1_machine.specs.Progress.{Progress}
+use Rattle.gen1_machine.specs.Ruling.{ruling_of}
+use Rattle.gen1_machine.specs.Turn.{turn}
+use Rattle.gen1_machine.specs.OfferedChoices.{offered}
+use Rattle.gen1_machine.specs.Step.{Accepted, Answer, NotOffered, Over, Refused, Stepped, accepted, answered, close_update, offers, opened, refused, step, step_by, update, update_for}
+use Rattle.gen1_machine.specs.Valid.{IsAsked, IsStarted, IsState, IsUnstarted, StandsAs}
+use Rattle.gen1_machine.proofs.Bounds.{step_is_bounded}
+use Rattle.gen1_layout.specs.Parts.{Parts}
+use Rattle.gen1_layout.specs.Within.{Setting, Stands, Within, setting_of}
+use Rattle.gen1_requests.specs.Updates.{Plays, Starts, Steps}
+use Rattle.gen1_requests.proofs.Stepped.{step_accepts, valid-after}
+use Rattle.gen1_engine.specs.Updating.{AreOffered, IsBounded, IsBoundedAs}
+
+-- where something is offered the battle goes on
+pub goes_on : (s : State) (side : Side) (c : Choice) → offers s side c ≡ true → s.field.outcome ≡ outcomes.Ongoing
+unfolding offered
+goes_on s side c h = by s.field.outcome refl
+  where
+    by : (o : Outcome) → s.field.outcome ≡ o → s.field.outcome ≡ outcomes.Ongoing
+    by outcomes.Ongoing e = e
+    by outcomes.WinOne e = absurd (let f = rw e at h in cc)
+    by outcomes.WinTwo e = absurd (let f = rw e at h in cc)
+    by outcomes.Tie e = absurd (let f = rw e at h in cc)
+    by (outcomes.Fault n) e = absurd (let f = rw e at h in cc)
+
+-- what is asked for while a battle goes on
+
+pub data Asks (f : Field) : Type 0 where
+  moves : f.request_one ≡ requests.Move → f.request_two ≡ requests.Move → Asks f
+  first_switches : f.request_one ≡ requests.Switch → f.request_two ≡ requests.Pass → Asks f
+  second_switches : f.request_one ≡ requests.Pass → f.request_two ≡ requests.Switch → Asks f
+  both_switch : f.request_one ≡ requests.Switch → f.request_two ≡ requests.Switch → Asks f
+
+asks_by : (one two : Bool) (terms : Terms) (f : Field) → IsAsked one two terms f → Asks f
+asks_by false false terms f h = moves h.0 h.1
+asks_by true false terms f h = first_switches h.0 h.1
+asks_by false true terms f h = second_switches h.0 h.1
+asks_by true true terms f h = both_switch h.0 h.1
+
+asks : (terms : Terms) (f : Field) → IsStarted terms f → f.outcome ≡ outcomes.Ongoing → Asks f
+asks terms f h e = let all = subst (λ (o : Outcome). StandsAs o terms f) e h.requests in asks_by (has_fallen_in One f) (has_fallen_in Two f) terms f all.2
+
+-- a turn asks for moves of both sides
+pub both_move : (s : State) → IsState s → s.field.outcome ≡ outcomes.Ongoing → (s.field.request_one ≡ requests.Move) ⊎ (s.field.request_two ≡ requests.Move)
+    → (s.field.request_one ≡ requests.Move) × (s.field.request_two ≡ requests.Move)
+both_move s valid e asked = by valid.field
+  where
+    of : Asks s.field → (s.field.request_one ≡ requests.Move) ⊎ (s.field.request_two ≡ requests.Move) → (s.field.request_one ≡ requests.Move) × (s.field.request_two ≡ requests.Move)
+    of (moves a b) h = (a, b)
+    of (first_switches a b) (inl h) = absurd (cc)
+    of (first_switches a b) (inr h) = absurd (cc)
+    of (second_switches a b) (inl h) = absurd (cc)
+    of (second_switches a b) (inr h) = absurd (cc)
+    of (both_switch a b) (inl h) = absurd (cc)
+    of (both_switch a b) (inr h) = absurd (cc)
+
+    none : IsUnstarted s.terms s.field → (s.field.request_one ≡ requests.Move) ⊎ (s.field.request_two ≡ requests.Move) → ⊥
+    none u (inl h) = let r = u.requests.one in cc
+    none u (inr h) = let r = u.requests.two in cc
+
+    by : IsUnstarted s.terms s.field ⊎ IsStarted s.terms s.field → (s.field.request_one ≡ requests.Move) × (s.field.request_two ≡ requests.Move)
+    by (inl u) = absurd (none u asked)
+    by (inr v) = of (asks s.terms s.field v e) asked
+
+-- which update it is, by what is asked of side 1 and by the turn
+
+unstarted_at : (s : State) → IsState s → s.field.turn ≡ 0 → IsUnstarted s.terms s.field
+unstarted_at s valid e = by valid.field
+  where
+    by : IsUnstarted s.terms s.field ⊎ IsStarted s.terms s.field → IsUnstarted s.terms s.field
+    by (inl u) = u
+    by (inr v) = absurd (let t = v.turn in omega arith)
+
+asked_switch : (s : State) → IsState s → s.field.outcome ≡ outcomes.Ongoing → (s.field.request_one ≡ requests.Move → ⊥) → 1 ≤ s.field.turn
+    → (s.field.request_one ≡ requests.Switch) ⊎ (s.field.request_two ≡ requests.Switch)
+asked_switch s valid e apart later = by valid.field
+  where
+    of : Asks s.field → (s.field.request_one ≡ requests.Switch) ⊎ (s.field.request_two ≡ requests.Switch)
+    of (moves a b) = absurd (apart a)
+    of (first_switches a b) = inl a
+    of (second_switches a b) = inr b
+    of (both_switch a b) = inl a
+
+    by : IsUnstarted s.terms s.field ⊎ IsStarted s.terms s.field → (s.field.request_one ≡ requests.Switch) ⊎ (s.field.request_two ≡ requests.Switch)
+    by (inl u) = absurd (let t = u.turn in omega arith)
+    by (inr v) = of (asks s.terms s.field v e)
+
+pub plays_turn : {s : State} {one two : Choice} → AreOffered s one two → s.field.request_one ≡ requests.Move → Plays s requests.Move one two
+plays_turn {s = s} {one = one} h asked = record { goes_on = goes_on s One one h.first; asked_for = inl asked; first = h.first; second = h.second }
+
+pub plays_switches : {s : State} {one two : Choice} → IsState s → AreOffered s one two → (s.field.request_one ≡ requests.Move → ⊥) → 1 ≤ s.field.turn → Plays s requests.Switch one two
+plays_switches {s = s} {one = one} valid h apart later =
+    let going = goes_on s One one h.first in
+    record { goes_on = going; asked_for = asked_switch s valid going apart later; first = h.first; second = h.second }
+
+pub starts_of : {s : State} {one two : Choice} → IsState s → AreOffered s one two → s.field.turn ≡ 0 → Starts s
+starts_of {s = s} {one = one} valid h e = record { goes_on = goes_on s One one h.first; unstarted = unstarted_at s valid e }
+
+-- before the first update both pass
+
+passes : (s : State) (side : Side) (c : Choice) (r : Request) → r ≡ requests.Pass → offers s side c ≡ true → s.field.request_one ≡ requests.Pass → s.field.request_two ≡ requests.Pass → c ≡ choices.Pass
+unfolding offered
+passes s side c r is h one two = by side c (goes_on s side c h) h
+  where
+    by : (side : Side) (c : Choice) → s.field.outcome ≡ outcomes.Ongoing → offers s side c ≡ true → c ≡ choices.Pass
+    by side choices.Pass going h = refl
+    by One (choices.Move k) going h = absurd (let f = rw (going, one) at h in cc)
+    by One (choices.Switch k) going h = absurd (let f = rw (going, one) at h in cc)
+    by Two (choices.Move k) going h = absurd (let f = rw (going, two) at h in cc)
+    by Two (choices.Switch k) going h = absurd (let f = rw (going, two) at h in cc)
+
+pub starts_so : {s : State} {one two : Choice} {parts : Parts} {events : List Event} → AreOffered s one two → Starts s → Steps s choices.Pass choices.Pass parts events → Steps s one two parts events
+starts_so {s = s} {one = one} {two = two} {parts = parts} {events = events} o starts h =
+    let a = starts.unstarted.requests.one in
+    let b = starts.unstarted.requests.two in
+    let first = passes s One one requests.Pass refl o.first a b in
+    let second = passes s Two two requests.Pass refl o.second a b in
+    subst (λ (c : Choice). Steps s c two parts events) (sym first) (subst (λ (c : Choice). Steps s choices.Pass c parts events) (sym second) h)
+
+-- a turn
+
+turns-as : (s : State) (one two : Choice) → Plays s requests.Move one two → s.field.request_one ≡ requests.Move → s.field.request_two ≡ requests.Move
+    → step s one two ≡ accepted s (close_update (ruling_of s.terms) (turn (ruling_of s.terms) one two (opened s)))
+unfolding update update_for
+turns-as s one two plays a b = step_accepts s one two plays.goes_on plays.first plays.second ∙ rw (a, b) refl
+
+pub turned_so : {new : Parts} {events : List Event} (s : State) (one two : Choice) (q : Progress) → IsState s → step s one two ≡ accepted s q
+    → Within (record (setting_of s) { drawn = q.drawn }) new q.field → events ≡ q.events → Steps s one two new events
+turned_so {new = new} s one two q valid is w e = record {
+  stands = subst (Stands new) (sym (ap (λ (t : Stepped). t.state) is)) (record { same = w.same; valid = subst IsState (ap (λ (t : Stepped). t.state) is) (valid-after s one two valid) });
+  answers = ap (λ (t : Stepped). t.answer) is ∙ ap Accepted (sym e);
+}
+
+pub turn_made : (s : State) (one two : Choice) → IsState s → Plays s requests.Move one two
+    → step s one two ≡ accepted s (close_update (ruling_of s.terms) (turn (ruling_of s.terms) one two (opened s)))
+turn_made s one two valid plays = let both = both_move s valid plays.goes_on plays.asked_for in turns-as s one two plays both.0 both.1
+
+-- refusals
+
+pub step_over : (s : State) (one two : Choice) → is_over s.field.outcome ≡ true → step s one two ≡ refused s Over
+unfolding step step_by answered
+step_over s one two over = rw over refl
+
+pub step_first : (s : State) (one two : Choice) → is_over s.field.outcome ≡ false → offers s One one ≡ false → step s one two ≡ refused s (NotOffered One)
+unfolding step step_by answered
+step_first s one two over a = rw (over, a) refl
+
+pub step_second : (s : State) (one two : Choice) → is_over s.field.outcome ≡ false → offers s One one ≡ true → offers s Two two ≡ false
+    → step s one two ≡ refused s (NotOffered Two)
+unfolding step step_by answered
+step_second s one two over a b = rw (over, a, b) refl
+
+-- bounds
+
+pub bounded : (s : State) (one two : Choice) → IsBounded s one two
+bounded s one two = by (step s one two).answer refl
+  where
+    by : (a : Answer) → (step s one two).answer ≡ a → IsBoundedAs s a (step s one two).state
+    by (Refused why) e = tt
+    by (Accepted events) e = step_is_bounded s one two events e
+
+pub short : {s : State} {one two : Choice} {parts : Parts} {events : List Event} → Steps s one two parts events → length (codes_of events) ≤ 512
+short {s = s} {one = one} {two = two} {events = events} h = (step_is_bounded s one two events h.answers).short

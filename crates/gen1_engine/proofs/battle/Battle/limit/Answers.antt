@@ -1,0 +1,6 @@
+use Rattle.gen1_layout.specs.Within.{setting_of}
+use Rattle.gen1_requests.proofs.BetweenUpdates.{packs_of}
+use Rattle.gen1_engine.proofs.battle.Battle.limit.Goals as goal
+
+pub returns : goal.returns
+returns c s h = c.limit.ensures.packs (setting_of s) s.field (packs_of h)

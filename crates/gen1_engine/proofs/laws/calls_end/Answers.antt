@@ -1,0 +1,5 @@
+use Rattle.gen1_engine.proofs.Calls.{calls_end}
+use Rattle.gen1_engine.proofs.laws.calls_end.Goals as goal
+
+pub returns : goal.returns
+returns c = calls_end

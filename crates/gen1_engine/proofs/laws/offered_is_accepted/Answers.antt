@@ -1,0 +1,5 @@
+use Rattle.gen1_engine.proofs.Calls.{offered_is_accepted}
+use Rattle.gen1_engine.proofs.laws.offered_is_accepted.Goals as goal
+
+pub returns : goal.returns
+returns c = offered_is_accepted

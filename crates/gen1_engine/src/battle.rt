@@ -1,0 +1,225 @@
+//! A battle that stands for a valid state whenever nobody is inside it.
+ghost use Rattle.std.specs.Prelude.{IfOk, IsOk, length, ◌↔◌, ◌≡◌, ◌≤◌, ◌||◌};
+ghost use Rattle.gen1_machine.specs.Code.{codes_of};
+ghost use Rattle.gen1_machine.specs.Layout.{bytes_of};
+ghost use Rattle.gen1_machine.specs.OfferedChoices.{offered};
+ghost use Rattle.gen1_machine.specs.State.{State, first_state, usual_terms};
+ghost use Rattle.gen1_layout.specs.Reading.{IsLoadedAs};
+ghost use Rattle.gen1_layout.specs.ReadingMeaning.{IsBattle, StandsForSome};
+ghost use Rattle.gen1_layout.specs.Within.{Stands};
+ghost use Rattle.gen1_engine.specs.Replaying.{AnswersBytes, LogsBytes, Replays, is_write_fault};
+ghost use Rattle.gen1_engine.specs.Updating.{Answers, IsBounded, Logs, Tells, result_of};
+
+use crate::replaying::{ReplayFault, replay, update_by_bytes};
+use crate::result::{BattleResult, Refusal};
+use crate::rounds::Rounds;
+use crate::updating::{result, update, update_events};
+use gen1_events::LogBuf;
+use gen1_layout::{Packed, ReadFault};
+use gen1_machine::{Choice, EventList, Rules, Side, Sink, TurnLimit};
+use gen1_requests::{Choices, offered};
+use gen1_stats::Team;
+use std::alloc::AllocError;
+use std::marker::Model;
+
+/// Why bytes are no battle, with its number from 1 to 7 (docs/LAYOUT.md, "Loading").
+pub type LoadFault = ReadFault;
+
+/// A battle between two updates (docs/LAYOUT.md): its 384 bytes are those of a valid state.
+#[derive(Drop)]
+pub struct Battle {
+    packed: Packed,
+}
+
+impl Model for Battle {
+    ghost use Rattle.gen1_layout.specs.Parts.{Parts};
+    ghost use Rattle.gen1_layout.specs.ReadingMeaning.{StandsForSome};
+
+    ghost Value = { Parts };
+
+    ghost view = { λ b. b.packed };
+
+    ghost invariant = { λ b. StandsForSome b.packed };
+}
+
+impl Clone for Battle {
+    ghost use Rattle.std.specs.Prelude.{◌≡◌, ⊤};
+
+    ghost is_clone = { λ b c. c ≡ b };
+
+    ghost is_infallible = { λ _. ⊤ };
+
+    /// A battle with the same 384 bytes, which goes on by itself. There is always an answer.
+    fn clone(&self) -> Result<Battle, AllocError> {
+        Ok(Battle {
+            packed: self.packed.clone()?,
+        })
+    }
+}
+
+impl Battle {
+    /// A battle of two teams before its first update, with the ten numbers of a seed (docs/MECHANICS.md, "Link numbers"), no
+    /// rules and a turn limit of 1,000.
+    pub fn new(one: &Team, two: &Team, seed: [u8; 10]) -> Battle
+        ensures { Stands result (first_state usual_terms one.now two.now seed) }
+    {
+        Battle {
+            packed: Packed::new(one, two, seed),
+        }
+    }
+
+    /// The same under rules (docs/MECHANICS.md, "Rules (sleep clause, freeze clause)").
+    pub fn with_rules(one: &Team, two: &Team, seed: [u8; 10], rules: Rules) -> Battle
+        ensures { Stands result (first_state (record { rules = rules; limit = 1000 }) one.now two.now seed) }
+    {
+        Battle {
+            packed: Packed::with_rules(one, two, seed, rules),
+        }
+    }
+
+    /// The same under rules and a turn limit (docs/MECHANICS.md, "Turn limit").
+    pub fn with_limit(
+        one: &Team,
+        two: &Team,
+        seed: [u8; 10],
+        rules: Rules,
+        limit: TurnLimit,
+    ) -> Battle
+        ensures { Stands result (first_state (record { rules = rules; limit = limit }) one.now two.now seed) }
+    {
+        Battle {
+            packed: Packed::with_limit(one, two, seed, rules, limit),
+        }
+    }
+
+    /// The battle of these bytes (docs/LAYOUT.md, "Loading"), of any of the three versions.
+    ///
+    /// # Errors
+    ///
+    /// The first of the seven tests that the bytes fail. They pass all exactly where they stand for a valid state.
+    pub fn load(bytes: &[u8]) -> Result<Battle, LoadFault>
+        ensures tests { IsLoadedAs result bytes.now }
+        ensures battle { IsOk result ↔ IsBattle bytes.now }
+        ensures stands { IfOk result (λ loaded. StandsForSome loaded) }
+    {
+        match Packed::read(bytes) {
+            Ok(packed) => Ok(Battle { packed }),
+            Err(fault) => Err(fault),
+        }
+    }
+
+    /// The 384 bytes (docs/LAYOUT.md), in the form of version 3.
+    pub fn bytes(&self) -> &[u8]
+        ensures stands { (s : State) → Stands self.now s → result.now ≡ bytes_of s }
+        ensures len { length result.now ≡ 384 }
+    {
+        self.packed.as_bytes()
+    }
+
+    /// What a side may choose, by rising bytes: nothing once the battle is over (docs/MECHANICS.md, "Offered choices").
+    pub fn choices(&self, side: Side) -> Choices
+        ensures { (s : State) → Stands self.now s → result.items ≡ offered side s.field }
+    {
+        offered(&self.packed, side)
+    }
+
+    /// How the battle stands, and what is asked of each side.
+    pub fn result(&self) -> BattleResult
+        ensures stands { (s : State) → Stands self.now s → result ≡ result_of s }
+        // Whatever this battle is, its bytes stand for a valid state.
+        ensures valid { StandsForSome self.now }
+    {
+        result(&self.packed)
+    }
+
+    /// The clauses that it is fought under, which no update changes.
+    pub fn rules(&self) -> Rules
+        ensures { (s : State) → Stands self.now s → result ≡ s.terms.rules }
+    {
+        self.packed.rules()
+    }
+
+    /// Its last turn, from 1 to 9,999, which no update changes.
+    pub fn limit(&self) -> u16
+        ensures { (s : State) → Stands self.now s → result ≡ s.terms.limit }
+    {
+        self.packed.limit()
+    }
+
+    /// An update by a choice of each side. An accepted pair leaves its log bytes in the buffer (docs/MECHANICS.md, "Log bytes"),
+    /// and nothing else: at most 512 bytes of at most 64 events, after at most 4,700 draws.
+    ///
+    /// # Errors
+    ///
+    /// The first that applies: the battle is over, or side 1's choice was not offered, or side 2's. Battle and buffer stay as
+    /// they are.
+    pub fn update<T: Rounds>(
+        &mut self,
+        one: Choice,
+        two: Choice,
+        log: &mut LogBuf,
+    ) -> Result<BattleResult, Refusal>
+        ensures answers { (s : State) → Stands self.old s → Answers s one two self.old self.new result }
+        ensures logs { (s : State) → Stands self.old s → Logs s one two log.old log.new }
+        ensures bounded { (s : State) → Stands self.old s → IsBounded s one two }
+    {
+        let mut events = EventList::new();
+        update::<T>(&mut self.packed, one, two, &mut events, log)
+    }
+
+    /// The same by two bytes (docs/MECHANICS.md, "Offered choices"), of which one that stands for no choice is not offered.
+    ///
+    /// # Errors
+    ///
+    /// As `update` has them.
+    pub fn update_by_bytes<T: Rounds>(
+        &mut self,
+        one: u8,
+        two: u8,
+        log: &mut LogBuf,
+    ) -> Result<BattleResult, Refusal>
+        ensures answers { (s : State) → Stands self.old s → AnswersBytes s (one, two) self.old self.new result }
+        ensures logs { (s : State) → Stands self.old s → LogsBytes s (one, two) log.old log.new }
+    {
+        let mut events = EventList::new();
+        update_by_bytes::<T>(&mut self.packed, one, two, &mut events, log)
+    }
+
+    /// An update whose events themselves are left in the list, and nothing else, in place of log bytes (`write_log` makes those
+    /// of them). Nothing but the battle and the list is written.
+    ///
+    /// # Errors
+    ///
+    /// As `update` has them; battle and list stay as they are.
+    pub fn update_events<T: Rounds>(
+        &mut self,
+        one: Choice,
+        two: Choice,
+        events: &mut EventList,
+    ) -> Result<BattleResult, Refusal>
+        ensures answers { (s : State) → Stands self.old s → Answers s one two self.old self.new result }
+        ensures tells { (s : State) → Stands self.old s → Tells s one two events.old events.new }
+        ensures bounded { (s : State) → Stands self.old s → IsBounded s one two }
+        // There is room for their bytes in a buffer.
+        ensures short { IsOk result → length (codes_of events.new.items) ≤ 512 }
+    {
+        update_events::<T>(&mut self.packed, one, two, events)
+    }
+
+    /// Updates by pairs of bytes of choices, one after the other, and writes the log bytes of each.
+    ///
+    /// # Errors
+    ///
+    /// The first pair that is refused, or whose bytes cannot all be written. The battle then stands after the pairs before it,
+    /// or after it.
+    pub fn replay<T: Rounds, W: Sink>(
+        &mut self,
+        pairs: &[(u8, u8)],
+        sink: &mut W,
+    ) -> Result<BattleResult, ReplayFault>
+        ensures replays { (s : State) → Stands self.old s → Replays s pairs.now self.new (W.contents sink.old) (W.contents sink.new) result }
+        ensures fault { W.has_failed sink.new ≡ (W.has_failed sink.old || is_write_fault result) }
+    {
+        replay::<T, W>(&mut self.packed, pairs, sink)
+    }
+}

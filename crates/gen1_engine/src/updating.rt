@@ -1,0 +1,151 @@
+//! An update of the bytes of a battle.
+ghost use Rattle.std.specs.Prelude.{IsOk, [], length, ◌≡◌, ◌≤◌};
+ghost use Rattle.gen1_machine.specs.Code.{codes_of};
+ghost use Rattle.gen1_machine.specs.State.{State, is_over};
+ghost use Rattle.gen1_machine.specs.Step.{is_among, offers, same_choice};
+ghost use Rattle.gen1_machine.specs.declared.terms.Request.TheVariants.{Move};
+ghost use Rattle.gen1_layout.specs.Within.{Stands};
+ghost use Rattle.gen1_layout.specs.ReadingMeaning.{StandsForSome};
+ghost use Rattle.gen1_requests.specs.Updates.{Plays, Steps};
+ghost use Rattle.gen1_engine.specs.Updating.{Answers, AreOffered, Logs, Tells, result_of};
+
+use crate::logging::write_log;
+use crate::result::{BattleResult, Refusal};
+use crate::rounds::Rounds;
+use gen1_events::LogBuf;
+use gen1_layout::Packed;
+use gen1_machine::{Choice, EventList, Outcome, Request, Side};
+use gen1_requests::{offered, replace, start};
+
+// An update, of which the events and the log are both left, in lists that are lent.
+pub(crate) fn update<T: Rounds>(
+    battle: &mut Packed,
+    one: Choice,
+    two: Choice,
+    events: &mut EventList,
+    log: &mut LogBuf,
+) -> Result<BattleResult, Refusal>
+    requires valid { StandsForSome battle.old }
+    ensures answers { (s : State) → Stands battle.old s → Answers s one two battle.old battle.new result }
+    ensures logs { (s : State) → Stands battle.old s → Logs s one two log.old log.new }
+    ensures valid { StandsForSome battle.new }
+{
+    match update_events::<T>(battle, one, two, events) {
+        Ok(result) => {
+            write_log(events, log);
+            Ok(result)
+        }
+        Err(why) => Err(why),
+    }
+}
+
+// An update, of which the events are left.
+pub(crate) fn update_events<T: Rounds>(
+    battle: &mut Packed,
+    one: Choice,
+    two: Choice,
+    events: &mut EventList,
+) -> Result<BattleResult, Refusal>
+    requires valid { StandsForSome battle.old }
+    ensures answers { (s : State) → Stands battle.old s → Answers s one two battle.old battle.new result }
+    ensures tells { (s : State) → Stands battle.old s → Tells s one two events.old events.new }
+    ensures short { IsOk result → length (codes_of events.new.items) ≤ 512 }
+    ensures valid { StandsForSome battle.new }
+{
+    if is_over(battle) {
+        return Err(Refusal::Over);
+    }
+    if !offers(battle, Side::One, &one) {
+        return Err(Refusal::NotOffered(Side::One));
+    }
+    if !offers(battle, Side::Two, &two) {
+        return Err(Refusal::NotOffered(Side::Two));
+    }
+    events.clear();
+    play::<T>(battle, one, two, events);
+    Ok(result(battle))
+}
+
+pub(crate) fn result(battle: &Packed) -> BattleResult
+    ensures { (s : State) → Stands battle.now s → result ≡ result_of s }
+{
+    BattleResult {
+        outcome: battle.outcome(),
+        request_one: battle.request(Side::One),
+        request_two: battle.request(Side::Two),
+    }
+}
+
+pub(crate) fn is_over(battle: &Packed) -> bool
+    ensures { (s : State) → Stands battle.now s → result ≡ is_over s.field.outcome }
+{
+    match battle.outcome() {
+        Outcome::Ongoing => false,
+        _ => true,
+    }
+}
+
+pub(crate) fn offers(battle: &Packed, side: Side, choice: &Choice) -> bool
+    ensures { (s : State) → Stands battle.now s → result ≡ offers s side choice.now }
+{
+    is_among(choice, offered(battle, side).as_slice())
+}
+
+fn is_among(choice: &Choice, choices: &[Choice]) -> bool
+    ensures { result ≡ is_among choice.now choices.now }
+{
+    for one in choices {
+        if is_same(choice, one) {
+            return true;
+        }
+    }
+    false
+}
+
+fn is_same(one: &Choice, two: &Choice) -> bool
+    ensures { result ≡ same_choice one.now two.now }
+{
+    match one {
+        Choice::Pass => matches!(two, Choice::Pass),
+        Choice::Move(slot) => match two {
+            Choice::Move(other) => slot.number() == other.number(),
+            _ => false,
+        },
+        Choice::Switch(place) => match two {
+            Choice::Switch(other) => place.number() == other.number(),
+            _ => false,
+        },
+    }
+}
+
+// An update whose choices are offered.
+fn play<T: Rounds>(battle: &mut Packed, one: Choice, two: Choice, events: &mut EventList)
+    requires empty { events.old.items ≡ [] }
+    ensures { (s : State) → Stands battle.old s → AreOffered s one two → Steps s one two battle.new events.new.items }
+{
+    match battle.request(Side::One) {
+        Request::Move => play_turn::<T>(battle, one, two, events),
+        _ => {
+            if battle.turn() == 0 {
+                start(battle, events);
+            } else {
+                replace(battle, one, two, events);
+            }
+        }
+    }
+}
+
+// A turn draws from the numbers of the header, and leaves them there as they then stand.
+fn play_turn<T: Rounds>(battle: &mut Packed, one: Choice, two: Choice, events: &mut EventList)
+    requires empty { events.old.items ≡ [] }
+    ensures { (s : State) → Stands battle.old s → Plays s Move one two → Steps s one two battle.new events.new.items }
+{
+    match battle.generator() {
+        Some(generator) => {
+            let mut random = generator;
+            T::turn(battle, one, two, &mut random, events);
+            battle.put_generator(&random);
+        }
+        None => {}
+    }
+}

@@ -1,0 +1,112 @@
+//! What comes with the hit of a move that makes one (docs/MECHANICS.md, "Recoil, drain and explosion").
+ghost use Rattle.std.specs.Prelude.{max, ◌/◌, ◌≡◌};
+ghost use Rattle.gen1_layout.specs.Words.{AddsAtMost, Does, Event as EventOf, HasRoom, List, false, move_at};
+ghost use Rattle.gen1_machine.specs.HitEffects.{drain, explode, hit_effect, recoil, recoil_of, start_rage};
+ghost use Rattle.gen1_machine.specs.Moves.{hits_more};
+ghost use Rattle.gen1_multiturn.specs.Hitting.{consequence_of};
+
+use gen1_hits::{gain_hp, lose_hp};
+use gen1_layout::{Conditions, Packed};
+use gen1_machine::{DamageSource, Event, EventList, Side, Volatile};
+use gen1_tables::{Effect, MoveId};
+
+const STRUGGLE: u8 = 165;
+
+// What a hit brings with it.
+#[derive(Clone, Copy)]
+pub(crate) enum Consequence {
+    Recoil,
+    Drain,
+    Rage,
+    Explosion,
+    Nothing,
+}
+
+// One event is written at most.
+pub(crate) fn hit_effect(battle: &mut Packed, side: Side, id: MoveId, events: &mut EventList)
+    requires room { HasRoom 1 events.old }
+    requires one { hits_more (move_at id).effect ≡ false }
+    ensures shown { Does battle.old events.old.items battle.new events.new.items false (hit_effect side (move_at id) (move_at id).effect) }
+    ensures room { AddsAtMost 1 events.old events.new }
+{
+    match consequence_of(id.effect()) {
+        Consequence::Recoil => recoil(battle, side, id, events),
+        Consequence::Drain => drain(battle, side, events),
+        Consequence::Rage => start_rage(battle, side, events),
+        Consequence::Explosion => explode(battle, side),
+        Consequence::Nothing => {}
+    }
+}
+
+fn consequence_of(effect: Effect) -> Consequence
+    ensures { result ≡ consequence_of effect }
+{
+    match effect {
+        Effect::Recoil => Consequence::Recoil,
+        Effect::Drain => Consequence::Drain,
+        Effect::DreamEater => Consequence::Drain,
+        Effect::Rage => Consequence::Rage,
+        Effect::Explode => Consequence::Explosion,
+        _ => Consequence::Nothing,
+    }
+}
+
+// The user is hurt, past its own Substitute.
+fn recoil(battle: &mut Packed, side: Side, id: MoveId, events: &mut EventList)
+    requires { HasRoom 1 events.old }
+    ensures shown { Does battle.old events.old.items battle.new events.new.items false (recoil side (move_at id)) }
+    ensures room { AddsAtMost 1 events.old events.new }
+{
+    let amount = recoil_of(id, battle.last_damage());
+    lose_hp(battle, side, DamageSource::Recoil, amount, events);
+}
+
+// A quarter of the damage, of Struggle's half, and at least 1.
+fn recoil_of(id: MoveId, damage: u16) -> u16
+    ensures { result ≡ recoil_of (move_at id) damage }
+{
+    let part = if id.number() == STRUGGLE {
+        damage / 2
+    } else {
+        damage / 4
+    };
+    part.max(1)
+}
+
+// The user heals half of the damage, which becomes the last damage.
+fn drain(battle: &mut Packed, side: Side, events: &mut EventList)
+    requires { HasRoom 1 events.old }
+    ensures shown { Does battle.old events.old.items battle.new events.new.items false (drain side) }
+    ensures room { AddsAtMost 1 events.old events.new }
+{
+    let half = half_of(battle.last_damage());
+    battle.put_last_damage(half);
+    gain_hp(battle, side, half, events);
+}
+
+fn half_of(damage: u16) -> u16
+    ensures { result ≡ max 1 (damage / 2) }
+{
+    (damage / 2).max(1)
+}
+
+// The user's own Rage, which never ends.
+fn start_rage(battle: &mut Packed, side: Side, events: &mut EventList)
+    requires { HasRoom 1 events.old }
+    ensures shown { Does battle.old events.old.items battle.new events.new.items false (start_rage side) }
+    ensures room { AddsAtMost 1 events.old events.new }
+{
+    if battle.is_on(side, Conditions::RAGE) {
+        return;
+    }
+    battle.put_flag(side, Conditions::RAGE, true);
+    events.push(Event::Start(battle.who(side), Volatile::Rage));
+}
+
+// The user falls, without an event of its own.
+pub(crate) fn explode(battle: &mut Packed, side: Side)
+    ensures shown { (events : List EventOf) → Does battle.old events battle.new events false (explode side) }
+{
+    battle.put_fallen(side);
+    battle.put_flag(side, Conditions::SEEDED, false);
+}

@@ -1,0 +1,16 @@
+-- A member that comes out: the bytes, and what is told.
+pub mod ComingOut
+-- How an update closes.
+pub mod Closed
+-- What the choices that are offered give to an update.
+pub mod OfferedChoices
+-- The machine's step, by which update it is.
+pub mod Stepped
+-- What is read of a battle between two updates.
+pub mod BetweenUpdates
+-- Choices that are gathered number by number.
+pub mod Collecting
+-- The machine's list of offered choices is the set that is said in words.
+pub mod OfferedSet
+-- The bytes of what it lists rise.
+pub mod RisingOffers

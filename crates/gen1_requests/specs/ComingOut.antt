@@ -1,0 +1,25 @@
+-- A member that comes out, in the words of its writer (docs/MECHANICS.md, "Switching in").
+use Rattle.gen1_layout.specs.Words.{Event, Field, Member, Side, changed_active, member_at, party, ℕ}
+use Rattle.gen1_stats.specs.declared.status.Status.{Status}
+use Rattle.gen1_stats.specs.declared.status.Status.TheVariants.{Burned, Paralysed}
+use Rattle.gen1_machine.specs.declared.event.Event.TheVariants.{Switch}
+use Rattle.gen1_machine.specs.State.{health_of}
+use Rattle.gen1_machine.specs.SwitchingIn.{with_sent_out}
+
+-- the penalty that a status brings along: a halved Attack, or a quartered Speed
+
+abbrev pub halvings_of : Status → ℕ
+halvings_of Burned = 1
+halvings_of _ = 0
+
+abbrev pub quarterings_of : Status → ℕ
+quarterings_of Paralysed = 1
+quarterings_of _ = 0
+
+-- the member at a place is out, and nothing else has changed
+abbrev pub with_out : Side → ℕ → Field → Field
+with_out s place f = changed_active s (with_sent_out place (member_at place (party s f))) f
+
+-- what is told of it
+abbrev pub coming_out : Side → ℕ → Member → Event
+coming_out s place m = Switch (record { side = s; species = m.species }) place m.level (health_of m)

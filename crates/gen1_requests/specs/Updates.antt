@@ -1,0 +1,52 @@
+-- What an update is begun for, and how it leaves the bytes, the events and the generator.
+use Rattle.std.specs.Prelude.{◌≡◌, ◌⊎◌}
+use Rattle.gen1_layout.specs.Words.{Event, Frame, List, Progress, Setting, Within, false, true, ℕ}
+use Rattle.gen1_rolls.specs.Draws.{StandsAt}
+use Rattle.gen1_rolls.specs.Streams.{Link, Stream}
+use Rattle.gen1_machine.specs.declared.choice.Choice.{Choice}
+use Rattle.gen1_machine.specs.declared.side.Side.TheVariants.{One, Two}
+use Rattle.gen1_machine.specs.declared.terms.Outcome.TheVariants.{Ongoing}
+use Rattle.gen1_machine.specs.declared.terms.Request.{Request}
+use Rattle.gen1_machine.specs.State.{State}
+use Rattle.gen1_machine.specs.Progress.{new_action}
+use Rattle.gen1_machine.specs.Step.{offers, opened, step, Accepted}
+use Rattle.gen1_machine.specs.Valid.{IsUnstarted}
+use Rattle.gen1_layout.specs.Parts.{Parts}
+use Rattle.gen1_layout.specs.Within.{setting_of, Stands}
+
+-- an update as it begins
+abbrev pub beginning : State → Frame
+beginning s = record { setting = setting_of s; stream = Link s.seed; drawn = s.drawn; skips = false; action = new_action One }
+
+-- the update is begun on any stream, at any place in it
+abbrev pub drawing_on : Stream → ℕ → State → Progress
+drawing_on stream drawn s = record (opened s) { stream = stream; drawn = drawn }
+
+-- a battle that goes on, in which this was asked of a side, and each side has chosen among what it was offered
+pub record Plays (s : State) (asked : Request) (one two : Choice) : Type 0 where
+  pub goes_on : s.field.outcome ≡ Ongoing
+  pub asked_for : (s.field.request_one ≡ asked) ⊎ (s.field.request_two ≡ asked)
+  pub first : offers s One one ≡ true
+  pub second : offers s Two two ≡ true
+
+-- a battle before its first update
+pub record Starts (s : State) : Type 0 where
+  pub goes_on : s.field.outcome ≡ Ongoing
+  pub unstarted : IsUnstarted s.terms s.field
+
+-- the bytes and the events are those of q, and no draw was made
+pub record Updated (g : Setting) (parts : Parts) (events : List Event) (q : Progress) : Type 0 where
+  pub within : Within g parts q.field
+  pub written : events ≡ q.events
+  pub drawn : q.drawn ≡ g.drawn
+
+-- the same with draws, after which the generator stands where q has drawn to
+pub record UpdatedDrawing {A : Type 0} (byte : A → ℕ) (next : A → A) (width : ℕ) (origin : A) (stream : Stream) (g : Setting) (parts : Parts) (events : List Event) (now : A) (q : Progress) : Type 0 where
+  pub within : Within g parts q.field
+  pub written : events ≡ q.events
+  pub stands : StandsAt byte next width origin stream q.drawn now
+
+-- the bytes stand for the state that follows by a pair of choices, which was accepted with these events
+pub record Steps (s : State) (one two : Choice) (parts : Parts) (events : List Event) : Type 0 where
+  pub stands : Stands parts (step s one two).state
+  pub answers : (step s one two).answer ≡ Accepted events

@@ -1,0 +1,192 @@
+-- How the parts of a turn follow one another, and what is planned as it goes on.
+use Rattle.std.proofs.Common.{◌+◌, ◌≡◌}
+use Rattle.gen1_layout.proofs.Words.{Bool, Event, Field, Frame, List, Parts, Phase, Progress, Shows, ShowsDrawn, Side, active_in, ap, choose-false, choose-true, draw, drawn_goes, false, given, goes, if_not, if_so, length, member_in, nat_lt, on_active, on_conditions, on_field, refl, stay, stays, still, subst, sym, then-goes, true, ℕ, ◌∙◌, ◌▸◌}
+use Rattle.gen1_rolls.specs.Streams.{byte_at, Stream}
+use Rattle.gen1_rolls.proofs.Standing.{byte_drawn, stands_after_draw}
+use Rattle.gen1_stats.specs.Members.{IsBetween}
+use Rattle.gen1_machine.specs.declared.choice.Choice.{Choice}
+use Rattle.gen1_machine.specs.declared.choice.Choice.TheVariants as choices
+use Rattle.gen1_machine.specs.declared.picks.Pick.{Pick}
+use Rattle.gen1_machine.specs.declared.picks.Pick.TheVariants.{Continue, Held, Idle, Use}
+use Rattle.gen1_machine.specs.declared.side.Side.TheVariants.{One, Two}
+use Rattle.gen1_machine.specs.Conditions.{without_flinch}
+use Rattle.gen1_machine.specs.State.{changed_conditions, Terms}
+use Rattle.gen1_machine.specs.Progress.{on_action, unless}
+use Rattle.gen1_machine.specs.Picks.{pick_in, picked_after}
+use Rattle.gen1_machine.specs.Residual.{residual}
+use Rattle.gen1_machine.specs.Ruling.{Ruling, ruling_of}
+use Rattle.gen1_machine.specs.Action.{begin}
+use Rattle.gen1_machine.specs.TurnOrder.{toss}
+use Rattle.gen1_machine.specs.Turn.{both_pick, both_switch, do_part, do_parts, is_cut, one_picks, play_turn, set_picked, Sends}
+use Rattle.gen1_machine.specs.Valid.{IsUsedMove}
+use Rattle.gen1_machine.specs.Plans.{Comes, FitsPick, HoldsPlan, InRange, IsPlanned, Plan, Plans}
+use Rattle.gen1_machine.proofs.Bench.{between-free}
+use Rattle.gen1_machine.proofs.Keeps.{on_conditions-keeps, Keeps}
+use Rattle.gen1_machine.proofs.Sound.{party-valid, planned-holds, planned-sound}
+use Rattle.gen1_machine.proofs.SoundWalk.{conditions-spared}
+use Rattle.gen1_machine.proofs.Tame.{without_flinch-tame}
+use Rattle.gen1_machine.proofs.Turns.{part-suffers}
+use Rattle.gen1_machine.proofs.ValidTurns.{comes-kept, range-kept, room-free, sends-room}
+use Rattle.gen1_layout.specs.Shows.{Does}
+use Rattle.gen1_action.specs.declared.known.Known.{Known}
+use Rattle.gen1_action.specs.Knowing.{begun, knowing, with_broke, ShowsOver}
+use Rattle.gen1_action.specs.Planned.{Follows}
+use Rattle.gen1_turn.specs.Turning.{suffering, Ends, LeavesRest, PartLeaves}
+
+-- what a side suffers, and whether the turn is then cut
+
+pub cut_before : (g : Frame) (parts : Parts) (events : List Event) (s : Side) (p : Progress) → is_cut p ≡ true → Shows g parts events false p
+    → LeavesRest (Shows g parts events) true (suffering s) (residual s) p
+cut_before g parts events s p cut h rest = (false, if_so _ _ _ cut (stays h))
+
+pub cut_after : (g : Frame) (parts : Parts) (events : List Event) (s : Side) (p : Progress) (cut : Bool) → is_cut (residual s p) ≡ cut → is_cut p ≡ false
+    → Shows g parts events false (residual s p) → LeavesRest (Shows g parts events) cut (suffering s) (residual s) p
+cut_after g parts events s p true now whole a = λ rest. (false, if_not _ _ _ whole (goes _ _ a (if_so _ _ _ now (stays a))))
+cut_after g parts events s p false now whole a = (
+  a,
+  λ rest. choose-false is_cut stay (residual s ▸ unless is_cut rest) p whole ∙ then-goes (residual s) _ p a.ends
+      ∙ choose-false is_cut stay rest (residual s p) now,
+)
+
+-- a part, and what its side then suffers
+
+pub sent_left : (g : Frame) {parts : Parts} {events : List Event} (parts' : Parts) (events' : List Event) (falls : Bool) (f : Phase) (s : Side) (p : Progress)
+    → Shows g parts events false (f p) → LeavesRest (Shows g parts' events') falls (suffering s) (residual s) (f p)
+    → PartLeaves (Shows g parts' events') falls f s p
+sent_left g parts' events' true f s p a left = λ rest. let x = left rest in (x.0, goes f _ a x.1)
+sent_left g parts' events' false f s p a left = (left.0, λ rest. then-goes f _ p a.ends ∙ left.1 rest)
+
+module _ {A : Type 0} {byte : A → ℕ} {next : A → A} {width : ℕ} {origin : A} where
+  pub acted_left : (k : Known) (g : Frame) {parts : Parts} {events : List Event} (parts' : Parts) (events' : List Event) (now : A) (falls : Bool) (f : Phase) (s : Side) (p : Progress)
+      → (a : ShowsOver byte next width origin k g parts events now false (f p))
+      → LeavesRest (Shows (record (knowing (with_broke a.0 k) g) { drawn = (f p).drawn }) parts' events') falls (suffering s) (residual s) (f p)
+      → PartLeaves (λ b q. ShowsOver byte next width origin k g parts' events' now b q) falls f s p
+  acted_left k g parts' events' now true f s p a left =
+      λ rest. let x = left rest in (x.0, (a.0, drawn_goes f _ a.1 (still {g' = knowing (with_broke a.0 k) g} a.1 x.1 refl)))
+  acted_left k g parts' events' now false f s p a left = (
+    (a.0, still {g' = knowing (with_broke a.0 k) g} a.1 left.0 refl),
+    λ rest. then-goes f _ p a.1.shows.ends ∙ left.1 rest,
+  )
+
+  -- beside a generator, what a switch shows
+  pub over_still : (k k' : Known) (g : Frame) {broke : Bool} {parts parts' : Parts} {events events' : List Event} {now : A} {b : Bool} {p q : Progress}
+      → ShowsDrawn byte next width origin (knowing (with_broke broke k) g) parts events now false p → Shows (knowing k' (record g { drawn = p.drawn })) parts' events' b q
+      → ShowsOver byte next width origin k' g parts' events' now b q
+  over_still k k' g a h = (k'.broke, still {g' = knowing k' g} a h refl)
+
+  -- the end of a turn
+
+  pub ends_as : (k : Known) (g : Frame) {parts : Parts} {events : List Event} {now : A} (q q' : Progress) → q ≡ q'
+      → Ends byte next width origin k g parts events now q' → Ends byte next width origin k g parts events now q
+  ends_as k g q q' e a = rw e a
+
+  pub ended : (k : Known) (g : Frame) {parts parts' : Parts} {events events' : List Event} {now : A} {p : Progress} (f : Phase)
+      → Does parts events parts' events' false f → ShowsOver byte next width origin k g parts events now false p → Ends byte next width origin k g parts' events' now (f p)
+  ended k g f does (broke, a) = (false, (broke, still {g' = knowing (with_broke broke k) g} a (does _ _ a.shows) refl))
+
+  -- a draw
+
+  pub drawn_byte : {g : Frame} {parts : Parts} {events : List Event} {old : A} {b : Bool} {p : Progress} (d : ℕ)
+      → ShowsDrawn byte next width origin g parts events old b p → d ≡ byte old → d ≡ byte_at p.stream p.drawn
+  drawn_byte {p = p} d a e = byte_drawn a.stands e ∙ ap (λ (s : Stream). byte_at s p.drawn) (sym a.shows.stream)
+
+  pub drawn_next : {g : Frame} {parts : Parts} {events : List Event} {old new : A} {b : Bool} {p : Progress}
+      → ShowsDrawn byte next width origin g parts events old b p → new ≡ next old → ShowsDrawn byte next width origin g parts events new b (record p { drawn = p.drawn + 1 })
+  drawn_next {p = p} a left =
+      let h = a.shows in
+      record {
+        shows = record { within = h.within; written = h.written; ends = h.ends; stream = h.stream; drawn = refl; skips = h.skips; action = h.action };
+        stands = stands_after_draw a.stands left;
+      }
+
+-- the same end with no generator beside it
+pub stops_as : {g : Frame} {parts : Parts} {events : List Event} (q q' : Progress) → q ≡ q' → (stopped : Bool) × Shows g parts events stopped q'
+    → (stopped : Bool) × Shows g parts events stopped q
+stops_as q q' e a = rw e a
+
+-- an action begins, of which nothing is known
+pub begun_still : (k k' : Known) (g : Frame) (broke : Bool) {parts : Parts} {events : List Event} {b : Bool} {p : Progress} (s : Side) → k' ≡ begun s k
+    → Shows (knowing (with_broke broke k) g) parts events b p → Shows (knowing k' g) parts events b (begin s p)
+unfolding begin on_action
+begun_still k k' g broke s is h =
+    rw is (record { within = h.within; written = h.written; ends = h.ends; stream = h.stream; drawn = h.drawn; skips = h.skips; action = refl })
+
+pub begins-in_range : (s t : Side) (place : ℕ) (p : Progress) → InRange t place p.field → InRange t place (begin s p).field
+unfolding begin on_action
+begins-in_range s t place p h = h
+
+-- a draw between equal Speeds
+
+pub tossed_one : (begins : Side → Phase) (p : Progress) (d : ℕ) → d ≡ byte_at p.stream p.drawn → nat_lt d 128 ≡ true → draw (toss begins) p ≡ begins One (record p { drawn = p.drawn + 1 })
+unfolding draw toss
+tossed_one begins p d at small = choose-true _ (begins One) (begins Two) (record p { drawn = p.drawn + 1 }) (ap (λ (n : ℕ). nat_lt n 128) (sym at) ∙ small)
+
+pub tossed_two : (begins : Side → Phase) (p : Progress) (d : ℕ) → d ≡ byte_at p.stream p.drawn → nat_lt d 128 ≡ false → draw (toss begins) p ≡ begins Two (record p { drawn = p.drawn + 1 })
+unfolding draw toss
+tossed_two begins p d at large = choose-false _ (begins One) (begins Two) (record p { drawn = p.drawn + 1 }) (ap (λ (n : ℕ). nat_lt n 128) (sym at) ∙ large)
+
+-- what is planned
+
+pub picked-fits : (terms : Terms) (plan : Side → Plan) (s : Side) (pick : Pick) (p : Progress) → FitsPick pick (plan s) → Follows terms plan p
+    → IsUsedMove (length (member_in s p.field).moves) (picked_after pick (active_in s p.field).picked_move)
+picked-fits terms plan s (Use used) p fits h = (planned-holds s p.field p.action p.stream fits.1 h).0
+picked-fits terms plan s Continue p fits h = (party-valid s p.field h.field).active.picked_move
+picked-fits terms plan s Idle p fits h = (party-valid s p.field h.field).active.picked_move
+picked-fits terms plan s Held p fits h = tt
+
+pub picked-range : (s t : Side) (pick : Pick) (place : ℕ) (p : Progress) → InRange t place p.field → InRange t place (set_picked s pick p).field
+unfolding set_picked given on_active on_field
+picked-range s t pick place p h = range-kept s t _ place p.field h
+
+pub room-after : (terms : Terms) (one two : ℕ) (p : Progress) → InRange Two two p.field → InRange Two two (residual One (do_part (ruling_of terms) (Sends One one) p)).field
+unfolding do_part
+room-after terms one two p h =
+    let a = length p.field.one.members in
+    let b = length p.field.two.members in
+    let q : Progress = do_part (ruling_of terms) (Sends One one) p in
+    let k = (part-suffers (between-free p.field.turn (room-free a) (room-free b)) terms One).kept q
+    ((sends-room terms a b p.field.turn one).led p (record { turned = refl; one = refl; two = refl })) in
+    subst (λ (n : ℕ). IsBetween 1 n two) (sym k.two) h
+
+-- a flinch that ends
+
+pub flinch-planned : (terms : Terms) (plan : Side → Plan) (s : Side) → Keeps (IsPlanned terms plan) (on_conditions s without_flinch)
+flinch-planned terms plan s = on_conditions-keeps s _ (conditions-spared (planned-sound terms plan) s _ without_flinch-tame)
+
+pub flinch-comes : (c : Choice) (s t : Side) (p : Progress) → Comes c t p.field → Comes c t (on_conditions s without_flinch p).field
+unfolding on_conditions on_field changed_conditions
+flinch-comes c s t p h = comes-kept c s t _ p.field h
+
+-- a turn, by what both choose
+
+pub play-moves : (r : Ruling) (x y : Choice) (j k : ℕ) (p : Progress) → x ≡ choices.Move j → y ≡ choices.Move k
+    → play_turn r x y p ≡ both_pick r (pick_in j One p.field) (pick_in k Two p.field) p
+unfolding play_turn given
+play-moves r x y j k p ex ey = rw (ex, ey) refl
+
+pub play-one : (r : Ruling) (x y : Choice) (j place : ℕ) (p : Progress) → x ≡ choices.Move j → y ≡ choices.Switch place
+    → play_turn r x y p ≡ one_picks r One (pick_in j One p.field) place p
+unfolding play_turn given
+play-one r x y j place p ex ey = rw (ex, ey) refl
+
+pub play-two : (r : Ruling) (x y : Choice) (k place : ℕ) (p : Progress) → x ≡ choices.Switch place → y ≡ choices.Move k
+    → play_turn r x y p ≡ one_picks r Two (pick_in k Two p.field) place p
+unfolding play_turn given
+play-two r x y k place p ex ey = rw (ex, ey) refl
+
+pub play-switches : (r : Ruling) (x y : Choice) (one two : ℕ) (p : Progress) → x ≡ choices.Switch one → y ≡ choices.Switch two
+    → play_turn r x y p ≡ do_parts r (both_switch one two) p
+unfolding play_turn
+play-switches r x y one two p ex ey = rw (ex, ey) refl
+
+pub play-second_passes : (r : Ruling) (x y : Choice) (p : Progress) → y ≡ choices.Pass → play_turn r x y p ≡ p
+unfolding play_turn stay
+play-second_passes r (choices.Move j) y p ey = rw ey refl
+play-second_passes r (choices.Switch j) y p ey = rw ey refl
+play-second_passes r choices.Pass y p ey = refl
+
+pub play-first_passes : (r : Ruling) (x y : Choice) (p : Progress) → x ≡ choices.Pass → play_turn r x y p ≡ p
+unfolding play_turn stay
+play-first_passes r x (choices.Move j) p ex = rw ex refl
+play-first_passes r x (choices.Switch j) p ex = rw ex refl
+play-first_passes r x choices.Pass p ex = rw ex refl

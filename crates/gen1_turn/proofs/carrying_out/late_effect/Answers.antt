@@ -1,0 +1,27 @@
+use Rattle.gen1_layout.proofs.Words.{ap, drawn_if_not, drawn_if_so, drawn_stays, sym, ◌∙◌}
+use Rattle.gen1_machine.specs.LateEffects.{start_bide}
+use Rattle.gen1_machine.specs.Moves.{bides, move_at}
+use Rattle.gen1_machine.specs.Ruling.{ruling_of}
+use Rattle.gen1_effects.specs.Late.{is_group_two}
+use Rattle.gen1_effects.proofs.Failing.{drawn_ended}
+use Rattle.gen1_turn.proofs.ByEffect.{bide-late, late-bide, not-late, two-late}
+use Rattle.gen1_turn.proofs.carrying_out.late_effect.Goals as goal
+
+pub returns-then-is_group_two-clause-shown : goal.returns-then-is_group_two-clause-shown
+returns-then-is_group_two-clause-shown t c origin g p plan doing v h =
+    drawn_if_so _ _ _ (two-late _ (sym (c.is_group_two.ensures ∙ ap is_group_two c.effect.ensures) ∙ c.if-is_group_two.true)) (c.group_two_knowing.ensures.shown origin g p h)
+
+pub returns-then-bides-clause-shown : goal.returns-then-bides-clause-shown
+returns-then-bides-clause-shown t c origin g p plan doing v h =
+    let s = c.args.side in
+    let move = move_at c.args.id in
+    let is = sym (c.bides.ensures ∙ ap bides c.effect-2.ensures) ∙ c.if-bides.true in
+    drawn_if_so _ _ _ (bide-late _ is)
+    (rw (late-bide (ruling_of g.setting.terms) s move _ is) (drawn_ended (start_bide s) (c.start_bide.ensures.shown c.args.known.now move.effect is origin g p plan doing v h)))
+
+pub returns-clause-shown : goal.returns-clause-shown
+returns-clause-shown t c origin g p plan doing v h =
+    drawn_if_not _ _ _
+    (not-late _ (sym (c.is_group_two.ensures ∙ ap is_group_two c.effect.ensures) ∙ c.if-is_group_two.false)
+    (sym (c.bides.ensures ∙ ap bides c.effect-2.ensures) ∙ c.if-bides.false))
+    (drawn_stays h)

@@ -1,0 +1,11 @@
+use Rattle.gen1_layout.proofs.Words.{sym, ◌∙◌}
+use Rattle.gen1_turn.proofs.Turns.{cut_after, cut_before}
+use Rattle.gen1_turn.proofs.turn_parts.suffer.Goals as goal
+
+pub returns-then-is_cut-clause-shown : goal.returns-then-is_cut-clause-shown
+returns-then-is_cut-clause-shown c g p h = cut_before g _ _ c.args.side p (sym (c.is_cut.ensures.stands _ _ h.within) ∙ c.if-is_cut.true) h
+
+pub returns-clause-shown : goal.returns-clause-shown
+returns-clause-shown c g p h =
+    let a = c.residual.ensures.shown g p h in
+    cut_after g _ _ c.args.side p c.is_cut-2.result (sym (c.is_cut-2.ensures.stands _ _ a.within)) (sym (c.is_cut.ensures.stands _ _ h.within) ∙ c.if-is_cut.false) a

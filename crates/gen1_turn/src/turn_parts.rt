@@ -1,0 +1,137 @@
+//! The parts of a turn, each with what its side then suffers (docs/MECHANICS.md, "Order of a turn").
+ghost use Rattle.std.specs.Prelude.{◌||◌, ◌≡◌};
+ghost use Rattle.gen1_layout.specs.Words.{AddsAtMost, Bool, Does, Event, Frame, HasRoom, List, Progress, Reads, Shows, false};
+ghost use Rattle.gen1_machine.specs.declared.side.Side.{Side as SideOf};
+ghost use Rattle.gen1_machine.specs.declared.side.Side.TheVariants as sides;
+ghost use Rattle.gen1_machine.specs.State.{has_fallen_in, is_over};
+ghost use Rattle.gen1_machine.specs.Plans.{FitsPick, InRange, Plan};
+ghost use Rattle.gen1_machine.specs.Residual.{residual};
+ghost use Rattle.gen1_machine.specs.Ruling.{Ruling, ruling_of};
+ghost use Rattle.gen1_machine.specs.Turn.{Acts as ActsPart, Sends, do_part, end_spent_trapping, end_turn, is_spent};
+ghost use Rattle.gen1_action.specs.Knowing.{ShowsOver, knowing, with_broke};
+ghost use Rattle.gen1_action.specs.Planned.{Follows};
+ghost use Rattle.gen1_turn.specs.Acting.{Acts};
+ghost use Rattle.gen1_turn.specs.Turning.{LeavesRest, PartLeaves, suffering};
+
+use crate::act;
+use gen1_action::Known;
+use gen1_layout::Packed;
+use gen1_machine::{EventList, Outcome, Pick, Place, Side};
+use gen1_requests::send_out;
+use gen1_rolls::Rolls;
+use gen1_status::residual;
+
+// A side's action, and what it then suffers. The answer is whether the rest of the turn falls away.
+pub(crate) fn acts_and_suffers<R: Rolls>(
+    battle: &mut Packed,
+    side: Side,
+    pick: Pick,
+    known: &mut Known,
+    random: &mut R,
+    events: &mut EventList,
+) -> bool
+    requires { HasRoom 25 events.old }
+    ensures shown { (origin : R) (g : Frame) (p : Progress) (plan : SideOf → Plan) → FitsPick pick (plan side) → Follows g.setting.terms plan p
+        → ShowsOver R.byte R.next R.SPAN origin known.old g battle.old events.old.items random.old false p
+        → PartLeaves (λ stopped q. ShowsOver R.byte R.next R.SPAN origin known.new g battle.new events.new.items random.new stopped q) result (do_part (ruling_of g.setting.terms) (ActsPart side pick)) side p }
+    ensures room { AddsAtMost 25 events.old events.new }
+{
+    if act_unless_skipped(battle, side, pick, known, random, events) {
+        return true;
+    }
+    suffer(battle, side, events)
+}
+
+// The answer is whether a fault ended the battle.
+fn act_unless_skipped<R: Rolls>(
+    battle: &mut Packed,
+    side: Side,
+    pick: Pick,
+    known: &mut Known,
+    random: &mut R,
+    events: &mut EventList,
+) -> bool
+    requires { HasRoom 22 events.old }
+    ensures shown { Acts R.byte R.next R.SPAN side pick battle.old events.old.items random.old known.old battle.new events.new.items random.new known.new result (λ r. do_part r (ActsPart side pick)) }
+    ensures room { AddsAtMost 22 events.old events.new }
+{
+    *known = known.begun(side);
+    if known.skips {
+        return false;
+    }
+    act(battle, side, pick, known, random, events)
+}
+
+// A member that comes out, and what it then suffers. The answer is whether the rest of the turn falls away.
+pub(crate) fn sends_and_suffers(
+    battle: &mut Packed,
+    side: Side,
+    place: Place,
+    known: &mut Known,
+    events: &mut EventList,
+) -> bool
+    requires { HasRoom 4 events.old }
+    ensures shown { (g : Frame) (p : Progress) (broke : Bool) (r : Ruling) → InRange side place p.field
+        → Shows (knowing (with_broke broke known.old) g) battle.old events.old.items false p
+        → PartLeaves (Shows (knowing known.new g) battle.new events.new.items) result (do_part r (Sends side place)) side p }
+    ensures room { AddsAtMost 4 events.old events.new }
+{
+    *known = known.begun(side);
+    send_out(battle, side, place, events);
+    suffer(battle, side, events)
+}
+
+// What a side suffers unless the turn was cut. The answer is whether it is cut now.
+fn suffer(battle: &mut Packed, side: Side, events: &mut EventList) -> bool
+    requires { HasRoom 3 events.old }
+    ensures shown { (g : Frame) (p : Progress) → Shows g battle.old events.old.items false p
+        → LeavesRest (Shows g battle.new events.new.items) result (suffering side) (residual side) p }
+    ensures room { AddsAtMost 3 events.old events.new }
+{
+    if is_cut(battle) {
+        return true;
+    }
+    residual(battle, side, events);
+    is_cut(battle)
+}
+
+// Whether an active has fallen, or the battle is over.
+fn is_cut(battle: &Packed) -> bool
+    ensures stands { Reads battle.now result λ f. (has_fallen_in sides.One f || has_fallen_in sides.Two f || is_over f.outcome) }
+{
+    has_fallen(battle, Side::One) || has_fallen(battle, Side::Two) || is_over(battle.outcome())
+}
+
+fn has_fallen(battle: &Packed, side: Side) -> bool
+    ensures stands { Reads battle.now result (has_fallen_in side) }
+{
+    battle.hp(side) == 0
+}
+
+fn is_over(outcome: Outcome) -> bool
+    ensures { result ≡ is_over outcome }
+{
+    outcome != Outcome::Ongoing
+}
+
+// Trapping with a count of 0 ends with a turn that nothing cut.
+pub(crate) fn end_turn(battle: &mut Packed)
+    ensures shown { (events : List Event) → Does battle.old events battle.new events false end_turn }
+{
+    end_spent_trapping(battle, Side::One);
+    end_spent_trapping(battle, Side::Two);
+}
+
+fn end_spent_trapping(battle: &mut Packed, side: Side)
+    ensures shown { (events : List Event) → Does battle.old events battle.new events false (end_spent_trapping side) }
+{
+    if is_spent(battle.trapping(side)) {
+        battle.end_trapping(side);
+    }
+}
+
+fn is_spent(count: Option<u8>) -> bool
+    ensures { result ≡ is_spent count }
+{
+    count == Some(0)
+}

@@ -1,0 +1,105 @@
+//! What is told before the first hit, by the words of docs/MECHANICS.md, "Order of events" and "Types".
+use crate::duel::{FOE, USER, named, two_tauros};
+use gen1_action::Known;
+use gen1_layout::Packed;
+use gen1_machine::{Event, EventList};
+use gen1_multiturn::hits;
+use gen1_rolls::Sweep;
+use gen1_tables::Element::{
+    self, Dragon, Flying, Ghost, Grass, Ground, Normal, Poison, Rock, Water,
+};
+use std::test::Fail;
+
+// What is told of a hit of damage 0, of which nothing else is told.
+fn told(
+    battle: &mut Packed,
+    name: &str,
+    foe: (Element, Element),
+    known: &mut Known,
+) -> Result<EventList, Fail> {
+    let id = named(name)?;
+    battle.put_types(FOE, foe.0, foe.1);
+    let mut events = EventList::new();
+    hits(battle, USER, id, known, &mut Sweep::new(0), &mut events);
+    Ok(events)
+}
+
+fn through_types(critical: bool) -> Known {
+    let mut known = Known::new().begun(USER);
+    known.through_types = true;
+    known.critical = critical;
+    known
+}
+
+#[test]
+fn more_rows_of_20_are_super_effective(rt: HostRuntime) -> Result<(), Fail> {
+    for (name, first, second) in [
+        ("Thunderbolt", Water, Flying),
+        ("Ice Beam", Dragon, Flying),
+        ("Low Kick", Normal, Normal),
+        ("Low Kick", Normal, Rock),
+        ("Leech Life", Poison, Normal),
+    ] {
+        let mut battle = two_tauros()?;
+        let events = told(
+            &mut battle,
+            name,
+            (first, second),
+            &mut through_types(false),
+        )?;
+        let expected = [Event::SuperEffective(battle.who(FOE))];
+        assert_eq!(rt; events.as_slice(), expected.as_slice(), "{name}");
+    }
+    Ok(())
+}
+
+#[test]
+fn more_rows_of_5_are_resisted(rt: HostRuntime) -> Result<(), Fail> {
+    for (name, first, second) in [
+        ("Sludge", Poison, Ground),
+        ("Solar Beam", Grass, Grass),
+        ("Strength", Rock, Normal),
+        ("Thunderbolt", Grass, Normal),
+        ("Leech Life", Ghost, Normal),
+    ] {
+        let mut battle = two_tauros()?;
+        let events = told(&mut battle, name, (first, second), &mut through_types(true))?;
+        let expected = [
+            Event::Crit(battle.who(FOE)),
+            Event::Resisted(battle.who(FOE)),
+        ];
+        assert_eq!(rt; events.as_slice(), expected.as_slice(), "{name}");
+    }
+    Ok(())
+}
+
+#[test]
+fn as_many_of_either_tell_nothing(rt: HostRuntime) -> Result<(), Fail> {
+    for (name, first, second) in [
+        ("Ice Beam", Water, Flying),
+        ("Solar Beam", Water, Flying),
+        ("Earthquake", Grass, Poison),
+        ("Strength", Normal, Normal),
+        ("Strength", Ghost, Poison),
+    ] {
+        let mut battle = two_tauros()?;
+        let events = told(
+            &mut battle,
+            name,
+            (first, second),
+            &mut through_types(false),
+        )?;
+        assert_eq!(rt; events.len(), 0, "{name}");
+    }
+    Ok(())
+}
+
+#[test]
+fn what_went_through_no_types_tells_nothing(rt: HostRuntime) -> Result<(), Fail> {
+    let mut battle = two_tauros()?;
+    let mut known = Known::new().begun(USER);
+    known.critical = true;
+    let events = told(&mut battle, "Thunderbolt", (Water, Flying), &mut known)?;
+    assert_eq!(rt; events.len(), 0);
+    Ok(())
+}

@@ -1,0 +1,109 @@
+//! Trapping and thrashing that go on, and trapping of a foe that a move has no effect on, by the words of docs/MECHANICS.md,
+//! "Going on".
+use crate::duel::{FLAGS, FOE, KEPT, TURNS, USER, bytes_of, named, two_tauros, with};
+use gen1_action::{Known, hit_or_miss};
+use gen1_hits::{land, numbers, type_steps};
+use gen1_layout::Conditions;
+use gen1_machine::{Event, EventList, Volatile};
+use gen1_multiturn::{thrash_knowing, trap, trap_knowing};
+use gen1_rolls::{LinkRandom, Rolls, Sweep};
+use gen1_tables::Element;
+use std::test::Fail;
+
+// An action of the user's that goes on.
+fn going_on() -> Known {
+    Known {
+        going_on: true,
+        ..Known::new().begun(USER)
+    }
+}
+
+#[test]
+fn a_trap_goes_on(rt: HostRuntime) -> Result<(), Fail> {
+    // A count of 0 stays 0, and the foe's Recharge is left alone.
+    for (turns, left) in [(4, 3), (1, 0), (0, 0)] {
+        let mut battle = two_tauros()?;
+        battle.put_flag(FOE, Conditions::RECHARGE, true);
+        let before = bytes_of(&battle);
+        battle.put_trapping(USER, turns);
+        let mut sweep = Sweep::new(7);
+        trap_knowing(&mut battle, USER, &going_on(), &mut sweep);
+        assert_eq!(rt;
+            bytes_of(&battle),
+            with(before, &[(FLAGS, 4), (TURNS, left)])
+        );
+        assert_eq!(rt; sweep.draw(), 7);
+    }
+    Ok(())
+}
+
+#[test]
+fn thrashing_goes_on(rt: HostRuntime) -> Result<(), Fail> {
+    let mut battle = two_tauros()?;
+    battle.put_kept_accuracy(USER, 255);
+    let before = bytes_of(&battle);
+    battle.put_thrash(USER, 3);
+    let mut events = EventList::new();
+    let mut sweep = Sweep::new(7);
+    let id = named("Thrash")?;
+    for left in [2, 1] {
+        thrash_knowing(&mut battle, USER, id, &going_on(), &mut sweep, &mut events);
+        assert_eq!(rt;
+            bytes_of(&battle),
+            with(before, &[(FLAGS, 2), (TURNS, left)])
+        );
+    }
+    assert_eq!(rt; (events.len(), sweep.draw()), (0, 7));
+    Ok(())
+}
+
+#[test]
+fn thrashing_ends_in_confusion(rt: HostRuntime) -> Result<(), Fail> {
+    // Confused is bit 6, and its count the low bits of one draw, and 2.
+    for (byte, count) in [(0, 2), (3, 5), (6, 4)] {
+        let mut battle = two_tauros()?;
+        battle.put_kept_accuracy(USER, 255);
+        let before = bytes_of(&battle);
+        battle.put_thrash(USER, 1);
+        let mut events = EventList::new();
+        let mut link = LinkRandom::new([byte; 10]);
+        let id = named("Petal Dance")?;
+        thrash_knowing(&mut battle, USER, id, &going_on(), &mut link, &mut events);
+        assert_eq!(rt;
+            bytes_of(&battle),
+            with(before, &[(FLAGS, 64), (FLAGS + 5, count), (KEPT, 255)])
+        );
+        let told = [Event::Start(battle.who(USER), Volatile::Confusion)];
+        assert_eq!(rt; (events.as_slice(), link.index()), (told.as_slice(), 1));
+    }
+    Ok(())
+}
+
+// Wrap at a Gengar: it holds where it hits, at 215 of the byte 216, and lands nothing.
+#[test]
+fn a_ghost_is_held_for_0(rt: HostRuntime) -> Result<(), Fail> {
+    for (byte, held, turns) in [(215, true, 2), (216, false, 0)] {
+        let mut battle = two_tauros()?;
+        battle.put_types(FOE, Element::Ghost, Element::Poison);
+        let before = bytes_of(&battle);
+        let id = named("Wrap")?;
+        trap(&mut battle, USER, &mut Sweep::new(1));
+        let of_types = numbers(&battle, USER, id, false);
+        let damage = type_steps(23, &of_types);
+        assert_eq!(rt; damage, 0);
+        battle.put_last_damage(damage);
+        let mut known = Known::new().begun(USER);
+        known.missed = true;
+        hit_or_miss(&mut battle, USER, id, &mut known, &mut Sweep::new(byte));
+        assert_eq!(rt; battle.is_on(USER, Conditions::TRAPPING), held);
+        let mut events = EventList::new();
+        land(&mut battle, USER, damage, &mut events);
+        let flags = if held { 4 } else { 0 };
+        assert_eq!(rt;
+            bytes_of(&battle),
+            with(before, &[(FLAGS, flags), (TURNS, turns)])
+        );
+        assert_eq!(rt; events.len(), 0);
+    }
+    Ok(())
+}

@@ -1,0 +1,114 @@
+#!/usr/bin/env python3
+"""Writes tests of whole recorded battles, which play them update by update (docs/PROOFS.md, "Recorded battles").
+
+usage: recorded.py [--check] [TRACES]
+
+TRACES has a recorded battle in each line; without it, it is ../shared/battles/traces.jsonl. Each battle of BATTLES becomes a
+module of crates/turn_tests/src/recorded: its teams, and for each update the pair of choices, the log and all 384 bytes that
+were recorded. crates/turn_tests/src/recorded.rt plays them. Run it at the top of the repository, then `rt fmt` in crates/turn_tests. With
+--check it writes nothing, and fails where a file differs in more than its layout.
+"""
+import json
+import os
+import re
+import sys
+
+# The number of the line, from 0, by the name of the module.
+BATTLES = {"raging": 17, "outnumbered": 28, "digging": 50}
+
+TRACES = os.path.join("..", "shared", "battles", "traces.jsonl")
+FOLDER = os.path.join("crates", "turn_tests", "src", "recorded")
+
+HEAD = """//! A recorded battle: {species}. Made by tools/recorded.py.
+use crate::recorded::{{Update, member, played}};
+use gen1_machine::{{Rules, TurnLimit}};
+use gen1_stats::Team;
+use std::test::Fail;
+
+const SEED: [u8; 10] = {seed};
+
+fn one() -> Result<Team, Fail> {{
+    Ok(Team::new(&[{one}])?)
+}}
+
+fn two() -> Result<Team, Fail> {{
+    Ok(Team::new(&[{two}])?)
+}}
+
+#[test]
+fn the_battle_is_played_as_it_was_recorded(rt: HostRuntime) -> Result<(), Fail> {{
+    let rules = Rules::new({rules}).ok_or("no such rules")?;
+    let limit = TurnLimit::new({limit}).ok_or("no such limit")?;
+    let as_recorded = played(&one()?, &two()?, SEED, rules, limit, &UPDATES)?;
+    assert_eq!(rt; as_recorded, UPDATES.len());
+    Ok(())
+}}
+
+const UPDATES: [Update; {count}] = [
+"""
+
+
+def a_list(items):
+    return "[%s]" % ", ".join(map(str, items))
+
+
+def member(given):
+    moves = ", ".join('("%s", %d)' % (name, ups) for name, ups in given["moves"])
+    return 'member("%s", %d, %s, %s, &[%s])?' % (
+        given["species"], given["level"], a_list(given["dvs"]), a_list(given["exp"]), moves)
+
+
+def update(recorded):
+    """The bytes in seven lines: the header, and three lines for each side."""
+    text = recorded["bytes"]
+    lines = [text[:48]] + [text[at:at + 120] for at in range(48, 768, 120)]
+    return (
+        "    Update {\n"
+        "        choices: (0x%02x, 0x%02x),\n"
+        '        log: "%s",\n'
+        "        bytes: [\n%s        ],\n"
+        "    },\n"
+    ) % (*recorded["pair"], recorded["log"], "".join('            "%s",\n' % line for line in lines))
+
+
+def module(recorded):
+    given, updates = recorded["object"], recorded["updates"]
+    teams = [" and ".join(member["species"] for member in given[side]) for side in ("one", "two")]
+    return HEAD.format(
+        species=" against ".join(teams),
+        seed=a_list(given["seed"]),
+        one=", ".join(map(member, given["one"])),
+        two=", ".join(map(member, given["two"])),
+        rules=given.get("rules", 0),
+        limit=given.get("limit", 1000),
+        count=len(updates),
+    ) + "".join(map(update, updates)) + "];\n"
+
+
+def laid_out(text):
+    """The text without what `rt fmt` may change."""
+    return re.sub(r",(?=[\])])", "", re.sub(r"\s", "", text))
+
+
+def main():
+    words = [word for word in sys.argv[1:] if word != "--check"]
+    check = "--check" in sys.argv[1:]
+    traces = words[0] if words else TRACES
+    if check and not os.path.exists(traces):
+        print("note: %s is not there, so the recorded tests were not compared" % traces)
+        return
+    with open(traces, encoding="utf-8") as file:
+        lines = file.read().splitlines()
+    for name, line in BATTLES.items():
+        text = module(json.loads(lines[line]))
+        path = os.path.join(FOLDER, name + ".rt")
+        if not check:
+            with open(path, "w", encoding="utf-8") as file:
+                file.write(text)
+            continue
+        with open(path, encoding="utf-8") as file:
+            if laid_out(file.read()) != laid_out(text):
+                sys.exit("%s is not what was recorded; run tools/recorded.py" % path)
+
+
+main()
