@@ -34,8 +34,14 @@ fn both_pass_first(rt: HostRuntime) -> Result<(), Fail> {
         request_two: Request::Pass,
     };
     assert_eq!(rt; battle.result(), asked);
-    assert_eq!(rt; battle.choices(Side::One).as_slice(), [Choice::Pass].as_slice());
-    assert_eq!(rt; battle.choices(Side::Two).as_slice(), [Choice::Pass].as_slice());
+    assert_eq!(rt;
+        battle.choices(Side::One).as_slice(),
+        [Choice::Pass].as_slice()
+    );
+    assert_eq!(rt;
+        battle.choices(Side::Two).as_slice(),
+        [Choice::Pass].as_slice()
+    );
     Ok(())
 }
 

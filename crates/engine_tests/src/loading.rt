@@ -58,4 +58,3 @@ fn the_first_fault_is_told(rt: HostRuntime) {
     speed[181] = 80;
     assert_eq!(rt; fault(&speed), 6);
 }
-

@@ -151,7 +151,10 @@ fn an_ended_battle_refuses_all(rt: HostRuntime) -> Result<(), Fail> {
     for (one, two) in PAIRS {
         battle.update_by_bytes(one, two, &mut log)?;
     }
-    assert_eq!(rt; battle.update_by_bytes(0x00, 0x00, &mut log), Err(Refusal::Over));
+    assert_eq!(rt;
+        battle.update_by_bytes(0x00, 0x00, &mut log),
+        Err(Refusal::Over)
+    );
     assert_eq!(rt; log.as_slice(), SECOND.as_slice());
     Ok(())
 }

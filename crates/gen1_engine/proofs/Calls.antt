@@ -41,7 +41,11 @@ all_calls s old new (pair ∷ pairs) [] h all = absurd all
 all_calls s old new (pair ∷ pairs) (result ∷ results) h all =
     let here = one_call s pair.0 pair.1 old all.0 result h (all.1 s h) in
     let later = all_calls (step s pair.0 pair.1).state all.0 new pairs results here.0 all.2 in
-    (later.0, rw (here.1, later.1) refl)
+    (
+      later.0,
+      ap (λ (b : Bool). cond b 1 0 + count_by is_ok results) here.1
+      ∙ ap (λ (n : ℕ). cond (is_accepted (step s pair.0 pair.1).answer) 1 0 + n) later.1,
+    )
 
 pub calls_are_the_run : CallsAreTheRun
 calls_are_the_run s old new pairs results h all = (all_calls s old new pairs results h all).0

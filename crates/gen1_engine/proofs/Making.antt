@@ -1,5 +1,5 @@
 -- Which update a pair of offered choices is, what the machine makes of it, and what was refused.
-use Rattle.std.proofs.Common.{Bool, List, ap, arith, false, inl, inr, length, refl, subst, sym, true, ℕ, ◌+◌, ◌∙◌, ◌≡◌, ◌≤◌, ◌⊎◌}
+use Rattle.std.proofs.Common.{Bool, List, ap, arith, [], false, inl, inr, length, refl, subst, sym, true, ℕ, ◌+◌, ◌∙◌, ◌∷◌, ◌≡◌, ◌≤◌, ◌⊎◌}
 use Rattle.gen1_machine.specs.declared.side.Side.{Side}
 use Rattle.gen1_machine.specs.declared.side.Side.TheVariants.{One, Two}
 use Rattle.gen1_machine.specs.declared.terms.Outcome.{Outcome}
@@ -16,13 +16,14 @@ use Rattle.gen1_machine.specs.Progress.{Progress}
 use Rattle.gen1_machine.specs.Ruling.{ruling_of}
 use Rattle.gen1_machine.specs.Turn.{turn}
 use Rattle.gen1_machine.specs.OfferedChoices.{offered}
-use Rattle.gen1_machine.specs.Step.{Accepted, Answer, NotOffered, Over, Refused, Stepped, accepted, answered, close_update, offers, opened, refused, step, step_by, update, update_for}
+use Rattle.gen1_machine.specs.Step.{Accepted, Answer, NotOffered, Over, Refused, Stepped, accepted, answered, close_update, offers, opened, refused, run_by, step, step_by, update, update_for}
 use Rattle.gen1_machine.specs.Valid.{IsAsked, IsStarted, IsState, IsUnstarted, StandsAs}
 use Rattle.gen1_machine.proofs.Bounds.{step_is_bounded}
+use Rattle.gen1_machine.proofs.ValidStates.{states_stay_valid}
 use Rattle.gen1_layout.specs.Parts.{Parts}
 use Rattle.gen1_layout.specs.Within.{Setting, Stands, Within, setting_of}
 use Rattle.gen1_requests.specs.Updates.{Plays, Starts, Steps}
-use Rattle.gen1_requests.proofs.Stepped.{step_accepts, valid-after}
+use Rattle.gen1_requests.proofs.Stepped.{step_accepts}
 use Rattle.gen1_engine.specs.Updating.{AreOffered, IsBounded, IsBoundedAs}
 
 -- where something is offered the battle goes on
@@ -112,9 +113,9 @@ starts_of {s = s} {one = one} valid h e = record { goes_on = goes_on s One one h
 
 -- before the first update both pass
 
-passes : (s : State) (side : Side) (c : Choice) (r : Request) → r ≡ requests.Pass → offers s side c ≡ true → s.field.request_one ≡ requests.Pass → s.field.request_two ≡ requests.Pass → c ≡ choices.Pass
+passes : (s : State) (side : Side) (c : Choice) → offers s side c ≡ true → s.field.request_one ≡ requests.Pass → s.field.request_two ≡ requests.Pass → c ≡ choices.Pass
 unfolding offered
-passes s side c r is h one two = by side c (goes_on s side c h) h
+passes s side c h one two = by side c (goes_on s side c h) h
   where
     by : (side : Side) (c : Choice) → s.field.outcome ≡ outcomes.Ongoing → offers s side c ≡ true → c ≡ choices.Pass
     by side choices.Pass going h = refl
@@ -127,11 +128,15 @@ pub starts_so : {s : State} {one two : Choice} {parts : Parts} {events : List Ev
 starts_so {s = s} {one = one} {two = two} {parts = parts} {events = events} o starts h =
     let a = starts.unstarted.requests.one in
     let b = starts.unstarted.requests.two in
-    let first = passes s One one requests.Pass refl o.first a b in
-    let second = passes s Two two requests.Pass refl o.second a b in
+    let first = passes s One one o.first a b in
+    let second = passes s Two two o.second a b in
     subst (λ (c : Choice). Steps s c two parts events) (sym first) (subst (λ (c : Choice). Steps s choices.Pass c parts events) (sym second) h)
 
 -- a turn
+
+valid-after : (s : State) (one two : Choice) → IsState s → IsState (step s one two).state
+unfolding run_by
+valid-after s one two valid = states_stay_valid s ((one, two) ∷ []) valid
 
 turns-as : (s : State) (one two : Choice) → Plays s requests.Move one two → s.field.request_one ≡ requests.Move → s.field.request_two ≡ requests.Move
     → step s one two ≡ accepted s (close_update (ruling_of s.terms) (turn (ruling_of s.terms) one two (opened s)))
