@@ -20,7 +20,8 @@ TRACES = os.path.join("..", "shared", "battles", "traces.jsonl")
 FOLDER = os.path.join("crates", "turn_tests", "src", "recorded")
 
 HEAD = """//! A recorded battle: {species}. Made by tools/recorded.py.
-use crate::recorded::{{Update, member, played}};
+use crate::recorded::{{Update, played}};
+use crate::setting::member_of;
 use gen1_machine::{{Rules, TurnLimit}};
 use gen1_stats::Team;
 use std::test::Fail;
@@ -54,7 +55,7 @@ def a_list(items):
 
 def member(given):
     moves = ", ".join('("%s", %d)' % (name, ups) for name, ups in given["moves"])
-    return 'member("%s", %d, %s, %s, &[%s])?' % (
+    return 'member_of("%s", %d, %s, %s, &[%s])?' % (
         given["species"], given["level"], a_list(given["dvs"]), a_list(given["exp"]), moves)
 
 

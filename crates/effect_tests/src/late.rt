@@ -1,56 +1,30 @@
 //! Stages that rise and fall, and sleep, with the numbers of docs/MECHANICS.md, "Late effects", "Stage shift", "Rules (sleep
-//! clause, freeze clause)". Each side has two Tauros at level 100, of which the first is out.
-use arrayvec::ArrayVec;
+//! clause, freeze clause)". 75 was the last damage.
+use crate::battles::{self, FOE, USER, electrode, named, send_out};
 use gen1_effects::{group_two, is_group_two};
 use gen1_layout::{Conditions, Packed};
-use gen1_machine::{Event, EventList, Kind, Rules, Side, StageCount};
+use gen1_machine::{Event, EventList, Kind, Side, StageCount};
 use gen1_rolls::{LinkRandom, Rolls, Sweep};
-use gen1_stats::{MemberSpec, Status, Team};
-use gen1_tables::Element::{Electric, Ghost, Normal};
-use gen1_tables::{MoveId, Species, Stat};
+use gen1_stats::Status;
+use gen1_tables::Element::Ghost;
+use gen1_tables::Stat;
+use std::process::Abort;
 use std::test::Fail;
 
 mod sleep;
 mod stages;
 
-const USER: Side = Side::One;
+// With the draws of a sweep, and with those of link numbers.
+const BOTH: [bool; 2] = [false, true];
 
-const FOE: Side = Side::Two;
-
-fn named(name: &str) -> Result<MoveId, Fail> {
-    Ok(MoveId::from_name(name).ok_or("no such move")?)
-}
-
-fn member(name: &str) -> Result<MemberSpec, Fail> {
-    let mut moves = ArrayVec::new();
-    moves.push((named("Strength")?, 0));
-    Ok(MemberSpec {
-        species: Species::from_name(name).ok_or("no such species")?,
-        level: 100,
-        dvs: [15; 4],
-        exp: [65535; 5],
-        moves,
-    })
-}
-
-// Tauros have HP 353, Attack 298, Defense 288, Speed 318 and Special 238; 75 was the last damage.
 fn tauros_under(rules: u8) -> Result<Packed, Fail> {
-    let rules = Rules::new(rules).ok_or("no such rules")?;
-    let team = Team::new(&[member("Tauros")?, member("Tauros")?])?;
-    let mut battle = Packed::with_rules(&team, &team, [0; 10], rules);
-    for side in [USER, FOE] {
-        send_out(&mut battle, side, 1);
-    }
+    let mut battle = battles::tauros_under(rules)?;
     battle.put_last_damage(75);
     Ok(battle)
 }
 
 fn tauros() -> Result<Packed, Fail> {
     tauros_under(0)
-}
-
-fn send_out(battle: &mut Packed, side: Side, place: u8) {
-    battle.put_sent_out(side, place, Normal, Normal, [298, 288, 318, 238]);
 }
 
 // Plays a move of the user's.
@@ -68,9 +42,7 @@ fn play<R: Rolls>(battle: &mut Packed, name: &str, random: &mut R) -> Result<Eve
 // to 8 of link numbers.
 fn play_from(
     battle: &mut Packed,
-    name: &str,
-    byte: u8,
-    link: bool,
+    (name, byte, link): (&str, u8, bool),
 ) -> Result<(EventList, u8), Fail> {
     if link {
         let mut random = LinkRandom::new([byte; 10]);
@@ -80,6 +52,53 @@ fn play_from(
     let mut random = Sweep::new(byte);
     let events = play(battle, name, &mut random)?;
     Ok((events, random.draw().wrapping_sub(byte)))
+}
+
+// Plays a move so, and compares what it tells, how many draws it takes, and the bytes.
+fn plays(
+    rt: &impl Abort,
+    battle: &mut Packed,
+    played: (&str, u8, bool),
+    told: &[Event],
+    draws: u8,
+    want: &Packed,
+) -> Result<(), Fail> {
+    let (events, drawn) = play_from(battle, played)?;
+    let (name, _, _) = played;
+    assert_eq!(rt; drawn, draws, "{name}");
+    compare(rt, battle, &events, told, want);
+    Ok(())
+}
+
+// What has been told, and the bytes.
+fn compare(rt: &impl Abort, battle: &Packed, events: &EventList, told: &[Event], want: &Packed) {
+    assert_eq!(rt; events.as_slice(), told);
+    assert_eq!(rt; battle.as_bytes(), want.as_bytes());
+}
+
+// A move that misses, whose last damage is 0 then.
+fn misses(
+    rt: &impl Abort,
+    battle: &mut Packed,
+    played: (&str, u8, bool),
+    draws: u8,
+    want: &mut Packed,
+) -> Result<(), Fail> {
+    let told = [Event::Miss(battle.who(USER))];
+    want.put_last_damage(0);
+    plays(rt, battle, played, &told, draws, want)
+}
+
+// A move that fails.
+fn fails(
+    rt: &impl Abort,
+    battle: &mut Packed,
+    played: (&str, u8, bool),
+    draws: u8,
+    want: &Packed,
+) -> Result<(), Fail> {
+    let told = [Event::Fail(battle.who(USER))];
+    plays(rt, battle, played, &told, draws, want)
 }
 
 fn count(stages: u8) -> Result<StageCount, Fail> {

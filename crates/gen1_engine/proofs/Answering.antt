@@ -1,17 +1,17 @@
 -- What an update answered, by the answer of the machine's step.
 use Rattle.arrayvec.specs.ArrayVec.{ArrayVec}
-use Rattle.std.proofs.Common.{Err, List, Ok, Result, ap, refl, subst, sym, ℕ, ◌≡◌, ◌∙◌}
+use Rattle.std.proofs.Common.{Err, List, Ok, ap, refl, subst, ℕ, ◌≡◌}
 use Rattle.gen1_machine.specs.declared.event.Event.{Event}
 use Rattle.gen1_machine.specs.declared.choice.Choice.{Choice}
 use Rattle.gen1_machine.specs.State.{State}
-use Rattle.gen1_machine.specs.Step.{Accepted, Answer, Refused, Refusal as Reason, Stepped, refused, step}
+use Rattle.gen1_machine.specs.Step.{Accepted, Answer, Refused, Refusal as Reason, refused, step}
 use Rattle.gen1_events.specs.Splits.{IsReading}
 use Rattle.gen1_layout.specs.Parts.{Parts}
 use Rattle.gen1_layout.specs.Within.{Stands}
 use Rattle.gen1_requests.specs.Updates.{Steps}
 use Rattle.gen1_engine.specs.declared.result.BattleResult.{BattleResult}
 use Rattle.gen1_engine.specs.declared.result.Refusal.{Refusal}
-use Rattle.gen1_engine.specs.Updating.{Answers, AnswersAs, Logs, LogsAs, Tells, TellsAs, refusal_of, result_of}
+use Rattle.gen1_engine.specs.Updating.{Answers, AnswersAs, LogsAs, Tells, TellsAs, refusal_of, result_of}
 
 -- a refused pair
 

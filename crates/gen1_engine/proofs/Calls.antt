@@ -1,11 +1,12 @@
 -- Any calls of an update, one after the other.
-use Rattle.std.proofs.Common.{Bool, Err, List, Ok, Result, [], ap, false, refl, subst, sym, true, ℕ, ◌+◌, ◌∙◌, ◌∷◌, ◌≡◌, ◌≤◌}
+use Rattle.std.proofs.Common.{Bool, List, Result, [], ap, refl, subst, sym, ℕ, ◌+◌, ◌∙◌, ◌∷◌, ◌≡◌, ◌≤◌}
 use Rattle.std.specs.Prelude.{cond, count_by, is_ok}
-use Rattle.gen1_machine.specs.declared.side.Side.TheVariants.{One, Two}
+use Rattle.std.proofs.lemmas.List.Sums.{sum_by-cons}
+use Rattle.gen1_machine.specs.declared.side.Side.TheVariants.{One}
 use Rattle.gen1_machine.specs.declared.choice.Choice.{Choice}
 use Rattle.gen1_machine.specs.Laws.{accepted_in, is_accepted}
-use Rattle.gen1_machine.specs.State.{State, is_over}
-use Rattle.gen1_machine.specs.Step.{Accepted, Answer, Ran, Refused, Stepped, run, run_by, step}
+use Rattle.gen1_machine.specs.State.{State}
+use Rattle.gen1_machine.specs.Step.{Accepted, Answer, Refused, Stepped, run, run_by, step}
 use Rattle.gen1_machine.proofs.Runs.{refusal_changes_nothing}
 use Rattle.gen1_machine.proofs.RunsEnd.{runs_end}
 use Rattle.gen1_layout.specs.Parts.{Parts}
@@ -14,7 +15,7 @@ use Rattle.gen1_requests.proofs.Stepped.{step_accepts}
 use Rattle.gen1_engine.specs.declared.result.BattleResult.{BattleResult}
 use Rattle.gen1_engine.specs.declared.result.Refusal.{Refusal}
 use Rattle.gen1_engine.specs.Updating.{Answers, AnswersAs}
-use Rattle.gen1_engine.specs.Calling.{CallsAreTheRun, CallsEnd, OfferedIsAccepted, Updates, UpdatesAll}
+use Rattle.gen1_engine.specs.Calling.{CallsAreTheRun, CallsEnd, OfferedIsAccepted, UpdatesAll}
 use Rattle.gen1_engine.proofs.Making.{goes_on}
 
 -- one call
@@ -40,11 +41,12 @@ all_calls s old new [] (result ∷ results) h all = absurd all
 all_calls s old new (pair ∷ pairs) [] h all = absurd all
 all_calls s old new (pair ∷ pairs) (result ∷ results) h all =
     let here = one_call s pair.0 pair.1 old all.0 result h (all.1 s h) in
-    let later = all_calls (step s pair.0 pair.1).state all.0 new pairs results here.0 all.2 in
-    (
+    let later = all_calls (step s pair.0 pair.1).state all.0 new pairs results here.0 all.2 in (
       later.0,
-      ap (λ (b : Bool). cond b 1 0 + count_by is_ok results) here.1
-      ∙ ap (λ (n : ℕ). cond (is_accepted (step s pair.0 pair.1).answer) 1 0 + n) later.1,
+      sum_by-cons (λ (r : Result BattleResult Refusal). cond (is_ok r) 1 0) result results
+          ∙ ap (λ (b : Bool). cond b 1 0 + count_by is_ok results) here.1
+          ∙ ap (λ (n : ℕ). cond (is_accepted (step s pair.0 pair.1).answer) 1 0 + n) later.1
+          ∙ sym (sum_by-cons (λ (a : Answer). cond (is_accepted a) 1 0) (step s pair.0 pair.1).answer (run (step s pair.0 pair.1).state pairs).answers),
     )
 
 pub calls_are_the_run : CallsAreTheRun

@@ -1,15 +1,13 @@
 -- Which update a pair of offered choices is, what the machine makes of it, and what was refused.
-use Rattle.std.proofs.Common.{Bool, List, ap, arith, [], false, inl, inr, length, refl, subst, sym, true, ℕ, ◌+◌, ◌∙◌, ◌∷◌, ◌≡◌, ◌≤◌, ◌⊎◌}
+use Rattle.std.proofs.Common.{Bool, List, ap, arith, [], false, inl, inr, length, refl, subst, sym, true, ◌∙◌, ◌∷◌, ◌≡◌, ◌≤◌, ◌⊎◌}
 use Rattle.gen1_machine.specs.declared.side.Side.{Side}
 use Rattle.gen1_machine.specs.declared.side.Side.TheVariants.{One, Two}
 use Rattle.gen1_machine.specs.declared.terms.Outcome.{Outcome}
 use Rattle.gen1_machine.specs.declared.terms.Outcome.TheVariants as outcomes
-use Rattle.gen1_machine.specs.declared.terms.Request.{Request}
 use Rattle.gen1_machine.specs.declared.terms.Request.TheVariants as requests
 use Rattle.gen1_machine.specs.declared.event.Event.{Event}
 use Rattle.gen1_machine.specs.declared.choice.Choice.{Choice}
 use Rattle.gen1_machine.specs.declared.choice.Choice.TheVariants as choices
-use Rattle.gen1_machine.specs.Bounds.{Bounded}
 use Rattle.gen1_machine.specs.Code.{codes_of}
 use Rattle.gen1_machine.specs.State.{Field, State, Terms, has_fallen_in, is_over}
 use Rattle.gen1_machine.specs.Progress.{Progress}
@@ -21,7 +19,7 @@ use Rattle.gen1_machine.specs.Valid.{IsAsked, IsStarted, IsState, IsUnstarted, S
 use Rattle.gen1_machine.proofs.Bounds.{step_is_bounded}
 use Rattle.gen1_machine.proofs.ValidStates.{states_stay_valid}
 use Rattle.gen1_layout.specs.Parts.{Parts}
-use Rattle.gen1_layout.specs.Within.{Setting, Stands, Within, setting_of}
+use Rattle.gen1_layout.specs.Within.{Stands, Within, setting_of}
 use Rattle.gen1_requests.specs.Updates.{Plays, Starts, Steps}
 use Rattle.gen1_requests.proofs.Stepped.{step_accepts}
 use Rattle.gen1_engine.specs.Updating.{AreOffered, IsBounded, IsBoundedAs}

@@ -1,5 +1,5 @@
 -- What any calls of `update` come to, one after the other, by what each promises (docs/PROOFS.md, "Laws").
-use Rattle.std.specs.Prelude.{List, Result, [], count_by, is_ok, true, ℕ, ◌+◌, ◌≡◌, ◌≤◌, ◌∷◌}
+use Rattle.std.specs.Prelude.{List, Result, [], count_by, is_ok, true, ◌+◌, ◌≡◌, ◌≤◌, ◌∷◌}
 use Rattle.gen1_machine.specs.declared.side.Side.TheVariants.{One, Two}
 use Rattle.gen1_machine.specs.declared.choice.Choice.{Choice}
 use Rattle.gen1_machine.specs.State.{State, is_over}

@@ -65,7 +65,7 @@ fn picked_number(battle: &Packed, side: Side) -> u8
 {
     match battle.picked_move(side) {
         UsedMove::Nothing => 0,
-        UsedMove::Slot(slot) => battle.move_in(side, usize::from(slot).max(1).min(4)),
+        UsedMove::Slot(slot) => battle.move_in(side, slot.max(1).min(4)),
         UsedMove::Struggle => STRUGGLE,
     }
 }

@@ -1,9 +1,10 @@
 //! Moves of fixed damage, Super Fang and Psywave (docs/MECHANICS.md, "Fixed damage and one-hit moves").
 ghost use Rattle.std.specs.Prelude.{◌≡◌};
 ghost use Rattle.gen1_layout.specs.Words.{Event, List, Reads, false, member_in, move_at};
-ghost use Rattle.gen1_machine.specs.FixedDamage.{fixed_damage, half_hp, is_psywave, psywave};
+ghost use Rattle.gen1_layout.specs.Parts.{Parts};
+ghost use Rattle.gen1_machine.specs.FixedDamage.{deal_fixed, fixed_damage, half_hp, is_psywave, psywave};
 ghost use Rattle.gen1_action.specs.Knowing.{DoesKnowingDrawing, IsUncounted};
-ghost use Rattle.gen1_multiturn.specs.Dealt.{Deals, DealsFixed};
+ghost use Rattle.gen1_multiturn.specs.Dealt.{DealsAs};
 
 use gen1_action::{Known, hit_or_miss};
 use gen1_layout::Packed;
@@ -23,7 +24,7 @@ const SUPER_FANG: u8 = 162;
 /// 1, for Super Fang, a drawn number for Psywave, and for Seismic Toss, Night Shade and every other move the user's level.
 /// `None` is the fault of Psywave at level 1, which draws nothing (docs/MECHANICS.md, "Fixed damage and one-hit moves").
 pub fn fixed<R: Rolls>(battle: &Packed, side: Side, id: MoveId, random: &mut R) -> Option<u16>
-    ensures deals { DealsFixed R.byte R.next R.SPAN side id battle.now random.old result random.new }
+    ensures deals { DealsAs R.byte R.next R.SPAN battle.now random.old result random.new (deal_fixed side id) }
 {
     let number = id.number();
     if number == SONIC_BOOM {
@@ -72,7 +73,7 @@ pub fn fixed_knowing<R: Rolls>(
 
 // A draw above 0 and below one and a half times the level.
 fn psywave<R: Rolls>(level: u8, random: &mut R) -> Option<u16>
-    ensures deals { Deals R.byte R.next R.SPAN (psywave level) random.old result random.new }
+    ensures deals { (parts : Parts) → DealsAs R.byte R.next R.SPAN parts random.old result random.new (psywave level) }
 {
     if level <= 1 {
         return None;

@@ -1,5 +1,5 @@
-//! Moves that last over turns, and substitutes, over the bytes of a battle (docs/MECHANICS.md, "Going on", "Charging", "Early
-//! effects").
+//! Moves that last over turns, substitutes, the hits of a move and what a miss brings, over the bytes of a battle
+//! (docs/MECHANICS.md, "Going on", "Charging", "Early effects", "Many hits", "Recoil, drain and explosion").
 #![tactic(auto)]
 
 mod biding;
@@ -19,7 +19,7 @@ mod thrashing;
 mod trapping;
 
 pub use biding::{bide, bide_knowing, start_bide};
-pub use charging::{charge, charge_knowing, make_current};
+pub use charging::{charge, charge_knowing, make_current, used_by};
 pub use countering::{counter, counter_knowing};
 pub use fixed_damage::{fixed, fixed_knowing};
 pub use hitting::hits;

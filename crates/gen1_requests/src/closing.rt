@@ -13,10 +13,10 @@ ghost use Rattle.gen1_requests.specs.Closing.{Decides, ask_next, fault_in};
 use gen1_layout::Packed;
 use gen1_machine::{Event, EventList, FaultCode, Outcome, Request, Side, TurnNumber};
 
-/// Closes an update of which `actor` acted last, or was sent out last in a turn; side 1 where neither was so. The fallen who are
-/// out faint, the foe of `actor` first; then the battle ends with a win or a tie, or switches are asked of who has fallen, or
-/// the turn number rises by 1 and moves are asked of both. Where the outcome is a fault nobody faints, and nothing is asked any
-/// more. At most 3 events are written (docs/MECHANICS.md, "Falls and requests").
+/// Closes an update whose last actor was `actor`: the side that acted, was skipped, or was sent out last in a turn, and side 1
+/// where there was no turn. The fallen who are out faint, the foe of `actor` first; then the battle ends with a win or a tie, or
+/// switches are asked of who has fallen, or the turn number rises by 1 and moves are asked of both. Where the outcome is a fault
+/// nobody faints, and nothing is asked any more. At most 3 events are written (docs/MECHANICS.md, "Falls and requests").
 pub fn close(battle: &mut Packed, actor: Side, events: &mut EventList)
     requires space { HasRoom 3 events.old }
     ensures shown { (g : Frame) (p : Progress) → g.action.side ≡ actor → Shows g battle.old events.old.items false p

@@ -1,6 +1,6 @@
 -- Which effects are early and late, and how a move comes by its damage.
 use Rattle.std.proofs.Common.{◌≡◌}
-use Rattle.gen1_layout.proofs.Words.{Bool, Phase, Side, ap, choose, false, nat_lt, refl, set_last_damage, true}
+use Rattle.gen1_layout.proofs.Words.{Phase, Side, ap, choose, false, nat_lt, refl, set_last_damage, true}
 use Rattle.std.proofs.lemmas.Bool.{false≢true}
 use Rattle.gen1_tables.specs.declared.effect.Effect.{Effect}
 use Rattle.gen1_tables.specs.declared.effect.Effect.TheVariants as effects

@@ -1,6 +1,6 @@
 -- How the parts of a turn follow one another, and what is planned as it goes on.
 use Rattle.std.proofs.Common.{◌+◌, ◌≡◌}
-use Rattle.gen1_layout.proofs.Words.{Bool, Event, Field, Frame, List, Parts, Phase, Progress, Shows, ShowsDrawn, Side, active_in, ap, choose-false, choose-true, draw, drawn_goes, false, given, goes, if_not, if_so, length, member_in, nat_lt, on_active, on_conditions, on_field, refl, stay, stays, still, subst, sym, then-goes, true, ℕ, ◌∙◌, ◌▸◌}
+use Rattle.gen1_layout.proofs.Words.{Bool, Event, Frame, List, Parts, Phase, Progress, Shows, ShowsDrawn, Side, active_in, ap, choose-false, choose-true, draw, drawn_goes, false, given, goes, if_not, if_so, length, member_in, nat_lt, on_active, on_conditions, on_field, refl, stay, stays, still, subst, sym, then-goes, true, ℕ, ◌∙◌, ◌▸◌}
 use Rattle.gen1_rolls.specs.Streams.{byte_at, Stream}
 use Rattle.gen1_rolls.proofs.Standing.{byte_drawn, stands_after_draw}
 use Rattle.gen1_stats.specs.Members.{IsBetween}
@@ -19,14 +19,14 @@ use Rattle.gen1_machine.specs.Action.{begin}
 use Rattle.gen1_machine.specs.TurnOrder.{toss}
 use Rattle.gen1_machine.specs.Turn.{both_pick, both_switch, do_part, do_parts, is_cut, one_picks, play_turn, set_picked, Sends}
 use Rattle.gen1_machine.specs.Valid.{IsUsedMove}
-use Rattle.gen1_machine.specs.Plans.{Comes, FitsPick, HoldsPlan, InRange, IsPlanned, Plan, Plans}
+use Rattle.gen1_machine.specs.Plans.{Comes, FitsPick, InRange, IsPlanned, Plan, PlanOf}
 use Rattle.gen1_machine.proofs.Bench.{between-free}
 use Rattle.gen1_machine.proofs.Keeps.{on_conditions-keeps, Keeps}
 use Rattle.gen1_machine.proofs.Sound.{party-valid, planned-holds, planned-sound}
 use Rattle.gen1_machine.proofs.SoundWalk.{conditions-spared}
 use Rattle.gen1_machine.proofs.Tame.{without_flinch-tame}
 use Rattle.gen1_machine.proofs.Turns.{part-suffers}
-use Rattle.gen1_machine.proofs.ValidTurns.{comes-kept, range-kept, room-free, sends-room}
+use Rattle.gen1_machine.proofs.ValidTurns.{comes-kept, pick-plan, range-kept, room-free, sends-room, Picked}
 use Rattle.gen1_layout.specs.Shows.{Does}
 use Rattle.gen1_action.specs.declared.known.Known.{Known}
 use Rattle.gen1_action.specs.Knowing.{begun, knowing, with_broke, ShowsOver}
@@ -73,6 +73,11 @@ module _ {A : Type 0} {byte : A → ℕ} {next : A → A} {width : ℕ} {origin 
       → ShowsDrawn byte next width origin (knowing (with_broke broke k) g) parts events now false p → Shows (knowing k' (record g { drawn = p.drawn })) parts' events' b q
       → ShowsOver byte next width origin k' g parts' events' now b q
   over_still k k' g a h = (k'.broke, still {g' = knowing k' g} a h refl)
+
+  pub ends_still : (k k' : Known) (g : Frame) {broke : Bool} {parts parts' : Parts} {events events' : List Event} {now : A} {p q : Progress}
+      → ShowsDrawn byte next width origin (knowing (with_broke broke k) g) parts events now false p
+      → (stopped : Bool) × Shows (knowing k' (record g { drawn = p.drawn })) parts' events' stopped q → Ends byte next width origin k' g parts' events' now q
+  ends_still k k' g a x = (x.0, over_still k k' g a x.1)
 
   -- the end of a turn
 
@@ -159,20 +164,38 @@ flinch-comes c s t p h = comes-kept c s t _ p.field h
 
 -- a turn, by what both choose
 
-pub play-moves : (r : Ruling) (x y : Choice) (j k : ℕ) (p : Progress) → x ≡ choices.Move j → y ≡ choices.Move k
-    → play_turn r x y p ≡ both_pick r (pick_in j One p.field) (pick_in k Two p.field) p
-unfolding play_turn given
-play-moves r x y j k p ex ey = rw (ex, ey) refl
+pub picked-one : {terms : Terms} (plan : Side → Plan) (s : Side) (x : Choice) (j : ℕ) (pick : Pick) (p : Progress) → x ≡ choices.Move j → pick ≡ pick_in j s p.field
+    → PlanOf x (plan s) → Follows terms plan p → Picked terms plan s pick p.field p.action p.stream
+picked-one {terms} plan s x j pick p ex is one h =
+    subst (λ (z : Pick). Picked terms plan s z p.field p.action p.stream) (sym is)
+    (pick-plan plan s j p.field p.action p.stream (subst (λ (z : Choice). PlanOf z (plan s)) ex one) h)
 
-pub play-one : (r : Ruling) (x y : Choice) (j place : ℕ) (p : Progress) → x ≡ choices.Move j → y ≡ choices.Switch place
-    → play_turn r x y p ≡ one_picks r One (pick_in j One p.field) place p
-unfolding play_turn given
-play-one r x y j place p ex ey = rw (ex, ey) refl
+pub record PickedBoth (terms : Terms) (one two : Pick) (p : Progress) : Type 0 where
+  pub next : Side → Plan
+  pub planned : Follows terms next p
+  pub fits : FitsPick one (next One) × FitsPick two (next Two)
 
-pub play-two : (r : Ruling) (x y : Choice) (k place : ℕ) (p : Progress) → x ≡ choices.Switch place → y ≡ choices.Move k
-    → play_turn r x y p ≡ one_picks r Two (pick_in k Two p.field) place p
+pub picked-both : {terms : Terms} (plan : Side → Plan) (x y : Choice) (j k : ℕ) (one two : Pick) (p : Progress) → x ≡ choices.Move j → y ≡ choices.Move k
+    → one ≡ pick_in j One p.field → two ≡ pick_in k Two p.field → PlanOf x (plan One) → PlanOf y (plan Two) → Follows terms plan p → PickedBoth terms one two p
+picked-both plan x y j k one two p ex ey is_one is_two first second h =
+    let a = picked-one plan One x j one p ex is_one first h in
+    let b = picked-one a.next Two y k two p ey is_two (subst (λ (z : Plan). PlanOf y z) (sym a.rest) second) a.planned in
+    record { next = b.next; planned = b.planned; fits = (subst (λ (z : Plan). FitsPick one z) (sym b.rest) a.fits, b.fits) }
+
+pub play-moves : (r : Ruling) (x y : Choice) (j k : ℕ) (one two : Pick) (p : Progress) → x ≡ choices.Move j → y ≡ choices.Move k
+    → one ≡ pick_in j One p.field → two ≡ pick_in k Two p.field → play_turn r x y p ≡ both_pick r one two p
 unfolding play_turn given
-play-two r x y k place p ex ey = rw (ex, ey) refl
+play-moves r x y j k one two p ex ey is_one is_two = rw (ex, ey, is_one, is_two) refl
+
+pub play-one : (r : Ruling) (x y : Choice) (j place : ℕ) (pick : Pick) (p : Progress) → x ≡ choices.Move j → y ≡ choices.Switch place
+    → pick ≡ pick_in j One p.field → play_turn r x y p ≡ one_picks r One pick place p
+unfolding play_turn given
+play-one r x y j place pick p ex ey is = rw (ex, ey, is) refl
+
+pub play-two : (r : Ruling) (x y : Choice) (k place : ℕ) (pick : Pick) (p : Progress) → x ≡ choices.Switch place → y ≡ choices.Move k
+    → pick ≡ pick_in k Two p.field → play_turn r x y p ≡ one_picks r Two pick place p
+unfolding play_turn given
+play-two r x y k place pick p ex ey is = rw (ex, ey, is) refl
 
 pub play-switches : (r : Ruling) (x y : Choice) (one two : ℕ) (p : Progress) → x ≡ choices.Switch one → y ≡ choices.Switch two
     → play_turn r x y p ≡ do_parts r (both_switch one two) p

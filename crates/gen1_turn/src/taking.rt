@@ -70,7 +70,7 @@ pub(crate) fn number_of(battle: &Packed, side: Side, used: UsedMove) -> u8
 {
     match used {
         UsedMove::Nothing => 0,
-        UsedMove::Slot(slot) => battle.move_in(side, (slot as usize).max(1).min(4)),
+        UsedMove::Slot(slot) => battle.move_in(side, slot.max(1).min(4)),
         UsedMove::Struggle => STRUGGLE,
     }
 }

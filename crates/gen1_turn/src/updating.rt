@@ -1,6 +1,6 @@
 //! The update of a battle that asks both sides for a move: a turn, and what follows at its end.
 ghost use Rattle.std.specs.Prelude.{◌≡◌};
-ghost use Rattle.gen1_layout.specs.Words.{[], ℕ};
+ghost use Rattle.gen1_layout.specs.Words.{AddsAtMost, [], ℕ};
 ghost use Rattle.gen1_rolls.specs.Draws.{StandsAt};
 ghost use Rattle.gen1_rolls.specs.Streams.{IsStream, Stream};
 ghost use Rattle.gen1_machine.specs.declared.terms.Request.TheVariants.{Move};
@@ -36,6 +36,7 @@ pub fn turn<R: Rolls>(
         → IsStream stream → StandsAt R.byte R.next R.SPAN origin stream drawn random.old
         → UpdatedDrawing R.byte R.next R.SPAN origin stream (setting_of s) battle.new events.new.items random.new
         (close_update (ruling_of s.terms) (turn (ruling_of s.terms) one two (drawing_on stream drawn s))) }
+    ensures room { AddsAtMost 53 events.old events.new }
 {
     let mut known = Known::new();
     take_turn(battle, one, two, &mut known, random, events);

@@ -60,7 +60,7 @@ fn spend_pp_of(battle: &mut Packed, side: Side, slot: u8)
     ensures shown { (g : Frame) (p : Progress) (events : List Event) → IsBetween 1 (length (member_in side p.field).moves) slot
         → Shows g battle.old events false p → Shows g battle.new events false (on_member side (with_pp_spent (UsedMove.Slot slot)) p) }
 {
-    let slot = (slot as usize).max(1).min(4);
+    let slot = slot.max(1).min(4);
     let left = less_pp(battle.pp(side, slot));
     battle.put_pp(side, slot, left);
 }

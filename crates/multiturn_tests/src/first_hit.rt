@@ -15,20 +15,20 @@ fn told(
     battle: &mut Packed,
     name: &str,
     foe: (Element, Element),
-    known: &mut Known,
+    through_types: bool,
+    critical: bool,
 ) -> Result<EventList, Fail> {
     let id = named(name)?;
     battle.put_types(FOE, foe.0, foe.1);
+    let mut known = Known {
+        through_types,
+        critical,
+        ..Known::new().begun(USER)
+    };
+    let mut random = Sweep::new(0);
     let mut events = EventList::new();
-    hits(battle, USER, id, known, &mut Sweep::new(0), &mut events);
+    hits(battle, USER, id, &mut known, &mut random, &mut events);
     Ok(events)
-}
-
-fn through_types(critical: bool) -> Known {
-    let mut known = Known::new().begun(USER);
-    known.through_types = true;
-    known.critical = critical;
-    known
 }
 
 #[test]
@@ -41,12 +41,7 @@ fn more_rows_of_20_are_super_effective(rt: HostRuntime) -> Result<(), Fail> {
         ("Leech Life", Poison, Normal),
     ] {
         let mut battle = two_tauros()?;
-        let events = told(
-            &mut battle,
-            name,
-            (first, second),
-            &mut through_types(false),
-        )?;
+        let events = told(&mut battle, name, (first, second), true, false)?;
         let expected = [Event::SuperEffective(battle.who(FOE))];
         assert_eq!(rt; events.as_slice(), expected.as_slice(), "{name}");
     }
@@ -63,7 +58,7 @@ fn more_rows_of_5_are_resisted(rt: HostRuntime) -> Result<(), Fail> {
         ("Leech Life", Ghost, Normal),
     ] {
         let mut battle = two_tauros()?;
-        let events = told(&mut battle, name, (first, second), &mut through_types(true))?;
+        let events = told(&mut battle, name, (first, second), true, true)?;
         let expected = [
             Event::Crit(battle.who(FOE)),
             Event::Resisted(battle.who(FOE)),
@@ -83,12 +78,7 @@ fn as_many_of_either_tell_nothing(rt: HostRuntime) -> Result<(), Fail> {
         ("Strength", Ghost, Poison),
     ] {
         let mut battle = two_tauros()?;
-        let events = told(
-            &mut battle,
-            name,
-            (first, second),
-            &mut through_types(false),
-        )?;
+        let events = told(&mut battle, name, (first, second), true, false)?;
         assert_eq!(rt; events.len(), 0, "{name}");
     }
     Ok(())
@@ -97,9 +87,7 @@ fn as_many_of_either_tell_nothing(rt: HostRuntime) -> Result<(), Fail> {
 #[test]
 fn what_went_through_no_types_tells_nothing(rt: HostRuntime) -> Result<(), Fail> {
     let mut battle = two_tauros()?;
-    let mut known = Known::new().begun(USER);
-    known.critical = true;
-    let events = told(&mut battle, "Thunderbolt", (Water, Flying), &mut known)?;
+    let events = told(&mut battle, "Thunderbolt", (Water, Flying), false, true)?;
     assert_eq!(rt; events.len(), 0);
     Ok(())
 }

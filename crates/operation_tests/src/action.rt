@@ -1,41 +1,21 @@
 //! What an action knows, and its hit test, with the numbers of docs/MECHANICS.md, "Hit test" and "Action", and the type rows
 //! of docs/TABLES.md. Both sides have a Tauros out.
-use arrayvec::ArrayVec;
+use crate::battles::{self, FOE, USER, named, tells};
 use gen1_action::{Known, hit_or_miss, must_hit, note_miss};
 use gen1_layout::{Conditions, Packed};
-use gen1_machine::{Event, EventList, Side};
+use gen1_machine::{Event, EventList};
 use gen1_rolls::{LinkRandom, Rolls, Sweep};
-use gen1_stats::{MemberSpec, Team};
 use gen1_tables::Element::{
     self, Bug, Dragon, Electric, Fighting, Fire, Flying, Ghost, Grass, Ground, Ice, Normal, Poison,
     Psychic, Rock, Water,
 };
-use gen1_tables::{MoveId, Species};
+use gen1_tables::MoveId;
+use std::process::Abort;
 use std::test::Fail;
 
-const USER: Side = Side::One;
-
-const FOE: Side = Side::Two;
-
-fn named(name: &str) -> Result<MoveId, Fail> {
-    Ok(MoveId::from_name(name).ok_or("no such move")?)
-}
-
+// With a last damage of 75.
 fn two_tauros() -> Result<Packed, Fail> {
-    let mut moves = ArrayVec::new();
-    moves.push((named("Strength")?, 0));
-    let spec = MemberSpec {
-        species: Species::from_name("Tauros").ok_or("no such species")?,
-        level: 100,
-        dvs: [15; 4],
-        exp: [65535; 5],
-        moves,
-    };
-    let team = Team::new(&[spec])?;
-    let mut battle = Packed::new(&team, &team, [0; 10]);
-    for side in [USER, FOE] {
-        battle.put_sent_out(side, 1, Normal, Normal, [298, 288, 318, 238]);
-    }
+    let mut battle = battles::two_tauros()?;
     battle.put_last_damage(75);
     Ok(battle)
 }
@@ -103,37 +83,57 @@ fn an_action_begins(rt: HostRuntime) -> Result<(), Fail> {
     Ok(())
 }
 
+// A test of the user's by each generator where this byte is drawn: what is known then, and how many draws it takes.
+fn tests(
+    rt: &impl Abort,
+    battle: &mut Packed,
+    id: MoveId,
+    before: Known,
+    byte: u8,
+    after: Known,
+    draws: u8,
+) {
+    let (knowns, sweep, drawn) = tested(battle, id, before, byte);
+    assert_eq!(rt; knowns, [after; 2]);
+    assert_eq!(rt;
+        (sweep, drawn),
+        (Sweep::new(byte.wrapping_add(draws)), draws)
+    );
+}
+
+// The last damage, and the user's trapping.
+fn has(rt: &impl Abort, battle: &Packed, last_damage: u16, trapping: Option<u8>) {
+    assert_eq!(rt;
+        (battle.last_damage(), battle.trapping(USER)),
+        (last_damage, trapping)
+    );
+}
+
+// 85 percent are the byte 216.
 #[test]
 fn a_new_action_tests_the_moves_accuracy(rt: HostRuntime) -> Result<(), Fail> {
     let mut battle = two_tauros()?;
     battle.put_trapping(USER, 3);
     battle.put_kept_accuracy(USER, 63);
-    // 85 percent are the byte 216.
     let toxic = named("Toxic")?;
-    assert_eq!(rt;
-        tested(&mut battle, toxic, Known::new(), 215),
-        ([knows(false, 216); 2], Sweep::new(216), 1)
-    );
-    assert_eq!(rt;
-        (battle.last_damage(), battle.trapping(USER)),
-        (75, Some(3))
-    );
-    assert_eq!(rt;
-        tested(&mut battle, toxic, Known::new(), 216),
-        ([knows(true, 216); 2], Sweep::new(217), 1)
-    );
-    assert_eq!(rt; (battle.last_damage(), battle.trapping(USER)), (0, None));
-    // Guillotine's 76 becomes 19 at accuracy -6, which is stored as 0.
+    let new = Known::new();
+    tests(&rt, &mut battle, toxic, new, 215, knows(false, 216), 1);
+    has(&rt, &battle, 75, Some(3));
+    tests(&rt, &mut battle, toxic, new, 216, knows(true, 216), 1);
+    has(&rt, &battle, 0, None);
+    Ok(())
+}
+
+// Guillotine's 76 becomes 19 at accuracy -6, which is stored as 0.
+#[test]
+fn a_new_action_tests_at_its_stage(rt: HostRuntime) -> Result<(), Fail> {
+    let mut battle = two_tauros()?;
+    battle.put_kept_accuracy(USER, 63);
     battle.put_accuracy(USER, 0);
     let guillotine = named("Guillotine")?;
-    assert_eq!(rt;
-        tested(&mut battle, guillotine, Known::new(), 18),
-        ([knows(false, 19); 2], Sweep::new(19), 1)
-    );
-    assert_eq!(rt;
-        tested(&mut battle, guillotine, Known::new(), 19),
-        ([knows(true, 19); 2], Sweep::new(20), 1)
-    );
+    let new = Known::new();
+    tests(&rt, &mut battle, guillotine, new, 18, knows(false, 19), 1);
+    tests(&rt, &mut battle, guillotine, new, 19, knows(true, 19), 1);
     Ok(())
 }
 
@@ -146,19 +146,17 @@ fn what_goes_on_tests_the_kept_accuracy(rt: HostRuntime) -> Result<(), Fail> {
         ..Known::new()
     };
     let toxic = named("Toxic")?;
-    let (hit, _, _) = tested(&mut battle, toxic, going_on, 62);
-    assert_eq!(rt;
-        hit.map(|known| (known.missed, known.accuracy_tested)),
-        [(false, Some(63)); 2]
-    );
-    let (missed, _, _) = tested(&mut battle, toxic, going_on, 63);
-    assert_eq!(rt;
-        missed.map(|known| (known.missed, known.accuracy_tested)),
-        [(true, Some(63)); 2]
-    );
+    for (byte, missed) in [(62, false), (63, true)] {
+        let after = Known {
+            going_on: true,
+            ..knows(missed, 63)
+        };
+        tests(&rt, &mut battle, toxic, going_on, byte, after, 1);
+    }
     Ok(())
 }
 
+// Swift is settled without a draw.
 #[test]
 fn what_has_missed_still_has(rt: HostRuntime) -> Result<(), Fail> {
     let mut battle = two_tauros()?;
@@ -166,48 +164,42 @@ fn what_has_missed_still_has(rt: HostRuntime) -> Result<(), Fail> {
         missed: true,
         ..Known::new()
     };
-    // Swift is settled without a draw.
-    assert_eq!(rt;
-        tested(&mut battle, named("Swift")?, no_damage, 255),
-        ([knows(true, 255); 2], Sweep::new(255), 0)
-    );
-    assert_eq!(rt; battle.last_damage(), 75);
+    let swift = named("Swift")?;
+    tests(&rt, &mut battle, swift, no_damage, 255, knows(true, 255), 0);
+    has(&rt, &battle, 75, None);
     Ok(())
 }
 
-// A must-hit test of the user's, and what it wrote.
-fn must_test(battle: &mut Packed, id: MoveId, byte: u8) -> (bool, EventList) {
+// A must-hit test of the user's: whether it ended the action, and what it told.
+fn must_test(
+    rt: &impl Abort,
+    battle: &mut Packed,
+    id: MoveId,
+    byte: u8,
+    ends: bool,
+    told: &[Event],
+) {
     let mut events = EventList::new();
     let mut known = Known::new();
     let mut random = Sweep::new(byte);
     let stopped = must_hit(battle, USER, id, &mut known, &mut random, &mut events);
-    (stopped, events)
+    assert_eq!(rt; stopped, ends);
+    tells(rt, &events, told);
 }
 
 #[test]
 fn a_miss_ends_the_action(rt: HostRuntime) -> Result<(), Fail> {
     let mut battle = two_tauros()?;
-    let thunder_wave = named("Thunder Wave")?;
-    let (stopped, events) = must_test(&mut battle, thunder_wave, 254);
-    assert_eq!(rt; (stopped, events.len()), (false, 0));
-    let (stopped, events) = must_test(&mut battle, thunder_wave, 255);
-    assert_eq!(rt;
-        (stopped, events.as_slice()),
-        (true, [Event::Miss(battle.who(USER))].as_slice())
-    );
+    let id = named("Thunder Wave")?;
+    let misses = [Event::Miss(battle.who(USER))];
+    let immune = [Event::Immune(battle.who(FOE))];
+    must_test(&rt, &mut battle, id, 254, false, &[]);
+    must_test(&rt, &mut battle, id, 255, true, &misses);
     battle.put_types(FOE, Rock, Ground);
-    let (stopped, events) = must_test(&mut battle, thunder_wave, 255);
-    assert_eq!(rt;
-        (stopped, events.as_slice()),
-        (true, [Event::Immune(battle.who(FOE))].as_slice())
-    );
+    must_test(&rt, &mut battle, id, 255, true, &immune);
     battle.put_types(FOE, Normal, Normal);
     battle.put_flag(FOE, Conditions::INVULNERABLE, true);
-    let (stopped, events) = must_test(&mut battle, thunder_wave, 0);
-    assert_eq!(rt;
-        (stopped, events.as_slice()),
-        (true, [Event::Miss(battle.who(USER))].as_slice())
-    );
+    must_test(&rt, &mut battle, id, 0, true, &misses);
     Ok(())
 }
 
@@ -256,7 +248,7 @@ fn types_without_effect(rt: HostRuntime) -> Result<(), Fail> {
                 } else {
                     Event::Miss(battle.who(USER))
                 };
-                assert_eq!(rt; events.as_slice(), [told].as_slice(), "{name}");
+                tells(&rt, &events, &[told]);
             }
         }
     }

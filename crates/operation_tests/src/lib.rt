@@ -5,6 +5,8 @@
 #[cfg(test)]
 mod action;
 #[cfg(test)]
+mod battles;
+#[cfg(test)]
 mod example;
 #[cfg(test)]
 mod hits;

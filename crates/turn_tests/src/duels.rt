@@ -1,34 +1,21 @@
 //! Battles of a few members that know some moves, what is chosen and played in them, and what is told of it.
-use crate::setting::{SEED, who};
-use arrayvec::ArrayVec;
+use crate::setting::{SEED, member_with, who};
 use gen1_layout::Packed;
 use gen1_machine::{
-    Choice, DamageSource, Event, EventList, Health, Kind, MoveSlot, Place, Side, TurnNumber, Who,
+    Choice, DamageSource, Event, EventList, Health, Kind, MoveSlot, Place, Side, Who,
 };
 use gen1_rolls::Rolls;
 use gen1_stats::{MemberSpec, Team};
-use gen1_tables::{MoveId, Species};
+use gen1_tables::MoveId;
 use gen1_turn::{start, turn};
 use std::test::Fail;
 
-// A member at level 100, with the greatest DVs and experience, that knows these moves.
-pub(crate) fn knowing(name: &str, moves: &[&str]) -> Result<MemberSpec, Fail> {
-    let mut known = ArrayVec::new();
-    for name in moves {
-        if known.try_push((named(name)?, 0)).is_err() {
-            return Err(Fail::from("more than four moves"));
-        }
-    }
-    Ok(MemberSpec {
-        species: Species::from_name(name).ok_or("no such species")?,
-        level: 100,
-        dvs: [15; 4],
-        exp: [65535; 5],
-        moves: known,
-    })
+// A member at level 100, with the greatest DVs and experience, that knows this move.
+pub(crate) fn knowing(name: &str, known: &str) -> Result<MemberSpec, Fail> {
+    member_with(name, known, 100)
 }
 
-pub(crate) fn named(name: &str) -> Result<MoveId, Fail> {
+fn named(name: &str) -> Result<MoveId, Fail> {
     Ok(MoveId::from_name(name).ok_or("no such move")?)
 }
 
@@ -78,10 +65,6 @@ pub(crate) fn poisoned(who: Who, hp: u16, max: u16) -> Result<Event, Fail> {
 
 fn loses(who: Who, health: Option<Health>, source: DamageSource) -> Result<Event, Fail> {
     Ok(Event::Damage(who, health.ok_or("no such health")?, source))
-}
-
-pub(crate) fn next_turn() -> Result<Event, Fail> {
-    Ok(Event::Turn(TurnNumber::new(2).ok_or("no such turn")?))
 }
 
 // The members of both sides, each of one species.

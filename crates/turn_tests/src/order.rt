@@ -1,6 +1,6 @@
 //! Who acts first in a turn, by docs/MECHANICS.md, "Order of a turn". Tauros has a Speed of 318, Snorlax one of 158.
-use crate::duels::{both, duel, hurt, knowing, next_turn, play, slot, uses};
-use crate::setting::{FOE, USER};
+use crate::duels::{both, duel, hurt, knowing, play, slot, uses};
+use crate::setting::{FOE, USER, turn};
 use gen1_layout::Packed;
 use gen1_machine::{CantReason, Event, EventList, UsedMove, Volatile, Who};
 use gen1_rolls::{LinkRandom, Rolls, Sweep};
@@ -9,7 +9,7 @@ use std::test::Fail;
 
 // Each knows one move.
 fn facing(one: (&str, &str), two: (&str, &str)) -> Result<Packed, Fail> {
-    duel(&[knowing(one.0, &[one.1])?], &[knowing(two.0, &[two.1])?])
+    duel(&[knowing(one.0, one.1)?], &[knowing(two.0, two.1)?])
 }
 
 // Both splash, and then turn 2 begins.
@@ -19,7 +19,7 @@ fn splashes(first: Who, second: Who) -> Result<[Event; 5], Fail> {
         Event::Activate(first, Volatile::Splash),
         uses(second, "Splash", first)?,
         Event::Activate(second, Volatile::Splash),
-        next_turn()?,
+        turn(2)?,
     ])
 }
 
@@ -93,7 +93,7 @@ fn a_slower_quick_attack_is_first(rt: HostRuntime) -> Result<(), Fail> {
         hurt(two, 261, 353)?,
         uses(two, "Splash", one)?,
         Event::Activate(two, Volatile::Splash),
-        next_turn()?,
+        turn(2)?,
     ];
     assert_eq!(rt; events.as_slice(), told.as_slice());
     // 180 is that of the hit test.
@@ -122,9 +122,9 @@ fn a_sleeper_keeps_the_move_that_it_picked(rt: HostRuntime) -> Result<(), Fail> 
         let mut sweep = Sweep::new(0);
         let events = play(&mut battle, slot(0)?, slot(1)?, &mut sweep);
         let told = if first {
-            [cant, splash[0], splash[1], next_turn()?]
+            [cant, splash[0], splash[1], turn(2)?]
         } else {
-            [splash[0], splash[1], cant, next_turn()?]
+            [splash[0], splash[1], cant, turn(2)?]
         };
         assert_eq!(rt; events.as_slice(), told.as_slice());
         assert_eq!(rt; drawn_since(0, sweep), 0);
@@ -144,7 +144,7 @@ fn counters_of_equal_speed_take_one_draw(rt: HostRuntime) -> Result<(), Fail> {
             Event::Miss(first),
             uses(second, "Counter", first)?,
             Event::Miss(second),
-            next_turn()?,
+            turn(2)?,
         ];
         assert_eq!(rt; events.as_slice(), told.as_slice());
         // One for the order, and the critical draw of each.
@@ -164,7 +164,7 @@ fn a_counter_is_last(rt: HostRuntime) -> Result<(), Fail> {
         Event::Activate(two, Volatile::Splash),
         uses(one, "Counter", two)?,
         Event::Miss(one),
-        next_turn()?,
+        turn(2)?,
     ];
     assert_eq!(rt; events.as_slice(), told.as_slice());
     assert_eq!(rt; drawn_since(0, sweep), 1);
@@ -183,7 +183,7 @@ fn who_is_held_has_picked_no_move(rt: HostRuntime) -> Result<(), Fail> {
         uses(one, "Splash", two)?,
         Event::Activate(one, Volatile::Splash),
         Event::Cant(two, CantReason::PartiallyTrapped),
-        next_turn()?,
+        turn(2)?,
     ];
     assert_eq!(rt; events.as_slice(), told.as_slice());
     assert_eq!(rt; battle.picked_move(FOE), UsedMove::Nothing);

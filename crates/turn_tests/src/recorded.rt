@@ -1,11 +1,9 @@
 //! Whole battles that an independent program recorded, played by `start`, `turn` and `replace`: after each update all 384 bytes
 //! and the log are the recorded ones. `tools/recorded.py` wrote them down.
-use arrayvec::ArrayVec;
 use gen1_events::{LogBuf, write};
 use gen1_layout::Packed;
 use gen1_machine::{Choice, EventList, Request, Rules, Side, TurnLimit};
-use gen1_stats::{MemberSpec, Team};
-use gen1_tables::{MoveId, Species};
+use gen1_stats::Team;
 use gen1_turn::{replace, start, turn};
 use std::test::Fail;
 
@@ -42,30 +40,6 @@ pub(crate) fn played(
         as_recorded += 1;
     }
     Ok(as_recorded)
-}
-
-// A member as it was asked for, with the PP ups of each move.
-pub(crate) fn member(
-    species: &str,
-    level: u8,
-    dvs: [u8; 4],
-    exp: [u16; 5],
-    moves: &[(&str, u8)],
-) -> Result<MemberSpec, Fail> {
-    let mut known = ArrayVec::new();
-    for (name, ups) in moves {
-        let id = MoveId::from_name(name).ok_or("no such move")?;
-        if known.try_push((id, *ups)).is_err() {
-            return Err(Fail::from("more than four moves"));
-        }
-    }
-    Ok(MemberSpec {
-        species: Species::from_name(species).ok_or("no such species")?,
-        level,
-        dvs,
-        exp,
-        moves: known,
-    })
 }
 
 // The update that was asked for; a turn draws from the generator in the bytes, and leaves it there.

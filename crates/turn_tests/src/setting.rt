@@ -32,15 +32,32 @@ fn member(name: &str) -> Result<MemberSpec, Fail> {
     member_with(name, "Strength", 100)
 }
 
-fn member_with(name: &str, known: &str, level: u8) -> Result<MemberSpec, Fail> {
-    let mut moves = ArrayVec::new();
-    moves.push((MoveId::from_name(known).ok_or("no such move")?, 0));
+// A member that knows one move.
+pub(crate) fn member_with(name: &str, known: &str, level: u8) -> Result<MemberSpec, Fail> {
+    member_of(name, level, [15; 4], [65535; 5], &[(known, 0)])
+}
+
+// A member as it may be asked for, with the PP ups of each move.
+pub(crate) fn member_of(
+    species: &str,
+    level: u8,
+    dvs: [u8; 4],
+    exp: [u16; 5],
+    moves: &[(&str, u8)],
+) -> Result<MemberSpec, Fail> {
+    let mut known = ArrayVec::new();
+    for (name, ups) in moves {
+        let id = MoveId::from_name(name).ok_or("no such move")?;
+        if known.try_push((id, *ups)).is_err() {
+            return Err(Fail::from("more than four moves"));
+        }
+    }
     Ok(MemberSpec {
-        species: Species::from_name(name).ok_or("no such species")?,
+        species: Species::from_name(species).ok_or("no such species")?,
         level,
-        dvs: [15; 4],
-        exp: [65535; 5],
-        moves,
+        dvs,
+        exp,
+        moves: known,
     })
 }
 

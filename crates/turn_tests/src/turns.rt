@@ -1,26 +1,23 @@
 //! Turns, by docs/MECHANICS.md, "Order of a turn", and what follows at their end, by "Falls and requests". Tauros has 353 HP and
 //! the greater Speed, Snorlax 523.
-use crate::duels::{
-    both, duel, hurt, knowing, named, next_turn, play, poisoned, slot, switch, uses,
+use crate::duels::{both, duel, hurt, knowing, play, poisoned, slot, switch, uses};
+use crate::setting::{
+    FOE, SEED, USER, bytes_of, gengar_out, tauros_out, turn, unstarted_alone, who, with,
 };
-use crate::setting::{FOE, SEED, USER, bytes_of, gengar_out, who, with};
 use gen1_layout::{Conditions, Packed};
 use gen1_machine::{
-    CantReason, DamageSource, Event, Health, Kind, Level, Outcome, Place, Request, Side, UsedMove,
-    Volatile, Who,
+    CantReason, Event, EventList, Health, Kind, Level, Outcome, Place, Request, UsedMove, Volatile,
+    Who,
 };
 use gen1_rolls::{LinkRandom, Rolls, Sweep};
 use gen1_stats::Status;
-use gen1_tables::Stat;
+use gen1_turn::start;
 use std::test::Fail;
 
 // A Tauros that knows a move, with a Gengar behind it, against a Snorlax that knows a move, with a Gengar behind it.
 fn facing(mine: &str, foes: &str) -> Result<Packed, Fail> {
-    let one = [knowing("Tauros", &[mine])?, knowing("Gengar", &["Splash"])?];
-    let two = [
-        knowing("Snorlax", &[foes])?,
-        knowing("Gengar", &["Splash"])?,
-    ];
+    let one = [knowing("Tauros", mine)?, knowing("Gengar", "Splash")?];
+    let two = [knowing("Snorlax", foes)?, knowing("Gengar", "Splash")?];
     duel(&one, &two)
 }
 
@@ -44,7 +41,7 @@ fn a_switch_comes_before_quick_attack(rt: HostRuntime) -> Result<(), Fail> {
         gengar_out(FOE)?,
         uses(one, "Quick Attack", two)?,
         Event::Immune(two),
-        next_turn()?,
+        turn(2)?,
     ];
     assert_eq!(rt; events.as_slice(), told.as_slice());
     let mut battle = facing("Splash", "Quick Attack")?;
@@ -54,7 +51,7 @@ fn a_switch_comes_before_quick_attack(rt: HostRuntime) -> Result<(), Fail> {
         gengar_out(USER)?,
         uses(two, "Quick Attack", one)?,
         Event::Immune(one),
-        next_turn()?,
+        turn(2)?,
     ];
     assert_eq!(rt; events.as_slice(), told.as_slice());
     Ok(())
@@ -65,7 +62,7 @@ fn both_switch_with_no_draw(rt: HostRuntime) -> Result<(), Fail> {
     let mut battle = facing("Splash", "Splash")?;
     let mut sweep = Sweep::new(9);
     let events = play(&mut battle, switch(2)?, switch(2)?, &mut sweep);
-    let told = [gengar_out(USER)?, gengar_out(FOE)?, next_turn()?];
+    let told = [gengar_out(USER)?, gengar_out(FOE)?, turn(2)?];
     assert_eq!(rt; events.as_slice(), told.as_slice());
     assert_eq!(rt; (battle.place(USER), battle.place(FOE)), (2, 2));
     assert_eq!(rt; sweep.draw(), 9);
@@ -102,7 +99,7 @@ fn who_comes_out_suffers_before_the_other_acts(rt: HostRuntime) -> Result<(), Fa
         poisoned(gengar, 303, 323)?,
         splash[0],
         splash[1],
-        next_turn()?,
+        turn(2)?,
     ];
     assert_eq!(rt; events.as_slice(), told.as_slice());
     let mut battle = poisoned_behind(323)?;
@@ -111,7 +108,7 @@ fn who_comes_out_suffers_before_the_other_acts(rt: HostRuntime) -> Result<(), Fa
         comes_out_poisoned(323)?,
         poisoned(gengar, 303, 323)?,
         gengar_out(FOE)?,
-        next_turn()?,
+        turn(2)?,
     ];
     assert_eq!(rt; events.as_slice(), told.as_slice());
     Ok(())
@@ -174,7 +171,7 @@ fn each_suffers_after_its_own_action(rt: HostRuntime) -> Result<(), Fail> {
         second[0],
         second[1],
         poisoned(two, 491, 523)?,
-        next_turn()?,
+        turn(2)?,
     ];
     assert_eq!(rt; events.as_slice(), told.as_slice());
     Ok(())
@@ -267,7 +264,7 @@ fn trapping_ends_with_a_whole_turn(rt: HostRuntime) -> Result<(), Fail> {
             uses(one, "Wrap", two)?,
             hurt(two, 513, 523)?,
             Event::Cant(two, CantReason::PartiallyTrapped),
-            next_turn()?,
+            turn(2)?,
         ];
         assert_eq!(rt; events.as_slice(), told.as_slice());
         assert_eq!(rt; (battle.trapping(USER), sweep.draw()), (left, 0));
@@ -293,11 +290,8 @@ fn trapping_stays_where_the_turn_was_cut(rt: HostRuntime) -> Result<(), Fail> {
 
 #[test]
 fn wrap_is_used_anew_where_the_foe_switches(rt: HostRuntime) -> Result<(), Fail> {
-    let two = [
-        knowing("Snorlax", &["Splash"])?,
-        knowing("Tauros", &["Splash"])?,
-    ];
-    let mut battle = duel(&[knowing("Tauros", &["Wrap"])?], &two)?;
+    let two = [knowing("Snorlax", "Splash")?, knowing("Tauros", "Splash")?];
+    let mut battle = duel(&[knowing("Tauros", "Wrap")?], &two)?;
     battle.put_current_move(USER, UsedMove::Slot(1));
     battle.put_trapping(USER, 2);
     battle.put_pp(USER, 1, 0);
@@ -324,7 +318,7 @@ fn a_flinch_is_cleared_as_a_turn_begins(rt: HostRuntime) -> Result<(), Fail> {
     let events = play(&mut battle, slot(1)?, slot(1)?, &mut Sweep::new(0));
     let first = splash(one, two)?;
     let second = splash(two, one)?;
-    let told = [first[0], first[1], second[0], second[1], next_turn()?];
+    let told = [first[0], first[1], second[0], second[1], turn(2)?];
     assert_eq!(rt; events.as_slice(), told.as_slice());
     assert_eq!(rt;
         (
@@ -353,8 +347,45 @@ fn a_sleeper_that_haze_met_is_skipped(rt: HostRuntime) -> Result<(), Fail> {
         uses(one, "Haze", two)?,
         Event::ClearAll,
         Event::Cure(two, Kind::Sleep),
-        next_turn()?,
+        turn(2)?,
     ];
     assert_eq!(rt; events.as_slice(), told.as_slice());
+    Ok(())
+}
+
+#[test]
+fn the_stored_run_is_told_as_it_was_printed(rt: HostRuntime) -> Result<(), Fail> {
+    // The battle of crates/battle_tool/stdin, and the lines of its stdout.
+    let mut battle = unstarted_alone()?;
+    let mut link = LinkRandom::new(SEED);
+    let mut events = EventList::new();
+    start(&mut battle, &mut events);
+    let first = [
+        tauros_out(USER, 353, None)?,
+        tauros_out(FOE, 353, None)?,
+        turn(1)?,
+    ];
+    assert_eq!(rt; events.as_slice(), first.as_slice());
+    let (one, two) = both("Tauros", "Tauros")?;
+    let events = play(&mut battle, slot(1)?, slot(1)?, &mut link);
+    let second = [
+        uses(one, "Strength", two)?,
+        Event::Crit(two),
+        hurt(two, 149, 353)?,
+        uses(two, "Strength", one)?,
+        hurt(one, 263, 353)?,
+        turn(2)?,
+    ];
+    assert_eq!(rt; events.as_slice(), second.as_slice());
+    let events = play(&mut battle, slot(1)?, slot(1)?, &mut link);
+    let third = [
+        uses(one, "Strength", two)?,
+        Event::Crit(two),
+        hurt(two, 0, 353)?,
+        Event::Faint(two),
+        Event::Win(USER),
+    ];
+    assert_eq!(rt; events.as_slice(), third.as_slice());
+    assert_eq!(rt; battle.outcome(), Outcome::WinOne);
     Ok(())
 }

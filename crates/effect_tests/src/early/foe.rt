@@ -1,7 +1,6 @@
 //! Moves that act on the foe (docs/MECHANICS.md, "Early effects").
-use super::{BOTH, FOE, USER, play, two_tauros};
+use super::{BOTH, FOE, USER, fails, plays, tauros};
 use gen1_machine::{Event, Kind, Volatile};
-use gen1_stats::Status;
 use gen1_tables::Element::{Grass, Ground, Normal, Poison, Rock};
 use std::test::Fail;
 
@@ -9,137 +8,108 @@ use std::test::Fail;
 #[test]
 fn confusion(rt: HostRuntime) -> Result<(), Fail> {
     for by in BOTH {
-        let mut battle = two_tauros()?;
+        let mut battle = tauros()?;
+        let misses = [Event::Miss(battle.who(USER))];
+        let starts = [Event::Start(battle.who(FOE), Volatile::Confusion)];
+        let changes = [(365, 64), (370, 5)];
         battle.put_substitute(FOE, Some(88));
-        let (events, draws, same) = play(&mut battle, "Supersonic", 6, by, &[])?;
-        assert_eq!(rt;
-            events.as_slice(),
-            [Event::Fail(battle.who(USER))].as_slice()
-        );
-        assert_eq!(rt; (draws, same), (0, true));
+        fails(&rt, &mut battle, ("Supersonic", 6, by), 0)?;
         battle.put_substitute(FOE, None);
-        let (events, draws, same) = play(&mut battle, "Supersonic", 140, by, &[])?;
-        assert_eq!(rt;
-            events.as_slice(),
-            [Event::Miss(battle.who(USER))].as_slice()
-        );
-        assert_eq!(rt; (draws, same), (1, true));
-        let (events, draws, same) = play(&mut battle, "Supersonic", 6, by, &[(365, 64), (370, 5)])?;
-        assert_eq!(rt;
-            events.as_slice(),
-            [Event::Start(battle.who(FOE), Volatile::Confusion)].as_slice()
-        );
-        assert_eq!(rt; (draws, same), (2, true));
-        let (events, draws, same) = play(&mut battle, "Supersonic", 6, by, &[])?;
-        assert_eq!(rt;
-            events.as_slice(),
-            [Event::Fail(battle.who(USER))].as_slice()
-        );
-        assert_eq!(rt; (draws, same), (1, true));
+        plays(&rt, &mut battle, ("Supersonic", 140, by), &misses, 1, &[])?;
+        plays(
+            &rt,
+            &mut battle,
+            ("Supersonic", 6, by),
+            &starts,
+            2,
+            &changes,
+        )?;
+        fails(&rt, &mut battle, ("Supersonic", 6, by), 1)?;
     }
     Ok(())
 }
 
-// Toxic at 85 percent, the byte 216, and Poison Powder at 75, the byte 191.
+// At 85 percent, the byte 216.
+#[test]
+fn toxic(rt: HostRuntime) -> Result<(), Fail> {
+    for by in BOTH {
+        let mut battle = tauros()?;
+        let misses = [Event::Miss(battle.who(USER))];
+        let poisoned = [Event::Status(battle.who(FOE), Kind::Poison)];
+        let changes = [(218, 8), (366, 32)];
+        plays(&rt, &mut battle, ("Toxic", 216, by), &misses, 1, &[])?;
+        plays(&rt, &mut battle, ("Toxic", 215, by), &poisoned, 1, &changes)?;
+        fails(&rt, &mut battle, ("Toxic", 0, by), 0)?;
+    }
+    Ok(())
+}
+
+// Poison Powder at 75 percent, the byte 191.
 #[test]
 fn poison(rt: HostRuntime) -> Result<(), Fail> {
     for by in BOTH {
-        let mut battle = two_tauros()?;
-        let (events, draws, same) = play(&mut battle, "Toxic", 216, by, &[])?;
-        assert_eq!(rt;
-            events.as_slice(),
-            [Event::Miss(battle.who(USER))].as_slice()
-        );
-        assert_eq!(rt; (draws, same), (1, true));
-        let (events, draws, same) = play(&mut battle, "Toxic", 215, by, &[(218, 8), (366, 32)])?;
-        assert_eq!(rt;
-            events.as_slice(),
-            [Event::Status(battle.who(FOE), Kind::Poison)].as_slice()
-        );
-        assert_eq!(rt; (draws, same), (1, true));
-        let (events, draws, same) = play(&mut battle, "Toxic", 0, by, &[])?;
-        assert_eq!(rt;
-            events.as_slice(),
-            [Event::Fail(battle.who(USER))].as_slice()
-        );
-        assert_eq!(rt; (draws, same), (0, true));
-        battle.put_status(FOE, Status::Healthy);
+        let mut battle = tauros()?;
+        let poisoned = [Event::Status(battle.who(FOE), Kind::Poison)];
         battle.put_substitute(FOE, Some(88));
-        let (events, draws, same) = play(&mut battle, "Poison Powder", 0, by, &[])?;
-        assert_eq!(rt;
-            events.as_slice(),
-            [Event::Fail(battle.who(USER))].as_slice()
-        );
-        assert_eq!(rt; (draws, same), (0, true));
+        fails(&rt, &mut battle, ("Poison Powder", 0, by), 0)?;
         battle.put_substitute(FOE, None);
         battle.put_types(FOE, Grass, Poison);
-        let (events, draws, same) = play(&mut battle, "Poison Gas", 0, by, &[])?;
-        assert_eq!(rt;
-            events.as_slice(),
-            [Event::Fail(battle.who(USER))].as_slice()
-        );
-        assert_eq!(rt; (draws, same), (0, true));
-        let mut battle = two_tauros()?;
-        let (events, draws, same) = play(&mut battle, "Poison Powder", 190, by, &[(218, 8)])?;
-        assert_eq!(rt;
-            events.as_slice(),
-            [Event::Status(battle.who(FOE), Kind::Poison)].as_slice()
-        );
-        assert_eq!(rt; (draws, same), (1, true));
+        fails(&rt, &mut battle, ("Poison Gas", 0, by), 0)?;
+        let mut battle = tauros()?;
+        plays(
+            &rt,
+            &mut battle,
+            ("Poison Powder", 190, by),
+            &poisoned,
+            1,
+            &[(218, 8)],
+        )?;
     }
     Ok(())
 }
 
-// The foe's Speed of 318 becomes 79, past a Substitute. Glare is at 75 percent, the byte 191.
+// The foe's Speed of 318 becomes 79, past a Substitute.
 #[test]
-fn paralysis(rt: HostRuntime) -> Result<(), Fail> {
+fn thunder_wave(rt: HostRuntime) -> Result<(), Fail> {
     for by in BOTH {
-        let mut battle = two_tauros()?;
+        let mut battle = tauros()?;
+        let paralysed = [Event::Status(battle.who(FOE), Kind::Paralysis)];
+        let changes = [(218, 64), (361, 79), (362, 0)];
         battle.put_substitute(FOE, Some(88));
-        let (events, draws, same) = play(
+        plays(
+            &rt,
             &mut battle,
-            "Thunder Wave",
-            254,
-            by,
-            &[(218, 64), (361, 79), (362, 0)],
+            ("Thunder Wave", 254, by),
+            &paralysed,
+            1,
+            &changes,
         )?;
-        assert_eq!(rt;
-            events.as_slice(),
-            [Event::Status(battle.who(FOE), Kind::Paralysis)].as_slice()
-        );
-        assert_eq!(rt; (draws, same), (1, true));
-        let (events, draws, same) = play(&mut battle, "Stun Spore", 0, by, &[])?;
-        assert_eq!(rt;
-            events.as_slice(),
-            [Event::Fail(battle.who(USER))].as_slice()
-        );
-        assert_eq!(rt; (draws, same), (0, true));
-        let mut battle = two_tauros()?;
+        fails(&rt, &mut battle, ("Stun Spore", 0, by), 0)?;
+        let mut battle = tauros()?;
         battle.put_types(FOE, Rock, Ground);
-        let (events, draws, same) = play(&mut battle, "Thunder Wave", 0, by, &[])?;
-        assert_eq!(rt;
-            events.as_slice(),
-            [Event::Fail(battle.who(USER))].as_slice()
-        );
-        assert_eq!(rt; (draws, same), (0, true));
-        let (events, draws, same) = play(&mut battle, "Glare", 191, by, &[])?;
-        assert_eq!(rt;
-            events.as_slice(),
-            [Event::Miss(battle.who(USER))].as_slice()
-        );
-        assert_eq!(rt; (draws, same), (1, true));
-        let (events, draws, same) = play(
+        fails(&rt, &mut battle, ("Thunder Wave", 0, by), 0)?;
+    }
+    Ok(())
+}
+
+// At 75 percent, the byte 191, also against Rock and Ground.
+#[test]
+fn glare(rt: HostRuntime) -> Result<(), Fail> {
+    for by in BOTH {
+        let mut battle = tauros()?;
+        let misses = [Event::Miss(battle.who(USER))];
+        let paralysed = [Event::Status(battle.who(FOE), Kind::Paralysis)];
+        let changes = [(218, 64), (361, 79), (362, 0)];
+        battle.put_types(FOE, Rock, Ground);
+        plays(&rt, &mut battle, ("Glare", 191, by), &misses, 1, &[])?;
+        plays(
+            &rt,
             &mut battle,
-            "Glare",
-            190,
-            by,
-            &[(218, 64), (361, 79), (362, 0)],
+            ("Glare", 190, by),
+            &paralysed,
+            1,
+            &changes,
         )?;
-        assert_eq!(rt;
-            events.as_slice(),
-            [Event::Status(battle.who(FOE), Kind::Paralysis)].as_slice()
-        );
-        assert_eq!(rt; (draws, same), (1, true));
     }
     Ok(())
 }
@@ -148,34 +118,23 @@ fn paralysis(rt: HostRuntime) -> Result<(), Fail> {
 #[test]
 fn leech_seed(rt: HostRuntime) -> Result<(), Fail> {
     for by in BOTH {
-        let mut battle = two_tauros()?;
+        let mut battle = tauros()?;
+        let misses = [Event::Miss(battle.who(USER))];
+        let starts = [Event::Start(battle.who(FOE), Volatile::LeechSeed)];
         battle.put_substitute(FOE, Some(88));
-        let (events, draws, same) = play(&mut battle, "Leech Seed", 229, by, &[])?;
-        assert_eq!(rt;
-            events.as_slice(),
-            [Event::Miss(battle.who(USER))].as_slice()
-        );
-        assert_eq!(rt; (draws, same), (1, true));
-        let (events, draws, same) = play(&mut battle, "Leech Seed", 228, by, &[(366, 18)])?;
-        assert_eq!(rt;
-            events.as_slice(),
-            [Event::Start(battle.who(FOE), Volatile::LeechSeed)].as_slice()
-        );
-        assert_eq!(rt; (draws, same), (1, true));
-        let (events, draws, same) = play(&mut battle, "Leech Seed", 228, by, &[])?;
-        assert_eq!(rt;
-            events.as_slice(),
-            [Event::Fail(battle.who(USER))].as_slice()
-        );
-        assert_eq!(rt; (draws, same), (1, true));
-        let mut battle = two_tauros()?;
+        plays(&rt, &mut battle, ("Leech Seed", 229, by), &misses, 1, &[])?;
+        plays(
+            &rt,
+            &mut battle,
+            ("Leech Seed", 228, by),
+            &starts,
+            1,
+            &[(366, 18)],
+        )?;
+        fails(&rt, &mut battle, ("Leech Seed", 228, by), 1)?;
+        let mut battle = tauros()?;
         battle.put_types(FOE, Normal, Grass);
-        let (events, draws, same) = play(&mut battle, "Leech Seed", 228, by, &[])?;
-        assert_eq!(rt;
-            events.as_slice(),
-            [Event::Fail(battle.who(USER))].as_slice()
-        );
-        assert_eq!(rt; (draws, same), (1, true));
+        fails(&rt, &mut battle, ("Leech Seed", 228, by), 1)?;
     }
     Ok(())
 }

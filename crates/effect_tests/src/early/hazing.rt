@@ -1,5 +1,5 @@
 //! Haze, which acts on both (docs/MECHANICS.md, "Early effects").
-use super::{BOTH, FOE, USER, bytes_with, named, play, two_tauros};
+use super::{BOTH, FOE, USER, bytes_with, named, play, tauros};
 use gen1_action::Known;
 use gen1_effects::{group_one_knowing, is_group_one};
 use gen1_layout::{Conditions, Packed};
@@ -12,7 +12,7 @@ use std::test::Fail;
 // Both burned, the user with Mist, Reflect and a Substitute, the foe paralysed before, confused, seeded, badly poisoned and
 // with a disabled move, at other stages; at last the foe is frozen.
 fn before_haze() -> Result<Packed, Fail> {
-    let mut battle = two_tauros()?;
+    let mut battle = tauros()?;
     let mut events = EventList::new();
     inflict(&mut battle, USER, Kind::Burn, 0, &mut events);
     battle.put_flag(USER, Conditions::MIST, true);
@@ -35,11 +35,11 @@ fn before_haze() -> Result<Packed, Fail> {
 fn haze(rt: HostRuntime) -> Result<(), Fail> {
     for by in BOTH {
         let mut battle = before_haze()?;
-        let (events, draws, _) = play(&mut battle, "Haze", 0, by, &[])?;
+        let (events, draws) = play(&mut battle, "Haze", 0, by)?;
         let cure = Event::Cure(battle.who(FOE), Kind::Freeze);
         assert_eq!(rt; events.as_slice(), [Event::ClearAll, cure].as_slice());
         assert_eq!(rt; draws, 0);
-        let after = bytes_with(&two_tauros()?, &[(38, 16), (186, 2), (189, 88)]);
+        let after = bytes_with(&tauros()?, &[(38, 16), (186, 2), (189, 88)]);
         assert_eq!(rt; battle.as_bytes(), after.as_slice());
     }
     Ok(())
@@ -47,7 +47,7 @@ fn haze(rt: HostRuntime) -> Result<(), Fail> {
 
 // Whether the foe is skipped after Haze, by its status before.
 fn skips(status: Status) -> Result<bool, Fail> {
-    let mut battle = two_tauros()?;
+    let mut battle = tauros()?;
     battle.put_status(FOE, status);
     let mut events = EventList::new();
     let mut known = Known::new().begun(USER);

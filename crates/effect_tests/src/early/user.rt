@@ -1,6 +1,6 @@
 //! Moves that act on their user (docs/MECHANICS.md, "Early effects").
-use super::{BOTH, FOE, USER, play, two_chansey, two_tauros};
-use gen1_layout::Conditions;
+use super::{BOTH, FOE, USER, chansey, fails, plays, tauros};
+use gen1_layout::{Conditions, Packed};
 use gen1_machine::{Event, EventList, Health, Kind, Volatile};
 use gen1_status::inflict;
 use gen1_tables::Element::{Ground, Normal, Rock};
@@ -11,13 +11,7 @@ use std::test::Fail;
 fn moves_that_fail(rt: HostRuntime) -> Result<(), Fail> {
     for by in BOTH {
         for name in ["Whirlwind", "Roar", "Teleport"] {
-            let mut battle = two_tauros()?;
-            let (events, draws, same) = play(&mut battle, name, 0, by, &[])?;
-            assert_eq!(rt;
-                events.as_slice(),
-                [Event::Fail(battle.who(USER))].as_slice()
-            );
-            assert_eq!(rt; (draws, same), (0, true));
+            fails(&rt, &mut tauros()?, (name, 0, by), 0)?;
         }
     }
     Ok(())
@@ -26,13 +20,9 @@ fn moves_that_fail(rt: HostRuntime) -> Result<(), Fail> {
 #[test]
 fn splash(rt: HostRuntime) -> Result<(), Fail> {
     for by in BOTH {
-        let mut battle = two_tauros()?;
-        let (events, draws, same) = play(&mut battle, "Splash", 0, by, &[])?;
-        assert_eq!(rt;
-            events.as_slice(),
-            [Event::Activate(battle.who(USER), Volatile::Splash)].as_slice()
-        );
-        assert_eq!(rt; (draws, same), (0, true));
+        let mut battle = tauros()?;
+        let told = [Event::Activate(battle.who(USER), Volatile::Splash)];
+        plays(&rt, &mut battle, ("Splash", 0, by), &told, 0, &[])?;
     }
     Ok(())
 }
@@ -41,22 +31,14 @@ fn splash(rt: HostRuntime) -> Result<(), Fail> {
 #[test]
 fn conversion(rt: HostRuntime) -> Result<(), Fail> {
     for by in BOTH {
-        let mut battle = two_tauros()?;
+        let mut battle = tauros()?;
         battle.put_types(FOE, Rock, Ground);
-        let (events, draws, same) = play(&mut battle, "Conversion", 0, by, &[(169, 5), (170, 4)])?;
-        assert_eq!(rt;
-            events.as_slice(),
-            [Event::Start(battle.who(USER), Volatile::TypeChange)].as_slice()
-        );
-        assert_eq!(rt; (draws, same), (0, true));
+        let told = [Event::Start(battle.who(USER), Volatile::TypeChange)];
+        let changes = [(169, 5), (170, 4)];
+        plays(&rt, &mut battle, ("Conversion", 0, by), &told, 0, &changes)?;
         battle.put_types(FOE, Normal, Normal);
         battle.put_flag(FOE, Conditions::INVULNERABLE, true);
-        let (events, draws, same) = play(&mut battle, "Conversion", 0, by, &[])?;
-        assert_eq!(rt;
-            events.as_slice(),
-            [Event::Fail(battle.who(USER))].as_slice()
-        );
-        assert_eq!(rt; (draws, same), (0, true));
+        fails(&rt, &mut battle, ("Conversion", 0, by), 0)?;
     }
     Ok(())
 }
@@ -73,55 +55,50 @@ const STAY_UP: [(&str, Volatile, usize, u8); 4] = [
 fn what_stays_up(rt: HostRuntime) -> Result<(), Fail> {
     for by in BOTH {
         for (name, what, at, byte) in STAY_UP {
-            let mut battle = two_tauros()?;
-            let (events, draws, same) = play(&mut battle, name, 0, by, &[(at, byte)])?;
-            assert_eq!(rt;
-                events.as_slice(),
-                [Event::Start(battle.who(USER), what)].as_slice()
-            );
-            assert_eq!(rt; (draws, same), (0, true));
-            let (events, draws, same) = play(&mut battle, name, 0, by, &[])?;
-            assert_eq!(rt;
-                events.as_slice(),
-                [Event::Fail(battle.who(USER))].as_slice()
-            );
-            assert_eq!(rt; (draws, same), (0, true));
+            let mut battle = tauros()?;
+            let told = [Event::Start(battle.who(USER), what)];
+            plays(&rt, &mut battle, (name, 0, by), &told, 0, &[(at, byte)])?;
+            fails(&rt, &mut battle, (name, 0, by), 0)?;
         }
     }
     Ok(())
 }
 
-// Of a maximum of 703, which is 191 and 2 as bytes, half are 351.
-const RECOVERIES: [(u16, Option<u16>); 6] = [
-    (703, None),
-    (448, None),
-    (192, None),
-    (449, Some(703)),
-    (447, Some(703)),
-    (100, Some(451)),
+fn chansey_at(hp: u16) -> Result<Packed, Fail> {
+    let mut battle = chansey()?;
+    battle.put_hp(USER, hp);
+    Ok(battle)
+}
+
+// At full HP, and where the HP lost are 255 or 511.
+#[test]
+fn recoveries_that_fail(rt: HostRuntime) -> Result<(), Fail> {
+    for by in BOTH {
+        for name in ["Recover", "Soft-Boiled"] {
+            for hp in [703, 448, 192] {
+                fails(&rt, &mut chansey_at(hp)?, (name, 0, by), 0)?;
+            }
+        }
+    }
+    Ok(())
+}
+
+// Of a maximum of 703, which is 191 and 2 as bytes, half are 351; and 451 is 195 and 1.
+const RECOVERIES: [(u16, u16, u8, u8); 3] = [
+    (449, 703, 191, 2),
+    (447, 703, 191, 2),
+    (100, 451, 195, 1),
 ];
 
 #[test]
 fn recover(rt: HostRuntime) -> Result<(), Fail> {
     for by in BOTH {
         for name in ["Recover", "Soft-Boiled"] {
-            for (hp, healed) in RECOVERIES {
-                let mut battle = two_chansey()?;
-                battle.put_hp(USER, hp);
-                let (events, draws, same) = match healed {
-                    None => play(&mut battle, name, 0, by, &[])?,
-                    Some(451) => play(&mut battle, name, 0, by, &[(28, 195), (29, 1)])?,
-                    Some(_) => play(&mut battle, name, 0, by, &[(28, 191), (29, 2)])?,
-                };
-                let told = match healed {
-                    None => Event::Fail(battle.who(USER)),
-                    Some(hp) => {
-                        let health = Health::new(hp, 703, None).ok_or("no such health")?;
-                        Event::Heal(battle.who(USER), health)
-                    }
-                };
-                assert_eq!(rt; events.as_slice(), [told].as_slice());
-                assert_eq!(rt; (draws, same), (0, true));
+            for (hp, healed, low, high) in RECOVERIES {
+                let mut battle = chansey_at(hp)?;
+                let health = Health::new(healed, 703, None).ok_or("no such health")?;
+                let told = [Event::Heal(battle.who(USER), health)];
+                plays(&rt, &mut battle, (name, 0, by), &told, 0, &[(28, low), (29, high)])?;
             }
         }
     }
@@ -132,13 +109,8 @@ fn recover(rt: HostRuntime) -> Result<(), Fail> {
 #[test]
 fn rest(rt: HostRuntime) -> Result<(), Fail> {
     for by in BOTH {
-        let mut battle = two_chansey()?;
-        let (events, draws, same) = play(&mut battle, "Rest", 0, by, &[])?;
-        assert_eq!(rt;
-            events.as_slice(),
-            [Event::Fail(battle.who(USER))].as_slice()
-        );
-        assert_eq!(rt; (draws, same), (0, true));
+        let mut battle = chansey()?;
+        fails(&rt, &mut battle, ("Rest", 0, by), 0)?;
         let mut before = EventList::new();
         inflict(&mut battle, USER, Kind::Paralysis, 0, &mut before);
         battle.put_hp(USER, 100);
@@ -146,9 +118,14 @@ fn rest(rt: HostRuntime) -> Result<(), Fail> {
         let asleep = Event::Status(battle.who(USER), Kind::Sleep);
         let healed = Event::Heal(battle.who(USER), health);
         let changes = [(28, 191), (29, 2), (38, 2)];
-        let (events, draws, same) = play(&mut battle, "Rest", 0, by, &changes)?;
-        assert_eq!(rt; events.as_slice(), [asleep, healed].as_slice());
-        assert_eq!(rt; (draws, same), (0, true));
+        plays(
+            &rt,
+            &mut battle,
+            ("Rest", 0, by),
+            &[asleep, healed],
+            0,
+            &changes,
+        )?;
         assert_eq!(rt; battle.current_stat(USER, Stat::Speed), 49);
     }
     Ok(())

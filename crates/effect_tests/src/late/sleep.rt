@@ -1,11 +1,25 @@
 //! Sleep, with the sleep clause and without.
 use super::{
-    Conditions, Event, FOE, Fail, Ghost, Kind, LinkRandom, Packed, Stat, Status, Sweep, USER, play,
-    play_from, send_out, tauros, tauros_under,
+    Abort, BOTH, Conditions, Event, FOE, Fail, Ghost, Kind, LinkRandom, Packed, Stat, Status,
+    Sweep, USER, compare, fails, misses, play, play_from, plays, send_out, tauros, tauros_under,
 };
 
 const fn asleep(turns: u8, marked: bool) -> Status {
     Status::Asleep { turns, marked }
+}
+
+// A sleep move that goes through: the foe has this status then, and the other bytes are as wanted.
+fn sleeps(
+    rt: &impl Abort,
+    battle: &mut Packed,
+    played: (&str, u8, bool),
+    status: Status,
+    draws: u8,
+    want: &mut Packed,
+) -> Result<(), Fail> {
+    let told = [Event::Status(battle.who(FOE), Kind::Sleep)];
+    want.put_status(FOE, status);
+    plays(rt, battle, played, &told, draws, want)
 }
 
 // The foe's second member has this status, and the first is out.
@@ -32,16 +46,16 @@ fn counts_of_sleep(rt: HostRuntime) -> Result<(), Fail> {
     for (name, byte, link, turns, draws) in COUNTS {
         for rules in 0..4u8 {
             let mut battle = tauros_under(rules)?;
-            let (events, drawn) = play_from(&mut battle, name, byte, link)?;
             let mut want = tauros_under(rules)?;
-            want.put_status(FOE, asleep(turns, rules % 2 == 1));
-            assert_eq!(rt; battle.as_bytes(), want.as_bytes(), "{name}");
-            assert_eq!(rt;
-                events.as_slice(),
-                [Event::Status(want.who(FOE), Kind::Sleep)].as_slice(),
-                "{name}"
-            );
-            assert_eq!(rt; drawn, draws, "{name}");
+            let status = asleep(turns, rules % 2 == 1);
+            sleeps(
+                &rt,
+                &mut battle,
+                (name, byte, link),
+                status,
+                draws,
+                &mut want,
+            )?;
         }
     }
     Ok(())
@@ -50,53 +64,55 @@ fn counts_of_sleep(rt: HostRuntime) -> Result<(), Fail> {
 // Accuracy bytes 140 and 255; a Ghost is immune to the Normal type, which a miss alone tells.
 #[test]
 fn sleep_moves_that_miss(rt: HostRuntime) -> Result<(), Fail> {
-    for link in [false, true] {
+    for link in BOTH {
         for (name, byte) in [("Sing", 140), ("Spore", 255)] {
-            let mut battle = tauros()?;
-            let (events, drawn) = play_from(&mut battle, name, byte, link)?;
-            let mut want = tauros()?;
-            want.put_last_damage(0);
-            assert_eq!(rt; battle.as_bytes(), want.as_bytes());
-            assert_eq!(rt; events.as_slice(), [Event::Miss(want.who(USER))].as_slice());
-            assert_eq!(rt; drawn, 1);
+            misses(&rt, &mut tauros()?, (name, byte, link), 1, &mut tauros()?)?;
         }
         let mut battle = tauros()?;
         battle.put_types(FOE, Ghost, Ghost);
-        let (events, _) = play_from(&mut battle, "Sing", 140, link)?;
-        assert_eq!(rt;
-            events.as_slice(),
-            [Event::Immune(battle.who(FOE))].as_slice()
-        );
+        let (events, _) = play_from(&mut battle, ("Sing", 140, link))?;
+        let immune = [Event::Immune(battle.who(FOE))];
+        assert_eq!(rt; events.as_slice(), immune.as_slice());
     }
     Ok(())
 }
 
-// Any status makes it fail, with no draw; a Substitute does not keep sleep away.
+const STATUSES: [Status; 5] = [
+    Status::Asleep {
+        turns: 2,
+        marked: false,
+    },
+    Status::Poisoned,
+    Status::Burned,
+    Status::Frozen,
+    Status::Paralysed,
+];
+
+// Any status makes it fail, with no draw.
 #[test]
 fn who_cannot_fall_asleep(rt: HostRuntime) -> Result<(), Fail> {
-    for link in [false, true] {
-        for status in [
-            asleep(2, false),
-            Status::Poisoned,
-            Status::Burned,
-            Status::Frozen,
-            Status::Paralysed,
-        ] {
+    for link in BOTH {
+        for status in STATUSES {
             let mut battle = tauros()?;
             battle.put_status(FOE, status);
-            let (events, drawn) = play_from(&mut battle, "Spore", 1, link)?;
             let mut want = tauros()?;
             want.put_status(FOE, status);
-            assert_eq!(rt; battle.as_bytes(), want.as_bytes());
-            assert_eq!(rt; events.as_slice(), [Event::Fail(want.who(USER))].as_slice());
-            assert_eq!(rt; drawn, 0);
+            fails(&rt, &mut battle, ("Spore", 1, link), 0, &want)?;
         }
+    }
+    Ok(())
+}
+
+// A Substitute does not keep sleep away.
+#[test]
+fn sleep_past_a_substitute(rt: HostRuntime) -> Result<(), Fail> {
+    for (link, turns) in [(false, 3), (true, 2)] {
         let mut battle = tauros()?;
         battle.put_substitute(FOE, Some(10));
-        let (_, drawn) = play_from(&mut battle, "Spore", 250, link)?;
-        let turns = if link { 2 } else { 3 };
-        assert_eq!(rt; battle.status(FOE), asleep(turns, false));
-        assert_eq!(rt; drawn, 2);
+        let mut want = tauros()?;
+        want.put_substitute(FOE, Some(10));
+        let status = asleep(turns, false);
+        sleeps(&rt, &mut battle, ("Spore", 250, link), status, 2, &mut want)?;
     }
     Ok(())
 }
@@ -105,21 +121,15 @@ fn who_cannot_fall_asleep(rt: HostRuntime) -> Result<(), Fail> {
 // the penalty of that stays.
 #[test]
 fn who_must_recharge_falls_asleep(rt: HostRuntime) -> Result<(), Fail> {
-    for link in [false, true] {
+    for link in BOTH {
         let mut battle = tauros_under(1)?;
         battle.put_status(FOE, Status::Paralysed);
         battle.put_speed(FOE, 6, 79);
         battle.put_flag(FOE, Conditions::RECHARGE, true);
-        let (events, drawn) = play_from(&mut battle, "Sing", 253, link)?;
         let mut want = tauros_under(1)?;
-        want.put_status(FOE, asleep(5, true));
         want.put_speed(FOE, 6, 79);
-        assert_eq!(rt; battle.as_bytes(), want.as_bytes());
-        assert_eq!(rt;
-            events.as_slice(),
-            [Event::Status(want.who(FOE), Kind::Sleep)].as_slice()
-        );
-        assert_eq!(rt; drawn, 1);
+        let status = asleep(5, true);
+        sleeps(&rt, &mut battle, ("Sing", 253, link), status, 1, &mut want)?;
         assert_eq!(rt; battle.current_stat(FOE, Stat::Speed), 79);
     }
     Ok(())
@@ -141,34 +151,29 @@ fn ten_draws(rt: HostRuntime) -> Result<(), Fail> {
         let events = play(&mut battle, "Spore", &mut random)?;
         let mut want = teammate_with(rules, teammate)?;
         want.put_status(FOE, asleep(1, marked));
-        assert_eq!(rt; battle.as_bytes(), want.as_bytes());
-        assert_eq!(rt;
-            (battle.member(FOE, 1)[14], battle.mark(FOE, 1)),
-            (1, marked)
-        );
-        assert_eq!(rt;
-            events.as_slice(),
-            [Event::Status(want.who(FOE), Kind::Sleep)].as_slice()
-        );
+        let told = [Event::Status(want.who(FOE), Kind::Sleep)];
+        compare(&rt, &battle, &events, &told, &want);
         assert_eq!(rt; random, after);
+        marks(&rt, &battle, marked);
     }
     Ok(())
+}
+
+// The foe's first member sleeps for a turn, and has the mark or not.
+fn marks(rt: &impl Abort, battle: &Packed, marked: bool) {
+    assert_eq!(rt; battle.member(FOE, 1)[14], 1);
+    assert_eq!(rt; battle.mark(FOE, 1), marked);
 }
 
 // A living teammate has the mark: the move fails after the hit test, and with no draw where the foe must recharge.
 #[test]
 fn one_sleeper_at_a_time(rt: HostRuntime) -> Result<(), Fail> {
-    for link in [false, true] {
+    for link in BOTH {
         let mut battle = teammate_with(1, asleep(3, true))?;
         let want = teammate_with(1, asleep(3, true))?;
-        let fails = [Event::Fail(want.who(USER))];
-        let (events, drawn) = play_from(&mut battle, "Spore", 0, link)?;
-        assert_eq!(rt; battle.as_bytes(), want.as_bytes());
-        assert_eq!(rt; (events.as_slice(), drawn), (fails.as_slice(), 1));
+        fails(&rt, &mut battle, ("Spore", 0, link), 1, &want)?;
         battle.put_flag(FOE, Conditions::RECHARGE, true);
-        let (events, drawn) = play_from(&mut battle, "Spore", 0, link)?;
-        assert_eq!(rt; battle.as_bytes(), want.as_bytes());
-        assert_eq!(rt; (events.as_slice(), drawn), (fails.as_slice(), 0));
+        fails(&rt, &mut battle, ("Spore", 0, link), 0, &want)?;
     }
     Ok(())
 }
@@ -181,31 +186,36 @@ fn the_active_has_the_mark(rt: HostRuntime) -> Result<(), Fail> {
     battle.put_flag(FOE, Conditions::RECHARGE, true);
     let mut want = tauros_under(1)?;
     want.put_status(FOE, asleep(3, true));
+    let told = [Event::Fail(battle.who(USER))];
     let mut random = Sweep::new(1);
     let events = play(&mut battle, "Spore", &mut random)?;
-    assert_eq!(rt; battle.as_bytes(), want.as_bytes());
-    assert_eq!(rt; events.as_slice(), [Event::Fail(want.who(USER))].as_slice());
+    compare(&rt, &battle, &events, &told, &want);
     assert_eq!(rt; random, Sweep::new(1));
     Ok(())
 }
 
-// A teammate that fell has no mark any more, and the user's own marked sleeper is of no account.
+// A teammate that fell has no mark any more.
 #[test]
-fn whom_the_clause_does_not_count(rt: HostRuntime) -> Result<(), Fail> {
-    for link in [false, true] {
-        let mut fallen = teammate_with(1, asleep(3, true))?;
-        send_out(&mut fallen, FOE, 2);
-        fallen.put_fallen(FOE);
-        send_out(&mut fallen, FOE, 1);
-        play_from(&mut fallen, "Spore", 1, link)?;
-        let mut own = tauros_under(1)?;
-        own.put_status(USER, asleep(3, true));
-        play_from(&mut own, "Spore", 1, link)?;
-        let turns = if link { 1 } else { 2 };
-        assert_eq!(rt;
-            (fallen.status(FOE), own.status(FOE)),
-            (asleep(turns, true), asleep(turns, true))
-        );
+fn the_clause_counts_no_fallen(rt: HostRuntime) -> Result<(), Fail> {
+    for (link, turns) in [(false, 2), (true, 1)] {
+        let mut battle = teammate_with(1, asleep(3, true))?;
+        send_out(&mut battle, FOE, 2);
+        battle.put_fallen(FOE);
+        send_out(&mut battle, FOE, 1);
+        play_from(&mut battle, ("Spore", 1, link))?;
+        assert_eq!(rt; battle.status(FOE), asleep(turns, true));
+    }
+    Ok(())
+}
+
+// The user's own marked sleeper is of no account.
+#[test]
+fn the_clause_counts_no_sleeper_of_the_users(rt: HostRuntime) -> Result<(), Fail> {
+    for (link, turns) in [(false, 2), (true, 1)] {
+        let mut battle = tauros_under(1)?;
+        battle.put_status(USER, asleep(3, true));
+        play_from(&mut battle, ("Spore", 1, link))?;
+        assert_eq!(rt; battle.status(FOE), asleep(turns, true));
     }
     Ok(())
 }

@@ -1,20 +1,30 @@
 //! Flinching, confusion, stages that fall, recharging, and what has no side effect (docs/MECHANICS.md, "Side effects").
-use super::{BOTH, FOE, USER, does_nothing, play, tauros};
+use super::{Abort, BOTH, FOE, Packed, USER, does_nothing, plays, tauros};
 use gen1_layout::Conditions;
 use gen1_machine::{Event, StageCount, Volatile};
 use gen1_stats::Status;
 use gen1_tables::Stat;
 use std::test::Fail;
 
+fn recharging_foe() -> Result<Packed, Fail> {
+    let mut battle = tauros()?;
+    battle.put_flag(FOE, Conditions::RECHARGE, true);
+    Ok(battle)
+}
+
+fn foe_with_a_substitute() -> Result<Packed, Fail> {
+    let mut battle = tauros()?;
+    battle.put_substitute(FOE, Some(60));
+    Ok(battle)
+}
+
 // A flinch is not told.
 #[test]
 fn flinching(rt: HostRuntime) -> Result<(), Fail> {
     for (name, last, next) in [("Bite", 25, 26), ("Stomp", 76, 77)] {
         for link in BOTH {
-            let mut battle = tauros()?;
-            battle.put_flag(FOE, Conditions::RECHARGE, true);
-            let (events, drawn) = play(&mut battle, name, last, link)?;
-            assert_eq!(rt; (events.len(), drawn), (0, 1));
+            let mut battle = recharging_foe()?;
+            plays(&rt, &mut battle, (name, last, link), &[], 1)?;
             assert_eq!(rt;
                 (
                     battle.is_on(FOE, Conditions::FLINCH),
@@ -23,9 +33,7 @@ fn flinching(rt: HostRuntime) -> Result<(), Fail> {
                 (true, false)
             );
         }
-        let mut battle = tauros()?;
-        battle.put_flag(FOE, Conditions::RECHARGE, true);
-        assert_eq!(rt; does_nothing(&mut battle, name, next, 1)?, true, "{name}");
+        does_nothing(&rt, &mut recharging_foe()?, name, next, 1)?;
     }
     Ok(())
 }
@@ -36,19 +44,15 @@ fn flinching(rt: HostRuntime) -> Result<(), Fail> {
 fn confusion(rt: HostRuntime) -> Result<(), Fail> {
     for name in ["Psybeam", "Confusion"] {
         for (link, turns) in [(false, 3), (true, 2)] {
-            let mut battle = tauros()?;
-            battle.put_substitute(FOE, Some(60));
-            let (events, drawn) = play(&mut battle, name, 24, link)?;
-            assert_eq!(rt; (drawn, battle.confused(FOE)), (2, Some(turns)));
-            assert_eq!(rt;
-                events.as_slice(),
-                [Event::Start(battle.who(FOE), Volatile::Confusion)].as_slice()
-            );
+            let mut battle = foe_with_a_substitute()?;
+            let told = [Event::Start(battle.who(FOE), Volatile::Confusion)];
+            plays(&rt, &mut battle, (name, 24, link), &told, 2)?;
+            assert_eq!(rt; battle.confused(FOE), Some(turns));
         }
-        assert_eq!(rt; does_nothing(&mut tauros()?, name, 25, 1)?, true);
+        does_nothing(&rt, &mut tauros()?, name, 25, 1)?;
         let mut battle = tauros()?;
         battle.put_confused(FOE, Some(1));
-        assert_eq!(rt; does_nothing(&mut battle, name, 24, 1)?, true);
+        does_nothing(&rt, &mut battle, name, 24, 1)?;
     }
     Ok(())
 }
@@ -69,40 +73,40 @@ fn stages(rt: HostRuntime) -> Result<(), Fail> {
         for link in BOTH {
             let mut battle = tauros()?;
             battle.put_flag(FOE, Conditions::MIST, true);
-            let (events, drawn) = play(&mut battle, name, 84, link)?;
-            assert_eq!(rt; (drawn, battle.stage(FOE, stat)), (1, 5), "{name}");
-            assert_eq!(rt; battle.current_stat(FOE, stat), value, "{name}");
-            assert_eq!(rt;
-                events.as_slice(),
-                [Event::Unboost(battle.who(FOE), stat, one)].as_slice()
-            );
+            let told = [Event::Unboost(battle.who(FOE), stat, one)];
+            plays(&rt, &mut battle, (name, 84, link), &told, 1)?;
+            has_stage(&rt, &battle, stat, 5, value);
         }
-        assert_eq!(rt; does_nothing(&mut tauros()?, name, 85, 1)?, true, "{name}");
+        does_nothing(&rt, &mut tauros()?, name, 85, 1)?;
     }
-    // At -6 the draw is taken, and no failure is told.
+    Ok(())
+}
+
+fn has_stage(rt: &impl Abort, battle: &Packed, stat: Stat, stage: u8, value: u16) {
+    assert_eq!(rt; battle.stage(FOE, stat), stage);
+    assert_eq!(rt; battle.current_stat(FOE, stat), value);
+}
+
+// At -6 the draw is taken, and no failure is told.
+#[test]
+fn the_lowest_stage(rt: HostRuntime) -> Result<(), Fail> {
     let mut battle = tauros()?;
     battle.put_defense(FOE, 0, 72);
-    assert_eq!(rt; does_nothing(&mut battle, "Acid", 84, 1)?, true);
-    Ok(())
+    does_nothing(&rt, &mut battle, "Acid", 84, 1)
 }
 
 #[test]
 fn recharging(rt: HostRuntime) -> Result<(), Fail> {
     for link in BOTH {
-        let mut battle = tauros()?;
-        battle.put_substitute(FOE, Some(60));
-        let (events, drawn) = play(&mut battle, "Hyper Beam", 0, link)?;
+        let mut battle = foe_with_a_substitute()?;
+        let told = [Event::MustRecharge(battle.who(USER))];
+        plays(&rt, &mut battle, ("Hyper Beam", 0, link), &told, 0)?;
         assert_eq!(rt;
             (
-                drawn,
                 battle.is_on(USER, Conditions::RECHARGE),
                 battle.is_on(FOE, Conditions::RECHARGE)
             ),
-            (0, true, false)
-        );
-        assert_eq!(rt;
-            events.as_slice(),
-            [Event::MustRecharge(battle.who(USER))].as_slice()
+            (true, false)
         );
     }
     Ok(())
@@ -120,21 +124,17 @@ fn a_substitute_keeps_harm_away(rt: HostRuntime) -> Result<(), Fail> {
         "Bite",
         "Acid",
     ] {
-        let mut battle = tauros()?;
-        battle.put_substitute(FOE, Some(60));
-        assert_eq!(rt; does_nothing(&mut battle, name, 0, 0)?, true, "{name}");
+        does_nothing(&rt, &mut foe_with_a_substitute()?, name, 0, 0)?;
     }
-    let mut battle = tauros()?;
-    battle.put_substitute(FOE, Some(60));
+    let mut battle = foe_with_a_substitute()?;
     battle.put_status(FOE, Status::Frozen);
-    assert_eq!(rt; does_nothing(&mut battle, "Ember", 0, 0)?, true);
-    Ok(())
+    does_nothing(&rt, &mut battle, "Ember", 0, 0)
 }
 
 #[test]
 fn without_a_side_effect(rt: HostRuntime) -> Result<(), Fail> {
     for name in ["Pay Day", "Strength", "Swift", "Submission", "Growl"] {
-        assert_eq!(rt; does_nothing(&mut tauros()?, name, 0, 0)?, true, "{name}");
+        does_nothing(&rt, &mut tauros()?, name, 0, 0)?;
     }
     Ok(())
 }

@@ -1,18 +1,26 @@
 //! Poison, burns, freezes and paralysis, and the thaw (docs/MECHANICS.md, "Side effects", "Rules (sleep clause, freeze
 //! clause)").
-use super::{BOTH, FOE, does_nothing, play, send_out, tauros, tauros_under};
+use super::{Abort, BOTH, FOE, does_nothing, play, plays, send_out, tauros, tauros_under};
 use gen1_layout::{Conditions, Packed};
 use gen1_machine::{Event, Kind};
 use gen1_stats::Status;
-use gen1_tables::Element::{Electric, Fire, Ice, Poison, Rock};
+use gen1_tables::Element::{self, Electric, Fire, Ice, Poison, Rock};
 use gen1_tables::Stat;
 use std::test::Fail;
 
+fn of_types(first: Element, second: Element) -> Result<Packed, Fail> {
+    let mut battle = tauros()?;
+    battle.put_types(FOE, first, second);
+    Ok(battle)
+}
+
 // A member of none of the moves' types.
 fn of_rock() -> Result<Packed, Fail> {
-    let mut battle = tauros()?;
-    battle.put_types(FOE, Rock, Rock);
-    Ok(battle)
+    of_types(Rock, Rock)
+}
+
+fn has(rt: &impl Abort, battle: &Packed, status: Status) {
+    assert_eq!(rt; battle.status(FOE), status);
 }
 
 // Each with the highest draw at which it comes, and the next.
@@ -32,18 +40,11 @@ fn statuses(rt: HostRuntime) -> Result<(), Fail> {
     for (name, last, next, status, kind) in CHANCES {
         for link in BOTH {
             let mut battle = of_rock()?;
-            let (events, drawn) = play(&mut battle, name, last, link)?;
-            assert_eq!(rt; (drawn, battle.status(FOE)), (1, status), "{name}");
-            assert_eq!(rt;
-                events.as_slice(),
-                [Event::Status(battle.who(FOE), kind)].as_slice()
-            );
+            let told = [Event::Status(battle.who(FOE), kind)];
+            plays(&rt, &mut battle, (name, last, link), &told, 1)?;
+            has(&rt, &battle, status);
         }
-        assert_eq!(rt;
-            does_nothing(&mut of_rock()?, name, next, 1)?,
-            true,
-            "{name}"
-        );
+        does_nothing(&rt, &mut of_rock()?, name, next, 1)?;
     }
     Ok(())
 }
@@ -52,24 +53,32 @@ fn statuses(rt: HostRuntime) -> Result<(), Fail> {
 #[test]
 fn penalties(rt: HostRuntime) -> Result<(), Fail> {
     for link in BOTH {
-        let mut battle = of_rock()?;
-        play(&mut battle, "Ember", 0, link)?;
-        assert_eq!(rt; battle.current_stat(FOE, Stat::Attack), 149);
-        let mut battle = of_rock()?;
-        play(&mut battle, "Thunderbolt", 0, link)?;
-        assert_eq!(rt; battle.current_stat(FOE, Stat::Speed), 79);
+        for (name, stat, value) in [
+            ("Ember", Stat::Attack, 149),
+            ("Thunderbolt", Stat::Speed, 79),
+        ] {
+            let mut battle = of_rock()?;
+            play(&mut battle, (name, 0, link))?;
+            assert_eq!(rt; battle.current_stat(FOE, stat), value);
+        }
     }
     Ok(())
 }
 
-// No draw is taken on any status, nor on the type.
+// No draw is taken on any status.
 #[test]
-fn nothing_is_drawn(rt: HostRuntime) -> Result<(), Fail> {
+fn nothing_is_drawn_on_a_status(rt: HostRuntime) -> Result<(), Fail> {
     for (name, _, _, status, _) in CHANCES {
         let mut battle = of_rock()?;
         battle.put_status(FOE, status);
-        assert_eq!(rt; does_nothing(&mut battle, name, 0, 0)?, true, "{name}");
+        does_nothing(&rt, &mut battle, name, 0, 0)?;
     }
+    Ok(())
+}
+
+// Nor on the type.
+#[test]
+fn nothing_is_drawn_on_the_type(rt: HostRuntime) -> Result<(), Fail> {
     for (name, kind) in [
         ("Poison Sting", Poison),
         ("Twineedle", Poison),
@@ -77,15 +86,11 @@ fn nothing_is_drawn(rt: HostRuntime) -> Result<(), Fail> {
         ("Ice Beam", Ice),
         ("Thunderbolt", Electric),
     ] {
-        for (first, second) in [(kind, Rock), (Rock, kind)] {
-            let mut battle = tauros()?;
-            battle.put_types(FOE, first, second);
-            assert_eq!(rt; does_nothing(&mut battle, name, 0, 0)?, true, "{name}");
-        }
+        does_nothing(&rt, &mut of_types(kind, Rock)?, name, 0, 0)?;
+        does_nothing(&rt, &mut of_types(Rock, kind)?, name, 0, 0)?;
     }
     // Tauros are Normal.
-    assert_eq!(rt; does_nothing(&mut tauros()?, "Body Slam", 0, 0)?, true);
-    Ok(())
+    does_nothing(&rt, &mut tauros()?, "Body Slam", 0, 0)
 }
 
 // By a Fire move with a burn, also for a foe of type Fire.
@@ -93,26 +98,21 @@ fn nothing_is_drawn(rt: HostRuntime) -> Result<(), Fail> {
 fn the_thaw(rt: HostRuntime) -> Result<(), Fail> {
     for link in BOTH {
         for name in ["Ember", "Fire Blast"] {
-            let mut battle = tauros()?;
-            battle.put_types(FOE, Fire, Ice);
+            let mut battle = of_types(Fire, Ice)?;
             battle.put_status(FOE, Status::Frozen);
-            let (events, drawn) = play(&mut battle, name, 0, link)?;
-            assert_eq!(rt; (drawn, battle.status(FOE)), (0, Status::Healthy));
-            assert_eq!(rt;
-                events.as_slice(),
-                [Event::Cure(battle.who(FOE), Kind::Freeze)].as_slice()
-            );
+            let told = [Event::Cure(battle.who(FOE), Kind::Freeze)];
+            plays(&rt, &mut battle, (name, 0, link), &told, 0)?;
+            has(&rt, &battle, Status::Healthy);
         }
     }
     let mut battle = of_rock()?;
     battle.put_status(FOE, Status::Frozen);
-    assert_eq!(rt; does_nothing(&mut battle, "Thunderbolt", 0, 0)?, true);
-    Ok(())
+    does_nothing(&rt, &mut battle, "Thunderbolt", 0, 0)
 }
 
 // The second member of the foe's is frozen, and the first has to recharge.
 fn one_frozen_under(rules: u8) -> Result<Packed, Fail> {
-    let mut battle = tauros_under(rules, None)?;
+    let mut battle = tauros_under(rules)?;
     send_out(&mut battle, FOE, 2);
     battle.put_status(FOE, Status::Frozen);
     send_out(&mut battle, FOE, 1);
@@ -121,21 +121,22 @@ fn one_frozen_under(rules: u8) -> Result<Packed, Fail> {
 }
 
 #[test]
-fn the_freeze_clause(rt: HostRuntime) -> Result<(), Fail> {
+fn under_the_freeze_clause(rt: HostRuntime) -> Result<(), Fail> {
     for rules in [2, 3] {
-        let mut battle = one_frozen_under(rules)?;
-        assert_eq!(rt; does_nothing(&mut battle, "Ice Beam", 25, 1)?, true);
+        does_nothing(&rt, &mut one_frozen_under(rules)?, "Ice Beam", 25, 1)?;
     }
+    Ok(())
+}
+
+#[test]
+fn without_the_freeze_clause(rt: HostRuntime) -> Result<(), Fail> {
     for rules in [0, 1] {
         for link in BOTH {
             let mut battle = one_frozen_under(rules)?;
-            let (events, drawn) = play(&mut battle, "Ice Beam", 25, link)?;
-            assert_eq!(rt; (drawn, battle.status(FOE)), (1, Status::Frozen));
+            let told = [Event::Status(battle.who(FOE), Kind::Freeze)];
+            plays(&rt, &mut battle, ("Ice Beam", 25, link), &told, 1)?;
+            has(&rt, &battle, Status::Frozen);
             assert_eq!(rt; battle.is_on(FOE, Conditions::RECHARGE), false);
-            assert_eq!(rt;
-                events.as_slice(),
-                [Event::Status(battle.who(FOE), Kind::Freeze)].as_slice()
-            );
         }
     }
     Ok(())

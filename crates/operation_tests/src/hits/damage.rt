@@ -1,5 +1,5 @@
 //! Values worked out by hand (docs/MECHANICS.md, "Damage", "Types", "Factor").
-use super::{TAUROS, facing, named};
+use crate::battles::{named, two_tauros};
 use gen1_hits::{Numbers, damage, damage_list, factor, numbers, own_numbers, type_steps};
 use gen1_layout::Conditions;
 use gen1_machine::Side;
@@ -10,7 +10,7 @@ use std::test::Fail;
 // All 39 factors (docs/MECHANICS.md, "Damage numbers", "Damage", "Factor").
 #[test]
 fn body_slam(rt: HostRuntime) -> Result<(), Fail> {
-    let battle = facing("Tauros", TAUROS)?;
+    let battle = two_tauros()?;
     let slam = named("Body Slam")?;
     let plain = numbers(&battle, Side::One, slam, false);
     let expected = Numbers {
@@ -63,7 +63,7 @@ fn ice_on_gyarados(rt: HostRuntime) {
 
 #[test]
 fn a_divisor_of_0(rt: HostRuntime) -> Result<(), Fail> {
-    let mut battle = facing("Tauros", TAUROS)?;
+    let mut battle = two_tauros()?;
     battle.put_defense(Side::Two, 10, 512);
     battle.put_flag(Side::Two, Conditions::REFLECT, true);
     let strength = numbers(&battle, Side::One, named("Strength")?, false);
@@ -79,7 +79,7 @@ fn a_divisor_of_0(rt: HostRuntime) -> Result<(), Fail> {
 // 42 * 40 * 74 / 72 / 50 + 2 is 36; under the foe's Reflect the 72 are 144 (docs/MECHANICS.md, "Hit on itself").
 #[test]
 fn a_hit_on_itself(rt: HostRuntime) -> Result<(), Fail> {
-    let mut battle = facing("Tauros", TAUROS)?;
+    let mut battle = two_tauros()?;
     assert_eq!(rt; damage(&own_numbers(&battle, Side::One)), Some(36));
     battle.put_flag(Side::One, Conditions::REFLECT, true);
     assert_eq!(rt; damage(&own_numbers(&battle, Side::One)), Some(36));

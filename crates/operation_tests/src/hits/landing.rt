@@ -1,14 +1,15 @@
-//! HP, landings, critical draws and hit tests: side 1's Persian against side 2's Tauros.
-use super::{PERSIAN, facing, named, species};
+//! HP, landings, critical draws and hit tests: side 1's Persian against side 2's Tauros, which has 353 HP.
+use crate::battles::{FOE, USER, named, persian_and_tauros, species, tells};
 use gen1_hits::{
     Hit, Landed, critical, critical_bound, gain_hp, hit_test, land, land_on_hp, land_on_substitute,
     lose_hp, scaled_accuracy,
 };
 use gen1_layout::{Conditions, Packed};
-use gen1_machine::{DamageSource, Event, EventList, Health, Side, Volatile};
+use gen1_machine::{DamageSource, Event, EventList, Health, Volatile};
 use gen1_rolls::{LinkRandom, Sweep};
 use gen1_stats::Status;
 use gen1_tables::MoveId;
+use std::process::Abort;
 use std::test::Fail;
 
 fn tauros_at(hp: u16) -> Result<Health, Fail> {
@@ -18,9 +19,9 @@ fn tauros_at(hp: u16) -> Result<Health, Fail> {
 // HP (docs/MECHANICS.md, "Order of events").
 #[test]
 fn hp_is_lost_and_gained(rt: HostRuntime) -> Result<(), Fail> {
-    let mut battle = facing("Persian", PERSIAN)?;
+    let mut battle = persian_and_tauros()?;
     let mut events = EventList::new();
-    let side = Side::Two;
+    let side = FOE;
     let tauros = battle.who(side);
     gain_hp(&mut battle, side, 1, &mut events);
     lose_hp(&mut battle, side, DamageSource::Recoil, 0, &mut events);
@@ -31,91 +32,94 @@ fn hp_is_lost_and_gained(rt: HostRuntime) -> Result<(), Fail> {
     assert_eq!(rt; battle.hp(side), 353);
     lose_hp(&mut battle, side, DamageSource::Burn, 65535, &mut events);
     lose_hp(&mut battle, side, DamageSource::Burn, 1, &mut events);
-    assert_eq!(rt;
-        events.as_slice(),
-        [
+    tells(
+        &rt,
+        &events,
+        &[
             Event::Damage(tauros, tauros_at(300)?, DamageSource::Recoil),
             Event::Heal(tauros, tauros_at(353)?),
             Event::Damage(tauros, tauros_at(0)?, DamageSource::Burn),
-        ]
-        .as_slice()
+        ],
     );
     Ok(())
+}
+
+// So much damage of side 1's, and how it lands.
+fn lands(
+    rt: &impl Abort,
+    battle: &mut Packed,
+    damage: u16,
+    landed: Landed,
+    events: &mut EventList,
+) {
+    assert_eq!(rt; land(battle, USER, damage, events), landed);
+}
+
+// The last damage, and the foe's HP.
+fn has(rt: &impl Abort, battle: &Packed, last_damage: u16, hp: u16) {
+    assert_eq!(rt; (battle.last_damage(), battle.hp(FOE)), (last_damage, hp));
 }
 
 // Landings (docs/MECHANICS.md, "Landing").
 #[test]
 fn damage_lands_on_hp(rt: HostRuntime) -> Result<(), Fail> {
-    let mut battle = facing("Persian", PERSIAN)?;
+    let mut battle = persian_and_tauros()?;
     let mut events = EventList::new();
-    let tauros = battle.who(Side::Two);
+    let tauros = battle.who(FOE);
     battle.put_last_damage(9);
-    assert_eq!(rt; land(&mut battle, Side::One, 0, &mut events), Landed::Hp);
-    assert_eq!(rt; (battle.last_damage(), events.len()), (9, 0));
-    assert_eq!(rt; land(&mut battle, Side::One, 75, &mut events), Landed::Hp);
-    assert_eq!(rt; (battle.last_damage(), battle.hp(Side::Two)), (75, 278));
-    land_on_hp(
-        &mut battle,
-        Side::Two,
-        DamageSource::Confusion,
-        279,
-        &mut events,
-    );
-    assert_eq!(rt; (battle.last_damage(), battle.hp(Side::Two)), (278, 0));
-    assert_eq!(rt;
-        events.as_slice(),
-        [
-            Event::Damage(tauros, tauros_at(278)?, DamageSource::Direct),
-            Event::Damage(tauros, tauros_at(0)?, DamageSource::Confusion),
-        ]
-        .as_slice()
-    );
+    lands(&rt, &mut battle, 0, Landed::Hp, &mut events);
+    has(&rt, &battle, 9, 353);
+    tells(&rt, &events, &[]);
+    lands(&rt, &mut battle, 75, Landed::Hp, &mut events);
+    has(&rt, &battle, 75, 278);
+    land_on_hp(&mut battle, FOE, DamageSource::Confusion, 279, &mut events);
+    has(&rt, &battle, 278, 0);
+    let hurt = Event::Damage(tauros, tauros_at(278)?, DamageSource::Direct);
+    let fallen = Event::Damage(tauros, tauros_at(0)?, DamageSource::Confusion);
+    tells(&rt, &events, &[hurt, fallen]);
     Ok(())
+}
+
+fn has_substitute(rt: &impl Abort, battle: &Packed, hp: Option<u8>) {
+    assert_eq!(rt; battle.substitute(FOE), hp);
 }
 
 // Landings (docs/MECHANICS.md, "Landing").
 #[test]
 fn damage_lands_on_a_substitute(rt: HostRuntime) -> Result<(), Fail> {
-    let mut battle = facing("Persian", PERSIAN)?;
+    let mut battle = persian_and_tauros()?;
     let mut events = EventList::new();
     battle.put_last_damage(9);
-    battle.put_substitute(Side::Two, Some(88));
-    assert_eq!(rt; land(&mut battle, Side::One, 88, &mut events), Landed::Kept);
-    assert_eq!(rt; battle.substitute(Side::Two), Some(0));
-    assert_eq!(rt; land(&mut battle, Side::One, 0, &mut events), Landed::Hp);
-    battle.put_substitute(Side::Two, Some(88));
+    battle.put_substitute(FOE, Some(88));
+    lands(&rt, &mut battle, 88, Landed::Kept, &mut events);
+    has_substitute(&rt, &battle, Some(0));
+    lands(&rt, &mut battle, 0, Landed::Hp, &mut events);
+    battle.put_substitute(FOE, Some(88));
+    lands(&rt, &mut battle, 89, Landed::Broke, &mut events);
+    has_substitute(&rt, &battle, None);
+    battle.put_substitute(FOE, Some(249));
     assert_eq!(rt;
-        land(&mut battle, Side::One, 89, &mut events),
-        Landed::Broke
-    );
-    assert_eq!(rt; battle.substitute(Side::Two), None);
-    battle.put_substitute(Side::Two, Some(249));
-    assert_eq!(rt;
-        land_on_substitute(&mut battle, Side::Two, 256, 249, &mut events),
+        land_on_substitute(&mut battle, FOE, 256, 249, &mut events),
         true
     );
-    assert_eq!(rt; (battle.last_damage(), battle.hp(Side::Two)), (9, 353));
-    assert_eq!(rt;
-        events.as_slice(),
-        [
-            Event::Activate(battle.who(Side::Two), Volatile::Substitute),
-            Event::End(battle.who(Side::Two), Volatile::Substitute),
-            Event::End(battle.who(Side::Two), Volatile::Substitute),
-        ]
-        .as_slice()
-    );
+    has(&rt, &battle, 9, 353);
+    let holds = Event::Activate(battle.who(FOE), Volatile::Substitute);
+    let breaks = Event::End(battle.who(FOE), Volatile::Substitute);
+    tells(&rt, &events, &[holds, breaks, breaks]);
     Ok(())
 }
 
-// The critical draw of side 1 by each generator, where this byte is drawn; and where the two stand after it.
-fn criticals(battle: &Packed, id: MoveId, byte: u8) -> ([bool; 2], Sweep, u8) {
+// The critical draw of side 1 by each generator, where this byte is drawn.
+fn draws_critical(rt: &impl Abort, battle: &Packed, id: MoveId, byte: u8, is: bool) {
     let mut sweep = Sweep::new(byte);
     let mut link = LinkRandom::new([byte; 10]);
-    let hits = [
-        critical(battle, Side::One, id, &mut sweep),
-        critical(battle, Side::One, id, &mut link),
-    ];
-    (hits, sweep, link.index())
+    let by_sweep = critical(battle, USER, id, &mut sweep);
+    let by_link = critical(battle, USER, id, &mut link);
+    assert_eq!(rt; [by_sweep, by_link], [is; 2]);
+    assert_eq!(rt;
+        (sweep, link.index()),
+        (Sweep::new(byte.wrapping_add(1)), 1)
+    );
 }
 
 // Bounds and draws (docs/MECHANICS.md, "Critical hits").
@@ -128,65 +132,53 @@ fn critical_hits(rt: HostRuntime) -> Result<(), Fail> {
     assert_eq!(rt; critical_bound(persian, false, strength), 57);
     assert_eq!(rt; critical_bound(persian, true, slash), 112);
     assert_eq!(rt; critical_bound(persian, true, strength), 14);
-    let mut battle = facing("Persian", PERSIAN)?;
+    let mut battle = persian_and_tauros()?;
     // Rotated left by 3, the byte 7 is 56, 39 is 57, 254 is 247, and 255 stays.
-    assert_eq!(rt;
-        criticals(&battle, strength, 7),
-        ([true; 2], Sweep::new(8), 1)
-    );
-    assert_eq!(rt;
-        criticals(&battle, strength, 39),
-        ([false; 2], Sweep::new(40), 1)
-    );
-    assert_eq!(rt;
-        criticals(&battle, slash, 254),
-        ([true; 2], Sweep::new(255), 1)
-    );
-    assert_eq!(rt;
-        criticals(&battle, slash, 255),
-        ([false; 2], Sweep::new(0), 1)
-    );
+    draws_critical(&rt, &battle, strength, 7, true);
+    draws_critical(&rt, &battle, strength, 39, false);
+    draws_critical(&rt, &battle, slash, 254, true);
+    draws_critical(&rt, &battle, slash, 255, false);
     // 1 is 8, and 2 is 16.
-    battle.put_flag(Side::One, Conditions::FOCUS_ENERGY, true);
-    assert_eq!(rt;
-        criticals(&battle, strength, 1),
-        ([true; 2], Sweep::new(2), 1)
-    );
-    assert_eq!(rt;
-        criticals(&battle, strength, 2),
-        ([false; 2], Sweep::new(3), 1)
-    );
+    battle.put_flag(USER, Conditions::FOCUS_ENERGY, true);
+    draws_critical(&rt, &battle, strength, 1, true);
+    draws_critical(&rt, &battle, strength, 2, false);
     Ok(())
 }
 
 // Accuracy bytes (docs/MECHANICS.md, "Hit test").
 #[test]
 fn accuracy_between_stages(rt: HostRuntime) -> Result<(), Fail> {
-    let mut battle = facing("Persian", PERSIAN)?;
+    let mut battle = persian_and_tauros()?;
     let guillotine = named("Guillotine")?.accuracy_byte();
-    assert_eq!(rt; scaled_accuracy(&battle, Side::One, guillotine), 76);
-    battle.put_accuracy(Side::One, 0);
-    assert_eq!(rt; scaled_accuracy(&battle, Side::One, guillotine), 19);
-    battle.put_evasion(Side::Two, 12);
-    assert_eq!(rt; scaled_accuracy(&battle, Side::One, guillotine), 4);
-    battle.put_accuracy(Side::One, 12);
-    assert_eq!(rt; scaled_accuracy(&battle, Side::One, 255), 255);
-    battle.put_accuracy(Side::One, 0);
-    battle.put_evasion(Side::Two, 0);
-    assert_eq!(rt; scaled_accuracy(&battle, Side::One, 255), 252);
+    assert_eq!(rt; scaled_accuracy(&battle, USER, guillotine), 76);
+    battle.put_accuracy(USER, 0);
+    assert_eq!(rt; scaled_accuracy(&battle, USER, guillotine), 19);
+    battle.put_evasion(FOE, 12);
+    assert_eq!(rt; scaled_accuracy(&battle, USER, guillotine), 4);
+    battle.put_accuracy(USER, 12);
+    assert_eq!(rt; scaled_accuracy(&battle, USER, 255), 255);
+    battle.put_accuracy(USER, 0);
+    battle.put_evasion(FOE, 0);
+    assert_eq!(rt; scaled_accuracy(&battle, USER, 255), 252);
     Ok(())
 }
 
-// The hit test of a move of side 1 by each generator, where this byte is drawn next; and where the two stand after it.
-fn hit_tests(battle: &mut Packed, id: MoveId, byte: u8) -> ([Hit; 2], Sweep, u8) {
+// The hit test of a move of side 1 by each generator, where this byte is drawn next, and how many draws it takes.
+fn hits(rt: &impl Abort, battle: &mut Packed, id: MoveId, byte: u8, hit: Hit, draws: u8) {
     let base = id.accuracy_byte();
     let mut sweep = Sweep::new(byte);
     let mut link = LinkRandom::new([byte; 10]);
-    let hits = [
-        hit_test(battle, Side::One, id, base, &mut sweep),
-        hit_test(battle, Side::One, id, base, &mut link),
-    ];
-    (hits, sweep, link.index())
+    let by_sweep = hit_test(battle, USER, id, base, &mut sweep);
+    let by_link = hit_test(battle, USER, id, base, &mut link);
+    assert_eq!(rt; [by_sweep, by_link], [hit; 2]);
+    assert_eq!(rt;
+        (sweep, link.index()),
+        (Sweep::new(byte.wrapping_add(draws)), draws)
+    );
+}
+
+fn has_last_damage(rt: &impl Abort, battle: &Packed, damage: u16) {
+    assert_eq!(rt; battle.last_damage(), damage);
 }
 
 const HIT: Hit = Hit {
@@ -202,95 +194,62 @@ const MISSED: Hit = Hit {
 // Draws of 254 and 255 (docs/MECHANICS.md, "Hit test").
 #[test]
 fn no_draw_is_sure_to_hit(rt: HostRuntime) -> Result<(), Fail> {
-    let mut battle = facing("Persian", PERSIAN)?;
+    let mut battle = persian_and_tauros()?;
     let strength = named("Strength")?;
     battle.put_last_damage(75);
-    battle.put_trapping(Side::One, 3);
-    assert_eq!(rt;
-        hit_tests(&mut battle, strength, 254),
-        ([HIT; 2], Sweep::new(255), 1)
-    );
-    assert_eq!(rt; battle.last_damage(), 75);
-    assert_eq!(rt; battle.trapping(Side::One), Some(3));
-    assert_eq!(rt;
-        hit_tests(&mut battle, strength, 255),
-        ([MISSED; 2], Sweep::new(0), 1)
-    );
-    assert_eq!(rt; battle.last_damage(), 0);
-    assert_eq!(rt; battle.trapping(Side::One), None);
+    battle.put_trapping(USER, 3);
+    hits(&rt, &mut battle, strength, 254, HIT, 1);
+    has_last_damage(&rt, &battle, 75);
+    assert_eq!(rt; battle.trapping(USER), Some(3));
+    hits(&rt, &mut battle, strength, 255, MISSED, 1);
+    has_last_damage(&rt, &battle, 0);
+    assert_eq!(rt; battle.trapping(USER), None);
     Ok(())
 }
 
 // Without a draw (docs/MECHANICS.md, "Hit test").
 #[test]
 fn a_foe_out_of_reach(rt: HostRuntime) -> Result<(), Fail> {
-    let mut battle = facing("Persian", PERSIAN)?;
-    battle.put_flag(Side::Two, Conditions::INVULNERABLE, true);
+    let mut battle = persian_and_tauros()?;
+    battle.put_flag(FOE, Conditions::INVULNERABLE, true);
     battle.put_last_damage(75);
-    assert_eq!(rt;
-        hit_tests(&mut battle, named("Swift")?, 255),
-        ([HIT; 2], Sweep::new(255), 0)
-    );
-    assert_eq!(rt; battle.last_damage(), 75);
-    assert_eq!(rt;
-        hit_tests(&mut battle, named("Strength")?, 0),
-        ([MISSED; 2], Sweep::new(0), 0)
-    );
-    assert_eq!(rt; battle.last_damage(), 0);
+    hits(&rt, &mut battle, named("Swift")?, 255, HIT, 0);
+    has_last_damage(&rt, &battle, 75);
+    hits(&rt, &mut battle, named("Strength")?, 0, MISSED, 0);
+    has_last_damage(&rt, &battle, 0);
     Ok(())
 }
 
 // Without a draw (docs/MECHANICS.md, "Hit test").
 #[test]
 fn dreams_and_mist(rt: HostRuntime) -> Result<(), Fail> {
-    let mut battle = facing("Persian", PERSIAN)?;
+    let mut battle = persian_and_tauros()?;
     let dream_eater = named("Dream Eater")?;
     let growl = named("Growl")?;
-    assert_eq!(rt;
-        hit_tests(&mut battle, dream_eater, 0),
-        ([MISSED; 2], Sweep::new(0), 0)
-    );
+    hits(&rt, &mut battle, dream_eater, 0, MISSED, 0);
     battle.put_status(
-        Side::Two,
+        FOE,
         Status::Asleep {
             turns: 3,
             marked: false,
         },
     );
-    assert_eq!(rt;
-        hit_tests(&mut battle, dream_eater, 0),
-        ([HIT; 2], Sweep::new(1), 1)
-    );
-    assert_eq!(rt;
-        hit_tests(&mut battle, growl, 0),
-        ([HIT; 2], Sweep::new(1), 1)
-    );
-    battle.put_flag(Side::Two, Conditions::MIST, true);
-    assert_eq!(rt;
-        hit_tests(&mut battle, growl, 0),
-        ([MISSED; 2], Sweep::new(0), 0)
-    );
-    assert_eq!(rt;
-        hit_tests(&mut battle, named("Strength")?, 0),
-        ([HIT; 2], Sweep::new(1), 1)
-    );
+    hits(&rt, &mut battle, dream_eater, 0, HIT, 1);
+    hits(&rt, &mut battle, growl, 0, HIT, 1);
+    battle.put_flag(FOE, Conditions::MIST, true);
+    hits(&rt, &mut battle, growl, 0, MISSED, 0);
+    hits(&rt, &mut battle, named("Strength")?, 0, HIT, 1);
     Ok(())
 }
 
 // The byte that is kept (docs/MECHANICS.md, "Kept accuracy").
 #[test]
 fn what_is_kept(rt: HostRuntime) -> Result<(), Fail> {
-    let mut battle = facing("Persian", PERSIAN)?;
-    battle.put_accuracy(Side::One, 0);
-    let kept = |hit| [Hit { hit, kept: 63 }; 2];
+    let mut battle = persian_and_tauros()?;
+    battle.put_accuracy(USER, 0);
+    let kept = |hit| Hit { hit, kept: 63 };
     let strength = named("Strength")?;
-    assert_eq!(rt;
-        hit_tests(&mut battle, strength, 62),
-        (kept(true), Sweep::new(63), 1)
-    );
-    assert_eq!(rt;
-        hit_tests(&mut battle, strength, 63),
-        (kept(false), Sweep::new(64), 1)
-    );
+    hits(&rt, &mut battle, strength, 62, kept(true), 1);
+    hits(&rt, &mut battle, strength, 63, kept(false), 1);
     Ok(())
 }

@@ -1,5 +1,5 @@
 //! Picks and the gate, with the numbers of docs/MECHANICS.md, "Picks", "Gate" and "Hit on itself".
-use super::{FOE, USER, two_tauros};
+use crate::battles::{FOE, USER, tells, two_tauros};
 use gen1_layout::{Conditions, Packed};
 use gen1_machine::{
     CantReason, Choice, DamageSource, DisabledSlot, Event, EventList, Health, Kind, MoveSlot,
@@ -8,6 +8,7 @@ use gen1_machine::{
 use gen1_rolls::{LinkRandom, Rolls, Sweep};
 use gen1_stats::Status;
 use gen1_status::{Gate, gate, pick};
+use std::process::Abort;
 use std::test::Fail;
 
 // What tells that the user is confused.
@@ -15,50 +16,87 @@ fn shows(battle: &Packed) -> Event {
     Event::Activate(battle.who(USER), Volatile::Confusion)
 }
 
+fn cannot(battle: &Packed, reason: CantReason) -> Event {
+    Event::Cant(battle.who(USER), reason)
+}
+
 const STRENGTH: Pick = Pick::Use(UsedMove::Slot(1));
 
 // What the gate answers a user, and writes.
-fn gated<R: Rolls>(battle: &mut Packed, pick: Pick, random: &mut R) -> (Gate, EventList) {
+fn gates<R: Rolls>(
+    rt: &impl Abort,
+    battle: &mut Packed,
+    pick: Pick,
+    random: &mut R,
+    answer: Gate,
+    told: &[Event],
+) {
     let mut events = EventList::new();
-    let answer = gate(battle, USER, pick, random, &mut events);
-    (answer, events)
+    assert_eq!(rt; gate(battle, USER, pick, random, &mut events), answer);
+    tells(rt, &events, told);
+}
+
+// Whether the user has a condition.
+fn is_on(rt: &impl Abort, battle: &Packed, which: Conditions, on: bool) {
+    assert_eq!(rt; battle.is_on(USER, which), on);
+}
+
+fn has(rt: &impl Abort, battle: &Packed, status: Status) {
+    assert_eq!(rt; battle.status(USER), status);
+}
+
+const fn asleep(turns: u8, marked: bool) -> Status {
+    Status::Asleep { turns, marked }
 }
 
 // What the choice of a slot from 0 to 4 comes to.
-fn picked(battle: &Packed, side: Side, slot: u8) -> Result<Pick, Fail> {
+fn picks(rt: &impl Abort, battle: &Packed, side: Side, slot: u8, picked: Pick) -> Result<(), Fail> {
     let slot = MoveSlot::new(slot).ok_or("no such slot")?;
-    Ok(pick(battle, side, Choice::Move(slot)))
+    assert_eq!(rt; pick(battle, side, Choice::Move(slot)), picked);
+    Ok(())
 }
 
 // What choices come to (docs/MECHANICS.md, "Picks").
 #[test]
-fn picks(rt: HostRuntime) -> Result<(), Fail> {
+fn picks_of_who_is_free_or_held(rt: HostRuntime) -> Result<(), Fail> {
     let mut battle = two_tauros()?;
-    assert_eq!(rt; picked(&battle, USER, 0)?, Pick::Use(UsedMove::Struggle));
-    assert_eq!(rt; picked(&battle, USER, 2)?, Pick::Use(UsedMove::Slot(2)));
+    let second = Pick::Use(UsedMove::Slot(2));
+    picks(&rt, &battle, USER, 0, Pick::Use(UsedMove::Struggle))?;
+    picks(&rt, &battle, USER, 2, second)?;
     battle.put_trapping(FOE, 0);
-    assert_eq!(rt; picked(&battle, USER, 0)?, Pick::Held);
-    assert_eq!(rt; picked(&battle, USER, 2)?, Pick::Use(UsedMove::Slot(2)));
-    assert_eq!(rt; picked(&battle, FOE, 0)?, Pick::Continue);
-    battle.put_status(USER, Status::Frozen);
-    assert_eq!(rt; picked(&battle, USER, 0)?, Pick::Idle);
-    let asleep = Status::Asleep {
-        turns: 3,
-        marked: false,
-    };
-    battle.put_status(USER, asleep);
-    assert_eq!(rt; picked(&battle, USER, 0)?, Pick::Idle);
+    picks(&rt, &battle, USER, 0, Pick::Held)?;
+    picks(&rt, &battle, USER, 2, second)?;
+    picks(&rt, &battle, FOE, 0, Pick::Continue)
+}
+
+// Held by the foe's trapping too (docs/MECHANICS.md, "Picks").
+#[test]
+fn picks_of_who_must_wait(rt: HostRuntime) -> Result<(), Fail> {
+    for status in [asleep(3, false), Status::Frozen] {
+        let mut battle = two_tauros()?;
+        battle.put_trapping(FOE, 0);
+        battle.put_status(USER, status);
+        picks(&rt, &battle, USER, 0, Pick::Idle)?;
+    }
+    Ok(())
+}
+
+// Asleep, and held by the foe's trapping (docs/MECHANICS.md, "Picks").
+#[test]
+fn picks_of_who_goes_on(rt: HostRuntime) -> Result<(), Fail> {
+    let mut battle = two_tauros()?;
+    battle.put_trapping(FOE, 0);
+    battle.put_status(USER, asleep(3, false));
     for which in [Conditions::RECHARGE, Conditions::RAGE, Conditions::CHARGING] {
         battle.put_flag(USER, which, true);
-        assert_eq!(rt; picked(&battle, USER, 0)?, Pick::Continue);
+        picks(&rt, &battle, USER, 0, Pick::Continue)?;
         battle.put_flag(USER, which, false);
     }
     battle.put_thrash(USER, 2);
-    assert_eq!(rt; picked(&battle, USER, 0)?, Pick::Continue);
+    picks(&rt, &battle, USER, 0, Pick::Continue)?;
     battle.end_thrash(USER);
     battle.put_bide(USER, 2, 0);
-    assert_eq!(rt; picked(&battle, USER, 0)?, Pick::Continue);
-    Ok(())
+    picks(&rt, &battle, USER, 0, Pick::Continue)
 }
 
 // Draws of 62 and 63 (docs/MECHANICS.md, "Gate").
@@ -70,17 +108,21 @@ fn digging_while_paralysed(rt: HostRuntime) -> Result<(), Fail> {
     battle.put_flag(USER, Conditions::CHARGING, true);
     battle.put_flag(USER, Conditions::INVULNERABLE, true);
     let mut random = LinkRandom::new([63, 62, 0, 0, 0, 0, 0, 0, 0, 0]);
-    let (answer, events) = gated(&mut battle, Pick::Continue, &mut random);
-    assert_eq!(rt; (answer, events.len(), random.index()), (Gate::Go, 0, 1));
-    assert_eq!(rt; battle.is_on(USER, Conditions::CHARGING), true);
-    let (answer, events) = gated(&mut battle, Pick::Continue, &mut random);
-    assert_eq!(rt; (answer, random.index()), (Gate::Stop, 2));
-    assert_eq!(rt;
-        events.as_slice(),
-        [Event::Cant(battle.who(USER), CantReason::Paralysed)].as_slice()
+    gates(&rt, &mut battle, Pick::Continue, &mut random, Gate::Go, &[]);
+    assert_eq!(rt; random.index(), 1);
+    is_on(&rt, &battle, Conditions::CHARGING, true);
+    let cannot = [cannot(&battle, CantReason::Paralysed)];
+    gates(
+        &rt,
+        &mut battle,
+        Pick::Continue,
+        &mut random,
+        Gate::Stop,
+        &cannot,
     );
-    assert_eq!(rt; battle.is_on(USER, Conditions::CHARGING), false);
-    assert_eq!(rt; battle.is_on(USER, Conditions::INVULNERABLE), true);
+    assert_eq!(rt; random.index(), 2);
+    is_on(&rt, &battle, Conditions::CHARGING, false);
+    is_on(&rt, &battle, Conditions::INVULNERABLE, true);
     Ok(())
 }
 
@@ -89,31 +131,15 @@ fn digging_while_paralysed(rt: HostRuntime) -> Result<(), Fail> {
 fn sleeping(rt: HostRuntime) -> Result<(), Fail> {
     let mut battle = two_tauros()?;
     let mut random = Sweep::new(0);
-    let asleep = Status::Asleep {
-        turns: 2,
-        marked: true,
-    };
-    battle.put_status(USER, asleep);
+    battle.put_status(USER, asleep(2, true));
     battle.put_flag(USER, Conditions::FLINCH, true);
-    let (answer, events) = gated(&mut battle, STRENGTH, &mut random);
-    assert_eq!(rt; answer, Gate::Stop);
-    assert_eq!(rt;
-        events.as_slice(),
-        [Event::Cant(battle.who(USER), CantReason::Asleep)].as_slice()
-    );
-    let last = Status::Asleep {
-        turns: 1,
-        marked: true,
-    };
-    assert_eq!(rt; battle.status(USER), last);
-    assert_eq!(rt; battle.is_on(USER, Conditions::FLINCH), true);
-    let (answer, events) = gated(&mut battle, STRENGTH, &mut random);
-    assert_eq!(rt; answer, Gate::Stop);
-    assert_eq!(rt;
-        events.as_slice(),
-        [Event::Cure(battle.who(USER), Kind::Sleep)].as_slice()
-    );
-    assert_eq!(rt; battle.status(USER), Status::Healthy);
+    let sleeps = [cannot(&battle, CantReason::Asleep)];
+    gates(&rt, &mut battle, STRENGTH, &mut random, Gate::Stop, &sleeps);
+    has(&rt, &battle, asleep(1, true));
+    is_on(&rt, &battle, Conditions::FLINCH, true);
+    let wakes = [Event::Cure(battle.who(USER), Kind::Sleep)];
+    gates(&rt, &mut battle, STRENGTH, &mut random, Gate::Stop, &wakes);
+    has(&rt, &battle, Status::Healthy);
     assert_eq!(rt; random, Sweep::new(0));
     Ok(())
 }
@@ -125,19 +151,18 @@ fn frozen_or_held(rt: HostRuntime) -> Result<(), Fail> {
     let mut random = Sweep::new(0);
     battle.put_trapping(FOE, 0);
     battle.put_status(USER, Status::Frozen);
-    let (answer, events) = gated(&mut battle, STRENGTH, &mut random);
-    assert_eq!(rt; answer, Gate::Stop);
-    assert_eq!(rt;
-        events.as_slice(),
-        [Event::Cant(battle.who(USER), CantReason::Frozen)].as_slice()
+    let freezes = [cannot(&battle, CantReason::Frozen)];
+    gates(
+        &rt,
+        &mut battle,
+        STRENGTH,
+        &mut random,
+        Gate::Stop,
+        &freezes,
     );
     battle.put_status(USER, Status::Healthy);
-    let (answer, events) = gated(&mut battle, STRENGTH, &mut random);
-    assert_eq!(rt; answer, Gate::Stop);
-    assert_eq!(rt;
-        events.as_slice(),
-        [Event::Cant(battle.who(USER), CantReason::PartiallyTrapped)].as_slice()
-    );
+    let held = [cannot(&battle, CantReason::PartiallyTrapped)];
+    gates(&rt, &mut battle, STRENGTH, &mut random, Gate::Stop, &held);
     assert_eq!(rt; battle.trapping(FOE), Some(0));
     Ok(())
 }
@@ -149,26 +174,39 @@ fn flinching_and_recharging(rt: HostRuntime) -> Result<(), Fail> {
     let mut random = Sweep::new(0);
     battle.put_flag(USER, Conditions::FLINCH, true);
     battle.put_flag(USER, Conditions::RECHARGE, true);
-    let (answer, events) = gated(&mut battle, STRENGTH, &mut random);
-    assert_eq!(rt; answer, Gate::Stop);
-    assert_eq!(rt;
-        events.as_slice(),
-        [Event::Cant(battle.who(USER), CantReason::Flinched)].as_slice()
+    let flinches = [cannot(&battle, CantReason::Flinched)];
+    gates(
+        &rt,
+        &mut battle,
+        STRENGTH,
+        &mut random,
+        Gate::Stop,
+        &flinches,
     );
     assert_eq!(rt; battle.conditions(USER), Conditions::RECHARGE);
-    let (answer, events) = gated(&mut battle, STRENGTH, &mut random);
-    assert_eq!(rt; answer, Gate::Stop);
-    assert_eq!(rt;
-        events.as_slice(),
-        [Event::Cant(battle.who(USER), CantReason::Recharging)].as_slice()
+    let recharges = [cannot(&battle, CantReason::Recharging)];
+    gates(
+        &rt,
+        &mut battle,
+        STRENGTH,
+        &mut random,
+        Gate::Stop,
+        &recharges,
     );
-    let (answer, events) = gated(&mut battle, STRENGTH, &mut random);
-    assert_eq!(rt; (answer, events.len()), (Gate::Go, 0));
+    gates(&rt, &mut battle, STRENGTH, &mut random, Gate::Go, &[]);
+    Ok(())
+}
+
+#[test]
+fn answers_that_stop(rt: HostRuntime) {
     assert_eq!(rt;
         (Gate::Go.stops(), Gate::Stop.stops(), Gate::Fault.stops()),
         (false, true, true)
     );
-    Ok(())
+}
+
+fn bars(rt: &impl Abort, battle: &Packed, disabled: Option<DisabledSlot>) {
+    assert_eq!(rt; battle.disabled(USER), disabled);
 }
 
 // Its count, and its end (docs/MECHANICS.md, "Gate").
@@ -176,36 +214,32 @@ fn flinching_and_recharging(rt: HostRuntime) -> Result<(), Fail> {
 fn a_disabled_move(rt: HostRuntime) -> Result<(), Fail> {
     let mut battle = two_tauros()?;
     let mut random = Sweep::new(0);
+    let second = Pick::Use(UsedMove::Slot(2));
     battle.put_disabled(USER, Some(DisabledSlot { slot: 2, turns: 3 }));
     battle.put_current_move(USER, UsedMove::Slot(2));
     battle.put_flag(USER, Conditions::CHARGING, true);
-    let (answer, events) = gated(&mut battle, Pick::Continue, &mut random);
-    assert_eq!(rt; answer, Gate::Stop);
-    assert_eq!(rt;
-        events.as_slice(),
-        [Event::Cant(battle.who(USER), CantReason::Disabled)].as_slice()
+    let disabled = [cannot(&battle, CantReason::Disabled)];
+    gates(
+        &rt,
+        &mut battle,
+        Pick::Continue,
+        &mut random,
+        Gate::Stop,
+        &disabled,
     );
-    assert_eq!(rt; battle.is_on(USER, Conditions::CHARGING), false);
-    assert_eq!(rt;
-        battle.disabled(USER),
-        Some(DisabledSlot { slot: 2, turns: 2 })
-    );
-    let (answer, events) = gated(&mut battle, STRENGTH, &mut random);
-    assert_eq!(rt; (answer, events.len()), (Gate::Go, 0));
-    assert_eq!(rt;
-        battle.disabled(USER),
-        Some(DisabledSlot { slot: 2, turns: 1 })
-    );
-    let (answer, events) = gated(&mut battle, Pick::Use(UsedMove::Slot(2)), &mut random);
-    assert_eq!(rt; answer, Gate::Go);
-    assert_eq!(rt;
-        events.as_slice(),
-        [Event::End(battle.who(USER), Volatile::Disable)].as_slice()
-    );
-    assert_eq!(rt; battle.disabled(USER), None);
-    let (answer, events) = gated(&mut battle, Pick::Idle, &mut random);
-    assert_eq!(rt; (answer, events.len()), (Gate::Stop, 0));
+    is_on(&rt, &battle, Conditions::CHARGING, false);
+    bars(&rt, &battle, Some(DisabledSlot { slot: 2, turns: 2 }));
+    gates(&rt, &mut battle, STRENGTH, &mut random, Gate::Go, &[]);
+    bars(&rt, &battle, Some(DisabledSlot { slot: 2, turns: 1 }));
+    let ends = [Event::End(battle.who(USER), Volatile::Disable)];
+    gates(&rt, &mut battle, second, &mut random, Gate::Go, &ends);
+    bars(&rt, &battle, None);
+    gates(&rt, &mut battle, Pick::Idle, &mut random, Gate::Stop, &[]);
     Ok(())
+}
+
+fn is_confused(rt: &impl Abort, battle: &Packed, turns: Option<u8>) {
+    assert_eq!(rt; battle.confused(USER), turns);
 }
 
 // 42 * 40 * 74 / 72 / 50 + 2: a Tauros takes 36 from itself (docs/MECHANICS.md, "Hit on itself", "Gate").
@@ -215,25 +249,31 @@ fn confused(rt: HostRuntime) -> Result<(), Fail> {
     let mut random = LinkRandom::new([127, 128, 0, 0, 0, 0, 0, 0, 0, 0]);
     battle.put_confused(USER, Some(3));
     battle.put_flag(USER, Conditions::INVULNERABLE, true);
-    let (answer, events) = gated(&mut battle, STRENGTH, &mut random);
-    assert_eq!(rt; answer, Gate::Go);
-    assert_eq!(rt; events.as_slice(), [shows(&battle)].as_slice());
-    assert_eq!(rt; battle.confused(USER), Some(2));
-    let (answer, events) = gated(&mut battle, STRENGTH, &mut random);
-    assert_eq!(rt; answer, Gate::Stop);
+    let shows = shows(&battle);
+    gates(&rt, &mut battle, STRENGTH, &mut random, Gate::Go, &[shows]);
+    is_confused(&rt, &battle, Some(2));
     let health = Health::new(317, 353, None).ok_or("no such health")?;
     let damage = Event::Damage(battle.who(USER), health, DamageSource::Confusion);
-    assert_eq!(rt; events.as_slice(), [shows(&battle), damage].as_slice());
+    gates(
+        &rt,
+        &mut battle,
+        STRENGTH,
+        &mut random,
+        Gate::Stop,
+        &[shows, damage],
+    );
     assert_eq!(rt; (battle.hp(USER), battle.last_damage()), (317, 36));
     assert_eq!(rt; battle.conditions(USER), Conditions::CONFUSED);
-    let (answer, events) = gated(&mut battle, STRENGTH, &mut random);
-    assert_eq!(rt; answer, Gate::Go);
-    assert_eq!(rt;
-        events.as_slice(),
-        [Event::End(battle.who(USER), Volatile::Confusion)].as_slice()
-    );
-    assert_eq!(rt; (battle.confused(USER), random.index()), (None, 2));
+    let ends = [Event::End(battle.who(USER), Volatile::Confusion)];
+    gates(&rt, &mut battle, STRENGTH, &mut random, Gate::Go, &ends);
+    is_confused(&rt, &battle, None);
+    assert_eq!(rt; random.index(), 2);
     Ok(())
+}
+
+// The foe's substitute.
+fn has_substitute(rt: &impl Abort, battle: &Packed, hp: Option<u8>) {
+    assert_eq!(rt; battle.substitute(FOE), hp);
 }
 
 // Own and foe's substitute (docs/MECHANICS.md, "Hit on itself").
@@ -243,23 +283,38 @@ fn confused_behind_a_substitute(rt: HostRuntime) -> Result<(), Fail> {
     let mut random = Sweep::new(128);
     battle.put_confused(USER, Some(5));
     battle.put_substitute(USER, Some(1));
-    let (answer, events) = gated(&mut battle, STRENGTH, &mut random);
-    assert_eq!(rt; (answer, battle.last_damage()), (Gate::Stop, 36));
-    assert_eq!(rt; events.as_slice(), [shows(&battle)].as_slice());
-    battle.put_substitute(FOE, Some(36));
-    let (answer, events) = gated(&mut battle, STRENGTH, &mut random);
-    assert_eq!(rt; answer, Gate::Stop);
+    let shows = shows(&battle);
     let holds = Event::Activate(battle.who(FOE), Volatile::Substitute);
-    assert_eq!(rt; events.as_slice(), [shows(&battle), holds].as_slice());
-    assert_eq!(rt; battle.substitute(FOE), Some(0));
-    let (answer, events) = gated(&mut battle, STRENGTH, &mut random);
-    assert_eq!(rt; answer, Gate::Stop);
     let breaks = Event::End(battle.who(FOE), Volatile::Substitute);
-    assert_eq!(rt; events.as_slice(), [shows(&battle), breaks].as_slice());
-    assert_eq!(rt;
-        (battle.substitute(USER), battle.substitute(FOE)),
-        (Some(1), None)
+    gates(
+        &rt,
+        &mut battle,
+        STRENGTH,
+        &mut random,
+        Gate::Stop,
+        &[shows],
     );
+    assert_eq!(rt; battle.last_damage(), 36);
+    battle.put_substitute(FOE, Some(36));
+    gates(
+        &rt,
+        &mut battle,
+        STRENGTH,
+        &mut random,
+        Gate::Stop,
+        &[shows, holds],
+    );
+    has_substitute(&rt, &battle, Some(0));
+    gates(
+        &rt,
+        &mut battle,
+        STRENGTH,
+        &mut random,
+        Gate::Stop,
+        &[shows, breaks],
+    );
+    has_substitute(&rt, &battle, None);
+    assert_eq!(rt; battle.substitute(USER), Some(1));
     assert_eq!(rt; (battle.hp(USER), battle.hp(FOE)), (353, 353));
     Ok(())
 }
@@ -273,12 +328,19 @@ fn a_divisor_of_0(rt: HostRuntime) -> Result<(), Fail> {
     battle.put_defense(USER, 6, 512);
     battle.put_flag(FOE, Conditions::REFLECT, true);
     battle.put_last_damage(7);
-    let (answer, events) = gated(&mut battle, STRENGTH, &mut random);
-    assert_eq!(rt; answer, Gate::Fault);
+    let shows = shows(&battle);
+    gates(
+        &rt,
+        &mut battle,
+        STRENGTH,
+        &mut random,
+        Gate::Fault,
+        &[shows],
+    );
     assert_eq!(rt;
         (battle.outcome(), battle.last_damage()),
         (Outcome::Fault(1), 7)
     );
-    assert_eq!(rt; (battle.hp(USER), events.len()), (353, 1));
+    assert_eq!(rt; battle.hp(USER), 353);
     Ok(())
 }

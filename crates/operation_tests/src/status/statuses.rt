@@ -1,16 +1,29 @@
 //! Statuses, stages and what poison, a burn and Leech Seed take.
-use super::{FOE, USER, facing, team_of, two_tauros};
+use crate::battles::{FOE, USER, tells, two_electrode, two_magikarp, two_tauros};
 use gen1_layout::{Conditions, Packed};
-use gen1_machine::{DamageSource, Event, EventList, Health, Kind, StageCount};
+use gen1_machine::{DamageSource, Event, EventList, Health, Kind, Side, StageCount};
 use gen1_stats::Status;
 use gen1_status::{
     inflict, inflict_status, lower_stage, raise_stage, residual, shift_stage, take_penalty,
 };
 use gen1_tables::Stat;
+use std::process::Abort;
 use std::test::Fail;
 
 fn count(stages: u8) -> Result<StageCount, Fail> {
     Ok(StageCount::new(stages).ok_or("no such count")?)
+}
+
+fn has(rt: &impl Abort, battle: &Packed, side: Side, status: Status) {
+    assert_eq!(rt; battle.status(side), status);
+}
+
+fn has_stat(rt: &impl Abort, battle: &Packed, side: Side, stat: Stat, value: u16) {
+    assert_eq!(rt; battle.current_stat(side, stat), value);
+}
+
+fn has_stage(rt: &impl Abort, battle: &Packed, side: Side, stat: Stat, stage: u8) {
+    assert_eq!(rt; battle.stage(side, stat), stage);
 }
 
 // Speed and Attack (docs/MECHANICS.md, "Penalties").
@@ -19,21 +32,16 @@ fn penalties(rt: HostRuntime) -> Result<(), Fail> {
     let mut battle = two_tauros()?;
     let mut events = EventList::new();
     inflict(&mut battle, FOE, Kind::Paralysis, 0, &mut events);
-    assert_eq!(rt; battle.status(FOE), Status::Paralysed);
-    assert_eq!(rt; battle.current_stat(FOE, Stat::Speed), 79);
+    has(&rt, &battle, FOE, Status::Paralysed);
+    has_stat(&rt, &battle, FOE, Stat::Speed, 79);
     inflict(&mut battle, USER, Kind::Burn, 0, &mut events);
-    assert_eq!(rt; battle.status(USER), Status::Burned);
-    assert_eq!(rt; battle.current_stat(USER, Stat::Attack), 149);
-    assert_eq!(rt;
-        events.as_slice(),
-        [
-            Event::Status(battle.who(FOE), Kind::Paralysis),
-            Event::Status(battle.who(USER), Kind::Burn)
-        ]
-        .as_slice()
-    );
+    has(&rt, &battle, USER, Status::Burned);
+    has_stat(&rt, &battle, USER, Stat::Attack, 149);
+    let paralysed = Event::Status(battle.who(FOE), Kind::Paralysis);
+    let burned = Event::Status(battle.who(USER), Kind::Burn);
+    tells(&rt, &events, &[paralysed, burned]);
     take_penalty(&mut battle, FOE, Status::Paralysed);
-    assert_eq!(rt; battle.current_stat(FOE, Stat::Speed), 19);
+    has_stat(&rt, &battle, FOE, Stat::Speed, 19);
     Ok(())
 }
 
@@ -51,11 +59,28 @@ fn sleep(rt: HostRuntime) -> Result<(), Fail> {
         marked: true,
     };
     inflict(&mut battle, FOE, Kind::Sleep, 7, &mut events);
-    assert_eq!(rt; battle.status(FOE), unmarked);
+    has(&rt, &battle, FOE, unmarked);
     inflict_status(&mut battle, FOE, marked, Kind::Sleep, &mut events);
-    assert_eq!(rt; battle.status(FOE), marked);
-    assert_eq!(rt; battle.current_stat(FOE, Stat::Speed), 318);
+    has(&rt, &battle, FOE, marked);
+    has_stat(&rt, &battle, FOE, Stat::Speed, 318);
     Ok(())
+}
+
+// A shift by the user's move: whether it succeeds, and what the stage and the stat are then.
+fn shifts(
+    rt: &impl Abort,
+    battle: &mut Packed,
+    (target, stat, by): (Side, Stat, i8),
+    succeeds: bool,
+    (stage, value): (u8, u16),
+    events: &mut EventList,
+) {
+    assert_eq!(rt;
+        shift_stage(battle, USER, target, stat, by, events),
+        succeeds
+    );
+    has_stage(rt, battle, target, stat, stage);
+    has_stat(rt, battle, target, stat, value);
 }
 
 // The foe is burned, with Attack 298, now 149 (docs/MECHANICS.md, "Stage shift", "Penalties").
@@ -63,25 +88,17 @@ fn sleep(rt: HostRuntime) -> Result<(), Fail> {
 fn growl_and_swords_dance(rt: HostRuntime) -> Result<(), Fail> {
     let mut battle = two_tauros()?;
     let mut events = EventList::new();
+    let (user, foe) = (battle.who(USER), battle.who(FOE));
     inflict(&mut battle, FOE, Kind::Burn, 0, &mut events);
-    let growl = shift_stage(&mut battle, USER, FOE, Stat::Attack, -1, &mut events);
-    assert_eq!(rt; growl, true);
-    assert_eq!(rt; battle.stage(FOE, Stat::Attack), 5);
-    assert_eq!(rt; battle.current_stat(FOE, Stat::Attack), 98);
-    let dance = shift_stage(&mut battle, USER, USER, Stat::Attack, 2, &mut events);
-    assert_eq!(rt; dance, true);
-    assert_eq!(rt; battle.stage(USER, Stat::Attack), 8);
-    assert_eq!(rt; battle.current_stat(USER, Stat::Attack), 596);
-    assert_eq!(rt; battle.current_stat(FOE, Stat::Attack), 49);
-    assert_eq!(rt;
-        events.as_slice(),
-        [
-            Event::Status(battle.who(FOE), Kind::Burn),
-            Event::Unboost(battle.who(FOE), Stat::Attack, count(1)?),
-            Event::Boost(battle.who(USER), Stat::Attack, count(2)?)
-        ]
-        .as_slice()
-    );
+    let growl = (FOE, Stat::Attack, -1);
+    shifts(&rt, &mut battle, growl, true, (5, 98), &mut events);
+    let dance = (USER, Stat::Attack, 2);
+    shifts(&rt, &mut battle, dance, true, (8, 596), &mut events);
+    has_stat(&rt, &battle, FOE, Stat::Attack, 49);
+    let burned = Event::Status(foe, Kind::Burn);
+    let falls = Event::Unboost(foe, Stat::Attack, count(1)?);
+    let rises = Event::Boost(user, Stat::Attack, count(2)?);
+    tells(&rt, &events, &[burned, falls, rises]);
     Ok(())
 }
 
@@ -95,16 +112,14 @@ fn ends_of_the_stages(rt: HostRuntime) -> Result<(), Fail> {
     let double_team = raise_stage(&mut battle, USER, USER, Stat::Evasion, 1, &mut events);
     let sand = lower_stage(&mut battle, USER, FOE, Stat::Accuracy, 1, &mut events);
     assert_eq!(rt; (double_team, sand), (false, false));
-    assert_eq!(rt; events.len(), 0);
+    tells(&rt, &events, &[]);
     // From +5 by 2 to +6, by one stage.
     battle.put_evasion(USER, 11);
     let double_team = raise_stage(&mut battle, USER, USER, Stat::Evasion, 2, &mut events);
     assert_eq!(rt; double_team, true);
-    assert_eq!(rt; battle.stage(USER, Stat::Evasion), 12);
-    assert_eq!(rt;
-        events.as_slice(),
-        [Event::Boost(battle.who(USER), Stat::Evasion, count(1)?)].as_slice()
-    );
+    has_stage(&rt, &battle, USER, Stat::Evasion, 12);
+    let rises = Event::Boost(battle.who(USER), Stat::Evasion, count(1)?);
+    tells(&rt, &events, &[rises]);
     Ok(())
 }
 
@@ -112,49 +127,36 @@ fn ends_of_the_stages(rt: HostRuntime) -> Result<(), Fail> {
 // "Stages").
 #[test]
 fn a_stat_of_999(rt: HostRuntime) -> Result<(), Fail> {
-    let mut battle = facing(&team_of("Electrode", 100, 15, 65535)?, [198, 238, 378, 258]);
+    let mut battle = two_electrode()?;
     let mut events = EventList::new();
     raise_stage(&mut battle, USER, USER, Stat::Speed, 2, &mut events);
-    assert_eq!(rt; battle.current_stat(USER, Stat::Speed), 756);
+    has_stat(&rt, &battle, USER, Stat::Speed, 756);
     raise_stage(&mut battle, USER, USER, Stat::Speed, 2, &mut events);
-    assert_eq!(rt; battle.current_stat(USER, Stat::Speed), 999);
-    let by_two = shift_stage(&mut battle, USER, USER, Stat::Speed, 2, &mut events);
-    assert_eq!(rt; by_two, false);
-    assert_eq!(rt; battle.stage(USER, Stat::Speed), 11);
-    assert_eq!(rt; battle.current_stat(USER, Stat::Speed), 999);
-    let by_one = shift_stage(&mut battle, USER, USER, Stat::Speed, 1, &mut events);
-    assert_eq!(rt; by_one, false);
-    assert_eq!(rt; battle.stage(USER, Stat::Speed), 11);
-    let user = battle.who(USER);
-    assert_eq!(rt;
-        events.as_slice(),
-        [
-            Event::Boost(user, Stat::Speed, count(2)?),
-            Event::Boost(user, Stat::Speed, count(2)?),
-            Event::Boost(user, Stat::Speed, count(1)?)
-        ]
-        .as_slice()
-    );
+    has_stat(&rt, &battle, USER, Stat::Speed, 999);
+    let by_two = (USER, Stat::Speed, 2);
+    shifts(&rt, &mut battle, by_two, false, (11, 999), &mut events);
+    let by_one = (USER, Stat::Speed, 1);
+    shifts(&rt, &mut battle, by_one, false, (11, 999), &mut events);
+    let two = Event::Boost(battle.who(USER), Stat::Speed, count(2)?);
+    let one = Event::Boost(battle.who(USER), Stat::Speed, count(1)?);
+    tells(&rt, &events, &[two, two, one]);
     Ok(())
 }
 
 // A Magikarp's Attack at level 1 is 5: 2 at -2, and 1 at -4 (docs/MECHANICS.md, "Stage shift", "Stages").
 #[test]
 fn a_stat_of_1(rt: HostRuntime) -> Result<(), Fail> {
-    let mut battle = facing(&team_of("Magikarp", 1, 0, 0)?, [5, 6, 6, 5]);
+    let mut battle = two_magikarp()?;
     let mut events = EventList::new();
     lower_stage(&mut battle, USER, FOE, Stat::Attack, 2, &mut events);
-    assert_eq!(rt; battle.current_stat(FOE, Stat::Attack), 2);
+    has_stat(&rt, &battle, FOE, Stat::Attack, 2);
     lower_stage(&mut battle, USER, FOE, Stat::Attack, 2, &mut events);
-    assert_eq!(rt; battle.current_stat(FOE, Stat::Attack), 1);
-    let by_two = shift_stage(&mut battle, USER, FOE, Stat::Attack, -2, &mut events);
-    assert_eq!(rt; by_two, false);
-    assert_eq!(rt; battle.stage(FOE, Stat::Attack), 1);
-    assert_eq!(rt; battle.current_stat(FOE, Stat::Attack), 1);
-    assert_eq!(rt;
-        events.as_slice().last(),
-        Some(&Event::Unboost(battle.who(FOE), Stat::Attack, count(1)?))
-    );
+    has_stat(&rt, &battle, FOE, Stat::Attack, 1);
+    let by_two = (FOE, Stat::Attack, -2);
+    shifts(&rt, &mut battle, by_two, false, (1, 1), &mut events);
+    let two = Event::Unboost(battle.who(FOE), Stat::Attack, count(2)?);
+    let one = Event::Unboost(battle.who(FOE), Stat::Attack, count(1)?);
+    tells(&rt, &events, &[two, two, one]);
     Ok(())
 }
 
@@ -173,32 +175,28 @@ fn health(hp: u16, kind: Option<Kind>) -> Result<Health, Fail> {
     Ok(Health::new(hp, 353, kind).ok_or("no such health")?)
 }
 
+fn hp_are(rt: &impl Abort, battle: &Packed, user: u16, foe: u16) {
+    assert_eq!(rt; (battle.hp(USER), battle.hp(FOE)), (user, foe));
+}
+
 // 22 and 44 of 353 (docs/MECHANICS.md, "Residual").
 #[test]
 fn bad_poison_and_a_seed(rt: HostRuntime) -> Result<(), Fail> {
     let mut battle = badly_poisoned(353)?;
     let mut events = EventList::new();
+    let (user, foe) = (battle.who(USER), battle.who(FOE));
     residual(&mut battle, USER, &mut events);
-    assert_eq!(rt; (battle.hp(USER), battle.hp(FOE)), (287, 344));
+    hp_are(&rt, &battle, 287, 344);
     assert_eq!(rt; battle.bad_poison(USER), Some(2));
-    let poisoned = Some(Kind::Poison);
-    assert_eq!(rt;
-        events.as_slice(),
-        [
-            Event::Damage(
-                battle.who(USER),
-                health(331, poisoned)?,
-                DamageSource::Poison
-            ),
-            Event::Damage(
-                battle.who(USER),
-                health(287, poisoned)?,
-                DamageSource::LeechSeed
-            ),
-            Event::Heal(battle.who(FOE), health(344, None)?)
-        ]
-        .as_slice()
-    );
+    let after_poison = health(331, Some(Kind::Poison))?;
+    let after_seed = health(287, Some(Kind::Poison))?;
+    let healed = health(344, None)?;
+    let told = [
+        Event::Damage(user, after_poison, DamageSource::Poison),
+        Event::Damage(user, after_seed, DamageSource::LeechSeed),
+        Event::Heal(foe, healed),
+    ];
+    tells(&rt, &events, &told);
     Ok(())
 }
 
@@ -208,10 +206,10 @@ fn a_seed_on_the_fallen(rt: HostRuntime) -> Result<(), Fail> {
     let mut battle = badly_poisoned(20)?;
     let mut events = EventList::new();
     residual(&mut battle, USER, &mut events);
-    assert_eq!(rt; (battle.hp(USER), battle.hp(FOE)), (0, 344));
+    hp_are(&rt, &battle, 0, 344);
     assert_eq!(rt; events.len(), 2);
     residual(&mut battle, USER, &mut events);
-    assert_eq!(rt; (battle.hp(USER), battle.hp(FOE)), (0, 344));
+    hp_are(&rt, &battle, 0, 344);
     assert_eq!(rt; events.len(), 2);
     Ok(())
 }

@@ -1,5 +1,6 @@
 //! A recorded battle: Nidoqueen and Weezing against Lapras and Tentacruel and Weezing. Made by tools/recorded.py.
-use crate::recorded::{Update, member, played};
+use crate::recorded::{Update, played};
+use crate::setting::member_of;
 use gen1_machine::{Rules, TurnLimit};
 use gen1_stats::Team;
 use std::test::Fail;
@@ -7,11 +8,68 @@ use std::test::Fail;
 const SEED: [u8; 10] = [163, 60, 177, 206, 214, 164, 52, 236, 190, 152];
 
 fn one() -> Result<Team, Fail> {
-    Ok(Team::new(&[member("Nidoqueen", 21, [6, 9, 7, 3], [27134, 15497, 581, 53432, 15092], &[("Leech Seed", 0), ("Flamethrower", 1), ("Bubble", 2), ("Sharpen", 1)])?, member("Weezing", 63, [7, 8, 3, 13], [19046, 16568, 64767, 0, 43761], &[("Substitute", 0), ("Rage", 1), ("Toxic", 0), ("Leech Seed", 3)])?])?)
+    Ok(Team::new(&[
+        member_of(
+            "Nidoqueen",
+            21,
+            [6, 9, 7, 3],
+            [27134, 15497, 581, 53432, 15092],
+            &[
+                ("Leech Seed", 0),
+                ("Flamethrower", 1),
+                ("Bubble", 2),
+                ("Sharpen", 1),
+            ],
+        )?,
+        member_of(
+            "Weezing",
+            63,
+            [7, 8, 3, 13],
+            [19046, 16568, 64767, 0, 43761],
+            &[
+                ("Substitute", 0),
+                ("Rage", 1),
+                ("Toxic", 0),
+                ("Leech Seed", 3),
+            ],
+        )?,
+    ])?)
 }
 
 fn two() -> Result<Team, Fail> {
-    Ok(Team::new(&[member("Lapras", 100, [8, 13, 6, 2], [0, 0, 37088, 39810, 27896], &[("Dig", 0)])?, member("Tentacruel", 100, [9, 14, 10, 4], [28519, 0, 65041, 16221, 0], &[("Explosion", 1), ("Self-Destruct", 1), ("Double-Edge", 0), ("Jump Kick", 1)])?, member("Weezing", 100, [4, 0, 3, 9], [2796, 62110, 42440, 30920, 13279], &[("Submission", 0), ("Dig", 0), ("Leech Seed", 1), ("Substitute", 1)])?])?)
+    Ok(Team::new(&[
+        member_of(
+            "Lapras",
+            100,
+            [8, 13, 6, 2],
+            [0, 0, 37088, 39810, 27896],
+            &[("Dig", 0)],
+        )?,
+        member_of(
+            "Tentacruel",
+            100,
+            [9, 14, 10, 4],
+            [28519, 0, 65041, 16221, 0],
+            &[
+                ("Explosion", 1),
+                ("Self-Destruct", 1),
+                ("Double-Edge", 0),
+                ("Jump Kick", 1),
+            ],
+        )?,
+        member_of(
+            "Weezing",
+            100,
+            [4, 0, 3, 9],
+            [2796, 62110, 42440, 30920, 13279],
+            &[
+                ("Submission", 0),
+                ("Dig", 0),
+                ("Leech Seed", 1),
+                ("Substitute", 1),
+            ],
+        )?,
+    ])?)
 }
 
 #[test]

@@ -1,5 +1,6 @@
 //! A recorded battle: Weezing and Tauros and Moltres and Poliwrath and Drowzee against Charmander. Made by tools/recorded.py.
-use crate::recorded::{Update, member, played};
+use crate::recorded::{Update, played};
+use crate::setting::member_of;
 use gen1_machine::{Rules, TurnLimit};
 use gen1_stats::Team;
 use std::test::Fail;
@@ -7,11 +8,73 @@ use std::test::Fail;
 const SEED: [u8; 10] = [71, 145, 76, 253, 184, 20, 180, 241, 159, 182];
 
 fn one() -> Result<Team, Fail> {
-    Ok(Team::new(&[member("Weezing", 100, [5, 12, 6, 4], [13821, 22188, 61408, 18840, 0], &[("Minimize", 2), ("Ember", 2), ("Rage", 1), ("Clamp", 0)])?, member("Tauros", 100, [12, 0, 1, 13], [3949, 0, 23746, 0, 45831], &[("Body Slam", 1), ("Thunder Shock", 0), ("Rage", 2), ("Leer", 2)])?, member("Moltres", 100, [7, 6, 10, 4], [22195, 22856, 12168, 20044, 34293], &[("Fire Punch", 2), ("Fury Attack", 1), ("Comet Punch", 2), ("Rage", 0)])?, member("Poliwrath", 100, [1, 14, 5, 12], [47471, 44130, 0, 5733, 0], &[("Ember", 0), ("Wrap", 3), ("Clamp", 0), ("Slam", 3)])?, member("Drowzee", 100, [10, 14, 5, 13], [1247, 13811, 0, 47979, 27523], &[("Body Slam", 2), ("Pin Missile", 0), ("Flamethrower", 3), ("Absorb", 2)])?])?)
+    Ok(Team::new(&[
+        member_of(
+            "Weezing",
+            100,
+            [5, 12, 6, 4],
+            [13821, 22188, 61408, 18840, 0],
+            &[("Minimize", 2), ("Ember", 2), ("Rage", 1), ("Clamp", 0)],
+        )?,
+        member_of(
+            "Tauros",
+            100,
+            [12, 0, 1, 13],
+            [3949, 0, 23746, 0, 45831],
+            &[
+                ("Body Slam", 1),
+                ("Thunder Shock", 0),
+                ("Rage", 2),
+                ("Leer", 2),
+            ],
+        )?,
+        member_of(
+            "Moltres",
+            100,
+            [7, 6, 10, 4],
+            [22195, 22856, 12168, 20044, 34293],
+            &[
+                ("Fire Punch", 2),
+                ("Fury Attack", 1),
+                ("Comet Punch", 2),
+                ("Rage", 0),
+            ],
+        )?,
+        member_of(
+            "Poliwrath",
+            100,
+            [1, 14, 5, 12],
+            [47471, 44130, 0, 5733, 0],
+            &[("Ember", 0), ("Wrap", 3), ("Clamp", 0), ("Slam", 3)],
+        )?,
+        member_of(
+            "Drowzee",
+            100,
+            [10, 14, 5, 13],
+            [1247, 13811, 0, 47979, 27523],
+            &[
+                ("Body Slam", 2),
+                ("Pin Missile", 0),
+                ("Flamethrower", 3),
+                ("Absorb", 2),
+            ],
+        )?,
+    ])?)
 }
 
 fn two() -> Result<Team, Fail> {
-    Ok(Team::new(&[member("Charmander", 100, [14, 1, 9, 3], [9369, 51672, 34612, 63860, 0], &[("Rage", 1), ("Wrap", 3), ("Twineedle", 1), ("Fury Attack", 3)])?])?)
+    Ok(Team::new(&[member_of(
+        "Charmander",
+        100,
+        [14, 1, 9, 3],
+        [9369, 51672, 34612, 63860, 0],
+        &[
+            ("Rage", 1),
+            ("Wrap", 3),
+            ("Twineedle", 1),
+            ("Fury Attack", 3),
+        ],
+    )?])?)
 }
 
 #[test]

@@ -1,9 +1,10 @@
+use Rattle.std.proofs.Common.{refl}
 use Rattle.gen1_machine.specs.Step.{step}
 use Rattle.gen1_engine.proofs.Answering.{logs_events, logs_nothing}
 use Rattle.gen1_engine.proofs.updating.update.Goals as goal
 
 pub write_log-requires : goal.write_log-requires
-write_log-requires g c = record { room = c.in-Ok.ensures.short tt }
+write_log-requires g c = record { room = c.in-Ok.ensures.short refl }
 
 pub returns-in-Ok-clause-logs : goal.returns-in-Ok-clause-logs
 returns-in-Ok-clause-logs g c s h =

@@ -27,6 +27,6 @@ returns-in-Slot c = record {
       let is = sym (c.picked_move.ensures.stands g f h) ∙ c.in-Slot.is in
       let fits = subst (λ (u : UsedMove). IsUsedMove (length moves) u) is (active_ok s h).picked_move in
       let few = (member_ok s h).numbers.slots.1 in
-      let same : c.min.result ≡ c.in-Slot.slot = omega (arith, fits.0, fits.1, few, c.from.ensures, c.max.ensures, c.min.ensures) in
+      let same : c.min.result ≡ c.in-Slot.slot = omega (arith, fits.0, fits.1, few, c.max.ensures, c.min.ensures) in
       c.move_in.ensures.stands g f h ∙ ap (λ (k : ℕ). (known_in k moves).id) same ∙ sym (ap (λ (u : UsedMove). number_in u moves) is);
 }

@@ -19,7 +19,7 @@ pub returns-then-number : goal.returns-then-number
 returns-then-number t c = record {
   deals = λ origin g events p h.
       let level = c.level.ensures.stands _ _ h.shows.within in
-      let waved = c.psywave.ensures.deals origin g c.args.battle.now events p h in
+      let waved = c.psywave.ensures.deals c.args.battle.now origin g events p h in
       (waved.0, waved.1, waves c.args.side c.args.id p (sym c.number-number.ensures.value ∙ c.if-number.true) ∙ ap (λ (n : ℕ). psywave n p) (sym level) ∙ waved.2);
 }
 

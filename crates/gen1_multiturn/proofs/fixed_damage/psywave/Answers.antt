@@ -8,7 +8,7 @@ use Rattle.gen1_multiturn.proofs.fixed_damage.psywave.Goals as goal
 
 pub returns-then-level-le1 : goal.returns-then-level-le1
 returns-then-level-le1 t c = record {
-  deals = λ origin g parts events p h.
+  deals = λ parts origin g events p h.
       let small : nat_le c.args.level 1 ≡ true = grind (arith, nat_tests) in
       (p.drawn, h, at_level_one c.args.level p small);
 }
@@ -21,7 +21,7 @@ unreachable-requires t c =
 
 pub returns : goal.returns
 returns t c = record {
-  deals = λ origin g parts events p h.
+  deals = λ parts origin g events p h.
       let large : nat_le c.args.level 1 ≡ false = grind (arith, nat_tests) in
       let found = found_by_drawing (is_psywave c.args.level) set_last_damage h (c.in-Some.ensures.found (is_psywave c.args.level) (λ x answer lt post. search rules)) in
       rw c.from.ensures (found.0, found.1, above_level_one c.args.level p large ∙ found.2);

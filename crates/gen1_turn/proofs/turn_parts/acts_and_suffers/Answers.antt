@@ -1,4 +1,4 @@
-use Rattle.gen1_layout.proofs.Words.{drawn_settled, true, ◌∙◌}
+use Rattle.gen1_layout.proofs.Words.{drawn_settled, true}
 use Rattle.gen1_action.proofs.Knowledge.{over_stops}
 use Rattle.gen1_turn.proofs.Turns.{acted_left}
 use Rattle.gen1_turn.proofs.turn_parts.acts_and_suffers.Goals as goal

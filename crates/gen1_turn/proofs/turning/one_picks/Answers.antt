@@ -5,7 +5,7 @@ use Rattle.gen1_machine.specs.Sides.{other}
 use Rattle.gen1_machine.specs.Turn.{do_part, do_parts, end_turn, one_picks, set_picked, Acts, Suffers}
 use Rattle.gen1_machine.proofs.ValidTurns.{send_part, set_picked-keeps, suffers_part}
 use Rattle.gen1_action.specs.Knowing.{knowing, with_broke}
-use Rattle.gen1_turn.proofs.Turns.{ended, ends_as, over_still, picked-fits, picked-range}
+use Rattle.gen1_turn.proofs.Turns.{ended, ends_as, ends_still, over_still, picked-fits, picked-range}
 use Rattle.gen1_turn.proofs.turning.one_picks.Goals as goal
 
 pub returns-then-sends_and_suffers-clause-shown : goal.returns-then-sends_and_suffers-clause-shown
@@ -18,8 +18,7 @@ returns-then-sends_and_suffers-clause-shown t c origin g p plan (fits, any, ther
     let a = still {g' = knowing (with_broke h.0 c.args.known.now) g} h.1 (c.set_picked.ensures.shown _ _ _ (picked-fits terms plan s c.args.pick p fits v) h.1.shows) refl in
     let first = rw c.other.ensures at c.sends_and_suffers.ensures.shown in
     let x = rw c.if-sends_and_suffers.true at (first (record g { drawn = (set_picked s c.args.pick p).drawn }) _ h.0 (ruling_of terms) (picked-range s (other s) c.args.pick c.args.place p there) a.shows) in
-    let y = x rest in
-    ends_as k g _ _ (then-goes (set_picked s c.args.pick) _ p a.shows.ends) (y.0, over_still c.args.known.now k g a y.1)
+    ends_as k g _ _ (then-goes (set_picked s c.args.pick) _ p a.shows.ends) (ends_still c.args.known.now k g a (x rest))
 
 pub returns-then-acts_and_suffers-clause-shown : goal.returns-then-acts_and_suffers-clause-shown
 unfolding one_picks do_parts do_part
