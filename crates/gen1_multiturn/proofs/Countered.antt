@@ -1,6 +1,6 @@
 -- A value that is there where a test holds, and the number of a move that was picked.
-use Rattle.gen1_layout.proofs.Words.{Bool, List, None, Option, Some, arith, false, length, lit≤, refl, true, ℕ}
-use Rattle.std.proofs.Common.{All, if◌then◌else◌, ◌-◌, ◌≡◌, ◌≤◌}
+use Rattle.gen1_layout.proofs.Words.{Bool, List, None, Some, false, length, lit≤, refl, true, ℕ}
+use Rattle.std.proofs.Common.{All, if◌then◌else◌, ◌≡◌, ◌≤◌}
 use Rattle.gen1_stats.specs.declared.known_move.KnownMove.{KnownMove}
 use Rattle.gen1_stats.specs.Members.{IsBetween}
 use Rattle.gen1_machine.specs.declared.picks.UsedMove.{UsedMove}

@@ -1,5 +1,5 @@
 -- What a move of fixed damage deals, by its number.
-use Rattle.gen1_layout.proofs.Words.{Phase, Progress, Side, ap, arith, choose, choose-false, choose-true, false, given, nat_le, nat_tests, refl, true, ℕ, ◌∙◌}
+use Rattle.gen1_layout.proofs.Words.{Progress, Side, arith, choose, choose-false, choose-true, false, given, nat_le, nat_tests, refl, true, ℕ, ◌∙◌}
 use Rattle.std.proofs.Common.{◌==◌, ◌≡◌, ◌≢◌}
 use Rattle.gen1_machine.specs.FixedDamage.{deal_fixed, half_hp, is_psywave, psywave}
 use Rattle.gen1_machine.specs.Moves.{dragon_rage, psywave_move, sonic_boom, super_fang}

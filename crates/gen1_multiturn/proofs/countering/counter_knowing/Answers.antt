@@ -1,10 +1,8 @@
-use Rattle.std.proofs.Common.{min, ◌*◌}
 use Rattle.gen1_layout.proofs.Words.{Action, drawn_acted, drawn_goes, drawn_if_not, drawn_if_so, drawn_seeing, put_damage, refl, still, sym, true, ◌∙◌}
 use Rattle.gen1_machine.specs.Counter.{counter, counter_by}
 use Rattle.gen1_machine.specs.Moves.{move_at}
 use Rattle.gen1_machine.specs.Progress.{last_damage, set_missed}
 use Rattle.gen1_action.specs.Knowing.{knowing}
-use Rattle.gen1_multiturn.specs.Countered.{can_counter_in}
 use Rattle.gen1_multiturn.proofs.Countered.{dealt-if, missed-if}
 use Rattle.gen1_multiturn.proofs.countering.counter_knowing.Goals as goal
 

@@ -1,4 +1,4 @@
-use Rattle.gen1_layout.proofs.Words.{active_in, active_ok, ap, arith, known_in, length, member_in, member_ok, subst, sym, ℕ, ◌∙◌}
+use Rattle.gen1_layout.proofs.Words.{active_ok, ap, arith, known_in, length, member_in, member_ok, subst, sym, ℕ, ◌∙◌}
 use Rattle.std.proofs.Common.{◌≡◌}
 use Rattle.gen1_machine.specs.declared.picks.UsedMove.{UsedMove}
 use Rattle.gen1_machine.specs.Picks.{number_in}
