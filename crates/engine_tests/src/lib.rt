@@ -8,3 +8,5 @@ mod beginning;
 mod loading;
 #[cfg(test)]
 mod setting;
+#[cfg(test)]
+mod stored;

@@ -12,7 +12,6 @@ ghost use Rattle.gen1_engine.specs.Updating.{Answers, IsBounded, Logs, Tells, re
 
 use crate::replaying::{ReplayFault, replay, update_by_bytes};
 use crate::result::{BattleResult, Refusal};
-use crate::rounds::Rounds;
 use crate::updating::{result, update, update_events};
 use gen1_events::LogBuf;
 use gen1_layout::{Packed, ReadFault};
@@ -153,7 +152,7 @@ impl Battle {
     ///
     /// The first that applies: the battle is over, or side 1's choice was not offered, or side 2's. Battle and buffer stay as
     /// they are.
-    pub fn update<T: Rounds>(
+    pub fn update(
         &mut self,
         one: Choice,
         two: Choice,
@@ -164,7 +163,7 @@ impl Battle {
         ensures bounded { (s : State) → Stands self.old s → IsBounded s one two }
     {
         let mut events = EventList::new();
-        update::<T>(&mut self.packed, one, two, &mut events, log)
+        update(&mut self.packed, one, two, &mut events, log)
     }
 
     /// The same by two bytes (docs/MECHANICS.md, "Offered choices"), of which one that stands for no choice is not offered.
@@ -172,7 +171,7 @@ impl Battle {
     /// # Errors
     ///
     /// As `update` has them.
-    pub fn update_by_bytes<T: Rounds>(
+    pub fn update_by_bytes(
         &mut self,
         one: u8,
         two: u8,
@@ -182,7 +181,7 @@ impl Battle {
         ensures logs { (s : State) → Stands self.old s → LogsBytes s (one, two) log.old log.new }
     {
         let mut events = EventList::new();
-        update_by_bytes::<T>(&mut self.packed, one, two, &mut events, log)
+        update_by_bytes(&mut self.packed, one, two, &mut events, log)
     }
 
     /// An update whose events themselves are left in the list, and nothing else, in place of log bytes (`write_log` makes those
@@ -191,7 +190,7 @@ impl Battle {
     /// # Errors
     ///
     /// As `update` has them; battle and list stay as they are.
-    pub fn update_events<T: Rounds>(
+    pub fn update_events(
         &mut self,
         one: Choice,
         two: Choice,
@@ -203,7 +202,7 @@ impl Battle {
         // There is room for their bytes in a buffer.
         ensures short { IsOk result → length (codes_of events.new.items) ≤ 512 }
     {
-        update_events::<T>(&mut self.packed, one, two, events)
+        update_events(&mut self.packed, one, two, events)
     }
 
     /// Updates by pairs of bytes of choices, one after the other, and writes the log bytes of each.
@@ -212,7 +211,7 @@ impl Battle {
     ///
     /// The first pair that is refused, or whose bytes cannot all be written. The battle then stands after the pairs before it,
     /// or after it.
-    pub fn replay<T: Rounds, W: Sink>(
+    pub fn replay<W: Sink>(
         &mut self,
         pairs: &[(u8, u8)],
         sink: &mut W,
@@ -220,6 +219,6 @@ impl Battle {
         ensures replays { (s : State) → Stands self.old s → Replays s pairs.now self.new (W.contents sink.old) (W.contents sink.new) result }
         ensures fault { W.has_failed sink.new ≡ (W.has_failed sink.old || is_write_fault result) }
     {
-        replay::<T, W>(&mut self.packed, pairs, sink)
+        replay(&mut self.packed, pairs, sink)
     }
 }

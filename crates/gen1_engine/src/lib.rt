@@ -7,7 +7,6 @@ pub mod laws;
 mod logging;
 mod replaying;
 mod result;
-mod rounds;
 mod updating;
 
 pub use battle::{Battle, LoadFault};
@@ -15,4 +14,3 @@ pub use gen1_requests::Choices;
 pub use logging::write_log;
 pub use replaying::ReplayFault;
 pub use result::{BattleResult, Refusal};
-pub use rounds::Rounds;

@@ -11,14 +11,14 @@ ghost use Rattle.gen1_engine.specs.Updating.{Answers, AreOffered, Logs, Tells, r
 
 use crate::logging::write_log;
 use crate::result::{BattleResult, Refusal};
-use crate::rounds::Rounds;
 use gen1_events::LogBuf;
 use gen1_layout::Packed;
 use gen1_machine::{Choice, EventList, Outcome, Request, Side};
 use gen1_requests::{offered, replace, start};
+use gen1_turn::turn;
 
 // An update, of which the events and the log are both left, in lists that are lent.
-pub(crate) fn update<T: Rounds>(
+pub(crate) fn update(
     battle: &mut Packed,
     one: Choice,
     two: Choice,
@@ -30,7 +30,7 @@ pub(crate) fn update<T: Rounds>(
     ensures logs { (s : State) → Stands battle.old s → Logs s one two log.old log.new }
     ensures valid { StandsForSome battle.new }
 {
-    match update_events::<T>(battle, one, two, events) {
+    match update_events(battle, one, two, events) {
         Ok(result) => {
             write_log(events, log);
             Ok(result)
@@ -40,7 +40,7 @@ pub(crate) fn update<T: Rounds>(
 }
 
 // An update, of which the events are left.
-pub(crate) fn update_events<T: Rounds>(
+pub(crate) fn update_events(
     battle: &mut Packed,
     one: Choice,
     two: Choice,
@@ -62,7 +62,7 @@ pub(crate) fn update_events<T: Rounds>(
         return Err(Refusal::NotOffered(Side::Two));
     }
     events.clear();
-    play::<T>(battle, one, two, events);
+    play(battle, one, two, events);
     Ok(result(battle))
 }
 
@@ -119,12 +119,12 @@ fn is_same(one: &Choice, two: &Choice) -> bool
 }
 
 // An update whose choices are offered.
-fn play<T: Rounds>(battle: &mut Packed, one: Choice, two: Choice, events: &mut EventList)
+fn play(battle: &mut Packed, one: Choice, two: Choice, events: &mut EventList)
     requires empty { events.old.items ≡ [] }
     ensures { (s : State) → Stands battle.old s → AreOffered s one two → Steps s one two battle.new events.new.items }
 {
     match battle.request(Side::One) {
-        Request::Move => play_turn::<T>(battle, one, two, events),
+        Request::Move => play_turn(battle, one, two, events),
         _ => {
             if battle.turn() == 0 {
                 start(battle, events);
@@ -136,14 +136,14 @@ fn play<T: Rounds>(battle: &mut Packed, one: Choice, two: Choice, events: &mut E
 }
 
 // A turn draws from the numbers of the header, and leaves them there as they then stand.
-fn play_turn<T: Rounds>(battle: &mut Packed, one: Choice, two: Choice, events: &mut EventList)
+fn play_turn(battle: &mut Packed, one: Choice, two: Choice, events: &mut EventList)
     requires empty { events.old.items ≡ [] }
     ensures { (s : State) → Stands battle.old s → Plays s Move one two → Steps s one two battle.new events.new.items }
 {
     match battle.generator() {
         Some(generator) => {
             let mut random = generator;
-            T::turn(battle, one, two, &mut random, events);
+            turn(battle, one, two, &mut random, events);
             battle.put_generator(&random);
         }
         None => {}

@@ -14,7 +14,7 @@ use Rattle.gen1_engine.proofs.Making.{both_move, turn_made, turned_so}
 use Rattle.gen1_engine.proofs.updating.play_turn.Goals as goal
 
 pub returns-in-Some : goal.returns-in-Some
-returns-in-Some g c s h plays =
+returns-in-Some c s h plays =
     let both = both_move s h.valid plays.goes_on plays.asked_for in
     let apart : (requests.Pass ≡ requests.Move → ⊥) = λ e. cc in
     let w = within_asked One h both.0 apart in
@@ -27,7 +27,7 @@ returns-in-Some g c s h plays =
     (c.put_generator.ensures.stands (setting_of s) q.field q.drawn left.within (ring-stands left.stands long)) left.written
 
 pub returns-in-None : goal.returns-in-None
-returns-in-None g c s h plays =
+returns-in-None c s h plays =
     let both = both_move s h.valid plays.goes_on plays.asked_for in
     let apart : (requests.Pass ≡ requests.Move → ⊥) = λ e. cc in
     let w = within_asked One h both.0 apart in

@@ -9,37 +9,37 @@ use Rattle.gen1_engine.proofs.Making.{short, step_first, step_over, step_second}
 use Rattle.gen1_engine.proofs.updating.update_events.Goals as goal
 
 pub returns-then-is_over-clause-answers : goal.returns-then-is_over-clause-answers
-returns-then-is_over-clause-answers g c s h =
+returns-then-is_over-clause-answers c s h =
     answers_refused s c.args.one c.args.two c.args.battle.now Over (step_over s c.args.one c.args.two (sym (c.is_over.ensures s h) ∙ c.if-is_over.true))
 
 pub returns-then-is_over-clause-tells : goal.returns-then-is_over-clause-tells
-returns-then-is_over-clause-tells g c s h =
+returns-then-is_over-clause-tells c s h =
     tells_refused s c.args.one c.args.two c.args.events.now Over (step_over s c.args.one c.args.two (sym (c.is_over.ensures s h) ∙ c.if-is_over.true))
 
 pub returns-then-not-offers-clause-answers : goal.returns-then-not-offers-clause-answers
-returns-then-not-offers-clause-answers g c s h =
+returns-then-not-offers-clause-answers c s h =
     answers_refused s c.args.one c.args.two c.args.battle.now (NotOffered One)
     (step_first s c.args.one c.args.two (sym (c.is_over.ensures s h) ∙ c.if-is_over.false) (sym (c.offers.ensures s h) ∙ c.if-not-offers.true))
 
 pub returns-then-not-offers-clause-tells : goal.returns-then-not-offers-clause-tells
-returns-then-not-offers-clause-tells g c s h =
+returns-then-not-offers-clause-tells c s h =
     tells_refused s c.args.one c.args.two c.args.events.now (NotOffered One)
     (step_first s c.args.one c.args.two (sym (c.is_over.ensures s h) ∙ c.if-is_over.false) (sym (c.offers.ensures s h) ∙ c.if-not-offers.true))
 
 pub returns-then-not-offers-2-clause-answers : goal.returns-then-not-offers-2-clause-answers
-returns-then-not-offers-2-clause-answers g c s h =
+returns-then-not-offers-2-clause-answers c s h =
     answers_refused s c.args.one c.args.two c.args.battle.now (NotOffered Two)
     (step_second s c.args.one c.args.two (sym (c.is_over.ensures s h) ∙ c.if-is_over.false) (sym (c.offers.ensures s h) ∙ c.if-not-offers.false)
     (sym (c.offers-2.ensures s h) ∙ c.if-not-offers-2.true))
 
 pub returns-then-not-offers-2-clause-tells : goal.returns-then-not-offers-2-clause-tells
-returns-then-not-offers-2-clause-tells g c s h =
+returns-then-not-offers-2-clause-tells c s h =
     tells_refused s c.args.one c.args.two c.args.events.now (NotOffered Two)
     (step_second s c.args.one c.args.two (sym (c.is_over.ensures s h) ∙ c.if-is_over.false) (sym (c.offers.ensures s h) ∙ c.if-not-offers.false)
     (sym (c.offers-2.ensures s h) ∙ c.if-not-offers-2.true))
 
 pub returns : goal.returns
-returns g c =
+returns c =
     let o : (s : State) → Stands c.args.battle.now s → AreOffered s c.args.one c.args.two =
     λ s h. record { first = sym (c.offers.ensures s h) ∙ c.if-not-offers.false; second = sym (c.offers-2.ensures s h) ∙ c.if-not-offers-2.false } in
     let m = c.requires.valid in
