@@ -3,7 +3,11 @@
 #![tactic(auto)]
 
 #[cfg(test)]
+mod battles;
+#[cfg(test)]
 mod following;
+#[cfg(test)]
+mod rooms;
 #[cfg(test)]
 mod teams;
 #[cfg(test)]

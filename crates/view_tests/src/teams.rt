@@ -4,7 +4,10 @@ use gen1_stats::{MemberSpec, Team};
 use gen1_tables::{MoveId, Species};
 use std::test::Fail;
 
-pub(crate) fn member(species: &str, moves: &[&str]) -> Result<MemberSpec, Fail> {
+// That of the battle that is stored in crates/battle_tool.
+pub(crate) const SEED: [u8; 10] = [1, 36, 255, 7, 31, 100, 179, 254, 127, 10];
+
+fn member(species: &str, moves: &[&str]) -> Result<MemberSpec, Fail> {
     let mut known = ArrayVec::new();
     for name in moves {
         let _ = known.try_push((MoveId::from_name(name).ok_or("no such move")?, 3));
@@ -22,8 +25,17 @@ pub(crate) fn tauros() -> Result<Team, Fail> {
     Ok(Team::new(&[member("Tauros", &["Strength"])?])?)
 }
 
-pub(crate) fn tauros_and_chansey() -> Result<Team, Fail> {
-    let lead = member("Tauros", &["Strength"])?;
+pub(crate) fn chansey() -> Result<Team, Fail> {
+    Ok(Team::new(&[member("Chansey", &["Strength"])?])?)
+}
+
+pub(crate) fn gengar() -> Result<Team, Fail> {
+    Ok(Team::new(&[member("Gengar", &["Splash"])?])?)
+}
+
+/// A Tauros that knows these moves, and a Chansey.
+pub(crate) fn lead_and_chansey(moves: &[&str]) -> Result<Team, Fail> {
+    let lead = member("Tauros", moves)?;
     let other = member("Chansey", &["Strength"])?;
     Ok(Team::new(&[lead, other])?)
 }

@@ -1,6 +1,6 @@
 //! What each event changes, by the table of docs/MECHANICS.md, "Spectator's view". Each side has a Tauros of 353 HP at place 1
 //! and a Chansey of 703 at place 2.
-use crate::teams::tauros_and_chansey;
+use crate::teams::lead_and_chansey;
 use gen1_machine::{
     DamageSource, Event, FaultCode, Health, Kind, Level, Outcome, Place, Side, StageCount,
     TurnNumber, Volatile, Who,
@@ -50,7 +50,7 @@ fn unboost(side: Side, stat: Stat, count: u8) -> Result<Event, Fail> {
 }
 
 fn new_view() -> Result<View, Fail> {
-    let team = tauros_and_chansey()?;
+    let team = lead_and_chansey(&["Strength"])?;
     Ok(View::new(&team, &team))
 }
 

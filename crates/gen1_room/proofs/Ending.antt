@@ -1,0 +1,228 @@
+-- A pair that ends: what it leaves, and that its number fits.
+use Rattle.arrayvec.specs.ArrayVec.{ArrayVec}
+use Rattle.std.proofs.Common.{Bool, Err, List, None, Ok, Option, Result, Some, [], ap, arith, false, inl, inr, refl, subst, sym, true, ℕ, ◌&&◌, ◌++◌, ◌+◌, ◌==◌, ◌≡◌, ◌≤◌, ◌∙◌, ◌∷◌, ◌⊎◌}
+use Rattle.std.specs.Prelude.{if◌then◌else◌}
+use Rattle.std.proofs.lemmas.Bool.Decides.{nat_tests}
+use Rattle.gen1_machine.specs.declared.side.Side.{Side}
+use Rattle.gen1_machine.specs.declared.side.Side.TheVariants.{One, Two}
+use Rattle.gen1_machine.specs.declared.terms.Request.TheVariants as requests
+use Rattle.gen1_machine.specs.declared.choice.Choice.{Choice}
+use Rattle.gen1_machine.specs.declared.choice.Choice.TheVariants as choices
+use Rattle.gen1_machine.specs.declared.event.Event.{Event}
+use Rattle.gen1_machine.specs.declared.terms.Outcome.{Outcome}
+use Rattle.gen1_machine.specs.declared.terms.Outcome.TheVariants as outcomes
+use Rattle.gen1_machine.specs.declared.terms.Request.{Request}
+use Rattle.gen1_machine.specs.Room.{begun, Course, room_of}
+use Rattle.gen1_machine.specs.State.{Field, has_fallen_in, is_over, is_pass, request_of, State, Terms}
+use Rattle.gen1_machine.specs.Step.{events_of, is_among, Ran, run, run_by, step, Stepped}
+use Rattle.gen1_machine.specs.OfferedChoices.{offered_for}
+use Rattle.gen1_machine.specs.Valid.{IsAsked, IsField, IsStarted, IsState, IsUnstarted, StandsAs}
+use Rattle.gen1_machine.proofs.FallenFaint.{Standing, update-standing}
+use Rattle.gen1_machine.proofs.Runs.{runs_append}
+use Rattle.gen1_machine.proofs.RunsEnd.{offered-is, state-ready}
+use Rattle.gen1_events.specs.Splits.{IsReading}
+use Rattle.gen1_layout.specs.Parts.{Parts}
+use Rattle.gen1_layout.specs.Within.{Stands}
+use Rattle.gen1_engine.specs.declared.result.BattleResult.{BattleResult}
+use Rattle.gen1_engine.specs.declared.result.Refusal.{Refusal}
+use Rattle.gen1_engine.specs.Updating.{Answers, AnswersAs, AreOffered, result_of, Tells, TellsAs}
+use Rattle.gen1_room.specs.declared.held.Held.{Held}
+use Rattle.gen1_room.specs.Rooms.{Counts, ended, Holds, IsRoom, Opens}
+use Rattle.gen1_room.proofs.Rooms.{one_pair_more}
+use Rattle.gen1_room.proofs.Steps.{answers_ok, goes_on, made, step_accepts, unstarted_at}
+
+abbrev pub pass_for : Request → Option Choice
+pass_for r = if is_pass r then Some choices.Pass else None
+
+later : (n : ℕ) → 1 ≤ n → (n == 0) ≡ false
+later n h = grind (arith, nat_tests)
+
+eqb_zero : (n : ℕ) → (n == 0) ≡ true → n ≡ 0
+eqb_zero n h = grind (arith, nat_tests)
+
+and_false : (b : Bool) → (b && false) ≡ false
+and_false true = refl
+and_false false = refl
+
+-- after an update the battle has begun
+
+begun_or : (s : State) → IsUnstarted s.terms s.field ⊎ IsStarted s.terms s.field → IsUnstarted s.terms s.field ⊎ (IsField s.terms s.field × Standing s.terms s.field)
+begun_or s (inl h) = inl h
+begun_or s (inr h) = inr (h.field, record { turn = h.turn; fallen_one = h.fallen_one; fallen_two = h.fallen_two; requests = h.requests })
+
+pub next_standing : (s : State) (one two : Choice) → IsState s → AreOffered s one two → Standing s.terms (made s one two).field
+next_standing s one two valid h =
+    let going : is_over s.field.outcome ≡ false = ap is_over (goes_on s One one h.first) in
+    update-standing s one two valid.terms valid.seed (begun_or s valid.field) (state-ready s valid) going
+    (subst (λ (l : List Choice). is_among one l ≡ true) (offered-is One s.field going) h.first)
+    (subst (λ (l : List Choice). is_among two l ≡ true) (offered-is Two s.field going) h.second)
+
+-- while it goes on, something else than passing is asked of a side
+
+asks_by : (one two : Bool) (terms : Terms) (f : Field) → IsAsked one two terms f → (is_pass f.request_one ≡ false) ⊎ (is_pass f.request_two ≡ false)
+asks_by false false terms f h = inl (ap is_pass h.0)
+asks_by true false terms f h = inl (ap is_pass h.0)
+asks_by false true terms f h = inr (ap is_pass h.1)
+asks_by true true terms f h = inl (ap is_pass h.0)
+
+ongoing : (o : Outcome) → is_over o ≡ false → o ≡ outcomes.Ongoing
+ongoing outcomes.Ongoing h = refl
+ongoing outcomes.WinOne h = absurd (let e : true ≡ false = h in cc)
+ongoing outcomes.WinTwo h = absurd (let e : true ≡ false = h in cc)
+ongoing outcomes.Tie h = absurd (let e : true ≡ false = h in cc)
+ongoing (outcomes.Fault n) h = absurd (let e : true ≡ false = h in cc)
+
+asks_going : (terms : Terms) (f : Field) → StandsAs f.outcome terms f → is_over f.outcome ≡ false → (is_pass f.request_one ≡ false) ⊎ (is_pass f.request_two ≡ false)
+asks_going terms f h going =
+    let all = subst (λ (o : Outcome). StandsAs o terms f) (ongoing f.outcome going) h in asks_by (has_fallen_in One f) (has_fallen_in Two f) terms f all.2
+
+pub waits_new : (terms : Terms) (f : Field) → StandsAs f.outcome terms f → is_over f.outcome ≡ false → (pass_for f.request_one ≡ None) ⊎ (pass_for f.request_two ≡ None)
+waits_new terms f h going = by (asks_going terms f h going)
+  where
+    by : (is_pass f.request_one ≡ false) ⊎ (is_pass f.request_two ≡ false) → (pass_for f.request_one ≡ None) ⊎ (pass_for f.request_two ≡ None)
+    by (inl e) = inl (rw e refl)
+    by (inr e) = inr (rw e refl)
+
+-- a course with no submission yet
+
+pub holds_fresh : (t : State) (number : ℕ) (events : List Event) (r : Held) → Stands r.battle t → r.number ≡ number → IsReading r.log.items events
+    → r.one ≡ pass_for t.field.request_one → r.two ≡ pass_for t.field.request_two
+    → (is_over t.field.outcome ≡ false → (pass_for t.field.request_one ≡ None) ⊎ (pass_for t.field.request_two ≡ None))
+    → Holds r (record { state = t; number = number; events = events; since = [] })
+holds_fresh t number events r stands counted logged one two waits = record {
+  stands = stands;
+  counted = counted;
+  logged = logged;
+  one = one;
+  two = two;
+  waits = λ going. by (waits going);
+}
+  where
+    by : (pass_for t.field.request_one ≡ None) ⊎ (pass_for t.field.request_two ≡ None) → (r.one ≡ None) ⊎ (r.two ≡ None)
+    by (inl e) = inl (one ∙ e)
+    by (inr e) = inr (two ∙ e)
+
+-- what an accepted update leaves
+abbrev Left : Parts → ArrayVec ℕ → Result BattleResult Refusal → Stepped → Type 0
+Left new new_log result t = (result ≡ Ok (result_of t.state)) × Stands new t.state × IsReading new_log.items (events_of t.answer)
+
+left_of : (s : State) (one two : Choice) (old new : Parts) (old_list list : ArrayVec Event) (log : ArrayVec ℕ) (res : BattleResult) → AreOffered s one two
+    → Answers s one two old new (Ok res) → Tells s one two old_list list → IsReading log.items list.items → Left new log (Ok res) (step s one two)
+left_of s one two old new old_list list log res h answers tells reads =
+    let is = step_accepts s one two h in
+    let a = subst (λ (t : Stepped). AnswersAs t.answer t.state old new (Ok res)) is answers in
+    let t = subst (λ (t : Stepped). TellsAs t.answer old_list list) is tells in
+    subst (Left new log (Ok res)) (sym is) (a.0, a.1, subst (λ (l : List Event). IsReading log.items l) t reads)
+
+pub not_refused : (s : State) (one two : Choice) (old new : Parts) (why : Refusal) → AreOffered s one two → Answers s one two old new (Err why) → ⊥
+not_refused s one two old new why h answers =
+    let a = subst (λ (t : Stepped). AnswersAs t.answer t.state old new (Err why)) (step_accepts s one two h) answers in
+    let e = a.0 in cc
+
+pub end_holds : (c : Course) (one two : Choice) (number : ℕ) (a b : Option Choice) (old new : Parts) (old_list list : ArrayVec Event) (log : ArrayVec ℕ) (res : BattleResult)
+    → Stands old c.state → number ≡ c.number → AreOffered c.state one two
+    → Answers c.state one two old new (Ok res) → Tells c.state one two old_list list → IsReading log.items list.items
+    → a ≡ pass_for res.request_one → b ≡ pass_for res.request_two
+    → Holds (record { battle = new; number = number + 1; events = list; log = log; one = a; two = b }) (ended c one two) × (res ≡ result_of (ended c one two).state)
+end_holds c one two number a b old new old_list list log res stands counted h answers tells reads e f =
+    let left = left_of c.state one two old new old_list list log res h answers tells reads in
+    let t = (step c.state one two).state in
+    let is : res ≡ result_of t = let o = left.0 in cc in
+    let standing : Standing c.state.terms t.field = subst (λ (x : Stepped). Standing c.state.terms x.state.field) (sym (step_accepts c.state one two h)) (next_standing c.state one two stands.valid h) in (
+      holds_fresh t (c.number + 1) (events_of (step c.state one two).answer) (record { battle = new; number = number + 1; events = list; log = log; one = a; two = b })
+          left.1 (ap (λ (n : ℕ). n + 1) counted) left.2 (e ∙ ap (λ (r : BattleResult). pass_for r.request_one) is) (f ∙ ap (λ (r : BattleResult). pass_for r.request_two) is)
+          (waits_new c.state.terms t.field standing.requests),
+      is,
+    )
+
+-- the pairs so far, and one more
+
+pub counts_more : (old new : Parts) (res : BattleResult) (number : ℕ) (k : Counts old number) (one two : Choice)
+    → Answers (run k.start k.pairs).state one two old new (Ok res) → Counts new (number + 1)
+unfolding run_by
+counts_more old new res number k one two answers =
+    let s = (run k.start k.pairs).state in
+    let found = answers_ok (step s one two).answer (step s one two).state old new res answers in
+    record {
+      start = k.start;
+      pairs = k.pairs ++ (one, two) ∷ [];
+      valid = k.valid;
+      stands = subst (Stands new) (sym (ap (λ (x : Ran). x.state) (runs_append k.start k.pairs ((one, two) ∷ [])))) found.2;
+      counted = ap (λ (n : ℕ). n + 1) k.counted ∙ sym (one_pair_more k.start k.pairs one two found.0 found.1);
+    }
+
+pub counts_none : {battle : Parts} (s : State) → IsState s → Stands battle s → Counts battle 0
+unfolding run_by
+counts_none s valid stands = record { start = s; pairs = []; valid = valid; stands = stands; counted = refl }
+
+-- a room over a battle
+
+pub start_offered : (s : State) → IsUnstarted s.terms s.field → AreOffered s choices.Pass choices.Pass
+start_offered s h =
+    let going : is_over s.field.outcome ≡ false = ap is_over h.outcome in
+    let of = λ (side : Side) (e : request_of side s.field ≡ requests.Pass).
+    subst (λ (l : List Choice). is_among choices.Pass l ≡ true) (sym (offered-is side s.field going ∙ ap (λ (r : Request). offered_for r side s.field) e)) refl in
+    record { first = of One h.requests.one; second = of Two h.requests.two }
+
+pub unbegun_offers : {p : Parts} (s : State) → Stands p s → (s.field.turn == 0) ≡ true → AreOffered s choices.Pass choices.Pass
+unbegun_offers s h zero = start_offered s (unstarted_at s h.valid (eqb_zero s.field.turn zero))
+
+-- only a battle that has not begun goes on and asks both to pass
+
+pub begun_over : (s : State) → IsState s → is_over s.field.outcome ≡ true → false ≡ (s.field.turn == 0)
+begun_over s valid over = by valid.field
+  where
+    by : IsUnstarted s.terms s.field ⊎ IsStarted s.terms s.field → false ≡ (s.field.turn == 0)
+    by (inl u) = absurd (let k : false ≡ true = sym (ap is_over u.outcome) ∙ over in cc)
+    by (inr v) = sym (later s.field.turn v.turn)
+
+pub begun_asks : (s : State) → IsState s → is_over s.field.outcome ≡ false → (is_pass s.field.request_one && is_pass s.field.request_two) ≡ (s.field.turn == 0)
+begun_asks s valid going = by valid.field
+  where
+    asked : (is_pass s.field.request_one ≡ false) ⊎ (is_pass s.field.request_two ≡ false) → (is_pass s.field.request_one && is_pass s.field.request_two) ≡ false
+    asked (inl e) = rw e refl
+    asked (inr e) = rw (e, and_false (is_pass s.field.request_one)) refl
+
+    by : IsUnstarted s.terms s.field ⊎ IsStarted s.terms s.field → (is_pass s.field.request_one && is_pass s.field.request_two) ≡ (s.field.turn == 0)
+    by (inl u) = rw (u.requests.one, u.requests.two, u.turn) refl
+    by (inr v) = asked (asks_going s.terms s.field v.requests going) ∙ sym (later s.field.turn v.turn)
+
+-- how it stands then
+abbrev OpenedAs : Terms → Parts → List ℕ → Stepped → Type 0
+OpenedAs terms new log t = Stands new t.state × IsReading log (events_of t.answer) × StandsAs t.state.field.outcome terms t.state.field
+
+pub opens_now : (s : State) (old new : Parts) (old_list list : ArrayVec Event) (log : ArrayVec ℕ) (res : BattleResult) → Stands old s → (s.field.turn == 0) ≡ true
+    → Answers s choices.Pass choices.Pass old new (Ok res) → Tells s choices.Pass choices.Pass old_list list → IsReading log.items list.items
+    → Opens s new log.items
+opens_now s old new old_list list log res h zero answers tells reads =
+    let o = unbegun_offers s h zero in
+    let left = left_of s choices.Pass choices.Pass old new old_list list log res o answers tells reads in
+    let standing = subst (λ (x : Stepped). Standing s.terms x.state.field) (sym (step_accepts s choices.Pass choices.Pass o)) (next_standing s choices.Pass choices.Pass h.valid o) in
+    let all : OpenedAs s.terms new log.items (begun s) = rw zero (left.1, left.2, standing.requests) in
+    record { stands = all.0; logged = all.1; requests = all.2 }
+
+pub opens_later : (s : State) (old : Parts) (log : List ℕ) → Stands old s → (s.field.turn == 0) ≡ false → log ≡ [] → Opens s old log
+opens_later s old log h later_on empty =
+    let all : OpenedAs s.terms old log (begun s) = rw later_on (h, record { codes = empty; ranges = tt }, requests_of h.valid.field) in
+    record { stands = all.0; logged = all.1; requests = all.2 }
+  where
+    requests_of : IsUnstarted s.terms s.field ⊎ IsStarted s.terms s.field → StandsAs s.field.outcome s.terms s.field
+    requests_of (inl u) = absurd (let k : true ≡ false = sym (ap (λ (n : ℕ). n == 0) u.turn) ∙ later_on in cc)
+    requests_of (inr v) = v.requests
+
+pub begin_holds : (s : State) (new : Parts) (list : ArrayVec Event) (log : ArrayVec ℕ) (res : BattleResult) (a b : Option Choice) → Opens s new log.items
+    → ((t : State) → Stands new t → res ≡ result_of t) → a ≡ pass_for res.request_one → b ≡ pass_for res.request_two
+    → Holds (record { battle = new; number = 0; events = list; log = log; one = a; two = b }) (room_of s)
+unfolding room_of
+begin_holds s new list log res a b o is e f =
+    let t = (begun s).state in
+    let now = is t o.stands in
+    holds_fresh t 0 (events_of (begun s).answer) (record { battle = new; number = 0; events = list; log = log; one = a; two = b }) o.stands refl o.logged
+    (e ∙ ap (λ (r : BattleResult). pass_for r.request_one) now) (f ∙ ap (λ (r : BattleResult). pass_for r.request_two) now)
+    (waits_new s.terms t.field o.requests)
+
+pub begin_valid : (s : State) (new : Parts) (list : ArrayVec Event) (log : ArrayVec ℕ) (res : BattleResult) (a b : Option Choice) → Opens s new log.items
+    → ((t : State) → Stands new t → res ≡ result_of t) → a ≡ pass_for res.request_one → b ≡ pass_for res.request_two
+    → IsRoom (record { battle = new; number = 0; events = list; log = log; one = a; two = b })
+begin_valid s new list log res a b o is e f =
+    record { course = room_of s; holds = begin_holds s new list log res a b o is e f; counts = counts_none (begun s).state o.stands.valid o.stands }

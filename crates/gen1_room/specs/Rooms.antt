@@ -1,0 +1,95 @@
+-- What a room holds and answers, in the machine's words (docs/MECHANICS.md, "Rooms").
+use Rattle.std.specs.Prelude.{Err, List, None, Ok, Option, Result, Some, false, ℕ, ◌≡◌, ◌⊎◌}
+use Rattle.gen1_machine.specs.declared.side.Side.{Side}
+use Rattle.gen1_machine.specs.declared.side.Side.TheVariants.{One, Two}
+use Rattle.gen1_machine.specs.declared.choice.Choice.{Choice}
+use Rattle.gen1_machine.specs.Laws.{accepted_in}
+use Rattle.gen1_machine.specs.Room.{AlreadyChosen, Advanced, begun, choice_made, ChoiceNotOffered, chosen, Course, ended_by, Reply, RoomOver, RoomRefusal, Stale, Submission, TurnedAway, Waiting}
+use Rattle.gen1_machine.specs.State.{is_over, State}
+use Rattle.gen1_machine.specs.Step.{events_of, run}
+use Rattle.gen1_machine.specs.Valid.{IsState, StandsAs}
+use Rattle.gen1_events.specs.Splits.{IsReading}
+use Rattle.gen1_layout.specs.Parts.{Parts}
+use Rattle.gen1_layout.specs.Within.{Stands}
+use Rattle.gen1_engine.specs.Updating.{AreOffered}
+use Rattle.gen1_room.specs.declared.held.Held.{Held}
+use Rattle.gen1_room.specs.declared.reply.Submitted.{Submitted}
+use Rattle.gen1_room.specs.declared.reply.Submitted.TheVariants as submitted
+use Rattle.gen1_room.specs.declared.reply.RoomRefusal.{RoomRefusal as Why}
+use Rattle.gen1_room.specs.declared.reply.RoomRefusal.TheVariants as whys
+
+-- A room holds a course: the battle stands for its state, the log is the code of its last events, and the choices are those
+-- made for the current pair. As long as the battle goes on, one of them is still due.
+pub record Holds (r : Held) (c : Course) : Type 0 where
+  pub stands : Stands r.battle c.state
+  pub counted : r.number ≡ c.number
+  pub logged : IsReading r.log.items c.events
+  pub one : r.one ≡ chosen One c
+  pub two : r.two ≡ chosen Two c
+  pub waits : is_over c.state.field.outcome ≡ false → (r.one ≡ None) ⊎ (r.two ≡ None)
+
+-- The number counts accepted pairs from some valid state. There are at most as many as the turn limit, and eleven, so it fits.
+pub record Counts (battle : Parts) (number : ℕ) : Type 0 where
+  pub start : State
+  pub pairs : List (Choice × Choice)
+  pub valid : IsState start
+  pub stands : Stands battle (run start pairs).state
+  pub counted : number ≡ accepted_in start pairs
+
+-- what is true of every room
+pub record IsRoom (r : Held) : Type 0 where
+  pub course : Course
+  pub holds : Holds r course
+  pub counts : Counts r.battle r.number
+
+abbrev pub chosen_in : Side → Held → Option Choice
+chosen_in One r = r.one
+chosen_in Two r = r.two
+
+-- a side that has not chosen submitted a choice that it is offered
+pub record MayChoose (r : Held) (side : Side) (choice : Choice) : Type 0 where
+  pub course : Course
+  pub submission : Submission
+  pub holds : Holds r course
+  pub counts : Counts r.battle r.number
+  pub going : is_over course.state.field.outcome ≡ false
+  pub missing : chosen side course ≡ None
+  pub made : choice_made side course submission ≡ Some choice
+
+-- both sides chose what they are offered
+pub record EndsPair (r : Held) (one two : Choice) : Type 0 where
+  pub state : State
+  pub stands : Stands r.battle state
+  pub offered : AreOffered state one two
+  pub counts : Counts r.battle r.number
+
+-- the battle and the log of a state that was started if it had not begun
+pub record Opens (s : State) (new : Parts) (log : List ℕ) : Type 0 where
+  pub stands : Stands new (begun s).state
+  pub logged : IsReading log (events_of (begun s).answer)
+  pub requests : StandsAs (begun s).state.field.outcome s.terms (begun s).state.field
+
+abbrev pub ended : Course → Choice → Choice → Course
+ended c one two = ended_by c (Some one) (Some two)
+
+-- what is submitted and replied, in the machine's words
+
+abbrev pub submission_of : Side → ℕ → ℕ → Submission
+submission_of side number byte = record { side = side; number = number; byte = byte }
+
+abbrev pub submission_at : Side × ℕ × ℕ → Submission
+submission_at s = submission_of s.0 s.1 s.2
+
+abbrev pub why_of : Why → RoomRefusal
+why_of whys.Over = RoomOver
+why_of (whys.Stale current) = Stale current
+why_of whys.AlreadyChosen = AlreadyChosen
+why_of whys.NotOffered = ChoiceNotOffered
+
+abbrev pub reply_of_submitted : Submitted → Reply
+reply_of_submitted submitted.Waiting = Waiting
+reply_of_submitted (submitted.Advanced r) = Advanced r.outcome r.request_one r.request_two
+
+abbrev pub reply_of : Result Submitted Why → Reply
+reply_of (Ok s) = reply_of_submitted s
+reply_of (Err why) = TurnedAway (why_of why)

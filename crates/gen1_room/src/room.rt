@@ -1,0 +1,93 @@
+//! A room, for its players.
+ghost use Rattle.std.specs.Prelude.{length, map, ◌≡◌};
+ghost use Rattle.std.specs.Result.{OnErr};
+ghost use Rattle.gen1_machine.specs.Room.{Course, after, course_of, replies_of, reply_to, room_of};
+ghost use Rattle.gen1_machine.specs.State.{State};
+ghost use Rattle.gen1_events.specs.Splits.{IsReading};
+ghost use Rattle.gen1_layout.specs.Within.{Stands};
+ghost use Rattle.gen1_room.specs.Rooms.{Holds, reply_of, submission_at, submission_of};
+
+use crate::held::Held;
+use crate::reply::Reply;
+use crate::starting::begin;
+use crate::submitting::submit;
+use gen1_engine::Battle;
+use gen1_machine::Side;
+use std::marker::Model;
+
+/// A battle of two players who submit their choices apart from each other (docs/MECHANICS.md, "Rooms").
+///
+/// Pairs are numbered from 0, the first after the battle's start. A pair ends, and the battle is updated, as soon as both
+/// choices are there; a side of which nothing is asked passes by itself.
+#[derive(Drop)]
+pub struct Room {
+    held: Held,
+}
+
+impl Model for Room {
+    ghost use Rattle.gen1_room.specs.declared.held.Held.{Held};
+    ghost use Rattle.gen1_room.specs.Rooms.{IsRoom};
+
+    ghost Value = { Held };
+
+    ghost view = { λ r. r.held };
+
+    ghost invariant = { λ r. IsRoom r.held };
+}
+
+impl Room {
+    /// A room for a battle. One that has not begun is started at once.
+    pub fn new(battle: Battle) -> Self
+        ensures { (s : State) → Stands battle s → Holds result (room_of s) }
+    {
+        Room {
+            held: begin(battle),
+        }
+    }
+
+    /// The number of the current pair: how many have ended since the room was made.
+    pub fn number(&self) -> u32
+        ensures { (c : Course) → Holds self.now c → result ≡ c.number }
+    {
+        self.held.number
+    }
+
+    /// The battle as it stands.
+    pub fn battle(&self) -> &Battle
+        ensures { (c : Course) → Holds self.now c → Stands result.now c.state }
+    {
+        &self.held.battle
+    }
+
+    /// The log bytes of the last pair that ended; before there is one those of the battle's start, or none where it had begun
+    /// already (docs/MECHANICS.md, "Log bytes").
+    pub fn log(&self) -> &[u8]
+        ensures { (c : Course) → Holds self.now c → IsReading result.now c.events }
+    {
+        self.held.log.as_slice()
+    }
+
+    /// A side submits the byte of a choice for the pair of a number.
+    ///
+    /// A refusal changes nothing. Where both choices are there the battle is updated, and the log is that of the update.
+    pub fn submit(&mut self, side: Side, number: u32, byte: u8) -> Reply
+        ensures holds { (c : Course) → Holds self.old c
+            → Holds self.new (after c (submission_of side number byte)) × (reply_of result ≡ reply_to c (submission_of side number byte)) }
+        ensures refused { OnErr result (self.new ≡ self.old) }
+    {
+        submit(&mut self.held, side, number, byte)
+    }
+
+    /// A room for a battle, and submissions to it in their order. The reply to each is put at its place.
+    pub fn run(battle: Battle, submissions: &[(Side, u32, u8)], replies: &mut [Reply]) -> Self
+        requires same_length { length submissions.now ≡ length replies.old }
+        ensures holds { (s : State) → Stands battle s → Holds result (course_of (room_of s) (map submission_at submissions.now)) }
+        ensures replies { (s : State) → Stands battle s → map reply_of replies.new ≡ replies_of (room_of s) (map submission_at submissions.now) }
+    {
+        let mut room = Room::new(battle);
+        for (place, submission) in submissions.iter().enumerate() {
+            replies[place] = room.submit(submission.0, submission.1, submission.2);
+        }
+        room
+    }
+}
