@@ -1,5 +1,5 @@
 //! What a move may do besides its damage, with the numbers of docs/MECHANICS.md, "Side effects".
-use crate::battles::{FOE, USER, named, send_out, tauros, tauros_under, tauros_with};
+use crate::battles::{BOTH, FOE, USER, named, send_out, tauros, tauros_under, tauros_with};
 use gen1_effects::side_effect;
 use gen1_layout::Packed;
 use gen1_machine::{Event, EventList};
@@ -10,9 +10,6 @@ use std::test::Fail;
 mod chances;
 mod disable;
 mod statuses;
-
-// With the draws of a sweep, and with those of link numbers.
-const BOTH: [bool; 2] = [false, true];
 
 // Plays a move of the user's with draws that begin with this byte: a sweep's, or those of link numbers that are all the same.
 // The events, and how many draws it took, up to 8 of link numbers.
