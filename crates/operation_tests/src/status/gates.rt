@@ -310,15 +310,8 @@ fn a_divisor_of_0(rt: HostRuntime) -> Result<(), Fail> {
     battle.put_defense(USER, 6, 512);
     battle.put_flag(FOE, Conditions::REFLECT, true);
     battle.put_last_damage(7);
-    let shows = shows(&battle);
-    gates(
-        &rt,
-        &mut battle,
-        STRENGTH,
-        &mut random,
-        Gate::Fault,
-        &[shows],
-    );
+    let shows = [shows(&battle)];
+    gates(&rt, &mut battle, STRENGTH, &mut random, Gate::Fault, &shows);
     assert_eq!(rt;
         (battle.outcome(), battle.last_damage()),
         (Outcome::Fault(1), 7)
