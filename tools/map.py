@@ -16,7 +16,7 @@ import sys
 from pathlib import Path
 
 sys.dont_write_bytecode = True
-from repository import ROOT, crates, edits
+from repository import ROOT, crates, edited, edits
 
 DOCUMENT = ROOT / "docs" / "MECHANICS.md"
 MAP = ROOT / "docs" / "MAP.md"
@@ -202,6 +202,8 @@ class Map:
     def edits(self, name):
         for folder in ("must-fail", "planted"):
             for edit in edits(name, folder):
+                if edited(ROOT / "crates" / name, edit) is None:
+                    sys.exit(f"{edit.relative_to(ROOT)} cannot be applied: its file is not there, or a text not once in it")
                 file = re.search(r"(?m)^file: (.*)$", edit.read_text())[1]
                 text = re.search(r"(?m)^old: (.*)$", edit.read_text())[1]
                 source = Source(ROOT / "crates" / name / file, self.order)

@@ -1,6 +1,6 @@
 //! Stages that rise and fall, and sleep, with the numbers of docs/MECHANICS.md, "Late effects", "Stage shift", "Rules (sleep
 //! clause, freeze clause)". 75 was the last damage.
-use crate::battles::{self, FOE, USER, electrode, named, send_out};
+use crate::battles::{self, BOTH, FOE, USER, electrode, named, send_out};
 use gen1_effects::{group_two, is_group_two};
 use gen1_layout::{Conditions, Packed};
 use gen1_machine::{Event, EventList, Kind, Side, StageCount};
@@ -13,9 +13,6 @@ use std::test::Fail;
 
 mod sleep;
 mod stages;
-
-// With the draws of a sweep, and with those of link numbers.
-const BOTH: [bool; 2] = [false, true];
 
 fn tauros_under(rules: u8) -> Result<Packed, Fail> {
     let mut battle = battles::tauros_under(rules)?;

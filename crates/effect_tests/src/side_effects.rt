@@ -1,5 +1,5 @@
 //! What a move may do besides its damage, with the numbers of docs/MECHANICS.md, "Side effects".
-use crate::battles::{FOE, USER, named, send_out, tauros, tauros_under, tauros_with};
+use crate::battles::{BOTH, FOE, USER, named, send_out, tauros, tauros_under, tauros_with};
 use gen1_effects::side_effect;
 use gen1_layout::Packed;
 use gen1_machine::{Event, EventList};
@@ -11,24 +11,27 @@ mod chances;
 mod disable;
 mod statuses;
 
-// With the draws of a sweep, and with those of link numbers.
-const BOTH: [bool; 2] = [false, true];
+// Plays a move of the user's.
+fn play<R: Rolls>(battle: &mut Packed, name: &str, random: &mut R) -> Result<EventList, Fail> {
+    let id = named(name)?;
+    let mut events = EventList::new();
+    side_effect(battle, USER, id, random, &mut events);
+    Ok(events)
+}
 
-// Plays a move of the user's with draws that begin with this byte: a sweep's, or those of link numbers that are all the same.
-// The events, and how many draws it took, up to 8 of link numbers.
-fn play(
+// The same with draws that begin with this byte, a sweep's or link numbers that are all the same; and how many were taken, up
+// to 8 of link numbers.
+fn play_from(
     battle: &mut Packed,
     (name, byte, link): (&str, u8, bool),
 ) -> Result<(EventList, u8), Fail> {
-    let id = named(name)?;
-    let mut events = EventList::new();
     if link {
         let mut random = LinkRandom::new([byte; 10]);
-        side_effect(battle, USER, id, &mut random, &mut events);
+        let events = play(battle, name, &mut random)?;
         return Ok((events, random.index()));
     }
     let mut random = Sweep::new(byte);
-    side_effect(battle, USER, id, &mut random, &mut events);
+    let events = play(battle, name, &mut random)?;
     Ok((events, random.draw().wrapping_sub(byte)))
 }
 
@@ -40,7 +43,7 @@ fn plays(
     told: &[Event],
     draws: u8,
 ) -> Result<(), Fail> {
-    let (events, drawn) = play(battle, played)?;
+    let (events, drawn) = play_from(battle, played)?;
     let (name, _, _) = played;
     assert_eq!(rt; drawn, draws, "{name}");
     tells(rt, &events, told);

@@ -1,5 +1,6 @@
 //! Each field at its least and its greatest value, and one past either (docs/LAYOUT.md, "Loading").
 use gen1_layout::{Packed, ReadFault};
+use std::process::Abort;
 
 // A Tauros at level 100 with Strength, unhurt.
 static TAUROS: [u8; 24] = [
@@ -73,8 +74,9 @@ fn answer(bytes: &[u8]) -> u8 {
     }
 }
 
-fn answer_to(changes: &[(usize, u8)]) -> u8 {
-    answer(&changed(changes))
+// What reading two Tauros with these changes answers: 0, or the fault.
+fn answers(rt: &impl Abort, changes: &[(usize, u8)], number: u8) {
+    assert_eq!(rt; answer(&changed(changes)), number, "{changes:?}");
 }
 
 #[test]
@@ -93,56 +95,56 @@ fn lengths(rt: HostRuntime) {
 #[test]
 fn versions(rt: HostRuntime) {
     assert_eq!(rt; answer(&[0; 384]), 2);
-    assert_eq!(rt; answer_to(&[(0, 4)]), 2);
+    answers(&rt, &[(0, 4)], 2);
     for version in 1..3 {
-        assert_eq!(rt; answer_to(&[(0, version)]), 3);
+        answers(&rt, &[(0, version)], 3);
         let old = changed(&[(0, version), (20, 0), (21, 0)]);
         assert!(rt; is_loaded_as(&old, &two_tauros()));
     }
-    assert_eq!(rt; answer_to(&[(0, 2), (20, 0), (21, 0), (19, 3)]), 0);
-    assert_eq!(rt; answer_to(&[(0, 1), (20, 0), (21, 0), (19, 1)]), 3);
-    assert_eq!(rt; answer_to(&[(20, 0), (21, 0)]), 3);
+    answers(&rt, &[(0, 2), (20, 0), (21, 0), (19, 3)], 0);
+    answers(&rt, &[(0, 1), (20, 0), (21, 0), (19, 1)], 3);
+    answers(&rt, &[(20, 0), (21, 0)], 3);
 }
 
 #[test]
 fn headers(rt: HostRuntime) {
     // index
-    assert_eq!(rt; answer_to(&[(5, 8)]), 0);
-    assert_eq!(rt; answer_to(&[(5, 9)]), 3);
-    assert_eq!(rt; answer_to(&[(5, 9), (181, 80), (182, 0)]), 3);
+    answers(&rt, &[(5, 8)], 0);
+    answers(&rt, &[(5, 9)], 3);
+    answers(&rt, &[(5, 9), (181, 80), (182, 0)], 3);
     // turn 1,000 and 1,001
-    assert_eq!(rt; answer_to(&[(1, 232), (2, 3)]), 0);
-    assert_eq!(rt; answer_to(&[(1, 233), (2, 3)]), 3);
+    answers(&rt, &[(1, 232), (2, 3)], 0);
+    answers(&rt, &[(1, 233), (2, 3)], 3);
     // limits 1, 9,999 and 10,000
-    assert_eq!(rt; answer_to(&[(20, 1), (21, 0)]), 0);
-    assert_eq!(rt; answer_to(&[(20, 15), (21, 39)]), 0);
-    assert_eq!(rt; answer_to(&[(20, 16), (21, 39)]), 3);
+    answers(&rt, &[(20, 1), (21, 0)], 0);
+    answers(&rt, &[(20, 15), (21, 39)], 0);
+    answers(&rt, &[(20, 16), (21, 39)], 3);
     // outcome, requests, rules, the last two bytes
-    assert_eq!(rt; answer_to(&[(16, 5), (17, 0), (18, 0)]), 0);
-    assert_eq!(rt; answer_to(&[(16, 6), (17, 0), (18, 0)]), 3);
-    assert_eq!(rt; answer_to(&[(17, 3)]), 3);
-    assert_eq!(rt; answer_to(&[(18, 3)]), 3);
-    assert_eq!(rt; answer_to(&[(19, 3)]), 0);
-    assert_eq!(rt; answer_to(&[(19, 4)]), 3);
-    assert_eq!(rt; answer_to(&[(22, 1)]), 3);
-    assert_eq!(rt; answer_to(&[(23, 1)]), 3);
+    answers(&rt, &[(16, 5), (17, 0), (18, 0)], 0);
+    answers(&rt, &[(16, 6), (17, 0), (18, 0)], 3);
+    answers(&rt, &[(17, 3)], 3);
+    answers(&rt, &[(18, 3)], 3);
+    answers(&rt, &[(19, 3)], 0);
+    answers(&rt, &[(19, 4)], 3);
+    answers(&rt, &[(22, 1)], 3);
+    answers(&rt, &[(23, 1)], 3);
 }
 
 #[test]
 fn members(rt: HostRuntime) {
     // species and level
     for (at, most, above) in [(24, 151, 152), (25, 100, 101)] {
-        assert_eq!(rt; answer_to(&[(at, 1)]), 0);
-        assert_eq!(rt; answer_to(&[(at, most)]), 0);
-        assert_eq!(rt; answer_to(&[(at, 0)]), 4);
-        assert_eq!(rt; answer_to(&[(at, above)]), 4);
+        answers(&rt, &[(at, 1)], 0);
+        answers(&rt, &[(at, most)], 0);
+        answers(&rt, &[(at, 0)], 4);
+        answers(&rt, &[(at, above)], 4);
     }
     // maximum HP 11, 10, 999 and 1,000; HP at the maximum and above
-    assert_eq!(rt; answer_to(&[(26, 11), (27, 0), (28, 11), (29, 0)]), 0);
-    assert_eq!(rt; answer_to(&[(26, 10), (27, 0), (28, 10), (29, 0)]), 4);
-    assert_eq!(rt; answer_to(&[(26, 231), (27, 3)]), 0);
-    assert_eq!(rt; answer_to(&[(26, 232), (27, 3)]), 4);
-    assert_eq!(rt; answer_to(&[(28, 98)]), 4);
+    answers(&rt, &[(26, 11), (27, 0), (28, 11), (29, 0)], 0);
+    answers(&rt, &[(26, 10), (27, 0), (28, 10), (29, 0)], 4);
+    answers(&rt, &[(26, 231), (27, 3)], 0);
+    answers(&rt, &[(26, 232), (27, 3)], 4);
+    answers(&rt, &[(28, 98)], 4);
     // stats 5, 4, 999 and 1,000 in place two, where nobody is out
     for (at, next) in [(54, 55), (56, 57), (58, 59), (60, 61)] {
         for (low, high, number) in [(5, 0, 0), (4, 0, 4), (231, 3, 0), (232, 3, 4)] {
@@ -157,7 +159,7 @@ fn members(rt: HostRuntime) {
 fn statuses(rt: HostRuntime) {
     for status in 0..255 {
         let is_status = status <= 8 || status == 16 || status == 32 || status == 64;
-        assert_eq!(rt; answer_to(&[(38, status)]), if is_status { 0 } else { 4 });
+        answers(&rt, &[(38, status)], if is_status { 0 } else { 4 });
     }
     // a member of place two that has fallen
     for (status, number) in [(0, 0), (8, 4)] {
@@ -166,27 +168,27 @@ fn statuses(rt: HostRuntime) {
         assert_eq!(rt; answer(&form), number);
     }
     // marks
-    assert_eq!(rt; answer_to(&[(19, 1), (38, 7), (47, 1)]), 0);
-    assert_eq!(rt; answer_to(&[(19, 1), (38, 7), (47, 2)]), 4);
-    assert_eq!(rt; answer_to(&[(19, 1), (38, 0), (47, 1)]), 4);
-    assert_eq!(rt; answer_to(&[(19, 1), (38, 8), (47, 1)]), 4);
-    assert_eq!(rt; answer_to(&[(19, 2), (38, 7), (47, 1)]), 4);
-    assert_eq!(rt; answer_to(&[(19, 0), (38, 7), (47, 1)]), 4);
+    answers(&rt, &[(19, 1), (38, 7), (47, 1)], 0);
+    answers(&rt, &[(19, 1), (38, 7), (47, 2)], 4);
+    answers(&rt, &[(19, 1), (38, 0), (47, 1)], 4);
+    answers(&rt, &[(19, 1), (38, 8), (47, 1)], 4);
+    answers(&rt, &[(19, 2), (38, 7), (47, 1)], 4);
+    answers(&rt, &[(19, 0), (38, 7), (47, 1)], 4);
 }
 
 #[test]
 fn moves(rt: HostRuntime) {
-    assert_eq!(rt; answer_to(&[(39, 164)]), 0);
+    answers(&rt, &[(39, 164)], 0);
     for id in [0, 102, 118, 119, 144, 165, 255] {
-        assert_eq!(rt; answer_to(&[(39, id)]), 4);
-        assert_eq!(rt; answer_to(&[(40, id), (44, 1)]), 4);
+        answers(&rt, &[(39, id)], 4);
+        answers(&rt, &[(40, id), (44, 1)], 4);
     }
-    assert_eq!(rt; answer_to(&[(40, 33), (41, 34), (42, 35)]), 0);
-    assert_eq!(rt; answer_to(&[(40, 33), (42, 35)]), 4);
-    assert_eq!(rt; answer_to(&[(40, 33), (41, 70)]), 4);
-    assert_eq!(rt; answer_to(&[(43, 63)]), 0);
-    assert_eq!(rt; answer_to(&[(43, 64)]), 4);
-    assert_eq!(rt; answer_to(&[(44, 1)]), 4);
+    answers(&rt, &[(40, 33), (41, 34), (42, 35)], 0);
+    answers(&rt, &[(40, 33), (42, 35)], 4);
+    answers(&rt, &[(40, 33), (41, 70)], 4);
+    answers(&rt, &[(43, 63)], 0);
+    answers(&rt, &[(43, 64)], 4);
+    answers(&rt, &[(44, 1)], 4);
 }
 
 #[test]
@@ -201,33 +203,33 @@ fn places(rt: HostRuntime) {
     let mut nobody = two_tauros();
     put_block(&mut nobody, 24, &[0; 24]);
     assert_eq!(rt; answer(&nobody), 4);
-    assert_eq!(rt; answer_to(&[(71, 1)]), 4);
-    assert_eq!(rt; answer_to(&[(347, 1)]), 4);
+    answers(&rt, &[(71, 1)], 4);
+    answers(&rt, &[(347, 1)], 4);
 }
 
 #[test]
 fn actives(rt: HostRuntime) {
-    assert_eq!(rt; answer_to(&[(168, 0)]), 5);
-    assert_eq!(rt; answer_to(&[(168, 2)]), 5);
-    assert_eq!(rt; answer_to(&[(168, 7)]), 5);
-    assert_eq!(rt; answer_to(&[(169, 14), (170, 14)]), 0);
-    assert_eq!(rt; answer_to(&[(169, 15)]), 5);
-    assert_eq!(rt; answer_to(&[(170, 15)]), 5);
+    answers(&rt, &[(168, 0)], 5);
+    answers(&rt, &[(168, 2)], 5);
+    answers(&rt, &[(168, 7)], 5);
+    answers(&rt, &[(169, 14), (170, 14)], 0);
+    answers(&rt, &[(169, 15)], 5);
+    answers(&rt, &[(170, 15)], 5);
     // accuracy and evasion have no current stat
     for at in [175, 176] {
-        assert_eq!(rt; answer_to(&[(at, 0)]), 0);
-        assert_eq!(rt; answer_to(&[(at, 12)]), 0);
-        assert_eq!(rt; answer_to(&[(at, 13)]), 5);
+        answers(&rt, &[(at, 0)], 0);
+        answers(&rt, &[(at, 12)], 0);
+        answers(&rt, &[(at, 13)], 5);
     }
     for at in [171, 172, 173, 174] {
-        assert_eq!(rt; answer_to(&[(at, 13)]), 5);
+        answers(&rt, &[(at, 13)], 5);
     }
     // bits 17 and 31, and the last four bytes
     for (at, byte) in [(187, 2), (188, 128), (200, 1), (201, 1), (202, 1), (203, 1)] {
-        assert_eq!(rt; answer_to(&[(at, byte)]), 5);
+        answers(&rt, &[(at, byte)], 5);
     }
     // turn 0
-    assert_eq!(rt; answer_to(&[(1, 0)]), 5);
+    answers(&rt, &[(1, 0)], 5);
 }
 
 // Offsets of the condition bits' two bytes, of what they come with, and of the move in slot 1.
@@ -247,25 +249,22 @@ fn conditions_with_a_count(rt: HostRuntime) {
         (LOW, 64, 190, 1, 5, 6),
         (HIGH, 32, 193, 0, 64, 65),
     ] {
-        assert_eq!(rt; answer_to(&[(at, bit), (count, least)]), 0);
-        assert_eq!(rt; answer_to(&[(at, bit), (count, most)]), 0);
-        assert_eq!(rt; answer_to(&[(at, bit), (count, above)]), 5);
-        assert_eq!(rt; answer_to(&[(count, 1)]), 5);
+        answers(&rt, &[(at, bit), (count, least)], 0);
+        answers(&rt, &[(at, bit), (count, most)], 0);
+        answers(&rt, &[(at, bit), (count, above)], 5);
+        answers(&rt, &[(count, 1)], 5);
     }
-    assert_eq!(rt; answer_to(&[(LOW, 64)]), 5);
+    answers(&rt, &[(LOW, 64)], 5);
     // Disable
-    assert_eq!(rt; answer_to(&[(187, 1), (191, 1), (192, 1)]), 0);
-    assert_eq!(rt; answer_to(&[(187, 1), (191, 1), (192, 8)]), 0);
-    assert_eq!(rt; answer_to(&[(187, 1), (191, 1), (192, 9)]), 5);
-    assert_eq!(rt; answer_to(&[(187, 1), (191, 1), (192, 0)]), 5);
-    assert_eq!(rt; answer_to(&[(187, 1), (191, 2), (192, 8)]), 5);
-    assert_eq!(rt; answer_to(&[(191, 1)]), 5);
-    assert_eq!(rt; answer_to(&[(192, 1)]), 5);
+    answers(&rt, &[(187, 1), (191, 1), (192, 1)], 0);
+    answers(&rt, &[(187, 1), (191, 1), (192, 8)], 0);
+    answers(&rt, &[(187, 1), (191, 1), (192, 9)], 5);
+    answers(&rt, &[(187, 1), (191, 1), (192, 0)], 5);
+    answers(&rt, &[(187, 1), (191, 2), (192, 8)], 5);
+    answers(&rt, &[(191, 1)], 5);
+    answers(&rt, &[(192, 1)], 5);
     // those that come with nothing: Flinch, Invulnerable, Mist, FocusEnergy; Seeded, the screens
-    assert_eq!(rt;
-        answer_to(&[(LOW, 8 + 32 + 128), (HIGH, 1 + 16 + 64 + 128)]),
-        0
-    );
+    answers(&rt, &[(LOW, 8 + 32 + 128), (HIGH, 1 + 16 + 64 + 128)], 0);
 }
 
 #[test]
@@ -289,7 +288,7 @@ fn conditions_of_the_current_move(rt: HostRuntime) {
             (194, turns),
             (199, kept),
         ];
-        assert_eq!(rt; answer_to(&own), 0);
+        answers(&rt, &own, 0);
         let other = [
             (at, bit),
             (MOVE, 70),
@@ -297,7 +296,7 @@ fn conditions_of_the_current_move(rt: HostRuntime) {
             (194, turns),
             (199, kept),
         ];
-        assert_eq!(rt; answer_to(&other), 5);
+        answers(&rt, &other, 5);
         let none = [
             (at, bit),
             (MOVE, id),
@@ -305,41 +304,36 @@ fn conditions_of_the_current_move(rt: HostRuntime) {
             (194, turns),
             (199, kept),
         ];
-        assert_eq!(rt; answer_to(&none), 5);
+        answers(&rt, &none, 5);
     }
     // turns of Bide 0 and 4, of trapping 5, of nothing 1
-    assert_eq!(rt; answer_to(&[(LOW, 1), (MOVE, 117), (CURRENT, 1)]), 5);
-    assert_eq!(rt;
-        answer_to(&[(LOW, 1), (MOVE, 117), (CURRENT, 1), (194, 4)]),
-        5
-    );
-    assert_eq!(rt;
-        answer_to(&[(LOW, 4), (MOVE, 20), (CURRENT, 1), (194, 5)]),
-        5
-    );
-    assert_eq!(rt; answer_to(&[(194, 1)]), 5);
+    answers(&rt, &[(LOW, 1), (MOVE, 117), (CURRENT, 1)], 5);
+    answers(&rt, &[(LOW, 1), (MOVE, 117), (CURRENT, 1), (194, 4)], 5);
+    answers(&rt, &[(LOW, 4), (MOVE, 20), (CURRENT, 1), (194, 5)], 5);
+    answers(&rt, &[(194, 1)], 5);
     // Bide's energy, and the kept accuracy
-    assert_eq!(rt;
-        answer_to(&[
+    answers(
+        &rt,
+        &[
             (LOW, 1),
             (MOVE, 117),
             (CURRENT, 1),
             (194, 1),
             (195, 255),
-            (196, 255)
-        ]),
-        0
+            (196, 255),
+        ],
+        0,
     );
-    assert_eq!(rt; answer_to(&[(196, 1)]), 5);
-    assert_eq!(rt; answer_to(&[(HIGH, 8), (MOVE, 99), (CURRENT, 1)]), 5);
-    assert_eq!(rt; answer_to(&[(199, 1)]), 5);
+    answers(&rt, &[(196, 1)], 5);
+    answers(&rt, &[(HIGH, 8), (MOVE, 99), (CURRENT, 1)], 5);
+    answers(&rt, &[(199, 1)], 5);
 }
 
 #[test]
 fn used_moves(rt: HostRuntime) {
     for at in [CURRENT, 198] {
         for (used, number) in [(0, 0), (1, 0), (2, 5), (5, 0), (6, 5)] {
-            assert_eq!(rt; answer_to(&[(at, used)]), number);
+            answers(&rt, &[(at, used)], number);
         }
     }
 }
@@ -356,34 +350,32 @@ fn current_stats(rt: HostRuntime) {
         (2, 0, 6),
         (0, 0, 6),
     ] {
-        assert_eq!(rt; answer_to(&[(181, low), (182, high)]), number);
+        answers(&rt, &[(181, low), (182, high)], number);
     }
     // Attack 298 halved once, twice and nine times
     for (low, number) in [(149, 0), (74, 0), (1, 0), (150, 6)] {
-        assert_eq!(rt; answer_to(&[(177, low), (178, 0)]), number);
+        answers(&rt, &[(177, low), (178, 0)], number);
     }
     // Defense 288 and Special 238 have no penalties
-    assert_eq!(rt; answer_to(&[(179, 144), (180, 0)]), 6);
-    assert_eq!(rt; answer_to(&[(183, 119)]), 6);
+    answers(&rt, &[(179, 144), (180, 0)], 6);
+    answers(&rt, &[(183, 119)], 6);
     // Special at stage +6
-    assert_eq!(rt; answer_to(&[(174, 12), (183, 184), (184, 3)]), 0);
+    answers(&rt, &[(174, 12), (183, 184), (184, 3)], 0);
 }
 
 #[test]
 fn requests(rt: HostRuntime) {
-    assert_eq!(rt; answer_to(&[(17, 2)]), 7);
-    assert_eq!(rt; answer_to(&[(16, 3), (17, 0), (18, 0)]), 7);
-    assert_eq!(rt;
-        answer_to(&[(16, 3), (17, 0), (18, 0), (1, 232), (2, 3)]),
-        0
-    );
+    answers(&rt, &[(17, 2)], 7);
+    answers(&rt, &[(16, 3), (17, 0), (18, 0)], 7);
+    answers(&rt, &[(16, 3), (17, 0), (18, 0), (1, 232), (2, 3)], 0);
     // side 1 has nobody left
     let fallen = [(28, 0), (29, 0), (17, 0), (18, 0)];
-    assert_eq!(rt; answer_to(&fallen), 7);
+    answers(&rt, &fallen, 7);
     for (outcome, number) in [(1, 7), (2, 0), (3, 7), (4, 0), (5, 0)] {
-        assert_eq!(rt;
-            answer_to(&[(28, 0), (29, 0), (17, 0), (18, 0), (16, outcome)]),
-            number
+        answers(
+            &rt,
+            &[(28, 0), (29, 0), (17, 0), (18, 0), (16, outcome)],
+            number,
         );
     }
 }

@@ -1,140 +1,127 @@
 //! Moves that act on the foe (docs/MECHANICS.md, "Early effects").
 use super::{BOTH, FOE, USER, fails, plays, tauros};
-use gen1_machine::{Event, Kind, Volatile};
-use gen1_tables::Element::{Grass, Ground, Normal, Poison, Rock};
+use gen1_layout::Packed;
+use gen1_machine::{Event, Kind, Volatile, Who};
+use gen1_tables::Element::{self, Grass, Ground, Normal, Poison, Rock};
 use std::test::Fail;
 
-// At 55 percent, the byte 140. After 6 comes 7, whose low bits are 3, so that the count is 5.
-#[test]
-fn confusion(rt: HostRuntime) -> Result<(), Fail> {
-    for by in BOTH {
-        let mut battle = tauros()?;
-        let misses = [Event::Miss(battle.who(USER))];
-        let starts = [Event::Start(battle.who(FOE), Volatile::Confusion)];
-        let changes = [(365, 64), (370, 5)];
+// A foe of these types, behind a Substitute of 88 HP or not.
+fn against(first: Element, second: Element, substitute: bool) -> Result<Packed, Fail> {
+    let mut battle = tauros()?;
+    battle.put_types(FOE, first, second);
+    if substitute {
         battle.put_substitute(FOE, Some(88));
-        fails(&rt, &mut battle, ("Supersonic", 6, by), 0)?;
-        battle.put_substitute(FOE, None);
-        plays(&rt, &mut battle, ("Supersonic", 140, by), &misses, 1, &[])?;
-        plays(
-            &rt,
-            &mut battle,
-            ("Supersonic", 6, by),
-            &starts,
-            2,
-            &changes,
-        )?;
-        fails(&rt, &mut battle, ("Supersonic", 6, by), 1)?;
+    }
+    Ok(battle)
+}
+
+// At 55, 85, 75 and 90 percent.
+const MISSES: [(&str, u8); 4] = [
+    ("Supersonic", 140),
+    ("Toxic", 216),
+    ("Glare", 191),
+    ("Leech Seed", 229),
+];
+
+#[test]
+fn moves_that_miss(rt: HostRuntime) -> Result<(), Fail> {
+    for link in BOTH {
+        for (name, byte) in MISSES {
+            let mut battle = tauros()?;
+            let misses = [Event::Miss(battle.who(USER))];
+            plays(&rt, &mut battle, (name, byte, link), &misses, 1, &[])?;
+        }
     }
     Ok(())
 }
 
-// At 85 percent, the byte 216.
+// The foe's types, whether it has a Substitute, and the draws.
+const SPARED: [(Element, Element, bool, &str, u8, u8); 5] = [
+    (Normal, Normal, true, "Supersonic", 6, 0),
+    (Normal, Normal, true, "Poison Powder", 0, 0),
+    (Grass, Poison, false, "Poison Gas", 0, 0),
+    (Rock, Ground, false, "Thunder Wave", 0, 0),
+    (Normal, Grass, false, "Leech Seed", 228, 1),
+];
+
 #[test]
-fn toxic(rt: HostRuntime) -> Result<(), Fail> {
-    for by in BOTH {
-        let mut battle = tauros()?;
-        let misses = [Event::Miss(battle.who(USER))];
-        let poisoned = [Event::Status(battle.who(FOE), Kind::Poison)];
-        let changes = [(218, 8), (366, 32)];
-        plays(&rt, &mut battle, ("Toxic", 216, by), &misses, 1, &[])?;
-        plays(&rt, &mut battle, ("Toxic", 215, by), &poisoned, 1, &changes)?;
-        fails(&rt, &mut battle, ("Toxic", 0, by), 0)?;
+fn who_is_spared(rt: HostRuntime) -> Result<(), Fail> {
+    for link in BOTH {
+        for (first, second, substitute, name, byte, draws) in SPARED {
+            let mut battle = against(first, second, substitute)?;
+            fails(&rt, &mut battle, (name, byte, link), draws)?;
+        }
     }
     Ok(())
 }
 
-// Poison Powder at 75 percent, the byte 191.
+// What a move brings upon the foe.
+#[derive(Clone, Copy)]
+enum Brought {
+    Status(Kind),
+    Volatile(Volatile),
+}
+
+fn told(foe: Who, brought: Brought) -> Event {
+    match brought {
+        Brought::Status(kind) => Event::Status(foe, kind),
+        Brought::Volatile(what) => Event::Start(foe, what),
+    }
+}
+
+type Changes = &'static [(usize, u8)];
+
+// After 6 comes 7, whose low bits are 3, so that the count of the confusion is 5.
+const CONFUSED: (Brought, Changes) = (
+    Brought::Volatile(Volatile::Confusion),
+    &[(365, 64), (370, 5)],
+);
+
+const POISONED: (Brought, Changes) = (Brought::Status(Kind::Poison), &[(218, 8)]);
+
+const BADLY_POISONED: (Brought, Changes) = (Brought::Status(Kind::Poison), &[(218, 8), (366, 32)]);
+
+// The Speed of 318 becomes 79.
+const PARALYSED: (Brought, Changes) = (
+    Brought::Status(Kind::Paralysis),
+    &[(218, 64), (361, 79), (362, 0)],
+);
+
+// The 2 beside the 16 of the seed is the Substitute.
+const SEEDED: (Brought, Changes) = (Brought::Volatile(Volatile::LeechSeed), &[(366, 18)]);
+
+// Whether the foe has a Substitute, the last draw that hits, what it brings with how many draws, and which move fails then,
+// with its draws.
+const BRINGS: [(bool, &str, u8, (Brought, Changes), u8, &str, u8); 6] = [
+    (false, "Supersonic", 6, CONFUSED, 2, "Supersonic", 1),
+    (false, "Toxic", 215, BADLY_POISONED, 1, "Toxic", 0),
+    (false, "Poison Powder", 190, POISONED, 1, "Poison Gas", 0),
+    (true, "Thunder Wave", 254, PARALYSED, 1, "Stun Spore", 0),
+    (false, "Glare", 190, PARALYSED, 1, "Glare", 0),
+    (true, "Leech Seed", 228, SEEDED, 1, "Leech Seed", 1),
+];
+
 #[test]
-fn poison(rt: HostRuntime) -> Result<(), Fail> {
-    for by in BOTH {
-        let mut battle = tauros()?;
-        let poisoned = [Event::Status(battle.who(FOE), Kind::Poison)];
-        battle.put_substitute(FOE, Some(88));
-        fails(&rt, &mut battle, ("Poison Powder", 0, by), 0)?;
-        battle.put_substitute(FOE, None);
-        battle.put_types(FOE, Grass, Poison);
-        fails(&rt, &mut battle, ("Poison Gas", 0, by), 0)?;
-        let mut battle = tauros()?;
-        plays(
-            &rt,
-            &mut battle,
-            ("Poison Powder", 190, by),
-            &poisoned,
-            1,
-            &[(218, 8)],
-        )?;
+fn what_is_brought_once(rt: HostRuntime) -> Result<(), Fail> {
+    for link in BOTH {
+        for (substitute, name, byte, (brought, changes), draws, again, next) in BRINGS {
+            let mut battle = against(Normal, Normal, substitute)?;
+            let told = [told(battle.who(FOE), brought)];
+            plays(&rt, &mut battle, (name, byte, link), &told, draws, changes)?;
+            fails(&rt, &mut battle, (again, 6, link), next)?;
+        }
     }
     Ok(())
 }
 
-// The foe's Speed of 318 becomes 79, past a Substitute.
+// Thunder Wave spares the type Ground, and Glare does not.
 #[test]
-fn thunder_wave(rt: HostRuntime) -> Result<(), Fail> {
-    for by in BOTH {
-        let mut battle = tauros()?;
-        let paralysed = [Event::Status(battle.who(FOE), Kind::Paralysis)];
-        let changes = [(218, 64), (361, 79), (362, 0)];
-        battle.put_substitute(FOE, Some(88));
-        plays(
-            &rt,
-            &mut battle,
-            ("Thunder Wave", 254, by),
-            &paralysed,
-            1,
-            &changes,
-        )?;
-        fails(&rt, &mut battle, ("Stun Spore", 0, by), 0)?;
-        let mut battle = tauros()?;
-        battle.put_types(FOE, Rock, Ground);
-        fails(&rt, &mut battle, ("Thunder Wave", 0, by), 0)?;
-    }
-    Ok(())
-}
-
-// At 75 percent, the byte 191, also against Rock and Ground.
-#[test]
-fn glare(rt: HostRuntime) -> Result<(), Fail> {
-    for by in BOTH {
-        let mut battle = tauros()?;
-        let misses = [Event::Miss(battle.who(USER))];
-        let paralysed = [Event::Status(battle.who(FOE), Kind::Paralysis)];
-        let changes = [(218, 64), (361, 79), (362, 0)];
-        battle.put_types(FOE, Rock, Ground);
-        plays(&rt, &mut battle, ("Glare", 191, by), &misses, 1, &[])?;
-        plays(
-            &rt,
-            &mut battle,
-            ("Glare", 190, by),
-            &paralysed,
-            1,
-            &changes,
-        )?;
-    }
-    Ok(())
-}
-
-// At 90 percent, the byte 229, past a Substitute.
-#[test]
-fn leech_seed(rt: HostRuntime) -> Result<(), Fail> {
-    for by in BOTH {
-        let mut battle = tauros()?;
-        let misses = [Event::Miss(battle.who(USER))];
-        let starts = [Event::Start(battle.who(FOE), Volatile::LeechSeed)];
-        battle.put_substitute(FOE, Some(88));
-        plays(&rt, &mut battle, ("Leech Seed", 229, by), &misses, 1, &[])?;
-        plays(
-            &rt,
-            &mut battle,
-            ("Leech Seed", 228, by),
-            &starts,
-            1,
-            &[(366, 18)],
-        )?;
-        fails(&rt, &mut battle, ("Leech Seed", 228, by), 1)?;
-        let mut battle = tauros()?;
-        battle.put_types(FOE, Normal, Grass);
-        fails(&rt, &mut battle, ("Leech Seed", 228, by), 1)?;
+fn glare_on_rock_and_ground(rt: HostRuntime) -> Result<(), Fail> {
+    for link in BOTH {
+        let mut battle = against(Rock, Ground, false)?;
+        let (paralysis, changes) = PARALYSED;
+        let told = [told(battle.who(FOE), paralysis)];
+        plays(&rt, &mut battle, ("Glare", 190, link), &told, 1, changes)?;
     }
     Ok(())
 }

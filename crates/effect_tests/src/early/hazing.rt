@@ -1,5 +1,5 @@
 //! Haze, which acts on both (docs/MECHANICS.md, "Early effects").
-use super::{BOTH, FOE, USER, bytes_with, named, play, tauros};
+use super::{BOTH, FOE, USER, bytes_with, named, play_from, tauros};
 use gen1_action::Known;
 use gen1_effects::{group_one_knowing, is_group_one};
 use gen1_layout::{Conditions, Packed};
@@ -33,9 +33,9 @@ fn before_haze() -> Result<Packed, Fail> {
 // The user's burn (16) and its Substitute with 88 HP stay.
 #[test]
 fn haze(rt: HostRuntime) -> Result<(), Fail> {
-    for by in BOTH {
+    for link in BOTH {
         let mut battle = before_haze()?;
-        let (events, draws) = play(&mut battle, "Haze", 0, by)?;
+        let (events, draws) = play_from(&mut battle, ("Haze", 0, link))?;
         let cure = Event::Cure(battle.who(FOE), Kind::Freeze);
         assert_eq!(rt; events.as_slice(), [Event::ClearAll, cure].as_slice());
         assert_eq!(rt; draws, 0);

@@ -9,9 +9,9 @@ use std::test::Fail;
 
 #[test]
 fn moves_that_fail(rt: HostRuntime) -> Result<(), Fail> {
-    for by in BOTH {
+    for link in BOTH {
         for name in ["Whirlwind", "Roar", "Teleport"] {
-            fails(&rt, &mut tauros()?, (name, 0, by), 0)?;
+            fails(&rt, &mut tauros()?, (name, 0, link), 0)?;
         }
     }
     Ok(())
@@ -19,10 +19,10 @@ fn moves_that_fail(rt: HostRuntime) -> Result<(), Fail> {
 
 #[test]
 fn splash(rt: HostRuntime) -> Result<(), Fail> {
-    for by in BOTH {
+    for link in BOTH {
         let mut battle = tauros()?;
         let told = [Event::Activate(battle.who(USER), Volatile::Splash)];
-        plays(&rt, &mut battle, ("Splash", 0, by), &told, 0, &[])?;
+        plays(&rt, &mut battle, ("Splash", 0, link), &told, 0, &[])?;
     }
     Ok(())
 }
@@ -30,15 +30,22 @@ fn splash(rt: HostRuntime) -> Result<(), Fail> {
 // The numbers of Rock and Ground are 5 and 4.
 #[test]
 fn conversion(rt: HostRuntime) -> Result<(), Fail> {
-    for by in BOTH {
+    for link in BOTH {
         let mut battle = tauros()?;
         battle.put_types(FOE, Rock, Ground);
         let told = [Event::Start(battle.who(USER), Volatile::TypeChange)];
         let changes = [(169, 5), (170, 4)];
-        plays(&rt, &mut battle, ("Conversion", 0, by), &told, 0, &changes)?;
+        plays(
+            &rt,
+            &mut battle,
+            ("Conversion", 0, link),
+            &told,
+            0,
+            &changes,
+        )?;
         battle.put_types(FOE, Normal, Normal);
         battle.put_flag(FOE, Conditions::INVULNERABLE, true);
-        fails(&rt, &mut battle, ("Conversion", 0, by), 0)?;
+        fails(&rt, &mut battle, ("Conversion", 0, link), 0)?;
     }
     Ok(())
 }
@@ -53,12 +60,12 @@ const STAY_UP: [(&str, Volatile, usize, u8); 4] = [
 
 #[test]
 fn what_stays_up(rt: HostRuntime) -> Result<(), Fail> {
-    for by in BOTH {
+    for link in BOTH {
         for (name, what, at, byte) in STAY_UP {
             let mut battle = tauros()?;
             let told = [Event::Start(battle.who(USER), what)];
-            plays(&rt, &mut battle, (name, 0, by), &told, 0, &[(at, byte)])?;
-            fails(&rt, &mut battle, (name, 0, by), 0)?;
+            plays(&rt, &mut battle, (name, 0, link), &told, 0, &[(at, byte)])?;
+            fails(&rt, &mut battle, (name, 0, link), 0)?;
         }
     }
     Ok(())
@@ -73,10 +80,10 @@ fn chansey_at(hp: u16) -> Result<Packed, Fail> {
 // At full HP, and where the HP lost are 255 or 511.
 #[test]
 fn recoveries_that_fail(rt: HostRuntime) -> Result<(), Fail> {
-    for by in BOTH {
+    for link in BOTH {
         for name in ["Recover", "Soft-Boiled"] {
             for hp in [703, 448, 192] {
-                fails(&rt, &mut chansey_at(hp)?, (name, 0, by), 0)?;
+                fails(&rt, &mut chansey_at(hp)?, (name, 0, link), 0)?;
             }
         }
     }
@@ -92,13 +99,20 @@ const RECOVERIES: [(u16, u16, u8, u8); 3] = [
 
 #[test]
 fn recover(rt: HostRuntime) -> Result<(), Fail> {
-    for by in BOTH {
+    for link in BOTH {
         for name in ["Recover", "Soft-Boiled"] {
             for (hp, healed, low, high) in RECOVERIES {
                 let mut battle = chansey_at(hp)?;
                 let health = Health::new(healed, 703, None).ok_or("no such health")?;
                 let told = [Event::Heal(battle.who(USER), health)];
-                plays(&rt, &mut battle, (name, 0, by), &told, 0, &[(28, low), (29, high)])?;
+                plays(
+                    &rt,
+                    &mut battle,
+                    (name, 0, link),
+                    &told,
+                    0,
+                    &[(28, low), (29, high)],
+                )?;
             }
         }
     }
@@ -108,9 +122,9 @@ fn recover(rt: HostRuntime) -> Result<(), Fail> {
 // In place of a paralysis, whose quartered Speed stays.
 #[test]
 fn rest(rt: HostRuntime) -> Result<(), Fail> {
-    for by in BOTH {
+    for link in BOTH {
         let mut battle = chansey()?;
-        fails(&rt, &mut battle, ("Rest", 0, by), 0)?;
+        fails(&rt, &mut battle, ("Rest", 0, link), 0)?;
         let mut before = EventList::new();
         inflict(&mut battle, USER, Kind::Paralysis, 0, &mut before);
         battle.put_hp(USER, 100);
@@ -121,7 +135,7 @@ fn rest(rt: HostRuntime) -> Result<(), Fail> {
         plays(
             &rt,
             &mut battle,
-            ("Rest", 0, by),
+            ("Rest", 0, link),
             &[asleep, healed],
             0,
             &changes,

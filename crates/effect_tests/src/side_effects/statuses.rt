@@ -1,6 +1,6 @@
 //! Poison, burns, freezes and paralysis, and the thaw (docs/MECHANICS.md, "Side effects", "Rules (sleep clause, freeze
 //! clause)").
-use super::{Abort, BOTH, FOE, does_nothing, play, plays, send_out, tauros, tauros_under};
+use super::{Abort, BOTH, FOE, does_nothing, play_from, plays, send_out, tauros, tauros_under};
 use gen1_layout::{Conditions, Packed};
 use gen1_machine::{Event, Kind};
 use gen1_stats::Status;
@@ -58,7 +58,7 @@ fn penalties(rt: HostRuntime) -> Result<(), Fail> {
             ("Thunderbolt", Stat::Speed, 79),
         ] {
             let mut battle = of_rock()?;
-            play(&mut battle, (name, 0, link))?;
+            play_from(&mut battle, (name, 0, link))?;
             assert_eq!(rt; battle.current_stat(FOE, stat), value);
         }
     }

@@ -44,15 +44,12 @@ fn hp_is_lost_and_gained(rt: HostRuntime) -> Result<(), Fail> {
     Ok(())
 }
 
-// So much damage of side 1's, and how it lands.
-fn lands(
-    rt: &impl Abort,
-    battle: &mut Packed,
-    damage: u16,
-    landed: Landed,
-    events: &mut EventList,
-) {
-    assert_eq!(rt; land(battle, USER, damage, events), landed);
+// So much damage of side 1's: how it lands, and what is told.
+fn lands(rt: &impl Abort, battle: &mut Packed, damage: u16, landed: Landed, told: &[Event]) {
+    let mut events = EventList::new();
+    let answer = land(battle, USER, damage, &mut events);
+    assert_eq!(rt; answer, landed);
+    tells(rt, &events, told);
 }
 
 // The last damage, and the foe's HP.
@@ -64,19 +61,18 @@ fn has(rt: &impl Abort, battle: &Packed, last_damage: u16, hp: u16) {
 #[test]
 fn damage_lands_on_hp(rt: HostRuntime) -> Result<(), Fail> {
     let mut battle = persian_and_tauros()?;
-    let mut events = EventList::new();
     let tauros = battle.who(FOE);
     battle.put_last_damage(9);
-    lands(&rt, &mut battle, 0, Landed::Hp, &mut events);
+    lands(&rt, &mut battle, 0, Landed::Hp, &[]);
     has(&rt, &battle, 9, 353);
-    tells(&rt, &events, &[]);
-    lands(&rt, &mut battle, 75, Landed::Hp, &mut events);
+    let hurt = [Event::Damage(tauros, tauros_at(278)?, DamageSource::Direct)];
+    lands(&rt, &mut battle, 75, Landed::Hp, &hurt);
     has(&rt, &battle, 75, 278);
+    let mut events = EventList::new();
     land_on_hp(&mut battle, FOE, DamageSource::Confusion, 279, &mut events);
     has(&rt, &battle, 278, 0);
-    let hurt = Event::Damage(tauros, tauros_at(278)?, DamageSource::Direct);
-    let fallen = Event::Damage(tauros, tauros_at(0)?, DamageSource::Confusion);
-    tells(&rt, &events, &[hurt, fallen]);
+    let fallen = [Event::Damage(tauros, tauros_at(0)?, DamageSource::Confusion)];
+    tells(&rt, &events, &fallen);
     Ok(())
 }
 
@@ -88,24 +84,22 @@ fn has_substitute(rt: &impl Abort, battle: &Packed, hp: Option<u8>) {
 #[test]
 fn damage_lands_on_a_substitute(rt: HostRuntime) -> Result<(), Fail> {
     let mut battle = persian_and_tauros()?;
-    let mut events = EventList::new();
+    let holds = [Event::Activate(battle.who(FOE), Volatile::Substitute)];
+    let breaks = [Event::End(battle.who(FOE), Volatile::Substitute)];
     battle.put_last_damage(9);
     battle.put_substitute(FOE, Some(88));
-    lands(&rt, &mut battle, 88, Landed::Kept, &mut events);
+    lands(&rt, &mut battle, 88, Landed::Kept, &holds);
     has_substitute(&rt, &battle, Some(0));
-    lands(&rt, &mut battle, 0, Landed::Hp, &mut events);
+    lands(&rt, &mut battle, 0, Landed::Hp, &[]);
     battle.put_substitute(FOE, Some(88));
-    lands(&rt, &mut battle, 89, Landed::Broke, &mut events);
+    lands(&rt, &mut battle, 89, Landed::Broke, &breaks);
     has_substitute(&rt, &battle, None);
     battle.put_substitute(FOE, Some(249));
-    assert_eq!(rt;
-        land_on_substitute(&mut battle, FOE, 256, 249, &mut events),
-        true
-    );
+    let mut events = EventList::new();
+    let broke = land_on_substitute(&mut battle, FOE, 256, 249, &mut events);
+    assert_eq!(rt; broke, true);
+    tells(&rt, &events, &breaks);
     has(&rt, &battle, 9, 353);
-    let holds = Event::Activate(battle.who(FOE), Volatile::Substitute);
-    let breaks = Event::End(battle.who(FOE), Volatile::Substitute);
-    tells(&rt, &events, &[holds, breaks, breaks]);
     Ok(())
 }
 

@@ -249,18 +249,19 @@ fn confused(rt: HostRuntime) -> Result<(), Fail> {
     let mut random = LinkRandom::new([127, 128, 0, 0, 0, 0, 0, 0, 0, 0]);
     battle.put_confused(USER, Some(3));
     battle.put_flag(USER, Conditions::INVULNERABLE, true);
-    let shows = shows(&battle);
-    gates(&rt, &mut battle, STRENGTH, &mut random, Gate::Go, &[shows]);
+    let acts = [shows(&battle)];
+    gates(&rt, &mut battle, STRENGTH, &mut random, Gate::Go, &acts);
     is_confused(&rt, &battle, Some(2));
     let health = Health::new(317, 353, None).ok_or("no such health")?;
     let damage = Event::Damage(battle.who(USER), health, DamageSource::Confusion);
+    let hits_itself = [shows(&battle), damage];
     gates(
         &rt,
         &mut battle,
         STRENGTH,
         &mut random,
         Gate::Stop,
-        &[shows, damage],
+        &hits_itself,
     );
     assert_eq!(rt; (battle.hp(USER), battle.last_damage()), (317, 36));
     assert_eq!(rt; battle.conditions(USER), Conditions::CONFUSED);
@@ -283,36 +284,17 @@ fn confused_behind_a_substitute(rt: HostRuntime) -> Result<(), Fail> {
     let mut random = Sweep::new(128);
     battle.put_confused(USER, Some(5));
     battle.put_substitute(USER, Some(1));
-    let shows = shows(&battle);
-    let holds = Event::Activate(battle.who(FOE), Volatile::Substitute);
-    let breaks = Event::End(battle.who(FOE), Volatile::Substitute);
-    gates(
-        &rt,
-        &mut battle,
-        STRENGTH,
-        &mut random,
-        Gate::Stop,
-        &[shows],
-    );
+    let spares = [shows(&battle)];
+    gates(&rt, &mut battle, STRENGTH, &mut random, Gate::Stop, &spares);
     assert_eq!(rt; battle.last_damage(), 36);
     battle.put_substitute(FOE, Some(36));
-    gates(
-        &rt,
-        &mut battle,
-        STRENGTH,
-        &mut random,
-        Gate::Stop,
-        &[shows, holds],
-    );
+    let holds = Event::Activate(battle.who(FOE), Volatile::Substitute);
+    let holds = [shows(&battle), holds];
+    gates(&rt, &mut battle, STRENGTH, &mut random, Gate::Stop, &holds);
     has_substitute(&rt, &battle, Some(0));
-    gates(
-        &rt,
-        &mut battle,
-        STRENGTH,
-        &mut random,
-        Gate::Stop,
-        &[shows, breaks],
-    );
+    let breaks = Event::End(battle.who(FOE), Volatile::Substitute);
+    let breaks = [shows(&battle), breaks];
+    gates(&rt, &mut battle, STRENGTH, &mut random, Gate::Stop, &breaks);
     has_substitute(&rt, &battle, None);
     assert_eq!(rt; battle.substitute(USER), Some(1));
     assert_eq!(rt; (battle.hp(USER), battle.hp(FOE)), (353, 353));
@@ -328,15 +310,8 @@ fn a_divisor_of_0(rt: HostRuntime) -> Result<(), Fail> {
     battle.put_defense(USER, 6, 512);
     battle.put_flag(FOE, Conditions::REFLECT, true);
     battle.put_last_damage(7);
-    let shows = shows(&battle);
-    gates(
-        &rt,
-        &mut battle,
-        STRENGTH,
-        &mut random,
-        Gate::Fault,
-        &[shows],
-    );
+    let shows = [shows(&battle)];
+    gates(&rt, &mut battle, STRENGTH, &mut random, Gate::Fault, &shows);
     assert_eq!(rt;
         (battle.outcome(), battle.last_damage()),
         (Outcome::Fault(1), 7)

@@ -1,7 +1,7 @@
 //! Statuses, stages and what poison, a burn and Leech Seed take.
 use crate::battles::{FOE, USER, tells, two_electrode, two_magikarp, two_tauros};
 use gen1_layout::{Conditions, Packed};
-use gen1_machine::{DamageSource, Event, EventList, Health, Kind, Side, StageCount};
+use gen1_machine::{DamageSource, Event, EventList, Health, Kind, Side, StageCount, Who};
 use gen1_stats::Status;
 use gen1_status::{
     inflict, inflict_status, lower_stage, raise_stage, residual, shift_stage, take_penalty,
@@ -66,21 +66,21 @@ fn sleep(rt: HostRuntime) -> Result<(), Fail> {
     Ok(())
 }
 
-// A shift by the user's move: whether it succeeds, and what the stage and the stat are then.
+// A shift by the user's move: whether it succeeds, what the stage and the stat are then, and what is told.
 fn shifts(
     rt: &impl Abort,
     battle: &mut Packed,
     (target, stat, by): (Side, Stat, i8),
     succeeds: bool,
     (stage, value): (u8, u16),
-    events: &mut EventList,
+    told: &[Event],
 ) {
-    assert_eq!(rt;
-        shift_stage(battle, USER, target, stat, by, events),
-        succeeds
-    );
+    let mut events = EventList::new();
+    let shifted = shift_stage(battle, USER, target, stat, by, &mut events);
+    assert_eq!(rt; shifted, succeeds);
     has_stage(rt, battle, target, stat, stage);
     has_stat(rt, battle, target, stat, value);
+    tells(rt, &events, told);
 }
 
 // The foe is burned, with Attack 298, now 149 (docs/MECHANICS.md, "Stage shift", "Penalties").
@@ -88,17 +88,15 @@ fn shifts(
 fn growl_and_swords_dance(rt: HostRuntime) -> Result<(), Fail> {
     let mut battle = two_tauros()?;
     let mut events = EventList::new();
-    let (user, foe) = (battle.who(USER), battle.who(FOE));
     inflict(&mut battle, FOE, Kind::Burn, 0, &mut events);
+    tells(&rt, &events, &[Event::Status(battle.who(FOE), Kind::Burn)]);
     let growl = (FOE, Stat::Attack, -1);
-    shifts(&rt, &mut battle, growl, true, (5, 98), &mut events);
+    let falls = [Event::Unboost(battle.who(FOE), Stat::Attack, count(1)?)];
+    shifts(&rt, &mut battle, growl, true, (5, 98), &falls);
     let dance = (USER, Stat::Attack, 2);
-    shifts(&rt, &mut battle, dance, true, (8, 596), &mut events);
+    let rises = [Event::Boost(battle.who(USER), Stat::Attack, count(2)?)];
+    shifts(&rt, &mut battle, dance, true, (8, 596), &rises);
     has_stat(&rt, &battle, FOE, Stat::Attack, 49);
-    let burned = Event::Status(foe, Kind::Burn);
-    let falls = Event::Unboost(foe, Stat::Attack, count(1)?);
-    let rises = Event::Boost(user, Stat::Attack, count(2)?);
-    tells(&rt, &events, &[burned, falls, rises]);
     Ok(())
 }
 
@@ -128,18 +126,14 @@ fn ends_of_the_stages(rt: HostRuntime) -> Result<(), Fail> {
 #[test]
 fn a_stat_of_999(rt: HostRuntime) -> Result<(), Fail> {
     let mut battle = two_electrode()?;
-    let mut events = EventList::new();
-    raise_stage(&mut battle, USER, USER, Stat::Speed, 2, &mut events);
-    has_stat(&rt, &battle, USER, Stat::Speed, 756);
-    raise_stage(&mut battle, USER, USER, Stat::Speed, 2, &mut events);
-    has_stat(&rt, &battle, USER, Stat::Speed, 999);
+    let two = [Event::Boost(battle.who(USER), Stat::Speed, count(2)?)];
+    let one = [Event::Boost(battle.who(USER), Stat::Speed, count(1)?)];
     let by_two = (USER, Stat::Speed, 2);
-    shifts(&rt, &mut battle, by_two, false, (11, 999), &mut events);
     let by_one = (USER, Stat::Speed, 1);
-    shifts(&rt, &mut battle, by_one, false, (11, 999), &mut events);
-    let two = Event::Boost(battle.who(USER), Stat::Speed, count(2)?);
-    let one = Event::Boost(battle.who(USER), Stat::Speed, count(1)?);
-    tells(&rt, &events, &[two, two, one]);
+    shifts(&rt, &mut battle, by_two, true, (8, 756), &two);
+    shifts(&rt, &mut battle, by_two, true, (10, 999), &two);
+    shifts(&rt, &mut battle, by_two, false, (11, 999), &one);
+    shifts(&rt, &mut battle, by_one, false, (11, 999), &[]);
     Ok(())
 }
 
@@ -147,16 +141,12 @@ fn a_stat_of_999(rt: HostRuntime) -> Result<(), Fail> {
 #[test]
 fn a_stat_of_1(rt: HostRuntime) -> Result<(), Fail> {
     let mut battle = two_magikarp()?;
-    let mut events = EventList::new();
-    lower_stage(&mut battle, USER, FOE, Stat::Attack, 2, &mut events);
-    has_stat(&rt, &battle, FOE, Stat::Attack, 2);
-    lower_stage(&mut battle, USER, FOE, Stat::Attack, 2, &mut events);
-    has_stat(&rt, &battle, FOE, Stat::Attack, 1);
+    let two = [Event::Unboost(battle.who(FOE), Stat::Attack, count(2)?)];
+    let one = [Event::Unboost(battle.who(FOE), Stat::Attack, count(1)?)];
     let by_two = (FOE, Stat::Attack, -2);
-    shifts(&rt, &mut battle, by_two, false, (1, 1), &mut events);
-    let two = Event::Unboost(battle.who(FOE), Stat::Attack, count(2)?);
-    let one = Event::Unboost(battle.who(FOE), Stat::Attack, count(1)?);
-    tells(&rt, &events, &[two, two, one]);
+    shifts(&rt, &mut battle, by_two, true, (4, 2), &two);
+    shifts(&rt, &mut battle, by_two, true, (2, 1), &two);
+    shifts(&rt, &mut battle, by_two, false, (1, 1), &one);
     Ok(())
 }
 
@@ -175,6 +165,11 @@ fn health(hp: u16, kind: Option<Kind>) -> Result<Health, Fail> {
     Ok(Health::new(hp, 353, kind).ok_or("no such health")?)
 }
 
+// Damage of who is poisoned, which leaves so many HP.
+fn hurt(who: Who, hp: u16, source: DamageSource) -> Result<Event, Fail> {
+    Ok(Event::Damage(who, health(hp, Some(Kind::Poison))?, source))
+}
+
 fn hp_are(rt: &impl Abort, battle: &Packed, user: u16, foe: u16) {
     assert_eq!(rt; (battle.hp(USER), battle.hp(FOE)), (user, foe));
 }
@@ -184,17 +179,15 @@ fn hp_are(rt: &impl Abort, battle: &Packed, user: u16, foe: u16) {
 fn bad_poison_and_a_seed(rt: HostRuntime) -> Result<(), Fail> {
     let mut battle = badly_poisoned(353)?;
     let mut events = EventList::new();
-    let (user, foe) = (battle.who(USER), battle.who(FOE));
+    let user = battle.who(USER);
+    let foe = battle.who(FOE);
     residual(&mut battle, USER, &mut events);
     hp_are(&rt, &battle, 287, 344);
     assert_eq!(rt; battle.bad_poison(USER), Some(2));
-    let after_poison = health(331, Some(Kind::Poison))?;
-    let after_seed = health(287, Some(Kind::Poison))?;
-    let healed = health(344, None)?;
     let told = [
-        Event::Damage(user, after_poison, DamageSource::Poison),
-        Event::Damage(user, after_seed, DamageSource::LeechSeed),
-        Event::Heal(foe, healed),
+        hurt(user, 331, DamageSource::Poison)?,
+        hurt(user, 287, DamageSource::LeechSeed)?,
+        Event::Heal(foe, health(344, None)?),
     ];
     tells(&rt, &events, &told);
     Ok(())
