@@ -2,3 +2,4 @@ pub mod Standing
 pub mod Outcomes
 pub mod Duels
 pub mod CalcOutcomes
+pub mod Heard

@@ -12,7 +12,7 @@ ghost use Rattle.battle_commands.specs.Rooms.{pieces_of_refusal, replies_due, ro
 use crate::fault::ToolFault;
 use crate::opening::{INPUT_LIMIT, open_bout};
 use arrayvec::ArrayString;
-use gen1_machine::{InputFault, Side, Sink, Source, read_whole, send};
+use gen1_machine::{InputFault, Side, Sink, Source, read_whole, send, send_all};
 use gen1_printer::print_log;
 use gen1_room::{Room, RoomRefusal, Submitted};
 use itoa::Buffer;
@@ -50,7 +50,7 @@ pub fn play_room<A: AllocGlobal, R: Source, W: Sink>(
         Err(fault) => return Err(fault),
     };
     let mut room = Room::new(bout.battle);
-    match send_lines(rt.alloc(), room.log(), writer) {
+    match send_lines(rt.alloc(), "", room.log(), writer) {
         Ok(()) => {}
         Err(fault) => return Err(fault),
     }
@@ -92,34 +92,30 @@ fn hand_in<W: Sink>(
 {
     match room.submit(submission.0, submission.1, submission.2) {
         Ok(Submitted::Waiting) => send_text(sink, "|room|waiting\n"),
-        Ok(Submitted::Advanced(_)) => send_advanced(alloc, room.log(), sink),
+        Ok(Submitted::Advanced(_)) => send_lines(alloc, "|room|advanced\n", room.log(), sink),
         Err(refusal) => send_text(sink, refusal_line(refusal).as_str()),
     }
 }
 
-/// Tells of a pair that ended, with its lines.
-fn send_advanced<W: Sink>(alloc: Global, log: &[u8], sink: &mut W) -> Result<(), ToolFault>
+/// Sends a text, and the lines of a log behind it.
+fn send_lines<W: Sink>(
+    alloc: Global,
+    text: &str,
+    log: &[u8],
+    sink: &mut W,
+) -> Result<(), ToolFault>
     ensures answers { (events : List Told) → IsReading log.now events
-        → Answers (only (codes "|room|advanced\n" ++ lines events)) (W.contents sink.old) (W.contents sink.new) result }
+        → Answers (only (text.now ++ lines events)) (W.contents sink.old) (W.contents sink.new) result }
     ensures write { W.has_failed sink.new ≡ (W.has_failed sink.old || is_write_fault result) }
     ensures read { is_read_fault result ≡ false }
 {
-    match send_text(sink, "|room|advanced\n") {
-        Ok(()) => send_lines(alloc, log, sink),
-        Err(fault) => Err(fault),
-    }
-}
-
-/// Sends the lines of a log.
-fn send_lines<W: Sink>(alloc: Global, log: &[u8], sink: &mut W) -> Result<(), ToolFault>
-    ensures answers { (events : List Told) → IsReading log.now events
-        → Answers (only (lines events)) (W.contents sink.old) (W.contents sink.new) result }
-    ensures write { W.has_failed sink.new ≡ (W.has_failed sink.old || is_write_fault result) }
-    ensures read { is_read_fault result ≡ false }
-{
-    match print_log(alloc, log) {
-        Ok(text) => send_text(sink, text.as_str()),
-        Err(_) => Err(ToolFault::Memory),
+    let behind = match print_log(alloc, log) {
+        Ok(behind) => behind,
+        Err(_) => return Err(ToolFault::Memory),
+    };
+    match send_all(sink, &[text.as_bytes(), behind.as_bytes()]) {
+        Ok(()) => Ok(()),
+        Err(_) => Err(ToolFault::Write),
     }
 }
 
