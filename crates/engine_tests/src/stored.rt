@@ -73,7 +73,8 @@ fn the_log_of_each_update(rt: HostRuntime) -> Result<(), Fail> {
     assert_eq!(rt; log.as_slice(), START.as_slice());
     battle.update(strength, strength, &mut log)?;
     assert_eq!(rt; log.as_slice(), FIRST.as_slice());
-    assert_eq!(rt; battle.update(strength, strength, &mut log), Ok(WON));
+    let result = battle.update(strength, strength, &mut log);
+    assert_eq!(rt; result, Ok(WON));
     assert_eq!(rt; log.as_slice(), SECOND.as_slice());
     Ok(())
 }

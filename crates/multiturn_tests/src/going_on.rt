@@ -3,11 +3,11 @@
 use crate::duel::{FLAGS, FOE, KEPT, TURNS, USER, bytes_of, named, two_tauros, with};
 use gen1_action::{Known, hit_or_miss};
 use gen1_hits::{land, numbers, type_steps};
-use gen1_layout::Conditions;
+use gen1_layout::{Conditions, Packed};
 use gen1_machine::{Event, EventList, Volatile};
 use gen1_multiturn::{thrash_knowing, trap, trap_knowing};
 use gen1_rolls::{LinkRandom, Rolls, Sweep};
-use gen1_tables::Element;
+use gen1_tables::{Effect, Element};
 use std::test::Fail;
 
 // An action of the user's that goes on.
@@ -15,6 +15,23 @@ fn going_on() -> Known {
     Known {
         going_on: true,
         ..Known::new().begun(USER)
+    }
+}
+
+// What the user's next turn of a thrashing move tells.
+fn thrashed_on<R: Rolls>(
+    battle: &mut Packed,
+    name: &str,
+    random: &mut R,
+) -> Result<EventList, Fail> {
+    let id = named(name)?;
+    let mut events = EventList::new();
+    match id.effect() {
+        Effect::Thrash => {
+            thrash_knowing(battle, USER, id, &going_on(), random, &mut events);
+            Ok(events)
+        }
+        _ => Err(Fail::from("no thrashing move")),
     }
 }
 
@@ -43,17 +60,16 @@ fn thrashing_goes_on(rt: HostRuntime) -> Result<(), Fail> {
     battle.put_kept_accuracy(USER, 255);
     let before = bytes_of(&battle);
     battle.put_thrash(USER, 3);
-    let mut events = EventList::new();
     let mut sweep = Sweep::new(7);
-    let id = named("Thrash")?;
     for left in [2, 1] {
-        thrash_knowing(&mut battle, USER, id, &going_on(), &mut sweep, &mut events);
+        let events = thrashed_on(&mut battle, "Thrash", &mut sweep)?;
         assert_eq!(rt;
             bytes_of(&battle),
             with(before, &[(FLAGS, 2), (TURNS, left)])
         );
+        assert_eq!(rt; events.len(), 0);
     }
-    assert_eq!(rt; (events.len(), sweep.draw()), (0, 7));
+    assert_eq!(rt; sweep.draw(), 7);
     Ok(())
 }
 
@@ -65,10 +81,8 @@ fn thrashing_ends_in_confusion(rt: HostRuntime) -> Result<(), Fail> {
         battle.put_kept_accuracy(USER, 255);
         let before = bytes_of(&battle);
         battle.put_thrash(USER, 1);
-        let mut events = EventList::new();
         let mut link = LinkRandom::new([byte; 10]);
-        let id = named("Petal Dance")?;
-        thrash_knowing(&mut battle, USER, id, &going_on(), &mut link, &mut events);
+        let events = thrashed_on(&mut battle, "Petal Dance", &mut link)?;
         assert_eq!(rt;
             bytes_of(&battle),
             with(before, &[(FLAGS, 64), (FLAGS + 5, count), (KEPT, 255)])

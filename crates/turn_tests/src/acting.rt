@@ -226,32 +226,20 @@ fn bide_stores_and_lets_go(rt: HostRuntime) -> Result<(), Fail> {
     let mut battle = started_with("Bide", 100)?;
     let user = who(USER, "Tauros")?;
     let mut events = EventList::new();
+    let begins = [Event::Start(user, Volatile::Bide)];
+    let stores = [Event::Activate(user, Volatile::Bide)];
+    let lets_go = [
+        Event::End(user, Volatile::Bide),
+        hurt(FOE, 153, DamageSource::Direct)?,
+    ];
     for (pick, next, hp, told) in [
-        (
-            SLOT,
-            5,
-            353,
-            [Event::Start(user, Volatile::Bide), Event::Tie],
-        ),
-        (
-            Pick::Continue,
-            4,
-            353,
-            [Event::Activate(user, Volatile::Bide), Event::Tie],
-        ),
-        (
-            Pick::Continue,
-            4,
-            153,
-            [
-                Event::End(user, Volatile::Bide),
-                hurt(FOE, 153, DamageSource::Direct)?,
-            ],
-        ),
+        (SLOT, 5, 353, begins.as_slice()),
+        (Pick::Continue, 4, 353, stores.as_slice()),
+        (Pick::Continue, 4, 153, lets_go.as_slice()),
     ] {
         assert_eq!(rt; acted(&mut battle, pick, 4, &mut events), (false, next));
         assert_eq!(rt; (battle.hp(FOE), battle.pp(USER, 1)), (hp, 9));
-        assert_eq!(rt; told.starts_with(events.as_slice()), true);
+        assert_eq!(rt; events.as_slice(), told);
         battle.put_last_damage(50);
     }
     Ok(())

@@ -7,6 +7,8 @@ mod acting;
 #[cfg(test)]
 mod closing;
 #[cfg(test)]
+mod duels;
+#[cfg(test)]
 mod offers;
 #[cfg(test)]
 mod order;

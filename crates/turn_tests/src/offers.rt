@@ -1,25 +1,20 @@
 //! What each side may choose, by docs/MECHANICS.md, "Offered choices".
-use crate::setting::{FOE, SEED, USER};
+use crate::setting::{FOE, SEED, USER, member_of};
 use arrayvec::ArrayVec;
 use gen1_layout::{Conditions, Packed};
 use gen1_machine::{DisabledSlot, EventList, Outcome, Place, Request, Side};
 use gen1_requests::{offered, send_out, start};
 use gen1_stats::{MemberSpec, Status, Team};
-use gen1_tables::{MoveId, Species};
 use std::test::Fail;
 
 fn member() -> Result<MemberSpec, Fail> {
-    let mut moves = ArrayVec::new();
-    for name in ["Strength", "Thunderbolt", "Surf", "Growl"] {
-        moves.push((MoveId::from_name(name).ok_or("no such move")?, 0));
-    }
-    Ok(MemberSpec {
-        species: Species::from_name("Mew").ok_or("no such species")?,
-        level: 100,
-        dvs: [15; 4],
-        exp: [65535; 5],
-        moves,
-    })
+    let moves = [
+        ("Strength", 0),
+        ("Thunderbolt", 0),
+        ("Surf", 0),
+        ("Growl", 0),
+    ];
+    member_of("Mew", 100, [15; 4], [65535; 5], &moves)
 }
 
 // Three members with four moves each, on both sides.
@@ -35,19 +30,21 @@ fn started() -> Result<Packed, Fail> {
 }
 
 // The bytes of what a side is offered.
-fn bytes(battle: &Packed, side: Side) -> ArrayVec<u8, 9> {
+fn bytes(battle: &Packed, side: Side) -> Result<ArrayVec<u8, 9>, Fail> {
     let mut bytes = ArrayVec::new();
     for choice in offered(battle, side).as_slice() {
-        bytes.push(choice.byte());
+        if bytes.try_push(choice.byte()).is_err() {
+            return Err(Fail::from("more than nine choices"));
+        }
     }
-    bytes
+    Ok(bytes)
 }
 
 #[test]
 fn both_pass_before_the_first_update(rt: HostRuntime) -> Result<(), Fail> {
     let battle = unstarted()?;
-    assert_eq!(rt; bytes(&battle, USER).as_slice(), [0x00].as_slice());
-    assert_eq!(rt; bytes(&battle, FOE).as_slice(), [0x00].as_slice());
+    assert_eq!(rt; bytes(&battle, USER)?.as_slice(), [0x00].as_slice());
+    assert_eq!(rt; bytes(&battle, FOE)?.as_slice(), [0x00].as_slice());
     Ok(())
 }
 
@@ -55,8 +52,8 @@ fn both_pass_before_the_first_update(rt: HostRuntime) -> Result<(), Fail> {
 fn moves_come_first(rt: HostRuntime) -> Result<(), Fail> {
     let battle = started()?;
     let all = [0x11, 0x12, 0x13, 0x14, 0x22, 0x23];
-    assert_eq!(rt; bytes(&battle, USER).as_slice(), all.as_slice());
-    assert_eq!(rt; bytes(&battle, FOE).as_slice(), all.as_slice());
+    assert_eq!(rt; bytes(&battle, USER)?.as_slice(), all.as_slice());
+    assert_eq!(rt; bytes(&battle, FOE)?.as_slice(), all.as_slice());
     Ok(())
 }
 
@@ -66,12 +63,12 @@ fn the_fallen_and_who_is_out_stay(rt: HostRuntime) -> Result<(), Fail> {
     let second = Place::new(2).ok_or("no such place")?;
     send_out(&mut battle, USER, second, &mut EventList::new());
     let others = [0x11, 0x12, 0x13, 0x14, 0x21, 0x23];
-    assert_eq!(rt; bytes(&battle, USER).as_slice(), others.as_slice());
+    assert_eq!(rt; bytes(&battle, USER)?.as_slice(), others.as_slice());
     battle.put_hp(USER, 0);
     let first = Place::new(1).ok_or("no such place")?;
     send_out(&mut battle, USER, first, &mut EventList::new());
     let living = [0x11, 0x12, 0x13, 0x14, 0x23];
-    assert_eq!(rt; bytes(&battle, USER).as_slice(), living.as_slice());
+    assert_eq!(rt; bytes(&battle, USER)?.as_slice(), living.as_slice());
     Ok(())
 }
 
@@ -81,11 +78,11 @@ fn a_slot_wants_pp_and_no_disable(rt: HostRuntime) -> Result<(), Fail> {
     battle.put_pp(USER, 2, 0);
     battle.put_disabled(USER, Some(DisabledSlot { slot: 3, turns: 1 }));
     let left = [0x11, 0x14, 0x22, 0x23];
-    assert_eq!(rt; bytes(&battle, USER).as_slice(), left.as_slice());
+    assert_eq!(rt; bytes(&battle, USER)?.as_slice(), left.as_slice());
     battle.put_pp(USER, 1, 0);
     battle.put_pp(USER, 4, 0);
     let none = [0x10, 0x22, 0x23];
-    assert_eq!(rt; bytes(&battle, USER).as_slice(), none.as_slice());
+    assert_eq!(rt; bytes(&battle, USER)?.as_slice(), none.as_slice());
     Ok(())
 }
 
@@ -99,7 +96,7 @@ fn who_goes_on_has_no_choice(rt: HostRuntime) -> Result<(), Fail> {
     ] {
         let mut battle = started()?;
         battle.put_flag(USER, which, true);
-        assert_eq!(rt; bytes(&battle, USER).as_slice(), [0x10].as_slice());
+        assert_eq!(rt; bytes(&battle, USER)?.as_slice(), [0x10].as_slice());
     }
     Ok(())
 }
@@ -114,7 +111,7 @@ fn who_has_no_slot_may_be_switched(rt: HostRuntime) -> Result<(), Fail> {
         let mut battle = started()?;
         battle.put_status(USER, status);
         assert_eq!(rt;
-            bytes(&battle, USER).as_slice(),
+            bytes(&battle, USER)?.as_slice(),
             [0x10, 0x22, 0x23].as_slice()
         );
     }
@@ -126,7 +123,7 @@ fn who_has_no_slot_may_be_switched(rt: HostRuntime) -> Result<(), Fail> {
         let mut battle = started()?;
         battle.put_flag(side, which, true);
         assert_eq!(rt;
-            bytes(&battle, USER).as_slice(),
+            bytes(&battle, USER)?.as_slice(),
             [0x10, 0x22, 0x23].as_slice()
         );
     }
@@ -138,8 +135,8 @@ fn a_replacement_is_a_switch(rt: HostRuntime) -> Result<(), Fail> {
     let mut battle = started()?;
     battle.put_fallen(USER);
     battle.put_requests(Request::Switch, Request::Pass);
-    assert_eq!(rt; bytes(&battle, USER).as_slice(), [0x22, 0x23].as_slice());
-    assert_eq!(rt; bytes(&battle, FOE).as_slice(), [0x00].as_slice());
+    assert_eq!(rt; bytes(&battle, USER)?.as_slice(), [0x22, 0x23].as_slice());
+    assert_eq!(rt; bytes(&battle, FOE)?.as_slice(), [0x00].as_slice());
     Ok(())
 }
 
