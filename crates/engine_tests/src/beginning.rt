@@ -1,5 +1,5 @@
 //! A battle before its first update (docs/LAYOUT.md).
-use crate::setting::{SEED, bytes_of, team, two_tauros};
+use crate::setting::{SEED, bytes_of, stands_at, team, two_tauros};
 use gen1_engine::{Battle, BattleResult};
 use gen1_machine::{Choice, Outcome, Request, Rules, Side, TurnLimit};
 use std::test::Fail;
@@ -18,10 +18,10 @@ const TAUROS: [u8; 24] = [
 fn the_bytes_of_two_teams(rt: HostRuntime) -> Result<(), Fail> {
     let battle = two_tauros()?;
     let bytes = battle.bytes();
-    assert_eq!(rt; &bytes[..24], HEADER.as_slice());
-    assert_eq!(rt; &bytes[24..48], TAUROS.as_slice());
-    assert_eq!(rt; &bytes[204..228], TAUROS.as_slice());
-    assert_eq!(rt; &bytes[348..], [0; 36].as_slice());
+    assert!(rt; stands_at(bytes, 0, &HEADER));
+    assert!(rt; stands_at(bytes, 24, &TAUROS));
+    assert!(rt; stands_at(bytes, 204, &TAUROS));
+    assert!(rt; stands_at(bytes, 348, &[0; 36]));
     Ok(())
 }
 

@@ -43,10 +43,11 @@ fn bytes_are_loaded_as_they_are(rt: HostRuntime) -> Result<(), Fail> {
 }
 
 #[test]
-fn the_first_fault_is_told(rt: HostRuntime) {
+fn the_first_fault_is_told(rt: HostRuntime) -> Result<(), Fail> {
     let bytes = paralysed();
     assert_eq!(rt; fault(&bytes), 0);
-    assert_eq!(rt; fault(&bytes[..383]), 1);
+    let (_, cut) = bytes.as_slice().split_last().ok_or("no byte")?;
+    assert_eq!(rt; fault(cut), 1);
     let mut version = bytes;
     version[0] = 0;
     assert_eq!(rt; fault(&version), 2);
@@ -57,4 +58,5 @@ fn the_first_fault_is_told(rt: HostRuntime) {
     let mut speed = bytes;
     speed[181] = 80;
     assert_eq!(rt; fault(&speed), 6);
+    Ok(())
 }

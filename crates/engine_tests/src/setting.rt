@@ -33,3 +33,13 @@ pub(crate) fn bytes_of(battle: &Battle) -> [u8; 384] {
     }
     bytes
 }
+
+/// Whether these bytes stand in a list of bytes, from an offset on.
+pub fn stands_at(bytes: &[u8], at: usize, part: &[u8]) -> bool {
+    for (index, byte) in part.iter().enumerate() {
+        if bytes.get(at.saturating_add(index)) != Some(byte) {
+            return false;
+        }
+    }
+    true
+}
