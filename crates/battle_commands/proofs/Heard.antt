@@ -4,7 +4,8 @@ use Rattle.std.specs.Io.KnownBytes.{Appends}
 use Rattle.std.proofs.KnownBytes.{Appends-nil, Appends-trans}
 use Rattle.std.proofs.Math.Seq.{drop-cons}
 use Rattle.gen1_machine.specs.declared.side.Side.{Side}
-use Rattle.gen1_machine.specs.Room.{Course, after as follows, reply_to}
+use Rattle.gen1_machine.specs.declared.event.Event.{Event}
+use Rattle.gen1_machine.specs.Room.{Course, Reply, after as follows, reply_to}
 use Rattle.gen1_machine.specs.Sending.{AppendsFront}
 use Rattle.gen1_machine.proofs.SendingLemmas.{appends_front_after}
 use Rattle.gen1_room.specs.Rooms.{Holds, submission_at}
@@ -18,6 +19,12 @@ use Rattle.battle_commands.specs.declared.fault.ToolFault.TheVariants.{Calc, Jso
 -- what one submission is answered
 abbrev pub told : Course → Side × ℕ × ℕ → List ℕ
 told c x = text_of_reply (reply_to c (submission_at x)) (follows c (submission_at x)).events
+
+-- what was sent is what a reply is told by
+pub sent_reply : (reply r : Reply) (events : List Event) (text : List ℕ) (a b : Option (List ℕ)) (result : Result (Unit {0}) ToolFault) → reply ≡ r → text ≡ text_of_reply r events
+    → Answers (only text) a b result → Answers (only (text_of_reply reply events)) a b result
+sent_reply reply r events text a b result e t h =
+    subst (λ (l : List ℕ). Answers (only l) a b result) (t ∙ ap (λ (x : Reply). text_of_reply x events) (sym e)) h
 
 -- the submissions before a number were handed in, and what they were answered was written
 pub record Heard (c : Course) (xs : List (Side × ℕ × ℕ)) (number : ℕ) (room : Held) (old now : Option (List ℕ)) : Type 0 where
@@ -57,8 +64,8 @@ heard_more xs number {a = a} {b = b} {e = e} h d inside holds wrote = record {
 
 -- a fault behind a text that was written, and before one that was to follow: it is one of a device or of memory
 
-pub fault_between : {T S : Type 0} (said text : List ℕ) (rest : Due) (a b e : Option (List ℕ)) (fault : ToolFault) → Appends a b said → Answers {T = S} (only text) b e (Err fault)
-    → Answers {T = T} (after said (after text rest)) a e (Err fault)
+pub fault_between : (said text : List ℕ) (rest : Due) (a b e : Option (List ℕ)) (fault : ToolFault) → Appends a b said → Answers {T = Unit {0}} (only text) b e (Err fault)
+    → Answers {T = Unit {0}} (after said (after text rest)) a e (Err fault)
 fault_between said text rest a b e Read p q = appends_front_after a said rest.text p q
 fault_between said text rest a b e Write p q = appends_front_after a said rest.text p q
 fault_between said text rest a b e Memory p q = appends_front_after a said rest.text p q
@@ -69,18 +76,18 @@ fault_between said text rest a b e (Pair number refusal) p q = absurd (let n = q
 fault_between said text rest a b e (Log number) p q = absurd (let n = q.0 in cc)
 fault_between said text rest a b e Calc p q = absurd (let n = q.0 in cc)
 
-pub fault_first : {T S : Type 0} (text : List ℕ) (rest : Due) (b e : Option (List ℕ)) (fault : ToolFault) → Answers {T = S} (only text) b e (Err fault) → Answers {T = T} (after text rest) b e (Err fault)
+pub fault_first : (text : List ℕ) (rest : Due) (b e : Option (List ℕ)) (fault : ToolFault) → Answers {T = Unit {0}} (only text) b e (Err fault) → Answers {T = Unit {0}} (after text rest) b e (Err fault)
 fault_first text rest b e fault q = fault_between [] text rest b b e fault (Appends-nil b) q
 
-pub heard_fault : (T : Type 0) {S : Type 0} {c : Course} (xs : List (Side × ℕ × ℕ)) (number : ℕ) {room : Held} {a b e : Option (List ℕ)} (h : Heard c xs number room a b) (d : Side × ℕ × ℕ) (fault : ToolFault)
-    → number < length xs → Answers {T = S} (only (told h.course (get_or xs number d))) b e (Err fault) → Answers {T = T} (replies_due c xs) a e (Err fault)
-heard_fault T xs number {a = a} {b = b} {e = e} h d fault inside q =
-    subst (λ (due : Due). Answers {T = T} due a e (Err fault)) (sym (due_then xs number h d inside)) (fault_between h.said _ _ a b e fault h.written q)
+pub heard_fault : {c : Course} (xs : List (Side × ℕ × ℕ)) (number : ℕ) {room : Held} {a b : Option (List ℕ)} (h : Heard c xs number room a b) (d : Side × ℕ × ℕ) (e : Option (List ℕ)) (fault : ToolFault)
+    → number < length xs → Answers {T = Unit {0}} (only (told h.course (get_or xs number d))) b e (Err fault) → Answers {T = Unit {0}} (replies_due c xs) a e (Err fault)
+heard_fault xs number {a = a} {b = b} h d e fault inside q =
+    subst (λ (due : Due). Answers {T = Unit {0}} due a e (Err fault)) (sym (due_then xs number h d inside)) (fault_between h.said _ _ a b e fault h.written q)
 
-pub heard_all : (T : Type 0) {c : Course} (x : T) (xs : List (Side × ℕ × ℕ)) (number : ℕ) {room : Held} {a b : Option (List ℕ)} (h : Heard c xs number room a b) → length xs ≤ number
+pub heard_all : {c : Course} (x : Unit {0}) (xs : List (Side × ℕ × ℕ)) (number : ℕ) {room : Held} {a b : Option (List ℕ)} (h : Heard c xs number room a b) → length xs ≤ number
     → Answers (replies_due c xs) a b (Ok x)
 unfolding replies_due
-heard_all T x xs number {a = a} {b = b} h end =
+heard_all x xs number {a = a} {b = b} h end =
     let due = h.goes_on ∙ ap (λ (l : List (Side × ℕ × ℕ)). after h.said (replies_due h.course l)) (drop_of_length-le xs end) in
     subst (λ (d : Due). Answers d a b (Ok x)) (sym due) (refl, subst (λ (l : List ℕ). Appends a b l) (sym (append-nil h.said)) h.written)
 
@@ -93,7 +100,7 @@ front_behind text due a b e p q = record {
   written = Appends-trans a b e text q.front p q.written;
 }
 
-fault_behind : {T : Type 0} (text : List ℕ) (due : Due) (a b e : Option (List ℕ)) (fault : ToolFault) → Appends a b text → Answers {T = T} due b e (Err fault) → Answers {T = T} (after text due) a e (Err fault)
+fault_behind : (text : List ℕ) (due : Due) (a b e : Option (List ℕ)) (fault : ToolFault) → Appends a b text → Answers {T = Unit {0}} due b e (Err fault) → Answers {T = Unit {0}} (after text due) a e (Err fault)
 fault_behind text due a b e Read p q = front_behind text due a b e p q
 fault_behind text due a b e Write p q = front_behind text due a b e p q
 fault_behind text due a b e Memory p q = front_behind text due a b e p q
@@ -104,6 +111,6 @@ fault_behind text due a b e (Pair number refusal) p q = (q.0, Appends-trans a b 
 fault_behind text due a b e (Log number) p q = (q.0, Appends-trans a b e text due.text p q.1)
 fault_behind text due a b e Calc p q = (q.0, Appends-trans a b e text due.text p q.1)
 
-pub answers_behind : {T : Type 0} (text : List ℕ) (due : Due) (a b e : Option (List ℕ)) (result : Result T ToolFault) → Appends a b text → Answers due b e result → Answers (after text due) a e result
+pub answers_behind : (text : List ℕ) (due : Due) (a b e : Option (List ℕ)) (result : Result (Unit {0}) ToolFault) → Appends a b text → Answers due b e result → Answers (after text due) a e result
 answers_behind text due a b e (Ok x) p q = (q.0, Appends-trans a b e text due.text p q.1)
 answers_behind text due a b e (Err fault) p q = fault_behind text due a b e fault p q

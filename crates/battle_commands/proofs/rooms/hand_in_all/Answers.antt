@@ -10,7 +10,7 @@ pub returns-in-Err-clause-answers : goal.returns-in-Err-clause-answers
 returns-in-Err-clause-answers g c d h =
     let r = c.loop-submission.invariant.1 d h in
     let inside : c.loop-submission.submission-index < length c.args.submissions.now = omega arith in
-    heard_fault (Unit {0}) c.args.submissions.now c.loop-submission.submission-index r _ c.in-Err.fault inside (c.in-Err.ensures.answers r.course r.holds)
+    heard_fault c.args.submissions.now c.loop-submission.submission-index r _ _ c.in-Err.fault inside (c.in-Err.ensures.answers r.course r.holds)
 
 pub loop-submission-preserved : goal.loop-submission-preserved
 loop-submission-preserved g c = (
@@ -22,4 +22,4 @@ loop-submission-preserved g c = (
 )
 
 pub returns-clause-answers : goal.returns-clause-answers
-returns-clause-answers g c d h = heard_all (Unit {0}) tt c.args.submissions.now c.loop-submission.submission-index (c.loop-submission.invariant.1 d h) (omega arith)
+returns-clause-answers g c d h = heard_all tt c.args.submissions.now c.loop-submission.submission-index (c.loop-submission.invariant.1 d h) (omega arith)
