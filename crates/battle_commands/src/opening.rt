@@ -21,7 +21,11 @@ pub struct Bout<T> {
 
 /// The battle that an input asks for, with the list under a key.
 #[tactic(auto, unfolding(crate::specs::Asked::asked_of))]
-pub fn open_bout<T: Item + Drop>(alloc: Global, input: &[u8], key: &str) -> Result<Bout<T>, ToolFault>
+pub fn open_bout<T: Item + Drop>(
+    alloc: Global,
+    input: &[u8],
+    key: &str,
+) -> Result<Bout<T>, ToolFault>
     requires { length input.now ≤ INPUT_LIMIT }
     ensures { Opens result (asked_of key.now T.meaning input.now) }
 {
