@@ -1,10 +1,16 @@
 -- What is answered for an input: where nothing is printed, and where its battle is played.
-use Rattle.std.proofs.Common.{◌≡◌, ◌||◌, ℕ, ◌<◌, Bool, true, false, List, [], length, Option, Some, None, Result, Ok, Err, IfSome, refl, sym, subst, ap, ◌∙◌, rules}
+use Rattle.std.proofs.Common.{◌≡◌, ◌||◌, ℕ, ◌<◌, ◌≤◌, Bool, true, false, nat_lt, option_and_then, List, [], length, Option, Some, None, Result, Ok, Err, IfSome, refl, sym, subst, ap, ◌∙◌, rules}
 use Rattle.std.proofs.KnownBytes.{Appends-nil}
 use Rattle.serde_json.specs.Data.{Data}
-use Rattle.gen1_machine.specs.State.{State}
+use Rattle.gen1_machine.specs.State.{State, Terms, first_state}
 use Rattle.battle_commands.specs.Answers.{Answers, is_write_fault}
-use Rattle.battle_commands.specs.Asked.{Asked, asked_of, input_limit}
+use Rattle.gen1_stats.specs.Members.{Member}
+use Rattle.gen1_stats.specs.Sheets.{Sheet as MemberSheet}
+use Rattle.gen1_stats.specs.Teams.{team_of, team_refusal}
+use Rattle.gen1_layout.specs.Parts.{Parts}
+use Rattle.gen1_layout.specs.Within.{Stands}
+use Rattle.battle_input.specs.Sheets.{BattleData, json_of, sheet_of}
+use Rattle.battle_commands.specs.Asked.{Asked, asked_of, begins, input_limit}
 use Rattle.battle_commands.specs.Due.{Due, due_if, refused}
 use Rattle.battle_commands.specs.Opening.{IsAskedFault}
 use Rattle.battle_commands.specs.declared.fault.ToolFault.{ToolFault}
@@ -21,43 +27,58 @@ some_all (Some x) P f = f x
 
 -- whatever was due, nothing of it was written
 
-pub answers_unread : {T : Type 0} (due : Due) (old : Option (List ℕ)) → Answers {T = T} due old old (Err Read)
+pub answers_unread : (due : Due) (old : Option (List ℕ)) → Answers {T = Unit {0}} due old old (Err Read)
 answers_unread due old = record { front = []; rest = due.text; split = refl; written = Appends-nil old }
 
-pub answers_unheld : {T : Type 0} (due : Due) (old : Option (List ℕ)) → Answers {T = T} due old old (Err Memory)
+pub answers_unheld : (due : Due) (old : Option (List ℕ)) → Answers {T = Unit {0}} due old old (Err Memory)
 answers_unheld due old = record { front = []; rest = due.text; split = refl; written = Appends-nil old }
 
 too_long : {A : Type 0} (key : List ℕ) (meaning : Data → Option A) (input : List ℕ) → input_limit < length input → asked_of key meaning input ≡ Err TooLong
 unfolding asked_of
 too_long key meaning input h = search rules
 
-pub answers_too_long : {T A : Type 0} (due : State → List A → Due) (key : List ℕ) (meaning : Data → Option A) (input : List ℕ) (old : Option (List ℕ)) → input_limit < length input
-    → Answers {T = T} (due_if due (asked_of key meaning input)) old old (Err TooLong)
-answers_too_long {T = T} due key meaning input old h =
-    subst (λ (d : Due). Answers {T = T} d old old (Err TooLong)) (sym (ap (due_if due) (too_long key meaning input h))) (refl, Appends-nil old)
+pub answers_too_long : {A : Type 0} (due : State → List A → Due) (key : List ℕ) (meaning : Data → Option A) (input : List ℕ) (old : Option (List ℕ)) → input_limit < length input
+    → Answers {T = Unit {0}} (due_if due (asked_of key meaning input)) old old (Err TooLong)
+answers_too_long due key meaning input old h =
+    subst (λ (d : Due). Answers {T = Unit {0}} d old old (Err TooLong)) (sym (ap (due_if due) (too_long key meaning input h))) (refl, Appends-nil old)
+
+-- a battle is asked for where neither team is refused
+pub asks_for : {A : Type 0} (key : List ℕ) (meaning : Data → Option A) (input : List ℕ) (sheet : BattleData × List A) → length input ≤ input_limit
+    → option_and_then (sheet_of key meaning) (json_of input) ≡ Some sheet → team_refusal sheet.0.one ≡ None → team_refusal sheet.0.two ≡ None
+    → asked_of key meaning input ≡ Ok (record { state = begins sheet.0; items = sheet.1 })
+unfolding asked_of
+asks_for key meaning input sheet fits is one two =
+    let short : nat_lt input_limit (length input) ≡ false = search rules in
+    rw (short, is, one, two) refl
+
+-- and begins with the two teams
+pub stands_begun : (p : Parts) (t : Terms) (seed : List ℕ) (one two : List Member) (a b : List MemberSheet) → one ≡ team_of a → two ≡ team_of b
+    → Stands p (first_state t one two seed) → Stands p (first_state t (team_of a) (team_of b) seed)
+stands_begun p t seed one two a b e f h =
+    subst (λ (x : List Member). Stands p (first_state t x (team_of b) seed)) e (subst (λ (y : List Member). Stands p (first_state t one y seed)) f h)
 
 -- no battle was opened
 
-unopened : {T A : Type 0} (due : State → List A → Due) (fault : ToolFault) (asked : Result (Asked A) ToolFault) (old : Option (List ℕ)) → IsAskedFault fault asked
-    → Answers {T = T} (due_if due asked) old old (Err fault)
+unopened : {A : Type 0} (due : State → List A → Due) (fault : ToolFault) (asked : Result (Asked A) ToolFault) (old : Option (List ℕ)) → IsAskedFault fault asked
+    → Answers {T = Unit {0}} (due_if due asked) old old (Err fault)
 unopened due Memory asked old h = answers_unheld (due_if due asked) old
 unopened due Read asked old h = absurd h
 unopened due Write asked old h = absurd h
-unopened {T = T} due Json asked old h = subst (λ (d : Due). Answers {T = T} d old old (Err Json)) (sym (ap (due_if due) h)) (refl, Appends-nil old)
-unopened {T = T} due TooLong asked old h = subst (λ (d : Due). Answers {T = T} d old old (Err TooLong)) (sym (ap (due_if due) h)) (refl, Appends-nil old)
-unopened {T = T} due (Team side place refusal) asked old h =
-    subst (λ (d : Due). Answers {T = T} d old old (Err (Team side place refusal))) (sym (ap (due_if due) h)) (refl, Appends-nil old)
-unopened {T = T} due (Pair number refusal) asked old h =
-    subst (λ (d : Due). Answers {T = T} d old old (Err (Pair number refusal))) (sym (ap (due_if due) h)) (refl, Appends-nil old)
-unopened {T = T} due (Log number) asked old h = subst (λ (d : Due). Answers {T = T} d old old (Err (Log number))) (sym (ap (due_if due) h)) (refl, Appends-nil old)
-unopened {T = T} due Calc asked old h = subst (λ (d : Due). Answers {T = T} d old old (Err Calc)) (sym (ap (due_if due) h)) (refl, Appends-nil old)
+unopened due Json asked old h = subst (λ (d : Due). Answers {T = Unit {0}} d old old (Err Json)) (sym (ap (due_if due) h)) (refl, Appends-nil old)
+unopened due TooLong asked old h = subst (λ (d : Due). Answers {T = Unit {0}} d old old (Err TooLong)) (sym (ap (due_if due) h)) (refl, Appends-nil old)
+unopened due (Team side place refusal) asked old h =
+    subst (λ (d : Due). Answers {T = Unit {0}} d old old (Err (Team side place refusal))) (sym (ap (due_if due) h)) (refl, Appends-nil old)
+unopened due (Pair number refusal) asked old h =
+    subst (λ (d : Due). Answers {T = Unit {0}} d old old (Err (Pair number refusal))) (sym (ap (due_if due) h)) (refl, Appends-nil old)
+unopened due (Log number) asked old h = subst (λ (d : Due). Answers {T = Unit {0}} d old old (Err (Log number))) (sym (ap (due_if due) h)) (refl, Appends-nil old)
+unopened due Calc asked old h = subst (λ (d : Due). Answers {T = Unit {0}} d old old (Err Calc)) (sym (ap (due_if due) h)) (refl, Appends-nil old)
 
 -- for the bytes that were read
-pub answers_unopened : {T A : Type 0} (due : State → List A → Due) (asked : List ℕ → Result (Asked A) ToolFault) (fault : ToolFault) (told : Option (List ℕ)) (items slice : List ℕ) (old : Option (List ℕ))
-    → slice ≡ items → IsAskedFault fault (asked slice) → IfSome told (λ input. items ≡ input) → IfSome told (λ input. Answers {T = T} (due_if due (asked input)) old old (Err fault))
-answers_unopened {T = T} due asked fault told items slice old lent opens read =
-    some_along told (λ input. items ≡ input) (λ input. Answers {T = T} (due_if due (asked input)) old old (Err fault))
-    (λ input same. unopened {T = T} due fault (asked input) old (subst (λ bytes. IsAskedFault fault (asked bytes)) (lent ∙ same) opens)) read
+pub answers_unopened : {A : Type 0} (due : State → List A → Due) (asked : List ℕ → Result (Asked A) ToolFault) (fault : ToolFault) (told : Option (List ℕ)) (items slice : List ℕ) (old : Option (List ℕ))
+    → slice ≡ items → IsAskedFault fault (asked slice) → IfSome told (λ input. items ≡ input) → IfSome told (λ input. Answers {T = Unit {0}} (due_if due (asked input)) old old (Err fault))
+answers_unopened due asked fault told items slice old lent opens read =
+    some_along told (λ input. items ≡ input) (λ input. Answers {T = Unit {0}} (due_if due (asked input)) old old (Err fault))
+    (λ input same. unopened due fault (asked input) old (subst (λ bytes. IsAskedFault fault (asked bytes)) (lent ∙ same) opens)) read
 
 -- what is asked for was done
 pub answers_opened : {T A : Type 0} (due : State → List A → Due) (asked : List ℕ → Result (Asked A) ToolFault) (x : Asked A) (told : Option (List ℕ)) (items slice : List ℕ) (old new : Option (List ℕ)) (result : Result T ToolFault)

@@ -15,7 +15,7 @@ IsAskedFault fault asked = asked ≡ Err fault
 
 -- the battle stands for the state that was asked for, with what is done in it
 abbrev pub Opens : {A : Type 0} → Result (Bout A) ToolFault → Result (Asked A) ToolFault → Type 0
-Opens (Ok bout) asked = (x : Asked A) × (asked ≡ Ok x) × Stands bout.battle x.state × (bout.items.items ≡ x.items)
+Opens {A = A} (Ok bout) asked = (x : Asked A) × (asked ≡ Ok x) × Stands bout.battle x.state × (bout.items.items ≡ x.items)
 Opens (Err fault) asked = IsAskedFault fault asked
 
 -- likewise for damage numbers

@@ -21,7 +21,11 @@ pub struct Bout<T> {
 
 /// The battle that an input asks for, with the list under a key.
 #[tactic(auto, unfolding(crate::specs::Asked::asked_of))]
-pub fn open_bout<T: Item + Drop>(alloc: Global, input: &[u8], key: &str) -> Result<Bout<T>, ToolFault>
+pub fn open_bout<T: Item + Drop>(
+    alloc: Global,
+    input: &[u8],
+    key: &str,
+) -> Result<Bout<T>, ToolFault>
     requires { length input.now ≤ INPUT_LIMIT }
     ensures { Opens result (asked_of key.now T.meaning input.now) }
 {
@@ -30,23 +34,16 @@ pub fn open_bout<T: Item + Drop>(alloc: Global, input: &[u8], key: &str) -> Resu
         Err(SheetFault::Shape) => return Err(ToolFault::Json),
         Err(SheetFault::Memory) => return Err(ToolFault::Memory),
     };
-    let one = match Team::new(sheet.battle.one.as_slice()) {
+    let asked = sheet.battle;
+    let items = sheet.items;
+    let one = match Team::new(asked.one.as_slice()) {
         Ok(team) => team,
         Err(refusal) => return Err(ToolFault::of_team(1, refusal)),
     };
-    let two = match Team::new(sheet.battle.two.as_slice()) {
+    let two = match Team::new(asked.two.as_slice()) {
         Ok(team) => team,
         Err(refusal) => return Err(ToolFault::of_team(2, refusal)),
     };
-    let battle = Battle::with_limit(
-        &one,
-        &two,
-        sheet.battle.seed,
-        sheet.battle.rules,
-        sheet.battle.limit,
-    );
-    Ok(Bout {
-        battle,
-        items: sheet.items,
-    })
+    let battle = Battle::with_limit(&one, &two, asked.seed, asked.rules, asked.limit);
+    Ok(Bout { battle, items })
 }

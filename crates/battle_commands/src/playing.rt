@@ -41,12 +41,7 @@ pub fn play<A: AllocGlobal, R: Source, W: Sink>(
         Ok(bout) => bout,
         Err(fault) => return Err(fault),
     };
-    play_pairs(
-        rt.alloc(),
-        &mut bout.battle,
-        bout.items.as_slice(),
-        writer,
-    )
+    play_pairs(rt.alloc(), &mut bout.battle, bout.items.as_slice(), writer)
 }
 
 /// Plays pairs, and sends the lines of each.

@@ -98,12 +98,7 @@ fn hand_in<W: Sink>(
 }
 
 /// Sends a text, and the lines of a log behind it.
-fn send_lines<W: Sink>(
-    alloc: Global,
-    text: &str,
-    log: &[u8],
-    sink: &mut W,
-) -> Result<(), ToolFault>
+fn send_lines<W: Sink>(alloc: Global, text: &str, log: &[u8], sink: &mut W) -> Result<(), ToolFault>
     ensures answers { (events : List Told) → IsReading log.now events
         → Answers (only (text.now ++ lines events)) (W.contents sink.old) (W.contents sink.new) result }
     ensures write { W.has_failed sink.new ≡ (W.has_failed sink.old || is_write_fault result) }

@@ -38,7 +38,7 @@ fn play<W: Write>(alloc: Global, sheet: &Sheet<(u8, u8)>, out: &mut W) -> Result
     let mut battle = Battle::with_limit(&one, &two, asked.seed, asked.rules, asked.limit);
     let mut log = LogBuf::new();
     for (first, second) in &sheet.items {
-        let before = battle.clone();
+        let before = battle.clone()?;
         log.clear();
         match battle.update_by_bytes(*first, *second, &mut log) {
             Ok(result) => write_result(result, out)?,
@@ -59,10 +59,10 @@ fn play<W: Write>(alloc: Global, sheet: &Sheet<(u8, u8)>, out: &mut W) -> Result
 }
 
 /// The codes of docs/LAYOUT.md: of the outcome, and of what each side is asked.
-fn write_result<W: Write>(result: BattleResult, out: &mut W) -> Result<()> {
-    let outcome = outcome_code(result.outcome);
-    let one = request_code(result.request_one);
-    let two = request_code(result.request_two);
+fn write_result<W: Write>(now: BattleResult, out: &mut W) -> Result<()> {
+    let outcome = outcome_code(now.outcome);
+    let one = request_code(now.request_one);
+    let two = request_code(now.request_two);
     write!(out, "- {outcome},{one},{two}")?;
     Ok(())
 }

@@ -28,7 +28,7 @@ returns-in-Err-send-clause-answers g c s h =
     let t = step_by_bytes r.state (get_or c.args.pairs.now c.loop-number.number (0, 0)) in
     let u = answered_ok t.answer t.state _ _ _ _ _ (c.in-Ok.ensures.answers r.state r.stands) (c.in-Ok.ensures.tells r.state r.stands) in
     let inside : c.loop-number.number < length c.args.pairs.now = omega arith in
-    answers_write (Unit {0}) c.args.pairs.now c.loop-number.number r c.in-Ok.new.items inside u.0
+    answers_write (Unit {0}) c.args.pairs.now c.loop-number.number r _ inside u.0
     (rw (c.as_slice-in-loop-number.ensures.value, c.in-Ok-text_of.ensures, c.as_slice.ensures.value) at c.in-Err-send.ensures.front)
 
 pub loop-number-preserved : goal.loop-number-preserved
