@@ -22,7 +22,7 @@ fn byte(bytes: &[u8], at: usize) -> u8 {
 }
 
 fn number(bytes: &[u8], at: usize) -> u16 {
-    u16::from_le_bytes([byte(bytes, at), byte(bytes, at + 1)])
+    u16::from_le_bytes([byte(bytes, at), byte(bytes, at.saturating_add(1))])
 }
 
 fn kind(status: u8) -> Option<Kind> {
@@ -67,7 +67,7 @@ fn shows_stages(view: &View, side: Side, bytes: &[u8]) -> bool {
         Stat::Evasion,
     ];
     for (index, stat) in stats.into_iter().enumerate() {
-        if view.stage(side, stat) + 6 != byte(bytes, ACTIVE + 3 + index) as i8 {
+        if view.stage(side, stat).saturating_add(6) != byte(bytes, ACTIVE + 3 + index) as i8 {
             return false;
         }
     }
