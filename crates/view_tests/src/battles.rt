@@ -67,7 +67,8 @@ fn shows_stages(view: &View, side: Side, bytes: &[u8]) -> bool {
         Stat::Evasion,
     ];
     for (index, stat) in stats.into_iter().enumerate() {
-        if view.stage(side, stat).saturating_add(6) != byte(bytes, ACTIVE + 3 + index) as i8 {
+        let stage = i16::from(view.stage(side, stat)).saturating_add(6);
+        if stage != i16::from(byte(bytes, ACTIVE + 3 + index)) {
             return false;
         }
     }
