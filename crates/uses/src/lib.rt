@@ -1,5 +1,5 @@
-//! What callers of the libraries write, whole and proved: each CALLING.md shows a part of a file of this crate.
+//! What callers of the libraries write, whole and proved: each CALLING.md shows parts of these files.
 #![tactic(auto)]
 
-mod calculator;
-mod player;
+pub mod calculator;
+pub mod player;

@@ -1,0 +1,4 @@
+-- While a battle goes on, something is offered to each side.
+pub mod Offers
+-- Pairs that were accepted, one after the other.
+pub mod Accepting
