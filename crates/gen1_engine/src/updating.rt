@@ -39,18 +39,22 @@ pub(crate) fn update(
     }
 }
 
-// An update, of which the events are left.
-pub(crate) fn update_events(
+/// An update by a choice of each side, whose events are left in the list, and nothing else. Whatever the bytes are, there is an
+/// answer, and nothing but bytes and list is written; wherever they stand for a valid state it is the machine's.
+///
+/// # Errors
+///
+/// The first that applies: the battle is over, or side 1's choice was not offered, or side 2's. Bytes and list stay as they are.
+pub fn update_events(
     battle: &mut Packed,
     one: Choice,
     two: Choice,
     events: &mut EventList,
 ) -> Result<BattleResult, Refusal>
-    requires valid { StandsForSome battle.old }
     ensures answers { (s : State) → Stands battle.old s → Answers s one two battle.old battle.new result }
     ensures tells { (s : State) → Stands battle.old s → Tells s one two events.old events.new }
-    ensures short { IsOk result → length (codes_of events.new.items) ≤ 512 }
-    ensures valid { StandsForSome battle.new }
+    ensures short { StandsForSome battle.old → IsOk result → length (codes_of events.new.items) ≤ 512 }
+    ensures valid { StandsForSome battle.old → StandsForSome battle.new }
 {
     if is_over(battle) {
         return Err(Refusal::Over);
@@ -66,7 +70,8 @@ pub(crate) fn update_events(
     Ok(result(battle))
 }
 
-pub(crate) fn result(battle: &Packed) -> BattleResult
+/// How a battle stands, and what is asked of each side.
+pub fn result(battle: &Packed) -> BattleResult
     ensures { (s : State) → Stands battle.now s → result ≡ result_of s }
 {
     BattleResult {

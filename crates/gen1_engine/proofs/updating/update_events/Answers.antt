@@ -42,11 +42,9 @@ pub returns : goal.returns
 returns c =
     let o : (s : State) → Stands c.args.battle.now s → AreOffered s c.args.one c.args.two =
     λ s h. record { first = sym (c.offers.ensures s h) ∙ c.if-not-offers.false; second = sym (c.offers-2.ensures s h) ∙ c.if-not-offers-2.false } in
-    let m = c.requires.valid in
-    let steps = c.play.ensures m.state m.stands (o m.state m.stands) in
     record {
       answers = λ s h. let t = c.play.ensures s h (o s h) in answers_accepted c.args.battle.now c.result.result t (c.result.ensures (step s c.args.one c.args.two).state t.stands);
       tells = λ s h. tells_accepted c.args.events.now c.play.new.events (c.play.ensures s h (o s h));
-      short = λ is. short steps;
-      valid = record { state = (step m.state c.args.one c.args.two).state; stands = steps.stands };
+      short = λ m is. short (c.play.ensures m.state m.stands (o m.state m.stands));
+      valid = λ m. record { state = (step m.state c.args.one c.args.two).state; stands = (c.play.ensures m.state m.stands (o m.state m.stands)).stands };
     }
