@@ -39,7 +39,7 @@ same_number n = by (eqb_tells n n)
     by (inl h) = h.0
     by (inr h) = absurd (h.1 refl)
 
-other_number : (n k : ℕ) → n ≢ k → (n == k) ≡ false
+pub other_number : (n k : ℕ) → n ≢ k → (n == k) ≡ false
 other_number n k apart = by (eqb_tells n k)
   where
     by : (((n == k) ≡ true) × (n ≡ k)) ⊎ (((n == k) ≡ false) × (n ≢ k)) → (n == k) ≡ false

@@ -1,12 +1,12 @@
 -- Whether a choice is among those that are offered, without their list.
-use Rattle.std.proofs.Common.{Bool, List, [], arith, false, length, nat_lt, not, refl, sym, true, ℕ, ◌&&◌, ◌==◌, ◌≡◌, ◌≤◌, ◌∙◌, ◌∷◌}
+use Rattle.std.proofs.Common.{Bool, List, [], false, if◌then◌else◌, length, nat_lt, not, refl, sym, true, ℕ, ◌&&◌, ◌++◌, ◌==◌, ◌≡◌, ◌≤◌, ◌∙◌, ◌∷◌}
 use Rattle.gen1_layout.specs.Words.{Field, Side, active_in, conditions_in, is_living, known_in, member_at, member_in, party, underway_in}
 use Rattle.gen1_machine.specs.declared.choice.Choice.{Choice}
 use Rattle.gen1_machine.specs.declared.choice.Choice.TheVariants as choices
 use Rattle.gen1_machine.specs.declared.terms.Request.TheVariants as requests
-use Rattle.gen1_machine.specs.OfferedChoices.{bars_slot, has_no_slot_in, is_committed, offered_for, or_struggle, switches_offered, usable_from}
+use Rattle.gen1_machine.specs.OfferedChoices.{bars_slot, has_no_slot_in, is_committed, moves_offered, offered_for, or_struggle, switches_offered, usable_from}
 use Rattle.gen1_machine.specs.Step.{is_among}
-use Rattle.gen1_requests.proofs.OfferedSet.{in_moves, in_switches, no_move, no_switch, or_no, others-at, usable-behind, usable_slot}
+use Rattle.gen1_requests.proofs.OfferedSet.{in_moves, in_switches, no_move, no_switch, or_no, other_number, others-at, usable-behind, usable_slot}
 
 -- where a switch is asked
 
@@ -23,11 +23,11 @@ switch_offered s f place low = others-at (active_in s f).place place (party s f)
 -- where a move is asked, by what leaves no choice, and no slot
 
 pub no_pass_to_move : (s : Side) (f : Field) → is_among choices.Pass (offered_for requests.Move s f) ≡ false
-no_pass_to_move s f = by (is_committed (underway_in s f)) (in_moves choices.Pass s f (no_switch choices.Pass (λ k. refl) s f) ∙ no_move choices.Pass (λ k. refl) s f)
+no_pass_to_move s f = by (is_committed (underway_in s f)) (moves_offered s f ++ switches_offered s f) (in_moves choices.Pass s f (no_switch choices.Pass (λ k. refl) s f) ∙ no_move choices.Pass (λ k. refl) s f)
   where
-    by : (b : Bool) {l : List Choice} → is_among choices.Pass l ≡ false → is_among choices.Pass (if b then choices.Move 0 ∷ [] else l) ≡ false
-    by true h = refl
-    by false h = h
+    by : (b : Bool) (l : List Choice) → is_among choices.Pass l ≡ false → is_among choices.Pass (if b then choices.Move 0 ∷ [] else l) ≡ false
+    by true l h = refl
+    by false l h = h
 
 pub stays_in : (s : Side) (f : Field) (place : ℕ) → is_committed (underway_in s f) ≡ true → is_among (choices.Switch place) (offered_for requests.Move s f) ≡ false
 stays_in s f place e = rw e refl
@@ -52,7 +52,7 @@ slot_zero s f e h =
   where
     by : (l : List Choice) → is_among (choices.Move 0) l ≡ false → is_among (choices.Move 0) (or_struggle l) ≡ (length l == 0)
     by [] h = refl
-    by (c ∷ l) h = h
+    by (c ∷ l) h = h ∙ sym (other_number (length (c ∷ l)) 0 (λ e. cc))
 
 pub slot_above : (s : Side) (f : Field) (slot : ℕ) → is_committed (underway_in s f) ≡ false → has_no_slot_in s f ≡ false → 1 ≤ slot
     → is_among (choices.Move slot) (offered_for requests.Move s f)
