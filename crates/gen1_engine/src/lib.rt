@@ -5,6 +5,7 @@
 mod battle;
 pub mod laws;
 mod logging;
+pub mod packed;
 mod replaying;
 mod result;
 mod updating;

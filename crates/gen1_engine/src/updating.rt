@@ -2,7 +2,6 @@
 ghost use Rattle.std.specs.Prelude.{IsOk, [], length, ◌≡◌, ◌≤◌};
 ghost use Rattle.gen1_machine.specs.Code.{codes_of};
 ghost use Rattle.gen1_machine.specs.State.{State, is_over};
-ghost use Rattle.gen1_machine.specs.Step.{is_among, offers, same_choice};
 ghost use Rattle.gen1_machine.specs.declared.terms.Request.TheVariants.{Move};
 ghost use Rattle.gen1_layout.specs.Within.{Stands};
 ghost use Rattle.gen1_layout.specs.ReadingMeaning.{StandsForSome};
@@ -14,7 +13,7 @@ use crate::result::{BattleResult, Refusal};
 use gen1_events::LogBuf;
 use gen1_layout::Packed;
 use gen1_machine::{Choice, EventList, Outcome, Request, Side};
-use gen1_requests::{offered, replace, start};
+use gen1_requests::{is_offered, replace, start};
 use gen1_turn::turn;
 
 // An update, of which the events and the log are both left, in lists that are lent.
@@ -39,26 +38,30 @@ pub(crate) fn update(
     }
 }
 
-// An update, of which the events are left.
-pub(crate) fn update_events(
+/// An update by a choice of each side, whose events are left in the list, and nothing else. Whatever the bytes are, there is an
+/// answer, and nothing but bytes and list is written; wherever they stand for a valid state it is the machine's.
+///
+/// # Errors
+///
+/// The first that applies: the battle is over, or side 1's choice was not offered, or side 2's. Bytes and list stay as they are.
+pub fn update_events(
     battle: &mut Packed,
     one: Choice,
     two: Choice,
     events: &mut EventList,
 ) -> Result<BattleResult, Refusal>
-    requires valid { StandsForSome battle.old }
     ensures answers { (s : State) → Stands battle.old s → Answers s one two battle.old battle.new result }
     ensures tells { (s : State) → Stands battle.old s → Tells s one two events.old events.new }
-    ensures short { IsOk result → length (codes_of events.new.items) ≤ 512 }
-    ensures valid { StandsForSome battle.new }
+    ensures short { StandsForSome battle.old → IsOk result → length (codes_of events.new.items) ≤ 512 }
+    ensures valid { StandsForSome battle.old → StandsForSome battle.new }
 {
     if is_over(battle) {
         return Err(Refusal::Over);
     }
-    if !offers(battle, Side::One, &one) {
+    if !is_offered(battle, Side::One, &one) {
         return Err(Refusal::NotOffered(Side::One));
     }
-    if !offers(battle, Side::Two, &two) {
+    if !is_offered(battle, Side::Two, &two) {
         return Err(Refusal::NotOffered(Side::Two));
     }
     events.clear();
@@ -66,7 +69,8 @@ pub(crate) fn update_events(
     Ok(result(battle))
 }
 
-pub(crate) fn result(battle: &Packed) -> BattleResult
+/// How a battle stands, and what is asked of each side.
+pub fn result(battle: &Packed) -> BattleResult
     ensures { (s : State) → Stands battle.now s → result ≡ result_of s }
 {
     BattleResult {
@@ -82,39 +86,6 @@ pub(crate) fn is_over(battle: &Packed) -> bool
     match battle.outcome() {
         Outcome::Ongoing => false,
         _ => true,
-    }
-}
-
-pub(crate) fn offers(battle: &Packed, side: Side, choice: &Choice) -> bool
-    ensures { (s : State) → Stands battle.now s → result ≡ offers s side choice.now }
-{
-    is_among(choice, offered(battle, side).as_slice())
-}
-
-fn is_among(choice: &Choice, choices: &[Choice]) -> bool
-    ensures { result ≡ is_among choice.now choices.now }
-{
-    for one in choices {
-        if is_same(choice, one) {
-            return true;
-        }
-    }
-    false
-}
-
-fn is_same(one: &Choice, two: &Choice) -> bool
-    ensures { result ≡ same_choice one.now two.now }
-{
-    match one {
-        Choice::Pass => matches!(two, Choice::Pass),
-        Choice::Move(slot) => match two {
-            Choice::Move(other) => slot.number() == other.number(),
-            _ => false,
-        },
-        Choice::Switch(place) => match two {
-            Choice::Switch(other) => place.number() == other.number(),
-            _ => false,
-        },
     }
 }
 

@@ -1,13 +1,13 @@
 -- A `Packed` in memory is its 384 bytes side by side, and back.
 use mathlib.Core.List.{List, [], ◌∷◌}
-use mathlib.Core.Path.{◌≡◌, refl, sym}
+use mathlib.Core.Path.{◌≡◌, ap, refl, sym}
 use Prim.Native.Nat.{zero, ℕ, ◌+◌}
 use lib.ListN.{length}
 use seplogic.Ra.Ura.{Ura}
 use mir.Syntax.{Ty, ty_array, ty_int, ty_struct, w8}
 use base.Fml.{Fml, feq, fsep, ftrue}
 use base.Fraction.{full_share}
-use base.Logic.{SProp, ent, ex, ex_i, sep, via}
+use base.Logic.{SProp, emp, ent, ex, ex_i, sep, via}
 use prog.Memory.{align, up}
 use types.Kit.{ !, done, drop, feq_i, feq_l, fjoin, fsplit, move, pick, qed, raw, rewrite, some, split, use1, use2, by, ‵, ◌$◌, ◌∵◌, ◌⊛◌}
 use types.Logic.{Logic, sem}
@@ -17,7 +17,8 @@ use denote.ArrayMemory.{Array-apart, Array-whole}
 use denote.Builtin.{u8}
 use denote.Index.{row, whole_in, whole_out}
 use denote.Memory.{mem, part_at}
-use denote.Model.Fields.{Plain-in, plain_out, view_made, view_owns}
+use denote.Model.Fields.{OwnsFields, Plain-in, plain_out}
+use denote.Model.Fixed.{fixed_owns}
 use denote.RattleType.{RattleType}
 use denote.Steps.{nothing}
 use denote.Struct.Declared.{shape}
@@ -25,6 +26,7 @@ use denote.Struct.Members.{Member, raw_tys}
 use denote.Struct.Parts.{Struct-left, left_Struct, shape_of}
 use denote.Struct.Recorded.{Recorded-part}
 use denote.Struct.Struct.{Struct}
+use Rattle.gen1_layout.specs.Joined.{joined-parts}
 use Rattle.gen1_layout.specs.Parts.{Parts, parts_of}
 use Rattle.gen1_layout.specs.contracts.packed.Packed as whole
 use Rattle.gen1_layout.specs.contracts.packed.Packed.TheInside as inside
@@ -55,6 +57,12 @@ as_tuple v b o = let D = inside.the_type in Recorded-part (Struct (shape D)) D.D
 
 abbrev Viewed : Parts → Inner.Denot → Type 0
 Viewed d a = (parts_of a.0 ≡ d) × (length a.0 ≡ 384)
+
+-- to own a battle is to own its field
+abbrev Owned : OwnsFields Row Inner
+Owned =
+    fixed_owns Inner Parts Row.coded whole.the_inverse whole.the_view whole.the_invariant
+    (λ a long. ap (λ (xs : List ℕ). record { 0 = xs }) (joined-parts a.0 long))
 
 module _ {M : Type 1} {𝓤 : Ura M} (𝓛 : Logic 𝓤) (b o : ℕ) where
   open 𝓛 use {H}
@@ -93,7 +101,7 @@ module _ {M : Type 1} {𝓤 : Ura M} (𝓛 : Logic 𝓤) (b o : ℕ) where
   bytes_out d =
       qed 𝓛 (‵ (part_at Row full_share d b o) ∷ []) ∵
       use1 𝓛 (some (λ (x : (a : Inner.Denot) × Viewed d a). ‵ (part_at Inner full_share x.0 b o)))
-      (plain_out Row Inner (view_owns Inner Parts Row.coded whole.the_view whole.the_invariant) 𝓛 full_share d b o) $
+      (plain_out Row Inner Owned 𝓛 full_share d b o) $
       pick ! (λ x. use1 𝓛 (‵ (cells (mem u8) x.0.0 b (start o)) ⊛ raw Left) (elements_out x.0) $
       by ! (ex_i 𝓤 (λ (x : (a : Inner.Denot) × Viewed d a). sep 𝓤 (sem 𝓛 (cells (mem u8) x.0.0 b (start o))) Left) x))
 
@@ -102,5 +110,4 @@ module _ {M : Type 1} {𝓤 : Ura M} (𝓛 : Logic 𝓤) (b o : ℕ) where
   bytes_in xs long =
       let a : Inner.Denot = record { 0 = xs } in
       via 𝓤 _ (elements_in a long)
-      (Plain-in Row Inner (view_owns Inner Parts Row.coded whole.the_view whole.the_invariant) 𝓛 full_share (parts_of xs) a
-      (view_made Inner Parts Row.coded whole.the_view whole.the_invariant 𝓛 (parts_of xs) a (refl, long)) b o)
+      (Plain-in Row Inner Owned 𝓛 full_share (parts_of xs) a (ex_i 𝓤 (λ (_ : Viewed (parts_of xs) a). emp 𝓤) (refl, long)) b o)

@@ -15,15 +15,6 @@ length-refill n xs ws e =
 pub length-part : (a n : ℕ) (xs : List ℕ) → a + n ≤ length xs → length (part a n xs) ≡ n
 length-part a n xs within = length-take-le n (drop a xs) (omega (arith, length-drop a xs))
 
--- two parts side by side
-pub part-part : (a n m : ℕ) (xs : List ℕ) → part a n xs ++ part (a + n) m xs ≡ part a (n + m) xs
-part-part a n m xs =
-    let back : drop (a + n) xs ≡ drop n (drop a xs) = sym (drop-drop n a xs) in
-    let shift : take m (drop n (drop a xs)) ≡ drop n (part a (n + m) xs) = sym (drop-take n m (drop a xs)) in
-    let front : part a n xs ≡ take n (part a (n + m) xs) = sym (take-take n (n + m) (drop a xs) (omega arith)) in
-    ap (λ (l : List ℕ). part a n xs ++ take m l) back ∙ ap (λ (l : List ℕ). part a n xs ++ l) shift
-    ∙ ap (λ (l : List ℕ). l ++ drop n (part a (n + m) xs)) front ∙ take-append-drop n (part a (n + m) xs)
-
 -- a part of the first of two lists, and of the second
 
 pub part-first_of : (at n : ℕ) (xs ys : List ℕ) → at + n ≤ length xs → part at n (xs ++ ys) ≡ part at n xs

@@ -1,4 +1,4 @@
--- What a part that is written anew makes of the parts of a battle, and that parts joined are the bytes again.
+-- What a part that is written anew makes of the parts of a battle.
 use Rattle.std.proofs.Common.{List, ap, append_assoc, arith, drop, length, length-append, lit≤, refl, suc, sym, take, zero, ℕ, ◌++◌, ◌+◌, ◌≡◌, ◌≤◌, ◌∙◌}
 use Rattle.std.proofs.lemmas.List.{drop_at, take_all, take_at}
 use Rattle.std.specs.List.{refill}
@@ -7,21 +7,8 @@ use Rattle.gen1_machine.specs.declared.side.Side.{Side}
 use Rattle.gen1_machine.specs.declared.side.Side.TheVariants.{One, Two}
 use Rattle.gen1_machine.specs.Sides.{other}
 use Rattle.gen1_layout.specs.Parts.{active_of, bytes_of_side, bytes_of_sides, in_order, joined, member_at, member_of, part, parts_of, refilled, rewritten, side_at, side_of, side_parts, with_active, with_member, with_side, with_sides, Parts}
-use Rattle.gen1_layout.proofs.Rewriting.{length-part, length-refill, part-above, part-below, part-first, part-first_of, part-inside, part-part, part-same, part-second_of, refill-same}
-
--- the bytes of a side are its parts side by side
-
-pub side_one-joined : (xs : List ℕ) → bytes_of_side (side_parts 24 xs) ≡ part 24 180 xs
-side_one-joined xs =
-    simp append_assoc (rw (part-part 144 24 36 xs, part-part 120 24 60 xs, part-part 96 24 84 xs, part-part 72 24 108 xs, part-part 48 24 132 xs, part-part 24 24 156 xs) refl)
-
-pub side_two-joined : (xs : List ℕ) → bytes_of_side (side_parts 204 xs) ≡ part 204 180 xs
-side_two-joined xs =
-    simp append_assoc (rw (part-part 324 24 36 xs, part-part 300 24 60 xs, part-part 276 24 84 xs, part-part 252 24 108 xs, part-part 228 24 132 xs, part-part 204 24 156 xs) refl)
-
-pub joined-parts : (xs : List ℕ) → length xs ≡ 384 → joined (parts_of xs) ≡ xs
-joined-parts xs long =
-    rw (side_one-joined xs, side_two-joined xs, part-part 0 24 180 xs, part-part 0 204 180 xs) (take_all 384 xs (omega arith))
+use Rattle.gen1_layout.specs.Joined.{joined-parts, part-part, side_one-joined, side_two-joined}
+use Rattle.gen1_layout.proofs.Rewriting.{length-part, length-refill, part-above, part-below, part-first, part-first_of, part-inside, part-same, part-second_of, refill-same}
 
 -- a side below or above what is written is as it was
 

@@ -1,5 +1,6 @@
 -- The parts of the bytes, and what a lent part leaves.
 pub mod Parts
+pub mod Joined
 pub mod Lending
 -- What the bytes stand for.
 pub mod Storable

@@ -16,17 +16,25 @@ use std::marker::Model;
 ///
 /// A contract sees it as its parts (`specs/Parts.antt`): the header, and for each side six members and an active block.
 #[derive(Drop)]
+#[repr(C)]
 pub struct Packed([u8; 384]);
 
 impl Model for Packed {
     ghost use Rattle.std.specs.Prelude.{◌≡◌, length};
-    ghost use Rattle.gen1_layout.specs.Parts.{Parts, parts_of};
+    ghost use Rattle.std.proofs.Common.{ap};
+    ghost use Rattle.gen1_layout.specs.Joined.{joined-parts};
+    ghost use Rattle.gen1_layout.specs.Parts.{Parts, joined, parts_of};
 
     ghost Value = { Parts };
 
     ghost view = { λ p. parts_of p.0 };
 
     ghost invariant = { λ p. length p.0 ≡ 384 };
+
+    ghost inverse = { λ parts. record { 0 = joined parts } };
+
+    // So a battle may be lent by C, which has to lend 384 bytes.
+    ghost inverse_ok = { λ p long. ap (λ bytes. record { 0 = bytes }) (joined-parts p.0 long) };
 }
 
 impl Clone for Packed {
