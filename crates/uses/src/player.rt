@@ -20,6 +20,7 @@ pub fn play_at_random<R: Rolls>(
     ensures ended { (s : State) → Stands battle.old s → IfOk result (PlayedOut s battle.new) }
     ensures succeeds { IsOk result }
 {
+    // No battle takes more updates (docs/MECHANICS.md, "Turn limit").
     'updates: for _ in 0..u32::from(battle.limit()) + 11 {
         let now = battle.result();
         if is_over(now.outcome) {
@@ -81,6 +82,7 @@ mod tests {
     fn first_choices(one: &Team, two: &Team, seed: [u8; 10]) -> Result<Outcome, Refusal> {
         let mut battle = Battle::new(one, two, seed);
         let mut events = EventList::new();
+        // No battle takes more updates.
         for _ in 0..u32::from(battle.limit()) + 11 {
             let Some(one) = battle.choices(Side::One).first().copied() else {
                 break;
