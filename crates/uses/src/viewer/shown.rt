@@ -1,7 +1,8 @@
 // calling: gen1_spectator
-ghost use Rattle.std.specs.Prelude.{IfOk};
+ghost use Rattle.std.specs.Prelude.{IfOk, ◌≡◌};
 ghost use Rattle.std.specs.List.{flat_map};
-ghost use Rattle.gen1_machine.specs.View.{first_view};
+ghost use Rattle.gen1_machine.specs.View.{first_view, side_view};
+ghost use Rattle.uses.specs.Showing.{shown_of};
 ghost use Rattle.uses.specs.Viewing.{ShowsLog};
 
 use crate::viewer::pieces::show_piece;
@@ -46,7 +47,9 @@ pub struct Shown {
 }
 
 /// What shows of the side that has this team; `None` before its first member came out.
-pub fn what_shows(view: &View, side: Side, team: &Team) -> Option<Shown> {
+pub fn what_shows(view: &View, side: Side, team: &Team) -> Option<Shown>
+    ensures { result ≡ shown_of (side_view side view.now) team.now }
+{
     let place = view.place(side);
     let index = usize::from(place).checked_sub(1)?;
     let member = team.members().get(index)?;
