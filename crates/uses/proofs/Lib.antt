@@ -1,0 +1,6 @@
+-- While a battle goes on, something is offered to each side.
+pub mod Offers
+-- Pairs that were accepted, one after the other.
+pub mod Accepting
+-- What a viewer has shown, event by event.
+pub mod Viewing

@@ -1,0 +1,117 @@
+//! A damage calculator: how much a move does, how often it knocks out, how often it hits, and how often it is critical.
+// calling: gen1_hits
+ghost use Rattle.std.specs.Prelude.{IfOk, ◌≡◌};
+ghost use Rattle.gen1_layout.specs.Within.{Stands};
+ghost use Rattle.gen1_layout.specs.Words.{Reads, move_at};
+ghost use Rattle.uses.specs.Calculations.{calculation_in, faced_off, taking_all};
+
+use gen1_hits::{critical_bound, damage_list, numbers, scaled_accuracy};
+use gen1_layout::{Conditions, Packed};
+use gen1_machine::{EventList, Side};
+use gen1_requests::start;
+use gen1_stats::{MemberSpec, Team, TeamRefusal};
+use gen1_tables::MoveId;
+
+/// What a move of one side's member on the other's comes to, as a battle stands.
+#[derive(Clone, Copy, Debug, PartialEq, Eq, Drop)]
+pub struct Calculation {
+    /// The damage at each factor from 217 to 255, the lowest first.
+    pub damages: [u16; 39],
+    /// How many of the 39 take all HP of a foe without a Substitute.
+    pub knock_outs: usize,
+    /// How many of the 256 bytes that a hit test may draw hit.
+    pub hits: u8,
+    /// How many of the 256 bytes that may be drawn for it make the hit critical.
+    pub criticals: u8,
+}
+
+/// A battle of two members, both just sent out.
+///
+/// # Errors
+///
+/// The first test that the attacker fails, or else the defender.
+pub fn face_off(attacker: MemberSpec, defender: MemberSpec) -> Result<Packed, TeamRefusal>
+    ensures { IfOk result (λ battle. Stands battle (faced_off attacker defender)) }
+{
+    let one = Team::new(&[attacker])?;
+    let two = Team::new(&[defender])?;
+    let mut battle = Packed::new(&one, &two, [0; 10]);
+    start(&mut battle, &mut EventList::new());
+    Ok(battle)
+}
+
+/// What a move of `side` comes to where its hit is critical, or where it is not. `None` where the damage is divided by 0.
+pub fn calculate(battle: &Packed, side: Side, id: MoveId, critical: bool) -> Option<Calculation>
+    ensures { Reads battle.now result (calculation_in side (move_at id) critical) }
+{
+    let damages = damage_list(&numbers(battle, side, id, critical))?;
+    let focused = battle.is_on(side, Conditions::FOCUS_ENERGY);
+    Some(Calculation {
+        damages,
+        knock_outs: taking_all(battle.hp(side.other()), &damages),
+        hits: scaled_accuracy(battle, side, id.accuracy_byte()),
+        criticals: critical_bound(battle.species(side), focused, id),
+    })
+}
+
+fn taking_all(hp: u16, damages: &[u16; 39]) -> usize
+    ensures { result ≡ taking_all hp damages.now }
+{
+    damages.iter().filter(|damage| **damage >= hp).count()
+}
+// end
+
+#[cfg(test)]
+mod tests {
+    use super::*;
+    use arrayvec::ArrayVec;
+    use gen1_tables::Species;
+    use std::test::Fail;
+
+    fn named(name: &str) -> Result<MoveId, Fail> {
+        Ok(MoveId::from_name(name).ok_or("no such move")?)
+    }
+
+    fn member(
+        species: &str,
+        level: u8,
+        dvs: [u8; 4],
+        exp: [u16; 5],
+        id: MoveId,
+    ) -> Result<MemberSpec, Fail> {
+        let mut moves = ArrayVec::new();
+        moves.push((id, 0));
+        Ok(MemberSpec {
+            species: Species::from_name(species).ok_or("no such species")?,
+            level,
+            dvs,
+            exp,
+            moves,
+        })
+    }
+
+    // As an independent program has it. Oddish has 151 HP; 90 of 100 are 229 of 255; Dugtrio's base Speed is 120.
+    #[test]
+    fn dugtrio_uses_blizzard(rt: HostRuntime) -> Result<(), Fail> {
+        let blizzard = named("Blizzard")?;
+        let exp = [65535, 65535, 28425, 51341, 65535];
+        let dugtrio = member("Dugtrio", 69, [0, 7, 6, 1], exp, named("Hyper Beam")?)?;
+        let oddish = member("Oddish", 50, [15; 4], [65535; 5], named("Bubble")?)?;
+        let battle = face_off(dugtrio, oddish)?;
+        let expected = Calculation {
+            damages: [
+                139, 140, 140, 141, 142, 142, 143, 144, 144, 145, 145, 146, 147, 147, 148, 149,
+                149, 150, 151, 151, 152, 153, 153, 154, 154, 155, 156, 156, 157, 158, 158, 159,
+                160, 160, 161, 162, 162, 163, 164,
+            ],
+            knock_outs: 21,
+            hits: 229,
+            criticals: 60,
+        };
+        assert_eq!(rt;
+            calculate(&battle, Side::One, blizzard, false),
+            Some(expected)
+        );
+        Ok(())
+    }
+}

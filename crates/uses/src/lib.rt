@@ -1,0 +1,7 @@
+//! What callers of the libraries write, whole and proved: each CALLING.md shows parts of these files.
+#![tactic(auto)]
+
+pub mod calculator;
+pub mod player;
+pub mod two_players;
+pub mod viewer;
