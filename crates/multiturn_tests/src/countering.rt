@@ -1,6 +1,9 @@
 //! Counter, by the words of docs/MECHANICS.md, "Counter". A Tauros has base Speed 110, so that a draw, rotated left by 3 bits,
 //! is critical below 55 ("Critical hits").
-use crate::duel::{FOE, LAST, USER, battle_of, bytes_of, named, send_out, tauros, with};
+use crate::duel::{
+    FOE, LAST, USER, assert_same, assert_same_for, battle_of, bytes_of, named, send_out, tauros,
+    with,
+};
 use gen1_action::Known;
 use gen1_layout::Packed;
 use gen1_machine::UsedMove::{self, Nothing, Slot, Struggle};
@@ -41,7 +44,7 @@ fn normal_and_fighting_moves_are_countered(rt: HostRuntime) -> Result<(), Fail> 
         (Struggle, Some(200)),
         (Nothing, None),
     ] {
-        assert_eq!(rt; counter(&picked(&FIRST, used)?, USER), damage, "{used:?}");
+        assert_same_for(&rt, &used, counter(&picked(&FIRST, used)?, USER), damage);
     }
     for (used, damage) in [
         (Slot(1), Some(200)),
@@ -49,7 +52,7 @@ fn normal_and_fighting_moves_are_countered(rt: HostRuntime) -> Result<(), Fail> 
         (Slot(3), None),
         (Slot(4), None),
     ] {
-        assert_eq!(rt; counter(&picked(&SECOND, used)?, USER), damage, "{used:?}");
+        assert_same_for(&rt, &used, counter(&picked(&SECOND, used)?, USER), damage);
     }
     Ok(())
 }
@@ -58,10 +61,10 @@ fn normal_and_fighting_moves_are_countered(rt: HostRuntime) -> Result<(), Fail> 
 fn a_foe_that_has_left_is_not_countered(rt: HostRuntime) -> Result<(), Fail> {
     let mut battle = picked(&FIRST, Slot(1))?;
     send_out(&mut battle, FOE, 2);
-    assert_eq!(rt; counter(&battle, USER), None);
+    assert_same(&rt, counter(&battle, USER), None);
     // The newcomer's own move counts.
     battle.put_picked_move(FOE, Slot(1));
-    assert_eq!(rt; counter(&battle, USER), Some(200));
+    assert_same(&rt, counter(&battle, USER), Some(200));
     Ok(())
 }
 
@@ -73,9 +76,10 @@ fn two_counters_both_miss(rt: HostRuntime) -> Result<(), Fail> {
         battle.put_picked_move(side, Slot(1));
     }
     battle.put_last_damage(100);
-    assert_eq!(rt;
+    assert_same(
+        &rt,
         (counter(&battle, USER), counter(&battle, FOE)),
-        (None, None)
+        (None, None),
     );
     Ok(())
 }
@@ -91,7 +95,7 @@ fn damage_is_doubled_up_to_65535(rt: HostRuntime) -> Result<(), Fail> {
         (65535, Some(65535)),
     ] {
         battle.put_last_damage(last);
-        assert_eq!(rt; counter(&battle, USER), damage);
+        assert_same(&rt, counter(&battle, USER), damage);
     }
     Ok(())
 }
@@ -104,17 +108,18 @@ fn a_counter_that_hits(rt: HostRuntime) -> Result<(), Fail> {
         let before = bytes_of(&battle);
         let mut sweep = Sweep::new(byte);
         let known = countered(&mut battle, &mut sweep)?;
-        assert_eq!(rt; (known.critical, known.missed), (critical, false));
-        assert_eq!(rt; known.accuracy_tested, Some(255));
-        assert_eq!(rt; bytes_of(&battle), with(before, &[(LAST, 200)]));
-        assert_eq!(rt; sweep.draw(), byte + 2);
+        assert_same(&rt, (known.critical, known.missed), (critical, false));
+        assert_same(&rt, known.accuracy_tested, Some(255));
+        assert_same(&rt, bytes_of(&battle), with(before, &[(LAST, 200)]));
+        assert_same(&rt, sweep.draw(), byte + 2);
     }
     let mut battle = picked(&FIRST, Slot(1))?;
     let mut link = LinkRandom::new([254; 10]);
     let known = countered(&mut battle, &mut link)?;
-    assert_eq!(rt;
+    assert_same(
+        &rt,
         (known.missed, battle.last_damage(), link.index()),
-        (false, 200, 2)
+        (false, 200, 2),
     );
     Ok(())
 }
@@ -126,16 +131,20 @@ fn a_counter_that_misses(rt: HostRuntime) -> Result<(), Fail> {
     let before = bytes_of(&battle);
     let mut sweep = Sweep::new(254);
     let known = countered(&mut battle, &mut sweep)?;
-    assert_eq!(rt; (known.missed, known.accuracy_tested), (true, Some(255)));
-    assert_eq!(rt; bytes_of(&battle), with(before, &[(LAST, 0)]));
-    assert_eq!(rt; sweep.draw(), 0);
+    assert_same(
+        &rt,
+        (known.missed, known.accuracy_tested),
+        (true, Some(255)),
+    );
+    assert_same(&rt, bytes_of(&battle), with(before, &[(LAST, 0)]));
+    assert_same(&rt, sweep.draw(), 0);
     // By the foe's move it is kept, and the critical draw is the only one.
     let mut battle = picked(&FIRST, Slot(2))?;
     let before = bytes_of(&battle);
     let mut link = LinkRandom::new([0; 10]);
     let known = countered(&mut battle, &mut link)?;
-    assert_eq!(rt; (known.missed, known.critical), (true, true));
-    assert_eq!(rt; known.accuracy_tested, None);
-    assert_eq!(rt; (bytes_of(&battle), link.index()), (before, 1));
+    assert_same(&rt, (known.missed, known.critical), (true, true));
+    assert_same(&rt, known.accuracy_tested, None);
+    assert_same(&rt, (bytes_of(&battle), link.index()), (before, 1));
     Ok(())
 }

@@ -4,6 +4,8 @@ use gen1_layout::Packed;
 use gen1_machine::Side;
 use gen1_stats::{MemberSpec, Team};
 use gen1_tables::{Element, MoveId, Species};
+use std::fmt::Debug;
+use std::process::Abort;
 use std::test::Fail;
 
 pub(crate) const USER: Side = Side::One;
@@ -85,4 +87,19 @@ pub(crate) fn with(mut bytes: [u8; 384], changes: &[(usize, u8)]) -> [u8; 384] {
         }
     }
     bytes
+}
+
+// Whether these are the same. A test asserts by it, since an assertion in its own body costs the proof of the test seconds.
+pub(crate) fn assert_same<T: PartialEq + Debug + Drop>(rt: &impl Abort, found: T, expected: T) {
+    assert_eq!(rt; found, expected);
+}
+
+// The same, of a case of some name.
+pub(crate) fn assert_same_for<T: PartialEq + Debug + Drop>(
+    rt: &impl Abort,
+    name: &impl Debug,
+    found: T,
+    expected: T,
+) {
+    assert_eq!(rt; found, expected, "{name:?}");
 }

@@ -1,5 +1,5 @@
 //! What is told before the first hit, by the words of docs/MECHANICS.md, "Order of events" and "Types".
-use crate::duel::{FOE, USER, named, two_tauros};
+use crate::duel::{FOE, USER, assert_same, assert_same_for, named, two_tauros};
 use gen1_action::Known;
 use gen1_layout::Packed;
 use gen1_machine::{Event, EventList};
@@ -43,7 +43,7 @@ fn more_rows_of_20_are_super_effective(rt: HostRuntime) -> Result<(), Fail> {
         let mut battle = two_tauros()?;
         let events = told(&mut battle, name, (first, second), true, false)?;
         let expected = [Event::SuperEffective(battle.who(FOE))];
-        assert_eq!(rt; events.as_slice(), expected.as_slice(), "{name}");
+        assert_same_for(&rt, &name, events.as_slice(), expected.as_slice());
     }
     Ok(())
 }
@@ -63,7 +63,7 @@ fn more_rows_of_5_are_resisted(rt: HostRuntime) -> Result<(), Fail> {
             Event::Crit(battle.who(FOE)),
             Event::Resisted(battle.who(FOE)),
         ];
-        assert_eq!(rt; events.as_slice(), expected.as_slice(), "{name}");
+        assert_same_for(&rt, &name, events.as_slice(), expected.as_slice());
     }
     Ok(())
 }
@@ -79,7 +79,7 @@ fn as_many_of_either_tell_nothing(rt: HostRuntime) -> Result<(), Fail> {
     ] {
         let mut battle = two_tauros()?;
         let events = told(&mut battle, name, (first, second), true, false)?;
-        assert_eq!(rt; events.len(), 0, "{name}");
+        assert_same_for(&rt, &name, events.len(), 0);
     }
     Ok(())
 }
@@ -88,6 +88,6 @@ fn as_many_of_either_tell_nothing(rt: HostRuntime) -> Result<(), Fail> {
 fn what_went_through_no_types_tells_nothing(rt: HostRuntime) -> Result<(), Fail> {
     let mut battle = two_tauros()?;
     let events = told(&mut battle, "Thunderbolt", (Water, Flying), false, true)?;
-    assert_eq!(rt; events.len(), 0);
+    assert_same(&rt, events.len(), 0);
     Ok(())
 }

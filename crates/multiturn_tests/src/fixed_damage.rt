@@ -1,5 +1,8 @@
 //! Fixed damage, Super Fang and Psywave, by the words of docs/MECHANICS.md, "Fixed damage and one-hit moves".
-use crate::duel::{FOE, LAST, OUTCOME, USER, battle_of, bytes_of, named, tauros, two_tauros, with};
+use crate::duel::{
+    FOE, LAST, OUTCOME, USER, assert_same, assert_same_for, battle_of, bytes_of, named, tauros,
+    two_tauros, with,
+};
 use gen1_action::Known;
 use gen1_layout::Packed;
 use gen1_machine::Outcome;
@@ -49,12 +52,13 @@ fn numbers_of_moves(rt: HostRuntime) -> Result<(), Fail> {
         let battle = of_level(level)?;
         let mut sweep = Sweep::new(7);
         let id = named(name)?;
-        assert_eq!(rt;
+        assert_same_for(
+            &rt,
+            &name,
             fixed(&battle, USER, id, &mut sweep),
             Some(damage),
-            "{name}"
         );
-        assert_eq!(rt; sweep.draw(), 7);
+        assert_same(&rt, sweep.draw(), 7);
     }
     Ok(())
 }
@@ -66,59 +70,60 @@ fn super_fang_takes_half(rt: HostRuntime) -> Result<(), Fail> {
     let mut link = LinkRandom::new([9; 10]);
     for (hp, damage) in [(353, 176), (88, 44), (3, 1), (2, 1), (1, 1)] {
         battle.put_hp(FOE, hp);
-        assert_eq!(rt; fixed(&battle, USER, id, &mut link), Some(damage));
+        assert_same(&rt, fixed(&battle, USER, id, &mut link), Some(damage));
     }
-    assert_eq!(rt; link.index(), 0);
+    assert_same(&rt, link.index(), 0);
     Ok(())
 }
 
 #[test]
 fn psywave_draws_below_its_top(rt: HostRuntime) -> Result<(), Fail> {
     // At level 100 the top is 150. From 150 on it takes 106 draws up to 255, and then 0 and 1.
-    assert_eq!(rt; waved(100, 1)?, (Some(1), 2));
-    assert_eq!(rt; waved(100, 149)?, (Some(149), 150));
-    assert_eq!(rt; waved(100, 150)?, (Some(1), 2));
+    assert_same(&rt, waved(100, 1)?, (Some(1), 2));
+    assert_same(&rt, waved(100, 149)?, (Some(149), 150));
+    assert_same(&rt, waved(100, 150)?, (Some(1), 2));
     // At level 2 it is 3.
-    assert_eq!(rt; waved(2, 0)?, (Some(1), 2));
-    assert_eq!(rt; waved(2, 2)?, (Some(2), 3));
-    assert_eq!(rt; waved(2, 3)?, (Some(1), 2));
+    assert_same(&rt, waved(2, 0)?, (Some(1), 2));
+    assert_same(&rt, waved(2, 2)?, (Some(2), 3));
+    assert_same(&rt, waved(2, 3)?, (Some(1), 2));
     // At level 3, 4.
-    assert_eq!(rt; waved(3, 3)?, (Some(3), 4));
-    assert_eq!(rt; waved(3, 4)?, (Some(1), 2));
+    assert_same(&rt, waved(3, 3)?, (Some(3), 4));
+    assert_same(&rt, waved(3, 4)?, (Some(1), 2));
     Ok(())
 }
 
 #[test]
 fn psywave_by_link_numbers(rt: HostRuntime) -> Result<(), Fail> {
     let third = [200, 3, 2, 1, 0, 0, 0, 0, 0, 0];
-    assert_eq!(rt; waved_by_link(2, third)?, (Some(2), 3));
-    assert_eq!(rt; waved_by_link(100, third)?, (Some(3), 2));
+    assert_same(&rt, waved_by_link(2, third)?, (Some(2), 3));
+    assert_same(&rt, waved_by_link(100, third)?, (Some(3), 2));
     // Nine zeros, which are all 1 then: the tenth draw.
-    assert_eq!(rt; waved_by_link(100, [0; 10])?, (Some(1), 1));
+    assert_same(&rt, waved_by_link(100, [0; 10])?, (Some(1), 1));
     Ok(())
 }
 
 #[test]
 fn psywave_at_level_1_is_a_fault(rt: HostRuntime) -> Result<(), Fail> {
-    assert_eq!(rt; waved(1, 1)?, (None, 1));
-    assert_eq!(rt; waved_by_link(1, [1; 10])?, (None, 0));
+    assert_same(&rt, waved(1, 1)?, (None, 1));
+    assert_same(&rt, waved_by_link(1, [1; 10])?, (None, 0));
     // Where it hits: 80 percent are the byte 204, and the outcome of Fault 2 is 5.
     let mut battle = of_level(1)?;
     let before = bytes_of(&battle);
     let mut sweep = Sweep::new(203);
     let (ended, known) = used(&mut battle, "Psywave", &mut sweep)?;
-    assert_eq!(rt; (ended, known.missed), (true, false));
-    assert_eq!(rt; battle.outcome(), Outcome::Fault(2));
-    assert_eq!(rt;
+    assert_same(&rt, (ended, known.missed), (true, false));
+    assert_same(&rt, battle.outcome(), Outcome::Fault(2));
+    assert_same(
+        &rt,
         bytes_of(&battle),
-        with(before, &[(OUTCOME, 5), (LAST, 75)])
+        with(before, &[(OUTCOME, 5), (LAST, 75)]),
     );
-    assert_eq!(rt; sweep.draw(), 204);
+    assert_same(&rt, sweep.draw(), 204);
     // Where it misses it is a miss alone.
     let mut battle = of_level(1)?;
     let (ended, known) = used(&mut battle, "Psywave", &mut Sweep::new(204))?;
-    assert_eq!(rt; (ended, known.missed), (false, true));
-    assert_eq!(rt; bytes_of(&battle), before);
+    assert_same(&rt, (ended, known.missed), (false, true));
+    assert_same(&rt, bytes_of(&battle), before);
     Ok(())
 }
 
@@ -136,18 +141,19 @@ fn a_hit_test_comes_first(rt: HostRuntime) -> Result<(), Fail> {
         let before = bytes_of(&battle);
         let mut sweep = Sweep::new(byte);
         let (ended, known) = used(&mut battle, name, &mut sweep)?;
-        assert_eq!(rt; (ended, known.missed), (false, false));
-        assert_eq!(rt; known.accuracy_tested, Some(byte + 1));
-        assert_eq!(rt;
+        assert_same(&rt, (ended, known.missed), (false, false));
+        assert_same(&rt, known.accuracy_tested, Some(byte + 1));
+        assert_same_for(
+            &rt,
+            &name,
             bytes_of(&battle),
             with(before, &[(LAST, damage)]),
-            "{name}"
         );
         // The next draw misses.
         let (ended, known) = used(&mut battle, name, &mut sweep)?;
-        assert_eq!(rt; (ended, known.missed), (false, true));
-        assert_eq!(rt; bytes_of(&battle), before, "{name}");
-        assert_eq!(rt; sweep.draw(), byte.wrapping_add(2));
+        assert_same(&rt, (ended, known.missed), (false, true));
+        assert_same_for(&rt, &name, bytes_of(&battle), before);
+        assert_same(&rt, sweep.draw(), byte.wrapping_add(2));
     }
     Ok(())
 }
@@ -157,14 +163,15 @@ fn psywave_draws_after_its_hit_test(rt: HostRuntime) -> Result<(), Fail> {
     let mut battle = of_level(2)?;
     let mut sweep = Sweep::new(1);
     let (ended, known) = used(&mut battle, "Psywave", &mut sweep)?;
-    assert_eq!(rt;
+    assert_same(
+        &rt,
         (ended, known.missed, known.critical),
-        (false, false, false)
+        (false, false, false),
     );
-    assert_eq!(rt; (battle.last_damage(), sweep.draw()), (2, 3));
+    assert_same(&rt, (battle.last_damage(), sweep.draw()), (2, 3));
     let mut link = LinkRandom::new([203, 9, 1, 0, 0, 0, 0, 0, 0, 0]);
     let (ended, known) = used(&mut battle, "Psywave", &mut link)?;
-    assert_eq!(rt; (ended, known.accuracy_tested), (false, Some(204)));
-    assert_eq!(rt; (battle.last_damage(), link.index()), (1, 3));
+    assert_same(&rt, (ended, known.accuracy_tested), (false, Some(204)));
+    assert_same(&rt, (battle.last_damage(), link.index()), (1, 3));
     Ok(())
 }

@@ -1,6 +1,6 @@
 //! Trapping and thrashing that go on, and trapping of a foe that a move has no effect on, by the words of docs/MECHANICS.md,
 //! "Going on".
-use crate::duel::{FLAGS, FOE, KEPT, TURNS, USER, bytes_of, named, two_tauros, with};
+use crate::duel::{FLAGS, FOE, KEPT, TURNS, USER, assert_same, bytes_of, named, two_tauros, with};
 use gen1_action::{Known, hit_or_miss};
 use gen1_hits::{land, numbers, type_steps};
 use gen1_layout::{Conditions, Packed};
@@ -45,11 +45,12 @@ fn a_trap_goes_on(rt: HostRuntime) -> Result<(), Fail> {
         battle.put_trapping(USER, turns);
         let mut sweep = Sweep::new(7);
         trap_knowing(&mut battle, USER, &going_on(), &mut sweep);
-        assert_eq!(rt;
+        assert_same(
+            &rt,
             bytes_of(&battle),
-            with(before, &[(FLAGS, 4), (TURNS, left)])
+            with(before, &[(FLAGS, 4), (TURNS, left)]),
         );
-        assert_eq!(rt; sweep.draw(), 7);
+        assert_same(&rt, sweep.draw(), 7);
     }
     Ok(())
 }
@@ -63,13 +64,14 @@ fn thrashing_goes_on(rt: HostRuntime) -> Result<(), Fail> {
     let mut sweep = Sweep::new(7);
     for left in [2, 1] {
         let events = thrashed_on(&mut battle, "Thrash", &mut sweep)?;
-        assert_eq!(rt;
+        assert_same(
+            &rt,
             bytes_of(&battle),
-            with(before, &[(FLAGS, 2), (TURNS, left)])
+            with(before, &[(FLAGS, 2), (TURNS, left)]),
         );
-        assert_eq!(rt; events.len(), 0);
+        assert_same(&rt, events.len(), 0);
     }
-    assert_eq!(rt; sweep.draw(), 7);
+    assert_same(&rt, sweep.draw(), 7);
     Ok(())
 }
 
@@ -83,12 +85,13 @@ fn thrashing_ends_in_confusion(rt: HostRuntime) -> Result<(), Fail> {
         battle.put_thrash(USER, 1);
         let mut link = LinkRandom::new([byte; 10]);
         let events = thrashed_on(&mut battle, "Petal Dance", &mut link)?;
-        assert_eq!(rt;
+        assert_same(
+            &rt,
             bytes_of(&battle),
-            with(before, &[(FLAGS, 64), (FLAGS + 5, count), (KEPT, 255)])
+            with(before, &[(FLAGS, 64), (FLAGS + 5, count), (KEPT, 255)]),
         );
         let told = [Event::Start(battle.who(USER), Volatile::Confusion)];
-        assert_eq!(rt; (events.as_slice(), link.index()), (told.as_slice(), 1));
+        assert_same(&rt, (events.as_slice(), link.index()), (told.as_slice(), 1));
     }
     Ok(())
 }
@@ -104,20 +107,21 @@ fn a_ghost_is_held_for_0(rt: HostRuntime) -> Result<(), Fail> {
         trap(&mut battle, USER, &mut Sweep::new(1));
         let of_types = numbers(&battle, USER, id, false);
         let damage = type_steps(23, &of_types);
-        assert_eq!(rt; damage, 0);
+        assert_same(&rt, damage, 0);
         battle.put_last_damage(damage);
         let mut known = Known::new().begun(USER);
         known.missed = true;
         hit_or_miss(&mut battle, USER, id, &mut known, &mut Sweep::new(byte));
-        assert_eq!(rt; battle.is_on(USER, Conditions::TRAPPING), held);
+        assert_same(&rt, battle.is_on(USER, Conditions::TRAPPING), held);
         let mut events = EventList::new();
         land(&mut battle, USER, damage, &mut events);
         let flags = if held { 4 } else { 0 };
-        assert_eq!(rt;
+        assert_same(
+            &rt,
             bytes_of(&battle),
-            with(before, &[(FLAGS, flags), (TURNS, turns)])
+            with(before, &[(FLAGS, flags), (TURNS, turns)]),
         );
-        assert_eq!(rt; events.len(), 0);
+        assert_same(&rt, events.len(), 0);
     }
     Ok(())
 }

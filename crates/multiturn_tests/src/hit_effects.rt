@@ -1,5 +1,5 @@
 //! What comes with a hit, by the words of docs/MECHANICS.md, "Recoil, drain and explosion", "Going on" and "Landing".
-use crate::duel::{FOE, USER, two_tauros};
+use crate::duel::{FOE, USER, assert_same, assert_same_for, two_tauros};
 use crate::hitting::{healed, hit, hurt};
 use gen1_layout::Conditions;
 use gen1_machine::{DamageSource, Event, Volatile};
@@ -24,11 +24,12 @@ fn recoil_is_a_quarter_of_what_landed(rt: HostRuntime) -> Result<(), Fail> {
             hurt(&battle, FOE, foe, DamageSource::Direct)?,
             hurt(&battle, USER, user, DamageSource::Recoil)?,
         ];
-        assert_eq!(rt; events.as_slice(), told.as_slice());
+        assert_same(&rt, events.as_slice(), told.as_slice());
         // The user's own Substitute does not take it.
-        assert_eq!(rt;
+        assert_same(
+            &rt,
             (battle.hp(USER), battle.substitute(USER)),
-            (user, Some(88))
+            (user, Some(88)),
         );
     }
     Ok(())
@@ -41,8 +42,8 @@ fn recoil_comes_unless_a_substitute_broke(rt: HostRuntime) -> Result<(), Fail> {
         let mut battle = two_tauros()?;
         battle.put_substitute(FOE, Some(88));
         let (known, _) = hit(&mut battle, "Submission", damage, &mut Sweep::new(0))?;
-        assert_eq!(rt; (battle.hp(USER), battle.hp(FOE)), (user, 353));
-        assert_eq!(rt; known.broke, damage > 88);
+        assert_same(&rt, (battle.hp(USER), battle.hp(FOE)), (user, 353));
+        assert_same(&rt, known.broke, damage > 88);
     }
     Ok(())
 }
@@ -62,8 +63,8 @@ fn drain_heals_half_of_what_landed(rt: HostRuntime) -> Result<(), Fail> {
             battle.put_hp(USER, before);
             let (_, events) = hit(&mut battle, name, damage, &mut Sweep::new(0))?;
             let told = healed(&battle, USER, after)?;
-            assert_eq!(rt; events.last(), Some(&told), "{name}");
-            assert_eq!(rt; (battle.hp(USER), battle.last_damage()), (after, last));
+            assert_same_for(&rt, &name, events.last(), Some(&told));
+            assert_same(&rt, (battle.hp(USER), battle.last_damage()), (after, last));
         }
     }
     Ok(())
@@ -74,8 +75,8 @@ fn a_full_user_drains_without_an_event(rt: HostRuntime) -> Result<(), Fail> {
     let mut battle = two_tauros()?;
     let (_, events) = hit(&mut battle, "Absorb", 40, &mut Sweep::new(0))?;
     let told = [hurt(&battle, FOE, 313, DamageSource::Direct)?];
-    assert_eq!(rt; events.as_slice(), told.as_slice());
-    assert_eq!(rt; battle.last_damage(), 20);
+    assert_same(&rt, events.as_slice(), told.as_slice());
+    assert_same(&rt, battle.last_damage(), 20);
     Ok(())
 }
 
@@ -86,8 +87,8 @@ fn a_broken_substitute_heals_nobody(rt: HostRuntime) -> Result<(), Fail> {
     battle.put_substitute(FOE, Some(20));
     let (_, events) = hit(&mut battle, "Leech Life", 40, &mut Sweep::new(0))?;
     let told = [Event::End(battle.who(FOE), Volatile::Substitute)];
-    assert_eq!(rt; events.as_slice(), told.as_slice());
-    assert_eq!(rt; (battle.hp(USER), battle.last_damage()), (100, 40));
+    assert_same(&rt, events.as_slice(), told.as_slice());
+    assert_same(&rt, (battle.hp(USER), battle.last_damage()), (100, 40));
     Ok(())
 }
 
@@ -99,13 +100,14 @@ fn an_exploding_user_falls(rt: HostRuntime) -> Result<(), Fail> {
     let mut link = LinkRandom::new([9; 10]);
     let (_, events) = hit(&mut battle, "Explosion", 200, &mut link)?;
     let told = [hurt(&battle, FOE, 153, DamageSource::Direct)?];
-    assert_eq!(rt; events.as_slice(), told.as_slice());
-    assert_eq!(rt;
+    assert_same(&rt, events.as_slice(), told.as_slice());
+    assert_same(
+        &rt,
         (battle.hp(USER), battle.status(USER)),
-        (0, Status::Healthy)
+        (0, Status::Healthy),
     );
-    assert_eq!(rt; battle.is_on(USER, Conditions::SEEDED), false);
-    assert_eq!(rt; link.index(), 0);
+    assert_same(&rt, battle.is_on(USER, Conditions::SEEDED), false);
+    assert_same(&rt, link.index(), 0);
     Ok(())
 }
 
@@ -116,7 +118,7 @@ fn an_exploding_user_that_breaks_a_substitute_lives(rt: HostRuntime) -> Result<(
         let mut battle = two_tauros()?;
         battle.put_substitute(FOE, Some(88));
         hit(&mut battle, "Self-Destruct", damage, &mut Sweep::new(0))?;
-        assert_eq!(rt; (battle.hp(USER), battle.hp(FOE)), (user, 353));
+        assert_same(&rt, (battle.hp(USER), battle.hp(FOE)), (user, 353));
     }
     Ok(())
 }
@@ -129,11 +131,11 @@ fn rage_starts_where_it_lands(rt: HostRuntime) -> Result<(), Fail> {
         hurt(&battle, FOE, 333, DamageSource::Direct)?,
         Event::Start(battle.who(USER), Volatile::Rage),
     ];
-    assert_eq!(rt; first.as_slice(), told.as_slice());
+    assert_same(&rt, first.as_slice(), told.as_slice());
     let (_, second) = hit(&mut battle, "Rage", 20, &mut Sweep::new(0))?;
     let told = [hurt(&battle, FOE, 313, DamageSource::Direct)?];
-    assert_eq!(rt; second.as_slice(), told.as_slice());
-    assert_eq!(rt; battle.is_on(USER, Conditions::RAGE), true);
+    assert_same(&rt, second.as_slice(), told.as_slice());
+    assert_same(&rt, battle.is_on(USER, Conditions::RAGE), true);
     Ok(())
 }
 
@@ -145,7 +147,7 @@ fn a_one_hit_move_tells_what_it_is(rt: HostRuntime) -> Result<(), Fail> {
         hurt(&battle, FOE, 0, DamageSource::Direct)?,
         Event::OneHitKnockOut,
     ];
-    assert_eq!(rt; events.as_slice(), told.as_slice());
+    assert_same(&rt, events.as_slice(), told.as_slice());
     let mut battle = two_tauros()?;
     battle.put_substitute(FOE, Some(88));
     let (_, events) = hit(&mut battle, "Guillotine", 65535, &mut Sweep::new(0))?;
@@ -153,6 +155,6 @@ fn a_one_hit_move_tells_what_it_is(rt: HostRuntime) -> Result<(), Fail> {
         Event::End(battle.who(FOE), Volatile::Substitute),
         Event::OneHitKnockOut,
     ];
-    assert_eq!(rt; events.as_slice(), told.as_slice());
+    assert_same(&rt, events.as_slice(), told.as_slice());
     Ok(())
 }

@@ -1,7 +1,8 @@
 //! Moves that last, by the words of docs/MECHANICS.md, "Going on" and "Charging", and the offsets of docs/LAYOUT.md. Both
 //! sides have a Tauros out: 353 HP, of which a quarter is 88.
 use crate::duel::{
-    CURRENT, ENERGY, FLAGS, FOE, KEPT, LAST, TURNS, USER, bytes_of, named, two_tauros, with,
+    CURRENT, ENERGY, FLAGS, FOE, KEPT, LAST, TURNS, USER, assert_same, assert_same_for, bytes_of,
+    named, two_tauros, with,
 };
 use gen1_layout::Conditions;
 use gen1_machine::{DamageSource, Event, EventList, UsedMove, Volatile};
@@ -18,16 +19,17 @@ fn a_trap_begins(rt: HostRuntime) -> Result<(), Fail> {
         let before = bytes_of(&two_tauros()?);
         let mut sweep = Sweep::new(byte);
         trap(&mut battle, USER, &mut sweep);
-        assert_eq!(rt;
+        assert_same(
+            &rt,
             bytes_of(&battle),
-            with(before, &[(FLAGS, 4), (TURNS, turns)])
+            with(before, &[(FLAGS, 4), (TURNS, turns)]),
         );
-        assert_eq!(rt; sweep.draw(), byte.wrapping_add(draws));
+        assert_same(&rt, sweep.draw(), byte.wrapping_add(draws));
     }
     let mut battle = two_tauros()?;
     let mut link = LinkRandom::new([3; 10]);
     trap(&mut battle, USER, &mut link);
-    assert_eq!(rt; (battle.trapping(USER), link.index()), (Some(4), 2));
+    assert_same(&rt, (battle.trapping(USER), link.index()), (Some(4), 2));
     Ok(())
 }
 
@@ -39,16 +41,17 @@ fn thrashing_begins(rt: HostRuntime) -> Result<(), Fail> {
         let mut events = EventList::new();
         let mut sweep = Sweep::new(byte);
         thrash(&mut battle, USER, &mut sweep, &mut events);
-        assert_eq!(rt;
+        assert_same(
+            &rt,
             bytes_of(&battle),
-            with(before, &[(FLAGS, 2), (TURNS, turns), (KEPT, 255)])
+            with(before, &[(FLAGS, 2), (TURNS, turns), (KEPT, 255)]),
         );
-        assert_eq!(rt; (events.len(), sweep.draw()), (0, byte.wrapping_add(1)));
+        assert_same(&rt, (events.len(), sweep.draw()), (0, byte.wrapping_add(1)));
     }
     let mut battle = two_tauros()?;
     let mut link = LinkRandom::new([7; 10]);
     thrash(&mut battle, USER, &mut link, &mut EventList::new());
-    assert_eq!(rt; (battle.thrash(USER), link.index()), (Some(3), 1));
+    assert_same(&rt, (battle.thrash(USER), link.index()), (Some(3), 1));
     Ok(())
 }
 
@@ -58,13 +61,18 @@ fn bide_begins_stores_and_lets_go(rt: HostRuntime) -> Result<(), Fail> {
     let before = bytes_of(&battle);
     let mut events = EventList::new();
     let mut link = LinkRandom::new([4; 10]);
-    assert_eq!(rt; bide(&mut battle, USER, &mut link, &mut events), None);
-    assert_eq!(rt; bytes_of(&battle), with(before, &[(FLAGS, 1), (TURNS, 2)]));
-    assert_eq!(rt; link.index(), 1);
+    assert_same(&rt, bide(&mut battle, USER, &mut link, &mut events), None);
+    assert_same(
+        &rt,
+        bytes_of(&battle),
+        with(before, &[(FLAGS, 1), (TURNS, 2)]),
+    );
+    assert_same(&rt, link.index(), 1);
     // 300 is 44 and 1 times 256.
     battle.put_last_damage(300);
-    assert_eq!(rt; bide(&mut battle, USER, &mut link, &mut events), None);
-    assert_eq!(rt;
+    assert_same(&rt, bide(&mut battle, USER, &mut link, &mut events), None);
+    assert_same(
+        &rt,
         bytes_of(&battle),
         with(
             before,
@@ -74,24 +82,29 @@ fn bide_begins_stores_and_lets_go(rt: HostRuntime) -> Result<(), Fail> {
                 (FLAGS, 1),
                 (TURNS, 1),
                 (ENERGY, 44),
-                (ENERGY + 1, 1)
-            ]
-        )
+                (ENERGY + 1, 1),
+            ],
+        ),
     );
     // Twice 301 is 602, which is 90 and 2 times 256.
     battle.put_last_damage(1);
-    assert_eq!(rt; bide(&mut battle, USER, &mut link, &mut events), Some(602));
-    assert_eq!(rt;
-        bytes_of(&battle),
-        with(before, &[(LAST, 90), (LAST + 1, 2)])
+    assert_same(
+        &rt,
+        bide(&mut battle, USER, &mut link, &mut events),
+        Some(602),
     );
-    assert_eq!(rt; link.index(), 1);
+    assert_same(
+        &rt,
+        bytes_of(&battle),
+        with(before, &[(LAST, 90), (LAST + 1, 2)]),
+    );
+    assert_same(&rt, link.index(), 1);
     let told = [
         Event::Start(battle.who(USER), Volatile::Bide),
         Event::Activate(battle.who(USER), Volatile::Bide),
         Event::End(battle.who(USER), Volatile::Bide),
     ];
-    assert_eq!(rt; events.as_slice(), told.as_slice());
+    assert_same(&rt, events.as_slice(), told.as_slice());
     Ok(())
 }
 
@@ -103,8 +116,8 @@ fn an_energy_of_32768_lets_out_0(rt: HostRuntime) -> Result<(), Fail> {
     battle.put_last_damage(1);
     let mut sweep = Sweep::new(9);
     let energy = bide(&mut battle, USER, &mut sweep, &mut EventList::new());
-    assert_eq!(rt; (energy, sweep.draw()), (Some(0), 9));
-    assert_eq!(rt; bytes_of(&battle), before);
+    assert_same(&rt, (energy, sweep.draw()), (Some(0), 9));
+    assert_same(&rt, bytes_of(&battle), before);
     Ok(())
 }
 
@@ -118,13 +131,13 @@ fn a_charge_hides_who_digs(rt: HostRuntime) -> Result<(), Fail> {
         let before = bytes_of(&battle);
         let mut events = EventList::new();
         // The action ends with the first turn, in which the picked move becomes the current one.
-        assert_eq!(rt; charge(&mut battle, USER, id, &mut events), true);
+        assert_same(&rt, charge(&mut battle, USER, id, &mut events), true);
         let charging = with(before, &[(FLAGS, flags), (CURRENT, 1)]);
-        assert_eq!(rt; bytes_of(&battle), charging, "{name}");
-        assert_eq!(rt; charge(&mut battle, USER, id, &mut events), false);
-        assert_eq!(rt; bytes_of(&battle), with(before, &[(CURRENT, 1)]), "{name}");
+        assert_same_for(&rt, &name, bytes_of(&battle), charging);
+        assert_same(&rt, charge(&mut battle, USER, id, &mut events), false);
+        assert_same_for(&rt, &name, bytes_of(&battle), with(before, &[(CURRENT, 1)]));
         let told = [Event::Prepare(battle.who(USER), id)];
-        assert_eq!(rt; events.as_slice(), told.as_slice());
+        assert_same(&rt, events.as_slice(), told.as_slice());
     }
     Ok(())
 }
@@ -139,12 +152,13 @@ fn what_is_picked_is_charged(rt: HostRuntime) -> Result<(), Fail> {
     let mut events = EventList::new();
     // A move that does not charge changes nothing, and the action goes on.
     let ended = charge(&mut battle, USER, named("Strength")?, &mut events);
-    assert_eq!(rt; (ended, events.len()), (false, 0));
-    assert_eq!(rt; bytes_of(&battle), before);
+    assert_same(&rt, (ended, events.len()), (false, 0));
+    assert_same(&rt, bytes_of(&battle), before);
     charge(&mut battle, USER, named("Skull Bash")?, &mut events);
-    assert_eq!(rt;
+    assert_same(
+        &rt,
         bytes_of(&battle),
-        with(before, &[(FLAGS, 16), (CURRENT, 1)])
+        with(before, &[(FLAGS, 16), (CURRENT, 1)]),
     );
     Ok(())
 }
@@ -159,20 +173,21 @@ fn a_substitute_costs_a_quarter(rt: HostRuntime) -> Result<(), Fail> {
         let mut events = EventList::new();
         substitute(&mut battle, USER, &mut events);
         let after = with(before, &[(28, low), (29, high), (FLAGS + 1, 2), (189, 88)]);
-        assert_eq!(rt; bytes_of(&battle), after);
+        assert_same(&rt, bytes_of(&battle), after);
         let health = battle.health(USER).ok_or("no health")?;
         let told = [
             Event::Start(battle.who(USER), Volatile::Substitute),
             Event::Damage(battle.who(USER), health, DamageSource::Direct),
         ];
-        assert_eq!(rt; events.as_slice(), told.as_slice());
+        assert_same(&rt, events.as_slice(), told.as_slice());
         // One is up.
         events.clear();
         substitute(&mut battle, USER, &mut events);
-        assert_eq!(rt; bytes_of(&battle), after);
-        assert_eq!(rt;
+        assert_same(&rt, bytes_of(&battle), after);
+        assert_same(
+            &rt,
             events.as_slice(),
-            [Event::Fail(battle.who(USER))].as_slice()
+            [Event::Fail(battle.who(USER))].as_slice(),
         );
     }
     let mut battle = two_tauros()?;
@@ -180,10 +195,11 @@ fn a_substitute_costs_a_quarter(rt: HostRuntime) -> Result<(), Fail> {
     let before = bytes_of(&battle);
     let mut events = EventList::new();
     substitute(&mut battle, USER, &mut events);
-    assert_eq!(rt; bytes_of(&battle), before);
-    assert_eq!(rt;
+    assert_same(&rt, bytes_of(&battle), before);
+    assert_same(
+        &rt,
         events.as_slice(),
-        [Event::Fail(battle.who(USER))].as_slice()
+        [Event::Fail(battle.who(USER))].as_slice(),
     );
     Ok(())
 }

@@ -1,5 +1,5 @@
 //! Moves that hit several times, by the words of docs/MECHANICS.md, "Many hits".
-use crate::duel::{FOE, two_tauros};
+use crate::duel::{FOE, assert_same, assert_same_for, two_tauros};
 use crate::hitting::{hit, hit_count, hurt};
 use gen1_machine::{DamageSource, Event, Volatile};
 use gen1_rolls::{LinkRandom, Rolls, Sweep};
@@ -16,8 +16,8 @@ fn moves_that_hit_twice_draw_nothing(rt: HostRuntime) -> Result<(), Fail> {
             hurt(&battle, FOE, 253, DamageSource::Direct)?,
             hit_count(&battle, FOE, 2)?,
         ];
-        assert_eq!(rt; events.as_slice(), told.as_slice(), "{name}");
-        assert_eq!(rt; (known.hits_made, sweep.draw()), (2, 2));
+        assert_same_for(&rt, &name, events.as_slice(), told.as_slice());
+        assert_same(&rt, (known.hits_made, sweep.draw()), (2, 2));
     }
     Ok(())
 }
@@ -29,11 +29,15 @@ fn two_to_five_hits_are_drawn(rt: HostRuntime) -> Result<(), Fail> {
         let mut battle = two_tauros()?;
         let mut sweep = Sweep::new(byte);
         let (known, events) = hit(&mut battle, "Fury Attack", 10, &mut sweep)?;
-        assert_eq!(rt; battle.hp(FOE), 353 - 10 * u16::from(hits));
-        assert_eq!(rt; events.last(), Some(&hit_count(&battle, FOE, hits)?));
-        assert_eq!(rt; events.len(), usize::from(hits) + 1);
-        assert_eq!(rt; (known.hits_made, known.hits_planned), (hits, Some(hits)));
-        assert_eq!(rt; sweep.draw(), byte.wrapping_add(draws));
+        assert_same(&rt, battle.hp(FOE), 353 - 10 * u16::from(hits));
+        assert_same(&rt, events.last(), Some(&hit_count(&battle, FOE, hits)?));
+        assert_same(&rt, events.len(), usize::from(hits) + 1);
+        assert_same(
+            &rt,
+            (known.hits_made, known.hits_planned),
+            (hits, Some(hits)),
+        );
+        assert_same(&rt, sweep.draw(), byte.wrapping_add(draws));
     }
     Ok(())
 }
@@ -44,9 +48,9 @@ fn four_hits_take_two_draws(rt: HostRuntime) -> Result<(), Fail> {
     let mut battle = two_tauros()?;
     let mut link = LinkRandom::new([2, 6, 0, 0, 0, 0, 0, 0, 0, 0]);
     let (known, events) = hit(&mut battle, "Barrage", 7, &mut link)?;
-    assert_eq!(rt; (battle.hp(FOE), battle.last_damage()), (325, 7));
-    assert_eq!(rt; events.last(), Some(&hit_count(&battle, FOE, 4)?));
-    assert_eq!(rt; (known.hits_made, link.index()), (4, 2));
+    assert_same(&rt, (battle.hp(FOE), battle.last_damage()), (325, 7));
+    assert_same(&rt, events.last(), Some(&hit_count(&battle, FOE, 4)?));
+    assert_same(&rt, (known.hits_made, link.index()), (4, 2));
     Ok(())
 }
 
@@ -63,9 +67,9 @@ fn a_broken_substitute_ends_the_hits(rt: HostRuntime) -> Result<(), Fail> {
         Event::End(foe, Volatile::Substitute),
         hit_count(&battle, FOE, 3)?,
     ];
-    assert_eq!(rt; events.as_slice(), told.as_slice());
-    assert_eq!(rt; (battle.hp(FOE), battle.substitute(FOE)), (353, None));
-    assert_eq!(rt; (known.broke, known.hits_planned), (true, Some(5)));
+    assert_same(&rt, events.as_slice(), told.as_slice());
+    assert_same(&rt, (battle.hp(FOE), battle.substitute(FOE)), (353, None));
+    assert_same(&rt, (known.broke, known.hits_planned), (true, Some(5)));
     Ok(())
 }
 
@@ -77,9 +81,9 @@ fn a_first_hit_that_breaks_plans_none(rt: HostRuntime) -> Result<(), Fail> {
         let mut sweep = Sweep::new(2);
         let (known, events) = hit(&mut battle, name, 10, &mut sweep)?;
         let told = [Event::End(battle.who(FOE), Volatile::Substitute)];
-        assert_eq!(rt; events.as_slice(), told.as_slice());
-        assert_eq!(rt; (known.hits_made, known.hits_planned), (1, None));
-        assert_eq!(rt; sweep.draw(), 2);
+        assert_same(&rt, events.as_slice(), told.as_slice());
+        assert_same(&rt, (known.hits_made, known.hits_planned), (1, None));
+        assert_same(&rt, sweep.draw(), 2);
     }
     Ok(())
 }
@@ -96,8 +100,8 @@ fn a_fall_ends_the_hits(rt: HostRuntime) -> Result<(), Fail> {
         hurt(&battle, FOE, 0, DamageSource::Direct)?,
         hit_count(&battle, FOE, 3)?,
     ];
-    assert_eq!(rt; events.as_slice(), told.as_slice());
-    assert_eq!(rt; (battle.last_damage(), known.hits_made), (5, 3));
+    assert_same(&rt, events.as_slice(), told.as_slice());
+    assert_same(&rt, (battle.last_damage(), known.hits_made), (5, 3));
     Ok(())
 }
 
@@ -111,7 +115,7 @@ fn the_count_is_drawn_where_the_first_hit_fells(rt: HostRuntime) -> Result<(), F
         hurt(&battle, FOE, 0, DamageSource::Direct)?,
         hit_count(&battle, FOE, 1)?,
     ];
-    assert_eq!(rt; events.as_slice(), told.as_slice());
-    assert_eq!(rt; (known.hits_planned, sweep.draw()), (Some(2), 1));
+    assert_same(&rt, events.as_slice(), told.as_slice());
+    assert_same(&rt, (known.hits_planned, sweep.draw()), (Some(2), 1));
     Ok(())
 }

@@ -1,5 +1,7 @@
 //! What a miss brings, by the words of docs/MECHANICS.md, "Action", step 9.
-use crate::duel::{FOE, LAST, USER, bytes_of, named, two_tauros, with};
+use crate::duel::{
+    FOE, LAST, USER, assert_same, assert_same_for, bytes_of, named, two_tauros, with,
+};
 use crate::hitting::hurt;
 use gen1_layout::{Conditions, Packed};
 use gen1_machine::{DamageSource, Event, EventList};
@@ -23,9 +25,9 @@ fn a_miss_is_told(rt: HostRuntime) -> Result<(), Fail> {
         let before = bytes_of(&battle);
         let events = miss(&mut battle, name)?;
         let told = [Event::Miss(battle.who(USER))];
-        assert_eq!(rt; events.as_slice(), told.as_slice(), "{name}");
+        assert_same_for(&rt, &name, events.as_slice(), told.as_slice());
         // The foe's Rage does not build.
-        assert_eq!(rt; bytes_of(&battle), before, "{name}");
+        assert_same_for(&rt, &name, bytes_of(&battle), before);
     }
     Ok(())
 }
@@ -42,8 +44,8 @@ fn a_crash_goes_past_the_users_substitute(rt: HostRuntime) -> Result<(), Fail> {
             Event::Miss(battle.who(USER)),
             hurt(&battle, USER, 352, DamageSource::Direct)?,
         ];
-        assert_eq!(rt; events.as_slice(), told.as_slice(), "{name}");
-        assert_eq!(rt; bytes_of(&battle), with(before, &[(LAST, 1), (28, 96)]));
+        assert_same_for(&rt, &name, events.as_slice(), told.as_slice());
+        assert_same(&rt, bytes_of(&battle), with(before, &[(LAST, 1), (28, 96)]));
     }
     Ok(())
 }
@@ -58,8 +60,8 @@ fn who_crashes_with_1_hp_falls(rt: HostRuntime) -> Result<(), Fail> {
         Event::Immune(battle.who(FOE)),
         hurt(&battle, USER, 0, DamageSource::Direct)?,
     ];
-    assert_eq!(rt; events.as_slice(), told.as_slice());
-    assert_eq!(rt; (battle.hp(USER), battle.hp(FOE)), (0, 353));
+    assert_same(&rt, events.as_slice(), told.as_slice());
+    assert_same(&rt, (battle.hp(USER), battle.hp(FOE)), (0, 353));
     Ok(())
 }
 
@@ -72,13 +74,14 @@ fn an_explosion_that_misses_fells_its_user(rt: HostRuntime) -> Result<(), Fail> 
         battle.put_substitute(USER, Some(88));
         let events = miss(&mut battle, name)?;
         let told = [Event::Miss(battle.who(USER))];
-        assert_eq!(rt; events.as_slice(), told.as_slice(), "{name}");
-        assert_eq!(rt;
+        assert_same_for(&rt, &name, events.as_slice(), told.as_slice());
+        assert_same(
+            &rt,
             (battle.hp(USER), battle.status(USER)),
-            (0, Status::Healthy)
+            (0, Status::Healthy),
         );
-        assert_eq!(rt; battle.is_on(USER, Conditions::SEEDED), false);
-        assert_eq!(rt; battle.substitute(USER), Some(88));
+        assert_same(&rt, battle.is_on(USER, Conditions::SEEDED), false);
+        assert_same(&rt, battle.substitute(USER), Some(88));
     }
     Ok(())
 }

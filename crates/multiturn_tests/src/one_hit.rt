@@ -1,6 +1,8 @@
 //! One-hit moves, by the words of docs/MECHANICS.md, "Fixed damage and one-hit moves". Their accuracy byte is 76, and the bytes
 //! that give a factor are the odd ones from 179 on ("Factor").
-use crate::duel::{FOE, LAST, USER, bytes_of, named, two_tauros, with};
+use crate::duel::{
+    FOE, LAST, USER, assert_same, assert_same_for, bytes_of, named, two_tauros, with,
+};
 use gen1_action::Known;
 use gen1_hits::{Landed, land};
 use gen1_layout::Packed;
@@ -37,14 +39,15 @@ fn the_faster_one_knocks_out(rt: HostRuntime) -> Result<(), Fail> {
         let before = bytes_of(&battle);
         let mut link = LinkRandom::new([0, 74, 179, 75, 0, 0, 0, 0, 0, 0]);
         let known = used(&mut battle, name, &mut link)?;
-        assert_eq!(rt; (known.missed, known.critical), (false, true));
-        assert_eq!(rt; known.accuracy_tested, Some(76));
-        assert_eq!(rt;
+        assert_same(&rt, (known.missed, known.critical), (false, true));
+        assert_same(&rt, known.accuracy_tested, Some(76));
+        assert_same_for(
+            &rt,
+            &name,
             bytes_of(&battle),
             with(before, &[(LAST, 255), (LAST + 1, 255)]),
-            "{name}"
         );
-        assert_eq!(rt; link.index(), 4);
+        assert_same(&rt, link.index(), 4);
     }
     Ok(())
 }
@@ -55,21 +58,22 @@ fn a_sweep_comes_to_a_factor(rt: HostRuntime) -> Result<(), Fail> {
     let mut battle = two_tauros()?;
     let mut sweep = Sweep::new(253);
     let known = used(&mut battle, "Guillotine", &mut sweep)?;
-    assert_eq!(rt;
+    assert_same(
+        &rt,
         (known.missed, battle.last_damage(), sweep.draw()),
-        (false, 65535, 1)
+        (false, 65535, 1),
     );
     // From 177 on: the critical draw, 178, the factor 217, and a miss at 180.
     let mut battle = two_tauros()?;
     let before = bytes_of(&battle);
     let mut sweep = Sweep::new(177);
     let known = used(&mut battle, "Guillotine", &mut sweep)?;
-    assert_eq!(rt; (known.missed, known.accuracy_tested), (true, Some(76)));
-    assert_eq!(rt; (bytes_of(&battle), sweep.draw()), (before, 181));
+    assert_same(&rt, (known.missed, known.accuracy_tested), (true, Some(76)));
+    assert_same(&rt, (bytes_of(&battle), sweep.draw()), (before, 181));
     // From 0 on it takes the draws up to 179.
     let mut sweep = Sweep::new(0);
     used(&mut battle, "Guillotine", &mut sweep)?;
-    assert_eq!(rt; sweep.draw(), 181);
+    assert_same(&rt, sweep.draw(), 181);
     Ok(())
 }
 
@@ -80,12 +84,13 @@ fn the_hit_test_is_at_76(rt: HostRuntime) -> Result<(), Fail> {
         let before = bytes_of(&battle);
         let mut link = LinkRandom::new([0, 255, byte, 0, 0, 0, 0, 0, 0, 0]);
         let known = used(&mut battle, "Horn Drill", &mut link)?;
-        assert_eq!(rt; known.missed, missed);
-        assert_eq!(rt;
+        assert_same(&rt, known.missed, missed);
+        assert_same(
+            &rt,
             bytes_of(&battle),
-            with(before, &[(LAST, low), (LAST + 1, low)])
+            with(before, &[(LAST, low), (LAST + 1, low)]),
         );
-        assert_eq!(rt; link.index(), 3);
+        assert_same(&rt, link.index(), 3);
     }
     Ok(())
 }
@@ -96,8 +101,8 @@ fn the_slower_one_misses(rt: HostRuntime) -> Result<(), Fail> {
     let before = bytes_of(&battle);
     let mut sweep = Sweep::new(0);
     let known = used(&mut battle, "Guillotine", &mut sweep)?;
-    assert_eq!(rt; (known.missed, known.accuracy_tested), (true, None));
-    assert_eq!(rt; (bytes_of(&battle), sweep.draw()), (before, 1));
+    assert_same(&rt, (known.missed, known.accuracy_tested), (true, None));
+    assert_same(&rt, (bytes_of(&battle), sweep.draw()), (before, 1));
     Ok(())
 }
 
@@ -112,8 +117,8 @@ fn no_effect_is_a_miss_with_its_hit_test(rt: HostRuntime) -> Result<(), Fail> {
         let before = bytes_of(&battle);
         let mut sweep = Sweep::new(8);
         let known = used(&mut battle, name, &mut sweep)?;
-        assert_eq!(rt; (known.missed, known.accuracy_tested), (true, Some(76)));
-        assert_eq!(rt; (bytes_of(&battle), sweep.draw()), (before, 10), "{name}");
+        assert_same(&rt, (known.missed, known.accuracy_tested), (true, Some(76)));
+        assert_same_for(&rt, &name, (bytes_of(&battle), sweep.draw()), (before, 10));
     }
     Ok(())
 }
@@ -125,9 +130,17 @@ fn its_damage_breaks_and_fells(rt: HostRuntime) -> Result<(), Fail> {
     used(&mut battle, "Guillotine", &mut Sweep::new(253))?;
     let mut events = EventList::new();
     let damage = battle.last_damage();
-    assert_eq!(rt; land(&mut battle, USER, damage, &mut events), Landed::Broke);
-    assert_eq!(rt; battle.hp(FOE), 353);
-    assert_eq!(rt; land(&mut battle, USER, damage, &mut events), Landed::Hp);
-    assert_eq!(rt; (battle.hp(FOE), battle.last_damage()), (0, 353));
+    assert_same(
+        &rt,
+        land(&mut battle, USER, damage, &mut events),
+        Landed::Broke,
+    );
+    assert_same(&rt, battle.hp(FOE), 353);
+    assert_same(
+        &rt,
+        land(&mut battle, USER, damage, &mut events),
+        Landed::Hp,
+    );
+    assert_same(&rt, (battle.hp(FOE), battle.last_damage()), (0, 353));
     Ok(())
 }

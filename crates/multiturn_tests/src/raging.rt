@@ -1,6 +1,6 @@
 //! Rage that builds, by the words of docs/MECHANICS.md, "Going on". Tauros has an Attack of 298, which is 447 a stage up and 596
 //! two.
-use crate::duel::{FOE, USER, bytes_of, two_tauros};
+use crate::duel::{FOE, USER, assert_same, assert_same_for, bytes_of, two_tauros};
 use crate::hitting::hit;
 use gen1_layout::{Conditions, Packed};
 use gen1_machine::{Event, EventList};
@@ -21,13 +21,13 @@ fn it_builds_at_each_hit(rt: HostRuntime) -> Result<(), Fail> {
     for (name, stage, attack, told) in [("Strength", 7, 447, 1), ("Double Kick", 8, 596, 2)] {
         let mut battle = raging()?;
         let (_, events) = hit(&mut battle, name, 10, &mut Sweep::new(0))?;
-        assert_eq!(rt; battle.stage(FOE, Stat::Attack), stage, "{name}");
-        assert_eq!(rt; battle.current_stat(FOE, Stat::Attack), attack, "{name}");
+        assert_same_for(&rt, &name, battle.stage(FOE, Stat::Attack), stage);
+        assert_same_for(&rt, &name, battle.current_stat(FOE, Stat::Attack), attack);
         let builds = events
             .iter()
             .filter(|event| matches!(event, Event::Boost(..)))
             .count();
-        assert_eq!(rt; builds, told, "{name}");
+        assert_same_for(&rt, &name, builds, told);
     }
     Ok(())
 }
@@ -40,8 +40,8 @@ fn it_builds_behind_a_substitute(rt: HostRuntime) -> Result<(), Fail> {
         battle.put_substitute(FOE, Some(88));
         let mut link = LinkRandom::new([1; 10]);
         let _ = hit(&mut battle, "Strength", damage, &mut link)?;
-        assert_eq!(rt; battle.stage(FOE, Stat::Attack), 7);
-        assert_eq!(rt; battle.stage(USER, Stat::Attack), 6);
+        assert_same(&rt, battle.stage(FOE, Stat::Attack), 7);
+        assert_same(&rt, battle.stage(USER, Stat::Attack), 6);
     }
     Ok(())
 }
@@ -50,7 +50,11 @@ fn it_builds_behind_a_substitute(rt: HostRuntime) -> Result<(), Fail> {
 fn it_builds_after_the_user_exploded(rt: HostRuntime) -> Result<(), Fail> {
     let mut battle = raging()?;
     let _ = hit(&mut battle, "Explosion", 100, &mut Sweep::new(0))?;
-    assert_eq!(rt; (battle.hp(USER), battle.stage(FOE, Stat::Attack)), (0, 7));
+    assert_same(
+        &rt,
+        (battle.hp(USER), battle.stage(FOE, Stat::Attack)),
+        (0, 7),
+    );
     Ok(())
 }
 
@@ -59,9 +63,9 @@ fn it_builds_by_a_call_of_its_own(rt: HostRuntime) -> Result<(), Fail> {
     let mut battle = raging()?;
     let mut events = EventList::new();
     rage(&mut battle, USER, &mut events);
-    assert_eq!(rt; battle.stage(FOE, Stat::Attack), 7);
-    assert_eq!(rt; battle.current_stat(FOE, Stat::Attack), 447);
-    assert_eq!(rt; events.len(), 1);
+    assert_same(&rt, battle.stage(FOE, Stat::Attack), 7);
+    assert_same(&rt, battle.current_stat(FOE, Stat::Attack), 447);
+    assert_same(&rt, events.len(), 1);
     Ok(())
 }
 
@@ -72,8 +76,8 @@ fn it_builds_no_further_than_6(rt: HostRuntime) -> Result<(), Fail> {
     let before = bytes_of(&battle);
     let mut events = EventList::new();
     rage(&mut battle, USER, &mut events);
-    assert_eq!(rt; bytes_of(&battle), before);
-    assert_eq!(rt; events.len(), 0);
+    assert_same(&rt, bytes_of(&battle), before);
+    assert_same(&rt, events.len(), 0);
     Ok(())
 }
 
@@ -86,8 +90,8 @@ fn who_has_none_or_has_fallen_builds_none(rt: HostRuntime) -> Result<(), Fail> {
         let before = bytes_of(&battle);
         let mut events = EventList::new();
         rage(&mut battle, USER, &mut events);
-        assert_eq!(rt; bytes_of(&battle), before);
-        assert_eq!(rt; events.len(), 0);
+        assert_same(&rt, bytes_of(&battle), before);
+        assert_same(&rt, events.len(), 0);
     }
     Ok(())
 }
@@ -98,6 +102,6 @@ fn the_users_burn_counts_again(rt: HostRuntime) -> Result<(), Fail> {
     let mut battle = raging()?;
     battle.put_status(USER, Status::Burned);
     rage(&mut battle, USER, &mut EventList::new());
-    assert_eq!(rt; battle.current_stat(USER, Stat::Attack), 149);
+    assert_same(&rt, battle.current_stat(USER, Stat::Attack), 149);
     Ok(())
 }

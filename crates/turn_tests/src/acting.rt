@@ -4,7 +4,7 @@
 //! Each side has a Tauros out, of 353 HP. At level 100 a move of power P and no critical hit deals `42 * P * 74 / 72 / 50 + 2`, and
 //! half as much more where it is Normal. A sweep from 178 draws no critical hit, the factor 217 and then 180; one from 253 draws
 //! none either, then past 254 the factor 255, and 0.
-use crate::setting::{FOE, USER, bytes_of, started_with, who, with};
+use crate::setting::{FOE, USER, assert_same, bytes_of, started_with, who, with};
 use gen1_action::Known;
 use gen1_layout::{Conditions, Packed};
 use gen1_machine::{
@@ -42,22 +42,27 @@ fn dig_is_prepared_and_costs_pp_as_it_strikes(rt: HostRuntime) -> Result<(), Fai
     let mut battle = started_with("Dig", 100)?;
     let before = bytes_of(&battle);
     let mut events = EventList::new();
-    assert_eq!(rt; acted(&mut battle, SLOT, 178, &mut events), (false, 178));
+    assert_same(
+        &rt,
+        acted(&mut battle, SLOT, 178, &mut events),
+        (false, 178),
+    );
     // Charging is bit 4, and Invulnerable bit 5; the current move stands at 197.
     let charged = with(with(before, 185, &[48]), 197, &[1]);
-    assert_eq!(rt; bytes_of(&battle), charged);
+    assert_same(&rt, bytes_of(&battle), charged);
     let dig = MoveId::from_name("Dig").ok_or("no such move")?;
     let told = [Event::Prepare(who(USER, "Tauros")?, dig)];
-    assert_eq!(rt; events.as_slice(), told.as_slice());
-    assert_eq!(rt;
+    assert_same(&rt, events.as_slice(), told.as_slice());
+    assert_same(
+        &rt,
         acted(&mut battle, Pick::Continue, 178, &mut events),
-        (false, 181)
+        (false, 181),
     );
     // 88 at the factor 217 is 74; HP 279 are 23 beside 256, and 9 PP are left of 10.
     let struck = with(with(with(before, 3, &[74]), 208, &[23, 1]), 43, &[9]);
-    assert_eq!(rt; bytes_of(&battle), with(struck, 197, &[1]));
+    assert_same(&rt, bytes_of(&battle), with(struck, 197, &[1]));
     let told = [uses("Dig")?, hurt(FOE, 279, DamageSource::Direct)?];
-    assert_eq!(rt; events.as_slice(), told.as_slice());
+    assert_same(&rt, events.as_slice(), told.as_slice());
     Ok(())
 }
 
@@ -68,15 +73,20 @@ fn a_move_costs_pp(rt: HostRuntime) -> Result<(), Fail> {
         battle.put_pp(USER, 1, pp);
         let before = bytes_of(&battle);
         let mut events = EventList::new();
-        assert_eq!(rt; acted(&mut battle, SLOT, 178, &mut events), (false, 181));
+        assert_same(
+            &rt,
+            acted(&mut battle, SLOT, 178, &mut events),
+            (false, 181),
+        );
         // 106 at the factor 217 is 90, and HP 263 are 7 beside 256.
         let after = with(with(before, 3, &[90]), 208, &[7, 1]);
-        assert_eq!(rt;
+        assert_same(
+            &rt,
             bytes_of(&battle),
-            with(with(after, 43, &[left]), 197, &[1])
+            with(with(after, 43, &[left]), 197, &[1]),
         );
         let told = [uses("Strength")?, hurt(FOE, 263, DamageSource::Direct)?];
-        assert_eq!(rt; events.as_slice(), told.as_slice());
+        assert_same(&rt, events.as_slice(), told.as_slice());
     }
     Ok(())
 }
@@ -88,13 +98,14 @@ fn an_action_draws_with_any_generator(rt: HostRuntime) -> Result<(), Fail> {
     let mut known = Known::new();
     let mut link = LinkRandom::new([217; 10]);
     let mut events = EventList::new();
-    assert_eq!(rt;
+    assert_same(
+        &rt,
         act(&mut battle, USER, SLOT, &mut known, &mut link, &mut events),
-        false
+        false,
     );
     // 106 * 236 / 255 is 98.
-    assert_eq!(rt; (battle.hp(FOE), link.index()), (255, 3));
-    assert_eq!(rt; known.accuracy_tested, Some(255));
+    assert_same(&rt, (battle.hp(FOE), link.index()), (255, 3));
+    assert_same(&rt, known.accuracy_tested, Some(255));
     Ok(())
 }
 
@@ -104,16 +115,24 @@ fn struggle_costs_no_pp_and_recoils(rt: HostRuntime) -> Result<(), Fail> {
     let before = bytes_of(&battle);
     let mut events = EventList::new();
     let pick = Pick::Use(UsedMove::Struggle);
-    assert_eq!(rt; acted(&mut battle, pick, 178, &mut events), (false, 181));
+    assert_same(
+        &rt,
+        acted(&mut battle, pick, 178, &mut events),
+        (false, 181),
+    );
     // 67 at the factor 217 is 57, of which half is 28: HP 296 and 325. Struggle is number 5 as the current move.
     let hit = with(with(before, 3, &[57]), 208, &[40, 1]);
-    assert_eq!(rt; bytes_of(&battle), with(with(hit, 28, &[69, 1]), 197, &[5]));
+    assert_same(
+        &rt,
+        bytes_of(&battle),
+        with(with(hit, 28, &[69, 1]), 197, &[5]),
+    );
     let told = [
         uses("Struggle")?,
         hurt(FOE, 296, DamageSource::Direct)?,
         hurt(USER, 325, DamageSource::Recoil)?,
     ];
-    assert_eq!(rt; events.as_slice(), told.as_slice());
+    assert_same(&rt, events.as_slice(), told.as_slice());
     Ok(())
 }
 
@@ -128,11 +147,15 @@ fn rage_keeps_its_accuracy(rt: HostRuntime) -> Result<(), Fail> {
         (Pick::Continue, 297, 110),
         (Pick::Continue, 269, 72),
     ] {
-        assert_eq!(rt; acted(&mut battle, pick, 253, &mut events), (false, 1));
-        assert_eq!(rt; (battle.hp(FOE), battle.kept_accuracy(USER)), (hp, kept));
-        assert_eq!(rt; battle.pp(USER, 1), 19);
-        assert_eq!(rt; battle.is_on(USER, Conditions::RAGE), true);
-        assert_eq!(rt; events.len(), if hp == 325 { 3 } else { 2 });
+        assert_same(&rt, acted(&mut battle, pick, 253, &mut events), (false, 1));
+        assert_same(
+            &rt,
+            (battle.hp(FOE), battle.kept_accuracy(USER)),
+            (hp, kept),
+        );
+        assert_same(&rt, battle.pp(USER, 1), 19);
+        assert_same(&rt, battle.is_on(USER, Conditions::RAGE), true);
+        assert_same(&rt, events.len(), if hp == 325 { 3 } else { 2 });
     }
     Ok(())
 }
@@ -145,12 +168,17 @@ fn a_fault_keeps_the_accuracy_of_rage(rt: HostRuntime) -> Result<(), Fail> {
     battle.put_kept_accuracy(USER, 168);
     battle.put_defense(FOE, 12, 3);
     let mut events = EventList::new();
-    assert_eq!(rt;
+    assert_same(
+        &rt,
         acted(&mut battle, Pick::Continue, 178, &mut events),
-        (true, 179)
+        (true, 179),
     );
-    assert_eq!(rt; battle.outcome(), Outcome::Fault(1));
-    assert_eq!(rt; (battle.kept_accuracy(USER), battle.pp(USER, 1)), (168, 20));
+    assert_same(&rt, battle.outcome(), Outcome::Fault(1));
+    assert_same(
+        &rt,
+        (battle.kept_accuracy(USER), battle.pp(USER, 1)),
+        (168, 20),
+    );
     Ok(())
 }
 
@@ -164,20 +192,21 @@ fn thrashing_ends_in_confusion(rt: HostRuntime) -> Result<(), Fail> {
         (Pick::Continue, 253, Some(1), 255, 117),
         (Pick::Continue, 252, None, 0, 0),
     ] {
-        assert_eq!(rt; acted(&mut battle, pick, from, &mut events), (false, 1));
-        assert_eq!(rt;
+        assert_same(&rt, acted(&mut battle, pick, from, &mut events), (false, 1));
+        assert_same(
+            &rt,
             (battle.thrash(USER), battle.kept_accuracy(USER)),
-            (left, kept)
+            (left, kept),
         );
-        assert_eq!(rt; (battle.hp(FOE), battle.pp(USER, 1)), (hp, 19));
+        assert_same(&rt, (battle.hp(FOE), battle.pp(USER, 1)), (hp, 19));
     }
     let told = [
         uses("Thrash")?,
         Event::Start(who(USER, "Tauros")?, Volatile::Confusion),
         hurt(FOE, 0, DamageSource::Direct)?,
     ];
-    assert_eq!(rt; events.as_slice(), told.as_slice());
-    assert_eq!(rt; battle.confused(USER), Some(2));
+    assert_same(&rt, events.as_slice(), told.as_slice());
+    assert_same(&rt, battle.confused(USER), Some(2));
     Ok(())
 }
 
@@ -188,13 +217,18 @@ fn wrap_with_0_pp_is_used_anew(rt: HostRuntime) -> Result<(), Fail> {
     battle.put_current_move(USER, UsedMove::Slot(1));
     battle.put_pp(USER, 1, 0);
     let mut events = EventList::new();
-    assert_eq!(rt;
+    assert_same(
+        &rt,
         acted(&mut battle, Pick::Continue, 252, &mut events),
-        (false, 1)
+        (false, 1),
     );
-    assert_eq!(rt; (battle.pp(USER, 1), battle.trapping(USER)), (63, Some(1)));
+    assert_same(
+        &rt,
+        (battle.pp(USER, 1), battle.trapping(USER)),
+        (63, Some(1)),
+    );
     let told = [uses("Wrap")?, hurt(FOE, 332, DamageSource::Direct)?];
-    assert_eq!(rt; events.as_slice(), told.as_slice());
+    assert_same(&rt, events.as_slice(), told.as_slice());
     Ok(())
 }
 
@@ -207,17 +241,19 @@ fn wrap_goes_on_without_a_draw(rt: HostRuntime) -> Result<(), Fail> {
     battle.put_last_damage(21);
     let before = bytes_of(&battle);
     let mut events = EventList::new();
-    assert_eq!(rt;
+    assert_same(
+        &rt,
         acted(&mut battle, Pick::Continue, 9, &mut events),
-        (false, 9)
+        (false, 9),
     );
     // The turns stand at 194; HP 332 are 76 beside 256.
-    assert_eq!(rt;
+    assert_same(
+        &rt,
         bytes_of(&battle),
-        with(with(before, 194, &[0]), 208, &[76, 1])
+        with(with(before, 194, &[0]), 208, &[76, 1]),
     );
     let told = [uses("Wrap")?, hurt(FOE, 332, DamageSource::Direct)?];
-    assert_eq!(rt; events.as_slice(), told.as_slice());
+    assert_same(&rt, events.as_slice(), told.as_slice());
     Ok(())
 }
 
@@ -237,9 +273,9 @@ fn bide_stores_and_lets_go(rt: HostRuntime) -> Result<(), Fail> {
         (Pick::Continue, 4, 353, stores.as_slice()),
         (Pick::Continue, 4, 153, lets_go.as_slice()),
     ] {
-        assert_eq!(rt; acted(&mut battle, pick, 4, &mut events), (false, next));
-        assert_eq!(rt; (battle.hp(FOE), battle.pp(USER, 1)), (hp, 9));
-        assert_eq!(rt; events.as_slice(), told);
+        assert_same(&rt, acted(&mut battle, pick, 4, &mut events), (false, next));
+        assert_same(&rt, (battle.hp(FOE), battle.pp(USER, 1)), (hp, 9));
+        assert_same(&rt, events.as_slice(), told);
         battle.put_last_damage(50);
     }
     Ok(())
@@ -250,14 +286,18 @@ fn a_kick_that_misses_crashes(rt: HostRuntime) -> Result<(), Fail> {
     // From 240: not critical, a factor, and 242, which is not below the accuracy byte of 242.
     let mut battle = started_with("Jump Kick", 100)?;
     let mut events = EventList::new();
-    assert_eq!(rt; acted(&mut battle, SLOT, 240, &mut events), (false, 243));
+    assert_same(
+        &rt,
+        acted(&mut battle, SLOT, 240, &mut events),
+        (false, 243),
+    );
     let told = [
         uses("Jump Kick")?,
         Event::Miss(who(USER, "Tauros")?),
         hurt(USER, 352, DamageSource::Direct)?,
     ];
-    assert_eq!(rt; events.as_slice(), told.as_slice());
-    assert_eq!(rt; (battle.hp(FOE), battle.last_damage()), (353, 1));
+    assert_same(&rt, events.as_slice(), told.as_slice());
+    assert_same(&rt, (battle.hp(FOE), battle.last_damage()), (353, 1));
     Ok(())
 }
 
@@ -267,10 +307,14 @@ fn a_ghost_is_immune(rt: HostRuntime) -> Result<(), Fail> {
     let mut battle = started_with("Strength", 100)?;
     battle.put_types(FOE, Element::Ghost, Element::Poison);
     let mut events = EventList::new();
-    assert_eq!(rt; acted(&mut battle, SLOT, 178, &mut events), (false, 180));
+    assert_same(
+        &rt,
+        acted(&mut battle, SLOT, 178, &mut events),
+        (false, 180),
+    );
     let told = [uses("Strength")?, Event::Immune(who(FOE, "Tauros")?)];
-    assert_eq!(rt; events.as_slice(), told.as_slice());
-    assert_eq!(rt; (battle.hp(FOE), battle.last_damage()), (353, 0));
+    assert_same(&rt, events.as_slice(), told.as_slice());
+    assert_same(&rt, (battle.hp(FOE), battle.last_damage()), (353, 0));
     Ok(())
 }
 
@@ -285,9 +329,9 @@ fn a_late_effect_takes_its_hit_test(rt: HostRuntime) -> Result<(), Fail> {
         let mut battle = started_with("Growl", 100)?;
         let mut events = EventList::new();
         let ends = (false, byte.wrapping_add(1));
-        assert_eq!(rt; acted(&mut battle, SLOT, byte, &mut events), ends);
-        assert_eq!(rt; battle.stage(FOE, Stat::Attack), stage);
-        assert_eq!(rt; events.as_slice(), [uses("Growl")?, second].as_slice());
+        assert_same(&rt, acted(&mut battle, SLOT, byte, &mut events), ends);
+        assert_same(&rt, battle.stage(FOE, Stat::Attack), stage);
+        assert_same(&rt, events.as_slice(), [uses("Growl")?, second].as_slice());
     }
     Ok(())
 }
@@ -297,10 +341,14 @@ fn who_is_held_does_nothing(rt: HostRuntime) -> Result<(), Fail> {
     let mut battle = started_with("Strength", 100)?;
     let before = bytes_of(&battle);
     let mut events = EventList::new();
-    assert_eq!(rt; acted(&mut battle, Pick::Held, 9, &mut events), (false, 9));
-    assert_eq!(rt; bytes_of(&battle), before);
+    assert_same(
+        &rt,
+        acted(&mut battle, Pick::Held, 9, &mut events),
+        (false, 9),
+    );
+    assert_same(&rt, bytes_of(&battle), before);
     let told = [Event::Cant(who(USER, "Tauros")?, CantReason::PartiallyTrapped)];
-    assert_eq!(rt; events.as_slice(), told.as_slice());
+    assert_same(&rt, events.as_slice(), told.as_slice());
     Ok(())
 }
 
@@ -311,12 +359,16 @@ fn a_defense_of_512_under_reflect_ends_the_battle(rt: HostRuntime) -> Result<(),
     battle.put_flag(FOE, Conditions::REFLECT, true);
     let before = bytes_of(&battle);
     let mut events = EventList::new();
-    assert_eq!(rt; acted(&mut battle, SLOT, 178, &mut events), (true, 179));
-    assert_eq!(rt; battle.outcome(), Outcome::Fault(1));
+    assert_same(&rt, acted(&mut battle, SLOT, 178, &mut events), (true, 179));
+    assert_same(&rt, battle.outcome(), Outcome::Fault(1));
     // What came before the fault stands: 14 PP, and the current move.
     battle.put_outcome(Outcome::Ongoing);
-    assert_eq!(rt; bytes_of(&battle), with(with(before, 43, &[14]), 197, &[1]));
-    assert_eq!(rt; events.as_slice(), [uses("Strength")?].as_slice());
+    assert_same(
+        &rt,
+        bytes_of(&battle),
+        with(with(before, 43, &[14]), 197, &[1]),
+    );
+    assert_same(&rt, events.as_slice(), [uses("Strength")?].as_slice());
     Ok(())
 }
 
@@ -330,9 +382,13 @@ fn psywave_at_level_1_ends_the_battle(rt: HostRuntime) -> Result<(), Fail> {
         let mut battle = started_with("Psywave", level)?;
         let hp = battle.hp(FOE);
         let mut events = EventList::new();
-        assert_eq!(rt; acted(&mut battle, SLOT, 0, &mut events), (over, next));
-        assert_eq!(rt; battle.outcome(), outcome);
-        assert_eq!(rt; hp.saturating_sub(battle.hp(FOE)), if over { 0 } else { 1 });
+        assert_same(&rt, acted(&mut battle, SLOT, 0, &mut events), (over, next));
+        assert_same(&rt, battle.outcome(), outcome);
+        assert_same(
+            &rt,
+            hp.saturating_sub(battle.hp(FOE)),
+            if over { 0 } else { 1 },
+        );
     }
     Ok(())
 }

@@ -1,6 +1,6 @@
 //! The end of an update, by docs/MECHANICS.md, "Falls and requests" and "Turn limit".
 use crate::setting::{
-    FOE, USER, bytes_of, started, started_alone, started_within, turn, who, with,
+    FOE, USER, assert_same, bytes_of, started, started_alone, started_within, turn, who, with,
 };
 use gen1_layout::Packed;
 use gen1_machine::{Event, EventList, FaultCode, Outcome, Request, Side};
@@ -27,9 +27,9 @@ fn the_next_turn_begins(rt: HostRuntime) -> Result<(), Fail> {
     let mut battle = started()?;
     let before = bytes_of(&battle);
     let events = closed_with(&mut battle, &[]);
-    assert_eq!(rt; events.as_slice(), [turn(2)?].as_slice());
-    assert_eq!(rt; bytes_of(&battle), with(before, 1, &[2, 0]));
-    assert_eq!(rt; requests(&battle), (Request::Move, Request::Move));
+    assert_same(&rt, events.as_slice(), [turn(2)?].as_slice());
+    assert_same(&rt, bytes_of(&battle), with(before, 1, &[2, 0]));
+    assert_same(&rt, requests(&battle), (Request::Move, Request::Move));
     Ok(())
 }
 
@@ -43,10 +43,14 @@ fn a_switch_is_asked_for_who_fell(rt: HostRuntime) -> Result<(), Fail> {
         battle.put_status(side, Status::Frozen);
         let events = closed_with(&mut battle, &[side]);
         let told = [Event::Faint(who(side, "Tauros")?)];
-        assert_eq!(rt; events.as_slice(), told.as_slice());
-        assert_eq!(rt; requests(&battle), asked);
-        assert_eq!(rt; battle.status(side), Status::Healthy);
-        assert_eq!(rt; (battle.turn(), battle.outcome()), (1, Outcome::Ongoing));
+        assert_same(&rt, events.as_slice(), told.as_slice());
+        assert_same(&rt, requests(&battle), asked);
+        assert_same(&rt, battle.status(side), Status::Healthy);
+        assert_same(
+            &rt,
+            (battle.turn(), battle.outcome()),
+            (1, Outcome::Ongoing),
+        );
     }
     Ok(())
 }
@@ -60,7 +64,7 @@ fn the_rest_of_the_fallen_stays(rt: HostRuntime) -> Result<(), Fail> {
     let before = bytes_of(&battle);
     closed_with(&mut battle, &[FOE]);
     let after = with(with(before, 208, &[0, 0]), 17, &[0, 2]);
-    assert_eq!(rt; bytes_of(&battle), after);
+    assert_same(&rt, bytes_of(&battle), after);
     Ok(())
 }
 
@@ -76,8 +80,8 @@ fn the_foe_of_the_last_actor_faints_first(rt: HostRuntime) -> Result<(), Fail> {
             Event::Faint(who(foe, "Tauros")?),
             Event::Faint(who(actor, "Tauros")?),
         ];
-        assert_eq!(rt; events.as_slice(), told.as_slice());
-        assert_eq!(rt; requests(&battle), (Request::Switch, Request::Switch));
+        assert_same(&rt, events.as_slice(), told.as_slice());
+        assert_same(&rt, requests(&battle), (Request::Switch, Request::Switch));
     }
     Ok(())
 }
@@ -88,9 +92,9 @@ fn the_last_to_live_wins(rt: HostRuntime) -> Result<(), Fail> {
         let mut battle = started_alone()?;
         let events = closed_with(&mut battle, &[loser]);
         let told = [Event::Faint(who(loser, "Tauros")?), Event::Win(winner)];
-        assert_eq!(rt; events.as_slice(), told.as_slice());
-        assert_eq!(rt; (battle.turn(), battle.outcome()), (1, outcome));
-        assert_eq!(rt; requests(&battle), (Request::Pass, Request::Pass));
+        assert_same(&rt, events.as_slice(), told.as_slice());
+        assert_same(&rt, (battle.turn(), battle.outcome()), (1, outcome));
+        assert_same(&rt, requests(&battle), (Request::Pass, Request::Pass));
     }
     Ok(())
 }
@@ -104,9 +108,9 @@ fn nobody_lives_in_a_tie(rt: HostRuntime) -> Result<(), Fail> {
         Event::Faint(who(USER, "Tauros")?),
         Event::Tie,
     ];
-    assert_eq!(rt; events.as_slice(), told.as_slice());
-    assert_eq!(rt; battle.outcome(), Outcome::Tie);
-    assert_eq!(rt; requests(&battle), (Request::Pass, Request::Pass));
+    assert_same(&rt, events.as_slice(), told.as_slice());
+    assert_same(&rt, battle.outcome(), Outcome::Tie);
+    assert_same(&rt, requests(&battle), (Request::Pass, Request::Pass));
     Ok(())
 }
 
@@ -117,11 +121,11 @@ fn turn_1000_ends_in_a_tie(rt: HostRuntime) -> Result<(), Fail> {
         battle.put_next_turn();
     }
     let events = closed_with(&mut battle, &[]);
-    assert_eq!(rt; events.as_slice(), [turn(1000)?].as_slice());
+    assert_same(&rt, events.as_slice(), [turn(1000)?].as_slice());
     let events = closed_with(&mut battle, &[]);
-    assert_eq!(rt; events.as_slice(), [Event::Tie].as_slice());
-    assert_eq!(rt; (battle.turn(), battle.outcome()), (1000, Outcome::Tie));
-    assert_eq!(rt; requests(&battle), (Request::Pass, Request::Pass));
+    assert_same(&rt, events.as_slice(), [Event::Tie].as_slice());
+    assert_same(&rt, (battle.turn(), battle.outcome()), (1000, Outcome::Tie));
+    assert_same(&rt, requests(&battle), (Request::Pass, Request::Pass));
     Ok(())
 }
 
@@ -130,9 +134,9 @@ fn no_replacement_follows_the_last_turn(rt: HostRuntime) -> Result<(), Fail> {
     let mut battle = started_within(1)?;
     let events = closed_with(&mut battle, &[FOE]);
     let told = [Event::Faint(who(FOE, "Tauros")?), Event::Tie];
-    assert_eq!(rt; events.as_slice(), told.as_slice());
-    assert_eq!(rt; battle.outcome(), Outcome::Tie);
-    assert_eq!(rt; requests(&battle), (Request::Pass, Request::Pass));
+    assert_same(&rt, events.as_slice(), told.as_slice());
+    assert_same(&rt, battle.outcome(), Outcome::Tie);
+    assert_same(&rt, requests(&battle), (Request::Pass, Request::Pass));
     Ok(())
 }
 
@@ -144,8 +148,12 @@ fn a_win_in_the_last_turn_is_a_win(rt: HostRuntime) -> Result<(), Fail> {
     }
     let events = closed_with(&mut battle, &[USER]);
     let told = [Event::Faint(who(USER, "Tauros")?), Event::Win(FOE)];
-    assert_eq!(rt; events.as_slice(), told.as_slice());
-    assert_eq!(rt; (battle.turn(), battle.outcome()), (1000, Outcome::WinTwo));
+    assert_same(&rt, events.as_slice(), told.as_slice());
+    assert_same(
+        &rt,
+        (battle.turn(), battle.outcome()),
+        (1000, Outcome::WinTwo),
+    );
     Ok(())
 }
 
@@ -159,8 +167,8 @@ fn nobody_faints_at_a_fault(rt: HostRuntime) -> Result<(), Fail> {
         let before = bytes_of(&battle);
         let events = closed_with(&mut battle, &[]);
         let code = FaultCode::new(number).ok_or("no such fault")?;
-        assert_eq!(rt; events.as_slice(), [Event::Fault(code)].as_slice());
-        assert_eq!(rt; bytes_of(&battle), with(before, 17, &[0, 0]));
+        assert_same(&rt, events.as_slice(), [Event::Fault(code)].as_slice());
+        assert_same(&rt, bytes_of(&battle), with(before, 17, &[0, 0]));
     }
     Ok(())
 }

@@ -1,5 +1,5 @@
 //! What each side may choose, by docs/MECHANICS.md, "Offered choices".
-use crate::setting::{FOE, SEED, USER, member_of};
+use crate::setting::{FOE, SEED, USER, assert_same, member_of};
 use arrayvec::ArrayVec;
 use gen1_layout::{Conditions, Packed};
 use gen1_machine::{DisabledSlot, EventList, Outcome, Place, Request, Side};
@@ -43,8 +43,8 @@ fn bytes(battle: &Packed, side: Side) -> Result<ArrayVec<u8, 9>, Fail> {
 #[test]
 fn both_pass_before_the_first_update(rt: HostRuntime) -> Result<(), Fail> {
     let battle = unstarted()?;
-    assert_eq!(rt; bytes(&battle, USER)?.as_slice(), [0x00].as_slice());
-    assert_eq!(rt; bytes(&battle, FOE)?.as_slice(), [0x00].as_slice());
+    assert_same(&rt, bytes(&battle, USER)?.as_slice(), [0x00].as_slice());
+    assert_same(&rt, bytes(&battle, FOE)?.as_slice(), [0x00].as_slice());
     Ok(())
 }
 
@@ -52,8 +52,8 @@ fn both_pass_before_the_first_update(rt: HostRuntime) -> Result<(), Fail> {
 fn moves_come_first(rt: HostRuntime) -> Result<(), Fail> {
     let battle = started()?;
     let all = [0x11, 0x12, 0x13, 0x14, 0x22, 0x23];
-    assert_eq!(rt; bytes(&battle, USER)?.as_slice(), all.as_slice());
-    assert_eq!(rt; bytes(&battle, FOE)?.as_slice(), all.as_slice());
+    assert_same(&rt, bytes(&battle, USER)?.as_slice(), all.as_slice());
+    assert_same(&rt, bytes(&battle, FOE)?.as_slice(), all.as_slice());
     Ok(())
 }
 
@@ -63,12 +63,12 @@ fn the_fallen_and_who_is_out_stay(rt: HostRuntime) -> Result<(), Fail> {
     let second = Place::new(2).ok_or("no such place")?;
     send_out(&mut battle, USER, second, &mut EventList::new());
     let others = [0x11, 0x12, 0x13, 0x14, 0x21, 0x23];
-    assert_eq!(rt; bytes(&battle, USER)?.as_slice(), others.as_slice());
+    assert_same(&rt, bytes(&battle, USER)?.as_slice(), others.as_slice());
     battle.put_hp(USER, 0);
     let first = Place::new(1).ok_or("no such place")?;
     send_out(&mut battle, USER, first, &mut EventList::new());
     let living = [0x11, 0x12, 0x13, 0x14, 0x23];
-    assert_eq!(rt; bytes(&battle, USER)?.as_slice(), living.as_slice());
+    assert_same(&rt, bytes(&battle, USER)?.as_slice(), living.as_slice());
     Ok(())
 }
 
@@ -78,11 +78,11 @@ fn a_slot_wants_pp_and_no_disable(rt: HostRuntime) -> Result<(), Fail> {
     battle.put_pp(USER, 2, 0);
     battle.put_disabled(USER, Some(DisabledSlot { slot: 3, turns: 1 }));
     let left = [0x11, 0x14, 0x22, 0x23];
-    assert_eq!(rt; bytes(&battle, USER)?.as_slice(), left.as_slice());
+    assert_same(&rt, bytes(&battle, USER)?.as_slice(), left.as_slice());
     battle.put_pp(USER, 1, 0);
     battle.put_pp(USER, 4, 0);
     let none = [0x10, 0x22, 0x23];
-    assert_eq!(rt; bytes(&battle, USER)?.as_slice(), none.as_slice());
+    assert_same(&rt, bytes(&battle, USER)?.as_slice(), none.as_slice());
     Ok(())
 }
 
@@ -96,7 +96,7 @@ fn who_goes_on_has_no_choice(rt: HostRuntime) -> Result<(), Fail> {
     ] {
         let mut battle = started()?;
         battle.put_flag(USER, which, true);
-        assert_eq!(rt; bytes(&battle, USER)?.as_slice(), [0x10].as_slice());
+        assert_same(&rt, bytes(&battle, USER)?.as_slice(), [0x10].as_slice());
     }
     Ok(())
 }
@@ -110,9 +110,10 @@ fn who_has_no_slot_may_be_switched(rt: HostRuntime) -> Result<(), Fail> {
     for status in [asleep, Status::Frozen] {
         let mut battle = started()?;
         battle.put_status(USER, status);
-        assert_eq!(rt;
+        assert_same(
+            &rt,
             bytes(&battle, USER)?.as_slice(),
-            [0x10, 0x22, 0x23].as_slice()
+            [0x10, 0x22, 0x23].as_slice(),
         );
     }
     for (side, which) in [
@@ -122,9 +123,10 @@ fn who_has_no_slot_may_be_switched(rt: HostRuntime) -> Result<(), Fail> {
     ] {
         let mut battle = started()?;
         battle.put_flag(side, which, true);
-        assert_eq!(rt;
+        assert_same(
+            &rt,
             bytes(&battle, USER)?.as_slice(),
-            [0x10, 0x22, 0x23].as_slice()
+            [0x10, 0x22, 0x23].as_slice(),
         );
     }
     Ok(())
@@ -135,8 +137,12 @@ fn a_replacement_is_a_switch(rt: HostRuntime) -> Result<(), Fail> {
     let mut battle = started()?;
     battle.put_fallen(USER);
     battle.put_requests(Request::Switch, Request::Pass);
-    assert_eq!(rt; bytes(&battle, USER)?.as_slice(), [0x22, 0x23].as_slice());
-    assert_eq!(rt; bytes(&battle, FOE)?.as_slice(), [0x00].as_slice());
+    assert_same(
+        &rt,
+        bytes(&battle, USER)?.as_slice(),
+        [0x22, 0x23].as_slice(),
+    );
+    assert_same(&rt, bytes(&battle, FOE)?.as_slice(), [0x00].as_slice());
     Ok(())
 }
 
@@ -150,8 +156,8 @@ fn nothing_is_offered_once_it_is_over(rt: HostRuntime) -> Result<(), Fail> {
     ] {
         let mut battle = started()?;
         battle.put_outcome(outcome);
-        assert_eq!(rt; offered(&battle, USER).is_empty(), true);
-        assert_eq!(rt; offered(&battle, FOE).is_empty(), true);
+        assert_same(&rt, offered(&battle, USER).is_empty(), true);
+        assert_same(&rt, offered(&battle, FOE).is_empty(), true);
     }
     Ok(())
 }

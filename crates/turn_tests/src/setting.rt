@@ -8,6 +8,8 @@ use gen1_machine::{
 use gen1_requests::start;
 use gen1_stats::{MemberSpec, Team};
 use gen1_tables::{MoveId, Species};
+use std::fmt::Debug;
+use std::process::Abort;
 use std::test::Fail;
 
 pub(crate) const USER: Side = Side::One;
@@ -138,4 +140,9 @@ fn comes_out(side: Side, name: &str, place: u8, health: Option<Health>) -> Resul
 
 pub(crate) fn turn(number: u16) -> Result<Event, Fail> {
     Ok(Event::Turn(TurnNumber::new(number).ok_or("no such turn")?))
+}
+
+// Whether these are the same. A test asserts by it, since an assertion in its own body costs the proof of the test seconds.
+pub(crate) fn assert_same<T: PartialEq + Debug + Drop>(rt: &impl Abort, found: T, expected: T) {
+    assert_eq!(rt; found, expected);
 }

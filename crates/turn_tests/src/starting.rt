@@ -1,7 +1,7 @@
 //! The first update of a battle, by docs/MECHANICS.md, "Switching in" and "Falls and requests".
 use crate::setting::{
-    FOE, TAUROS_OUT, USER, bytes_of, started_within, tauros_out, turn, unstarted, unstarted_alone,
-    with,
+    FOE, TAUROS_OUT, USER, assert_same, bytes_of, started_within, tauros_out, turn, unstarted,
+    unstarted_alone, with,
 };
 use gen1_layout::Packed;
 use gen1_machine::{EventList, Kind, Outcome, Request};
@@ -19,11 +19,11 @@ fn a_battle_begins_with_turn_1(rt: HostRuntime) -> Result<(), Fail> {
         tauros_out(FOE, 353, None)?,
         turn(1)?,
     ];
-    assert_eq!(rt; events.as_slice(), told.as_slice());
+    assert_same(&rt, events.as_slice(), told.as_slice());
     // The turn is 1, moves are asked of both, and both are out; no draw was made.
     let turned = with(with(before, 1, &[1, 0]), 17, &[1, 1]);
     let out = with(with(turned, 168, &TAUROS_OUT), 348, &TAUROS_OUT);
-    assert_eq!(rt; bytes_of(&battle), out);
+    assert_same(&rt, bytes_of(&battle), out);
     Ok(())
 }
 
@@ -32,13 +32,18 @@ fn the_first_members_come_out(rt: HostRuntime) -> Result<(), Fail> {
     let mut battle = unstarted(1)?;
     let mut events = EventList::new();
     start(&mut battle, &mut events);
-    assert_eq!(rt; (battle.place(USER), battle.place(FOE)), (1, 1));
-    assert_eq!(rt; events.len(), 3);
+    assert_same(&rt, (battle.place(USER), battle.place(FOE)), (1, 1));
+    assert_same(&rt, events.len(), 3);
     // Turn 1 is still to be played, also where it is the last.
-    assert_eq!(rt; (battle.turn(), battle.outcome()), (1, Outcome::Ongoing));
-    assert_eq!(rt;
+    assert_same(
+        &rt,
+        (battle.turn(), battle.outcome()),
+        (1, Outcome::Ongoing),
+    );
+    assert_same(
+        &rt,
         (battle.request(USER), battle.request(FOE)),
-        (Request::Move, Request::Move)
+        (Request::Move, Request::Move),
     );
     Ok(())
 }
@@ -59,13 +64,13 @@ fn a_hurt_and_burned_member_comes_out_first(rt: HostRuntime) -> Result<(), Fail>
         tauros_out(FOE, 100, Some(Kind::Burn))?,
         turn(1)?,
     ];
-    assert_eq!(rt; events.as_slice(), told.as_slice());
+    assert_same(&rt, events.as_slice(), told.as_slice());
     // Half of 298 is 149.
     let out = with(
         with(bytes_of(&started_within(1000)?), 208, &[100, 0]),
         218,
         &[16],
     );
-    assert_eq!(rt; bytes_of(&battle), with(out, 357, &[149, 0]));
+    assert_same(&rt, bytes_of(&battle), with(out, 357, &[149, 0]));
     Ok(())
 }

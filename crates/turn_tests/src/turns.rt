@@ -2,7 +2,8 @@
 //! the greater Speed, Snorlax 523.
 use crate::duels::{both, duel, hurt, knowing, play, poisoned, slot, switch, uses};
 use crate::setting::{
-    FOE, SEED, USER, bytes_of, gengar_out, tauros_out, turn, unstarted_alone, who, with,
+    FOE, SEED, USER, assert_same, bytes_of, gengar_out, tauros_out, turn, unstarted_alone, who,
+    with,
 };
 use gen1_layout::{Conditions, Packed};
 use gen1_machine::{
@@ -43,7 +44,7 @@ fn a_switch_comes_before_quick_attack(rt: HostRuntime) -> Result<(), Fail> {
         Event::Immune(two),
         turn(2)?,
     ];
-    assert_eq!(rt; events.as_slice(), told.as_slice());
+    assert_same(&rt, events.as_slice(), told.as_slice());
     let mut battle = facing("Splash", "Quick Attack")?;
     let events = play(&mut battle, switch(2)?, slot(1)?, &mut Sweep::new(0));
     let (one, two) = both("Gengar", "Snorlax")?;
@@ -53,7 +54,7 @@ fn a_switch_comes_before_quick_attack(rt: HostRuntime) -> Result<(), Fail> {
         Event::Immune(one),
         turn(2)?,
     ];
-    assert_eq!(rt; events.as_slice(), told.as_slice());
+    assert_same(&rt, events.as_slice(), told.as_slice());
     Ok(())
 }
 
@@ -63,9 +64,9 @@ fn both_switch_with_no_draw(rt: HostRuntime) -> Result<(), Fail> {
     let mut sweep = Sweep::new(9);
     let events = play(&mut battle, switch(2)?, switch(2)?, &mut sweep);
     let told = [gengar_out(USER)?, gengar_out(FOE)?, turn(2)?];
-    assert_eq!(rt; events.as_slice(), told.as_slice());
-    assert_eq!(rt; (battle.place(USER), battle.place(FOE)), (2, 2));
-    assert_eq!(rt; sweep.draw(), 9);
+    assert_same(&rt, events.as_slice(), told.as_slice());
+    assert_same(&rt, (battle.place(USER), battle.place(FOE)), (2, 2));
+    assert_same(&rt, sweep.draw(), 9);
     Ok(())
 }
 
@@ -101,7 +102,7 @@ fn who_comes_out_suffers_before_the_other_acts(rt: HostRuntime) -> Result<(), Fa
         splash[1],
         turn(2)?,
     ];
-    assert_eq!(rt; events.as_slice(), told.as_slice());
+    assert_same(&rt, events.as_slice(), told.as_slice());
     let mut battle = poisoned_behind(323)?;
     let events = play(&mut battle, switch(2)?, switch(2)?, &mut Sweep::new(0));
     let told = [
@@ -110,7 +111,7 @@ fn who_comes_out_suffers_before_the_other_acts(rt: HostRuntime) -> Result<(), Fa
         gengar_out(FOE)?,
         turn(2)?,
     ];
-    assert_eq!(rt; events.as_slice(), told.as_slice());
+    assert_same(&rt, events.as_slice(), told.as_slice());
     Ok(())
 }
 
@@ -125,11 +126,12 @@ fn where_who_comes_out_falls_nobody_else_acts(rt: HostRuntime) -> Result<(), Fai
     for choice in [slot(1)?, switch(2)?] {
         let mut battle = poisoned_behind(20)?;
         let events = play(&mut battle, switch(2)?, choice, &mut Sweep::new(0));
-        assert_eq!(rt; events.as_slice(), told.as_slice());
-        assert_eq!(rt; battle.place(FOE), 1);
-        assert_eq!(rt;
+        assert_same(&rt, events.as_slice(), told.as_slice());
+        assert_same(&rt, battle.place(FOE), 1);
+        assert_same(
+            &rt,
             (requests_of(&battle), battle.turn()),
-            ((Request::Switch, Request::Pass), 1)
+            ((Request::Switch, Request::Pass), 1),
         );
     }
     Ok(())
@@ -148,9 +150,9 @@ fn who_fells_its_foe_is_spared_its_residual(rt: HostRuntime) -> Result<(), Fail>
         hurt(two, 0, 523)?,
         Event::Faint(two),
     ];
-    assert_eq!(rt; events.as_slice(), told.as_slice());
-    assert_eq!(rt; (battle.hp(USER), battle.turn()), (353, 1));
-    assert_eq!(rt; requests_of(&battle), (Request::Pass, Request::Switch));
+    assert_same(&rt, events.as_slice(), told.as_slice());
+    assert_same(&rt, (battle.hp(USER), battle.turn()), (353, 1));
+    assert_same(&rt, requests_of(&battle), (Request::Pass, Request::Switch));
     Ok(())
 }
 
@@ -173,7 +175,7 @@ fn each_suffers_after_its_own_action(rt: HostRuntime) -> Result<(), Fail> {
         poisoned(two, 491, 523)?,
         turn(2)?,
     ];
-    assert_eq!(rt; events.as_slice(), told.as_slice());
+    assert_same(&rt, events.as_slice(), told.as_slice());
     Ok(())
 }
 
@@ -191,8 +193,8 @@ fn a_fall_by_poison_ends_the_turn(rt: HostRuntime) -> Result<(), Fail> {
         poisoned(one, 0, 353)?,
         Event::Faint(one),
     ];
-    assert_eq!(rt; events.as_slice(), told.as_slice());
-    assert_eq!(rt; requests_of(&battle), (Request::Switch, Request::Pass));
+    assert_same(&rt, events.as_slice(), told.as_slice());
+    assert_same(&rt, requests_of(&battle), (Request::Switch, Request::Pass));
     Ok(())
 }
 
@@ -208,8 +210,12 @@ fn the_foe_of_the_last_actor_faints_first(rt: HostRuntime) -> Result<(), Fail> {
         Event::Faint(two),
         Event::Faint(one),
     ];
-    assert_eq!(rt; events.as_slice(), told.as_slice());
-    assert_eq!(rt; requests_of(&battle), (Request::Switch, Request::Switch));
+    assert_same(&rt, events.as_slice(), told.as_slice());
+    assert_same(
+        &rt,
+        requests_of(&battle),
+        (Request::Switch, Request::Switch),
+    );
     let mut battle = facing("Splash", "Explosion")?;
     battle.put_hp(USER, 1);
     let events = play(&mut battle, slot(1)?, slot(1)?, &mut Sweep::new(7));
@@ -222,7 +228,7 @@ fn the_foe_of_the_last_actor_faints_first(rt: HostRuntime) -> Result<(), Fail> {
         Event::Faint(one),
         Event::Faint(two),
     ];
-    assert_eq!(rt; events.as_slice(), told.as_slice());
+    assert_same(&rt, events.as_slice(), told.as_slice());
     Ok(())
 }
 
@@ -233,13 +239,18 @@ fn a_fault_ends_the_battle_at_once(rt: HostRuntime) -> Result<(), Fail> {
     battle.put_status(USER, Status::Poisoned);
     battle.put_defense(FOE, 6, 0);
     let events = play(&mut battle, slot(1)?, slot(1)?, &mut Sweep::new(7));
-    assert_eq!(rt; events.len(), 2);
-    assert_eq!(rt; events.first().copied(), Some(uses(one, "Strength", two)?));
-    assert_eq!(rt;
-        (battle.hp(USER), battle.outcome()),
-        (353, Outcome::Fault(1))
+    assert_same(&rt, events.len(), 2);
+    assert_same(
+        &rt,
+        events.first().copied(),
+        Some(uses(one, "Strength", two)?),
     );
-    assert_eq!(rt; requests_of(&battle), (Request::Pass, Request::Pass));
+    assert_same(
+        &rt,
+        (battle.hp(USER), battle.outcome()),
+        (353, Outcome::Fault(1)),
+    );
+    assert_same(&rt, requests_of(&battle), (Request::Pass, Request::Pass));
     Ok(())
 }
 
@@ -266,8 +277,8 @@ fn trapping_ends_with_a_whole_turn(rt: HostRuntime) -> Result<(), Fail> {
             Event::Cant(two, CantReason::PartiallyTrapped),
             turn(2)?,
         ];
-        assert_eq!(rt; events.as_slice(), told.as_slice());
-        assert_eq!(rt; (battle.trapping(USER), sweep.draw()), (left, 0));
+        assert_same(&rt, events.as_slice(), told.as_slice());
+        assert_same(&rt, (battle.trapping(USER), sweep.draw()), (left, 0));
     }
     Ok(())
 }
@@ -283,8 +294,8 @@ fn trapping_stays_where_the_turn_was_cut(rt: HostRuntime) -> Result<(), Fail> {
         hurt(two, 0, 523)?,
         Event::Faint(two),
     ];
-    assert_eq!(rt; events.as_slice(), told.as_slice());
-    assert_eq!(rt; battle.trapping(USER), Some(0));
+    assert_same(&rt, events.as_slice(), told.as_slice());
+    assert_same(&rt, battle.trapping(USER), Some(0));
     Ok(())
 }
 
@@ -297,14 +308,19 @@ fn wrap_is_used_anew_where_the_foe_switches(rt: HostRuntime) -> Result<(), Fail>
     battle.put_pp(USER, 1, 0);
     let events = play(&mut battle, slot(0)?, switch(2)?, &mut Sweep::new(0));
     let (one, two) = both("Tauros", "Tauros")?;
-    assert_eq!(rt; events.len(), 5);
-    assert_eq!(rt; events.get(1).copied(), Some(uses(one, "Wrap", two)?));
+    assert_same(&rt, events.len(), 5);
+    assert_same(&rt, events.get(1).copied(), Some(uses(one, "Wrap", two)?));
     // 0 is drawn for the turns, 1 is a critical hit, as 8 is below 55.
-    assert_eq!(rt; events.get(2).copied(), Some(Event::Crit(two)));
-    assert_eq!(rt; (battle.trapping(USER), battle.pp(USER, 1)), (Some(1), 63));
-    assert_eq!(rt;
+    assert_same(&rt, events.get(2).copied(), Some(Event::Crit(two)));
+    assert_same(
+        &rt,
+        (battle.trapping(USER), battle.pp(USER, 1)),
+        (Some(1), 63),
+    );
+    assert_same(
+        &rt,
         (battle.place(FOE), battle.picked_move(USER)),
-        (2, UsedMove::Nothing)
+        (2, UsedMove::Nothing),
     );
     Ok(())
 }
@@ -319,13 +335,14 @@ fn a_flinch_is_cleared_as_a_turn_begins(rt: HostRuntime) -> Result<(), Fail> {
     let first = splash(one, two)?;
     let second = splash(two, one)?;
     let told = [first[0], first[1], second[0], second[1], turn(2)?];
-    assert_eq!(rt; events.as_slice(), told.as_slice());
-    assert_eq!(rt;
+    assert_same(&rt, events.as_slice(), told.as_slice());
+    assert_same(
+        &rt,
         (
             battle.is_on(USER, Conditions::FLINCH),
-            battle.is_on(FOE, Conditions::FLINCH)
+            battle.is_on(FOE, Conditions::FLINCH),
         ),
-        (false, false)
+        (false, false),
     );
     Ok(())
 }
@@ -349,7 +366,7 @@ fn a_sleeper_that_haze_met_is_skipped(rt: HostRuntime) -> Result<(), Fail> {
         Event::Cure(two, Kind::Sleep),
         turn(2)?,
     ];
-    assert_eq!(rt; events.as_slice(), told.as_slice());
+    assert_same(&rt, events.as_slice(), told.as_slice());
     Ok(())
 }
 
@@ -365,7 +382,7 @@ fn the_stored_run_is_told_as_it_was_printed(rt: HostRuntime) -> Result<(), Fail>
         tauros_out(FOE, 353, None)?,
         turn(1)?,
     ];
-    assert_eq!(rt; events.as_slice(), first.as_slice());
+    assert_same(&rt, events.as_slice(), first.as_slice());
     let (one, two) = both("Tauros", "Tauros")?;
     let events = play(&mut battle, slot(1)?, slot(1)?, &mut link);
     let second = [
@@ -376,7 +393,7 @@ fn the_stored_run_is_told_as_it_was_printed(rt: HostRuntime) -> Result<(), Fail>
         hurt(one, 263, 353)?,
         turn(2)?,
     ];
-    assert_eq!(rt; events.as_slice(), second.as_slice());
+    assert_same(&rt, events.as_slice(), second.as_slice());
     let events = play(&mut battle, slot(1)?, slot(1)?, &mut link);
     let third = [
         uses(one, "Strength", two)?,
@@ -385,7 +402,7 @@ fn the_stored_run_is_told_as_it_was_printed(rt: HostRuntime) -> Result<(), Fail>
         Event::Faint(two),
         Event::Win(USER),
     ];
-    assert_eq!(rt; events.as_slice(), third.as_slice());
-    assert_eq!(rt; battle.outcome(), Outcome::WinOne);
+    assert_same(&rt, events.as_slice(), third.as_slice());
+    assert_same(&rt, battle.outcome(), Outcome::WinOne);
     Ok(())
 }

@@ -2,3 +2,5 @@
 pub mod Offers
 -- Pairs that were accepted, one after the other.
 pub mod Accepting
+-- What a viewer has shown, event by event.
+pub mod Viewing

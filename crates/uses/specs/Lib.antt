@@ -2,3 +2,9 @@
 pub mod Calculations
 -- A battle that was played to its end.
 pub mod Playing
+-- What a viewer has shown of a log.
+pub mod Viewing
+-- What it shows of a member.
+pub mod Showing
+-- What a player does next.
+pub mod Players

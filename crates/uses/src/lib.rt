@@ -3,3 +3,5 @@
 
 pub mod calculator;
 pub mod player;
+pub mod two_players;
+pub mod viewer;
