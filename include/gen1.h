@@ -48,11 +48,11 @@ typedef struct gen1_team {
     uint8_t count;
 } gen1_team;
 
-/* The room that the log of any update of a valid battle has in. */
+/* The room that the log of any update of a valid battle has in: no update has more than 64 events and 512 bytes. */
 #define GEN1_LOG_ROOM 512
 
-/* The room that the lines of any update of a valid battle have in. */
-#define GEN1_TEXT_ROOM 4096
+/* The room that any line has in. */
+#define GEN1_LINE_ROOM 96
 
 /* Sides. */
 enum { GEN1_ONE = 1, GEN1_TWO = 2 };
@@ -161,21 +161,6 @@ enum { GEN1_ASKED_NOTHING, GEN1_ASKED_MOVE, GEN1_ASKED_SWITCH };
 /* ---- telling ---- */
 
 /*
- * The lines of a log (docs/MECHANICS.md, "Lines"), each with its line feed, as `battle_tool` prints them: written to the front
- * of `text`, with no zero behind them, and the number of their bytes to `*length`. The log may be of any number of updates.
- *
- * Answers 0, or a code: `*length` has not changed then, and what `text` holds is not to be read.
- */
-uint8_t gen1_lines(const uint8_t *log, size_t count, char *text, size_t room, size_t *length);
-
-enum {
-    GEN1_LOG_TAG = 1,    /* a byte in a tag's place is no tag */
-    GEN1_LOG_FIELD = 2,  /* a field of an event is out of its range */
-    GEN1_LOG_CUT = 3,    /* the bytes end within an event */
-    GEN1_SMALL_TEXT = 4  /* the lines do not fit */
-};
-
-/*
  * An event of a log (docs/MECHANICS.md, "Events"). Each number is the one that stands in the log bytes; a field that the event
  * has not is 0.
  */
@@ -204,12 +189,24 @@ enum {
 };
 
 /*
- * The event of a log that begins at `*at`, which is moved behind it. Begin with 0. Answers 0, or GEN1_LOG_END where `*at` is
- * at the end or past it, or one of the first three codes of gen1_lines; nothing has changed then.
+ * The event of a log that begins at `*at`, which is moved behind it. Begin with 0; the log may be of any number of updates, one
+ * after the other. Answers 0, or a code; nothing has changed then.
  */
 uint8_t gen1_next_event(const uint8_t *log, size_t count, size_t *at, gen1_event *event);
 
-#define GEN1_LOG_END 4
+/*
+ * The same as a line of text (docs/MECHANICS.md, "Lines"), as `battle_tool` prints it, with its line feed. It is written to the
+ * front of `text`, with no zero behind it, and the number of its bytes to `*length`; the bytes behind it stay.
+ */
+uint8_t gen1_next_line(const uint8_t *log, size_t count, size_t *at, char *text, size_t room, size_t *length);
+
+enum {
+    GEN1_LOG_TAG = 1,    /* a byte in a tag's place is no tag */
+    GEN1_LOG_FIELD = 2,  /* a field of an event is out of its range */
+    GEN1_LOG_CUT = 3,    /* the bytes end within an event */
+    GEN1_LOG_END = 4,    /* `*at` is at the end, or past it */
+    GEN1_SMALL_TEXT = 5  /* gen1_next_line: the line does not fit */
+};
 
 /* ---- calculating ---- */
 
