@@ -37,8 +37,8 @@ typedef struct gen1_member {
     uint8_t species;    /* 1 to 151 */
     uint8_t level;      /* 1 to 100 */
     uint8_t dvs[4];     /* 0 to 15: Attack, Defense, Speed, Special */
-    uint8_t moves[4];   /* 1 to 165, one at least and no two the same; 0 for each place behind the last */
-    uint8_t pp_ups[4];  /* 0 to 3, of the move at the same place; without a move they are not looked at */
+    uint8_t moves[4];   /* 1 to 165, one at least and no two the same; a 0 is passed over, so the others are slot 1 and on */
+    uint8_t pp_ups[4];  /* 0 to 3, of the move at the same place; at a 0 they are not looked at */
     uint16_t exp[5];    /* HP, Attack, Defense, Speed, Special */
 } gen1_member;
 
@@ -78,12 +78,12 @@ enum { GEN1_SLEEP_CLAUSE = 1, GEN1_FREEZE_CLAUSE = 2 };
  * limit, team one, team two; of a team first that it has at most six members, then species and moves of each member, and then
  * the rules of teams (docs/MECHANICS.md, "Teams").
  */
-uint16_t gen1_new(gen1_battle *battle, const gen1_team *one, const gen1_team *two, const uint8_t seed[10], uint8_t rules,
+uint32_t gen1_new(gen1_battle *battle, const gen1_team *one, const gen1_team *two, const uint8_t seed[10], uint8_t rules,
                   uint16_t limit);
 
-#define GEN1_CODE(answer) ((answer) & 0xff)         /* one of those below */
-#define GEN1_PLACE(answer) ((answer) >> 8 & 0xf)    /* the member at fault, from 1; 0 where no one member is */
-#define GEN1_SIDE(answer) ((answer) >> 12)          /* the team at fault, 1 or 2; 0 where neither is */
+#define GEN1_CODE(answer) ((answer) & 0xff)       /* one of those below */
+#define GEN1_PLACE(answer) ((answer) >> 8 & 0xff) /* the member at fault, from 1; 0 where no one member is */
+#define GEN1_SIDE(answer) ((answer) >> 16)        /* the team at fault, 1 or 2; 0 where neither is */
 
 enum {
     GEN1_EMPTY = 1,          /* the team has no member */
@@ -96,7 +96,7 @@ enum {
     GEN1_REPEATED_MOVE = 8,  /* a move stands twice */
     GEN1_PP_UPS = 9,         /* a move has more than three PP ups */
     GEN1_NO_SUCH_SPECIES = 10, /* the species is not 1 to 151 */
-    GEN1_NO_SUCH_MOVE = 11,  /* a move is above 165, or stands behind a place without a move */
+    GEN1_NO_SUCH_MOVE = 11,  /* a move is above 165 */
     GEN1_RULES = 12,         /* the rules are above 3 */
     GEN1_TURN_LIMIT = 13     /* the limit is not 1 to 9,999 */
 };
