@@ -4,7 +4,7 @@ pub mod Fronts
 pub mod Teams
 -- How a battle begins.
 pub mod Beginning
--- Sides.
+-- What updates answer, and what is offered.
 pub mod Playing
 -- Events as plain structs.
 pub mod Events

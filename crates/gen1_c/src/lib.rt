@@ -7,6 +7,7 @@ pub mod damages;
 pub mod events;
 mod fronts;
 pub mod lines;
+pub mod playing;
 mod teams;
 
 pub use events::EventFields;

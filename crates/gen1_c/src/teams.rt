@@ -2,7 +2,7 @@
 ghost use Rattle.std.specs.Prelude.{IfErr, IfOk, OnOk, length, ◌+◌, ◌++◌, ◌<◌, ◌≡◌, ◌≢◌, ◌≤◌};
 ghost use Rattle.arrayvec.specs.ArrayVec.{array_vec_len};
 ghost use Rattle.gen1_stats.specs.Teams.{team_of};
-ghost use Rattle.gen1_c.specs.Teams.{chosen, first_fault, given, member_fault, sheet_of, sheets_of, species_of, team_fault};
+ghost use Rattle.gen1_c.specs.Teams.{chosen, fault_of, first_fault, given, member_fault, sheet_of, sheets_of, species_of, team_fault};
 
 use arrayvec::ArrayVec;
 use gen1_stats::{MemberSpec, Team, TeamRefusal};
@@ -38,6 +38,7 @@ const NO_SUCH_SPECIES: u32 = 10;
 const NO_SUCH_MOVE: u32 = 11;
 
 // The team that is asked for. A fault is its code, and 256 for each place up to that of the member at fault.
+#[tactic(auto, unfolding(crate::specs::Teams::team_fault))]
 pub(crate) fn team_of(form: &TeamForm) -> Result<Team, u32>
     ensures made { IfOk result (λ team. team ≡ team_of (sheets_of form.now)) }
     ensures allowed { OnOk result (team_fault form.now ≡ 0) }
