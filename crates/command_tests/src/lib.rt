@@ -2,4 +2,8 @@
 #![tactic(auto)]
 
 #[cfg(test)]
+mod devices;
+#[cfg(test)]
+mod rooms;
+#[cfg(test)]
 mod tests;

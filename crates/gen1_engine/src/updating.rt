@@ -2,7 +2,6 @@
 ghost use Rattle.std.specs.Prelude.{IsOk, [], length, ◌≡◌, ◌≤◌};
 ghost use Rattle.gen1_machine.specs.Code.{codes_of};
 ghost use Rattle.gen1_machine.specs.State.{State, is_over};
-ghost use Rattle.gen1_machine.specs.Step.{is_among, offers, same_choice};
 ghost use Rattle.gen1_machine.specs.declared.terms.Request.TheVariants.{Move};
 ghost use Rattle.gen1_layout.specs.Within.{Stands};
 ghost use Rattle.gen1_layout.specs.ReadingMeaning.{StandsForSome};
@@ -14,7 +13,7 @@ use crate::result::{BattleResult, Refusal};
 use gen1_events::LogBuf;
 use gen1_layout::Packed;
 use gen1_machine::{Choice, EventList, Outcome, Request, Side};
-use gen1_requests::{offered, replace, start};
+use gen1_requests::{is_offered, replace, start};
 use gen1_turn::turn;
 
 // An update, of which the events and the log are both left, in lists that are lent.
@@ -59,10 +58,10 @@ pub fn update_events(
     if is_over(battle) {
         return Err(Refusal::Over);
     }
-    if !offers(battle, Side::One, &one) {
+    if !is_offered(battle, Side::One, &one) {
         return Err(Refusal::NotOffered(Side::One));
     }
-    if !offers(battle, Side::Two, &two) {
+    if !is_offered(battle, Side::Two, &two) {
         return Err(Refusal::NotOffered(Side::Two));
     }
     events.clear();
@@ -87,39 +86,6 @@ pub(crate) fn is_over(battle: &Packed) -> bool
     match battle.outcome() {
         Outcome::Ongoing => false,
         _ => true,
-    }
-}
-
-pub(crate) fn offers(battle: &Packed, side: Side, choice: &Choice) -> bool
-    ensures { (s : State) → Stands battle.now s → result ≡ offers s side choice.now }
-{
-    is_among(choice, offered(battle, side).as_slice())
-}
-
-fn is_among(choice: &Choice, choices: &[Choice]) -> bool
-    ensures { result ≡ is_among choice.now choices.now }
-{
-    for one in choices {
-        if is_same(choice, one) {
-            return true;
-        }
-    }
-    false
-}
-
-fn is_same(one: &Choice, two: &Choice) -> bool
-    ensures { result ≡ same_choice one.now two.now }
-{
-    match one {
-        Choice::Pass => matches!(two, Choice::Pass),
-        Choice::Move(slot) => match two {
-            Choice::Move(other) => slot.number() == other.number(),
-            _ => false,
-        },
-        Choice::Switch(place) => match two {
-            Choice::Switch(other) => place.number() == other.number(),
-            _ => false,
-        },
     }
 }
 

@@ -12,5 +12,7 @@ pub mod BetweenUpdates
 pub mod Collecting
 -- The machine's list of offered choices is the set that is said in words.
 pub mod OfferedSet
+-- Whether a choice is among those that are offered, without their list.
+pub mod OneChoice
 -- The bytes of what it lists rise.
 pub mod RisingOffers

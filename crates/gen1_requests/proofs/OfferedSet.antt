@@ -39,7 +39,7 @@ same_number n = by (eqb_tells n n)
     by (inl h) = h.0
     by (inr h) = absurd (h.1 refl)
 
-other_number : (n k : ℕ) → n ≢ k → (n == k) ≡ false
+pub other_number : (n k : ℕ) → n ≢ k → (n == k) ≡ false
 other_number n k apart = by (eqb_tells n k)
   where
     by : (((n == k) ≡ true) × (n ≡ k)) ⊎ (((n == k) ≡ false) × (n ≢ k)) → (n == k) ≡ false
@@ -67,7 +67,7 @@ is_at_most a b h = by (leb_tells a b)
     by (inl k) = k.1
     by (inr k) = absurd (false≢true (sym k.0 ∙ h))
 
-or_no : (b : Bool) → (b || false) ≡ b
+pub or_no : (b : Bool) → (b || false) ≡ b
 or_no true = refl
 or_no false = refl
 
@@ -163,7 +163,7 @@ module _ (disabled : Option DisabledSlot) where
   usable-at slot ms low =
       among_at nothing_known (move_passes disabled) choices.Move (λ k l. usable_from k disabled l) (λ k. refl) cons_move slot (λ k. refl) refl 1 ms low
 
-  usable-behind : (ms : List KnownMove) → is_among (choices.Move 0) (usable_from 1 disabled ms) ≡ false
+  pub usable-behind : (ms : List KnownMove) → is_among (choices.Move 0) (usable_from 1 disabled ms) ≡ false
   usable-behind ms =
       among_behind nothing_known (move_passes disabled) choices.Move (λ k l. usable_from k disabled l) (λ k. refl) cons_move 0 (λ k. refl) refl 1 ms (omega arith)
 
@@ -183,7 +183,7 @@ module _ (out : ℕ) where
   others-none : (c : Choice) → ((k : ℕ) → same_choice c (choices.Switch k) ≡ false) → (ms : List Member) → is_among c (others_living_from 1 out ms) ≡ false
   others-none c apart ms = among_none nobody (switch_passes out) choices.Switch (λ k l. others_living_from k out l) (λ k. refl) cons_switch c apart 1 ms
 
-  others-at : (place : ℕ) (ms : List Member) → 1 ≤ place
+  pub others-at : (place : ℕ) (ms : List Member) → 1 ≤ place
       → is_among (choices.Switch place) (others_living_from 1 out ms) ≡ switch_passes out (get_or ms (place - 1) nobody) place
   others-at place ms low =
       among_at nobody (switch_passes out) choices.Switch (λ k l. others_living_from k out l) (λ k. refl) cons_switch place (λ k. refl) refl 1 ms low
@@ -290,7 +290,7 @@ struggle disabled ms (c ∷ l) e = (
     fails i false e none = refl
     fails i true e none = absurd (none (1 + i) (omega arith) ((let back : 1 + i - 1 ≡ i = omega arith in ap (λ (j : ℕ). move_passes disabled (get_or ms j nothing_known) (1 + i)) back) ∙ e))
 
-usable_slot : (disabled : Option DisabledSlot) (ms : List KnownMove) (slot : ℕ) → 1 ≤ slot
+pub usable_slot : (disabled : Option DisabledSlot) (ms : List KnownMove) (slot : ℕ) → 1 ≤ slot
     → is_among (choices.Move slot) (or_struggle (usable_from 1 disabled ms)) ≡ move_passes disabled (known_in slot ms) slot
 usable_slot disabled ms slot low = by (usable_from 1 disabled ms) ∙ usable-at disabled slot ms low
   where
@@ -300,7 +300,7 @@ usable_slot disabled ms slot low = by (usable_from 1 disabled ms) ∙ usable-at 
 
 -- the moves, by whether there is a choice, and a slot
 
-no_move : (c : Choice) → ((k : ℕ) → same_choice c (choices.Move k) ≡ false) → (s : Side) (f : Field) → is_among c (moves_offered s f) ≡ false
+pub no_move : (c : Choice) → ((k : ℕ) → same_choice c (choices.Move k) ≡ false) → (s : Side) (f : Field) → is_among c (moves_offered s f) ≡ false
 no_move c apart s f = by (has_no_slot_in s f) (usable_from 1 (conditions_in s f).disabled (member_in s f).moves) (usable-none (conditions_in s f).disabled c apart (member_in s f).moves)
   where
     by : (b : Bool) (l : List Choice) → is_among c l ≡ false → is_among c (if b then choices.Move 0 ∷ [] else or_struggle l) ≡ false
@@ -308,7 +308,7 @@ no_move c apart s f = by (has_no_slot_in s f) (usable_from 1 (conditions_in s f)
     by false [] h = rw (apart 0) refl
     by false (x ∷ l) h = h
 
-no_switch : (c : Choice) → ((k : ℕ) → same_choice c (choices.Switch k) ≡ false) → (s : Side) (f : Field) → is_among c (switches_offered s f) ≡ false
+pub no_switch : (c : Choice) → ((k : ℕ) → same_choice c (choices.Switch k) ≡ false) → (s : Side) (f : Field) → is_among c (switches_offered s f) ≡ false
 no_switch c apart s f = others-none (active_in s f).place c apart (party s f).members
 
 move_zero : (s : Side) (f : Field) → (is_among (choices.Move 0) (moves_offered s f) ≡ true) ↔ (HasNoSlot s f ⊎ ((slot : ℕ) → IsUsable s f slot → ⊥))
@@ -349,10 +349,10 @@ either : (a b : Bool) → b ≡ false → (a || b) ≡ a
 either true b h = refl
 either false b h = h
 
-in_moves : (c : Choice) (s : Side) (f : Field) → is_among c (switches_offered s f) ≡ false → is_among c (moves_offered s f ++ switches_offered s f) ≡ is_among c (moves_offered s f)
+pub in_moves : (c : Choice) (s : Side) (f : Field) → is_among c (switches_offered s f) ≡ false → is_among c (moves_offered s f ++ switches_offered s f) ≡ is_among c (moves_offered s f)
 in_moves c s f h = among_append c (moves_offered s f) (switches_offered s f) ∙ either (is_among c (moves_offered s f)) (is_among c (switches_offered s f)) h
 
-in_switches : (c : Choice) (s : Side) (f : Field) → is_among c (moves_offered s f) ≡ false → is_among c (moves_offered s f ++ switches_offered s f) ≡ is_among c (switches_offered s f)
+pub in_switches : (c : Choice) (s : Side) (f : Field) → is_among c (moves_offered s f) ≡ false → is_among c (moves_offered s f ++ switches_offered s f) ≡ is_among c (switches_offered s f)
 in_switches c s f h = among_append c (moves_offered s f) (switches_offered s f) ∙ rw (h) refl
 
 asked_move : (s : Side) (f : Field) (c : Choice)

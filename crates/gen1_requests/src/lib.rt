@@ -2,12 +2,14 @@
 //! request (docs/MECHANICS.md, "Switching in", "Falls and requests", "Offered choices").
 #![tactic(auto)]
 
+mod choosing;
 mod closing;
 pub mod laws;
 mod offering;
 mod sending;
 mod updates;
 
+pub use choosing::is_offered;
 pub use closing::close;
 pub use offering::{Choices, offered};
 pub use sending::send_out;

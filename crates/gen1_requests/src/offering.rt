@@ -83,7 +83,7 @@ fn moves_offered(battle: &Packed, side: Side) -> Choices
 }
 
 // The moves of slots that have PP and are not disabled.
-fn usable_moves(battle: &Packed, side: Side) -> Choices
+pub(crate) fn usable_moves(battle: &Packed, side: Side) -> Choices
     ensures few { array_vec_len result ≤ 4 }
     ensures stands { Reads battle.now result.items λ f. usable_from 1 (conditions_in side f).disabled (member_in side f).moves }
 {
@@ -98,7 +98,7 @@ fn usable_moves(battle: &Packed, side: Side) -> Choices
     choices
 }
 
-fn is_usable(battle: &Packed, side: Side, slot: u8) -> bool
+pub(crate) fn is_usable(battle: &Packed, side: Side, slot: u8) -> bool
     requires low { 1 ≤ slot }
     requires high { slot ≤ 4 }
     ensures { Reads battle.now result λ f. nat_lt 0 (known_in slot (member_in side f).moves).pp && not (bars_slot (conditions_in side f).disabled slot) }
@@ -131,7 +131,7 @@ fn add_switches(battle: &Packed, side: Side, choices: &mut Choices)
     }
 }
 
-fn may_come_out(battle: &Packed, side: Side, place: u8, out: u8) -> bool
+pub(crate) fn may_come_out(battle: &Packed, side: Side, place: u8, out: u8) -> bool
     requires low { 1 ≤ place }
     requires high { place ≤ 6 }
     ensures apart { IsTrue result → place ≢ out }
@@ -171,7 +171,7 @@ fn switch_to(place: u8) -> Choice
 }
 
 // Whether something leaves the member no choice at all.
-fn is_committed(battle: &Packed, side: Side) -> bool
+pub(crate) fn is_committed(battle: &Packed, side: Side) -> bool
     ensures { Reads battle.now result λ f. is_committed (underway_in side f) }
 {
     let commits = Conditions::RECHARGE
@@ -182,7 +182,7 @@ fn is_committed(battle: &Packed, side: Side) -> bool
 }
 
 // Whether no slot can be chosen, while the member may still be switched.
-fn has_no_slot(battle: &Packed, side: Side) -> bool
+pub(crate) fn has_no_slot(battle: &Packed, side: Side) -> bool
     ensures { Reads battle.now result (has_no_slot_in side) }
 {
     let sleeps = sleeps_or_freezes(battle.status(side));

@@ -16,32 +16,32 @@ pub returns-then-is_over-clause-tells : goal.returns-then-is_over-clause-tells
 returns-then-is_over-clause-tells c s h =
     tells_refused s c.args.one c.args.two c.args.events.now Over (step_over s c.args.one c.args.two (sym (c.is_over.ensures s h) ∙ c.if-is_over.true))
 
-pub returns-then-not-offers-clause-answers : goal.returns-then-not-offers-clause-answers
-returns-then-not-offers-clause-answers c s h =
+pub returns-then-not-is_offered-clause-answers : goal.returns-then-not-is_offered-clause-answers
+returns-then-not-is_offered-clause-answers c s h =
     answers_refused s c.args.one c.args.two c.args.battle.now (NotOffered One)
-    (step_first s c.args.one c.args.two (sym (c.is_over.ensures s h) ∙ c.if-is_over.false) (sym (c.offers.ensures s h) ∙ c.if-not-offers.true))
+    (step_first s c.args.one c.args.two (sym (c.is_over.ensures s h) ∙ c.if-is_over.false) (sym (c.is_offered.ensures s h) ∙ c.if-not-is_offered.true))
 
-pub returns-then-not-offers-clause-tells : goal.returns-then-not-offers-clause-tells
-returns-then-not-offers-clause-tells c s h =
+pub returns-then-not-is_offered-clause-tells : goal.returns-then-not-is_offered-clause-tells
+returns-then-not-is_offered-clause-tells c s h =
     tells_refused s c.args.one c.args.two c.args.events.now (NotOffered One)
-    (step_first s c.args.one c.args.two (sym (c.is_over.ensures s h) ∙ c.if-is_over.false) (sym (c.offers.ensures s h) ∙ c.if-not-offers.true))
+    (step_first s c.args.one c.args.two (sym (c.is_over.ensures s h) ∙ c.if-is_over.false) (sym (c.is_offered.ensures s h) ∙ c.if-not-is_offered.true))
 
-pub returns-then-not-offers-2-clause-answers : goal.returns-then-not-offers-2-clause-answers
-returns-then-not-offers-2-clause-answers c s h =
+pub returns-then-not-is_offered-2-clause-answers : goal.returns-then-not-is_offered-2-clause-answers
+returns-then-not-is_offered-2-clause-answers c s h =
     answers_refused s c.args.one c.args.two c.args.battle.now (NotOffered Two)
-    (step_second s c.args.one c.args.two (sym (c.is_over.ensures s h) ∙ c.if-is_over.false) (sym (c.offers.ensures s h) ∙ c.if-not-offers.false)
-    (sym (c.offers-2.ensures s h) ∙ c.if-not-offers-2.true))
+    (step_second s c.args.one c.args.two (sym (c.is_over.ensures s h) ∙ c.if-is_over.false) (sym (c.is_offered.ensures s h) ∙ c.if-not-is_offered.false)
+    (sym (c.is_offered-2.ensures s h) ∙ c.if-not-is_offered-2.true))
 
-pub returns-then-not-offers-2-clause-tells : goal.returns-then-not-offers-2-clause-tells
-returns-then-not-offers-2-clause-tells c s h =
+pub returns-then-not-is_offered-2-clause-tells : goal.returns-then-not-is_offered-2-clause-tells
+returns-then-not-is_offered-2-clause-tells c s h =
     tells_refused s c.args.one c.args.two c.args.events.now (NotOffered Two)
-    (step_second s c.args.one c.args.two (sym (c.is_over.ensures s h) ∙ c.if-is_over.false) (sym (c.offers.ensures s h) ∙ c.if-not-offers.false)
-    (sym (c.offers-2.ensures s h) ∙ c.if-not-offers-2.true))
+    (step_second s c.args.one c.args.two (sym (c.is_over.ensures s h) ∙ c.if-is_over.false) (sym (c.is_offered.ensures s h) ∙ c.if-not-is_offered.false)
+    (sym (c.is_offered-2.ensures s h) ∙ c.if-not-is_offered-2.true))
 
 pub returns : goal.returns
 returns c =
     let o : (s : State) → Stands c.args.battle.now s → AreOffered s c.args.one c.args.two =
-    λ s h. record { first = sym (c.offers.ensures s h) ∙ c.if-not-offers.false; second = sym (c.offers-2.ensures s h) ∙ c.if-not-offers-2.false } in
+    λ s h. record { first = sym (c.is_offered.ensures s h) ∙ c.if-not-is_offered.false; second = sym (c.is_offered-2.ensures s h) ∙ c.if-not-is_offered-2.false } in
     record {
       answers = λ s h. let t = c.play.ensures s h (o s h) in answers_accepted c.args.battle.now c.result.result t (c.result.ensures (step s c.args.one c.args.two).state t.stands);
       tells = λ s h. tells_accepted c.args.events.now c.play.new.events (c.play.ensures s h (o s h));

@@ -1,0 +1,65 @@
+#!/usr/bin/env python3
+"""Writes bench/teams.h: the full teams of recorded battles.
+
+    bench/teams.py FILE > bench/teams.h
+
+FILE has a recorded battle on each line: a JSON object whose `input` is what the program `battle_tool` reads. A team is taken
+where it has six members with four moves each, and once where several battles have it. The numbers of species and moves are
+those of docs/TABLES.md.
+"""
+
+import json
+import re
+import sys
+from pathlib import Path
+
+ROOT = Path(__file__).resolve().parent.parent
+
+
+def numbers(heading):
+    """The numbers of the names in the table under a heading of docs/TABLES.md."""
+    document = (ROOT / "docs" / "TABLES.md").read_text()
+    section = re.search(rf"^## {heading}\n(.*?)(?=^## |\Z)", document, re.M | re.S)[1]
+    rows = re.findall(r"^\| *(\d+) *\| *([^|]*?) *\|", section, re.M)
+    return {name: int(number) for number, name in rows}
+
+
+def full_teams(path):
+    """Each team of six members with four moves each, in the order of the file."""
+    teams = []
+    with open(path, encoding="utf-8") as file:
+        for line in file:
+            battle = json.loads(json.loads(line)["input"])
+            for team in (battle["one"], battle["two"]):
+                full = len(team) == 6 and all(len(member["moves"]) == 4 for member in team)
+                if full and team not in teams:
+                    teams.append(team)
+    return teams
+
+
+def braced(values):
+    return "{" + ", ".join(str(value) for value in values) + "}"
+
+
+def member_text(member, species, moves):
+    """A gen1_member as C writes it."""
+    return (f"{{{species[member['species']]}, {member['level']}, {braced(member['dvs'])}, "
+            f"{braced(moves[name] for name, _ in member['moves'])}, "
+            f"{braced(ups for _, ups in member['moves'])}, {braced(member['exp'])}}}")
+
+
+def main():
+    if len(sys.argv) != 2:
+        sys.exit(__doc__)
+    species, moves = numbers("Species"), numbers("Moves")
+    print("/* The full teams of recorded battles. Made by bench/teams.py. */")
+    print("static const gen1_team TEAMS[] = {")
+    for team in full_teams(sys.argv[1]):
+        print("    {{")
+        for member in team:
+            print(f"        {member_text(member, species, moves)},")
+        print("    }, 6},")
+    print("};")
+
+
+main()

@@ -1,0 +1,2 @@
+-- What a viewer has shown, event by event.
+pub mod Viewing

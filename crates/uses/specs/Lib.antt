@@ -1,0 +1,6 @@
+-- What a viewer has shown of a log.
+pub mod Viewing
+-- What it shows of a member.
+pub mod Showing
+-- What a player does next.
+pub mod Players

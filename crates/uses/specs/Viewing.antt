@@ -1,0 +1,31 @@
+-- What a viewer has shown of a log (docs/MECHANICS.md, "Log bytes", "Lines", "Spectator's view").
+use Rattle.std.specs.Prelude.{List, Option, ℕ, ◌++◌, ◌≡◌}
+use Rattle.std.specs.Io.KnownBytes.{Appends}
+use Rattle.gen1_machine.specs.declared.event.Event.{Event}
+use Rattle.gen1_machine.specs.Lines.{lines}
+use Rattle.gen1_machine.specs.View.{sees_all, View}
+use Rattle.gen1_events.specs.Reader.{part, Reading}
+use Rattle.gen1_events.specs.Splits.{IsReading, Reads}
+
+-- A new reader that took these bytes handed out events, of which the view was told, and whose lines were written. It holds the
+-- bytes behind them, and no event waits.
+pub record HasShown (taken : List ℕ) (reader : Reading) (first now : View) (before after : Option (List ℕ)) : Type 0 where
+  pub events : List Event
+  pub held : List ℕ
+  pub holds : reader ≡ part held
+  pub handed : Reads taken events reader
+  pub told : now ≡ sees_all events first
+  pub printed : Appends before after (lines events)
+
+-- what was shown of the bytes so far is then shown of these too
+abbrev pub ShowsMore : List ℕ → Reading → View → Option (List ℕ) → Reading → View → Option (List ℕ) → Type 0
+ShowsMore bytes reader view out reader' view' out' =
+    (taken : List ℕ) (first : View) (before : Option (List ℕ))
+    → HasShown taken reader first view before out → HasShown (taken ++ bytes) reader' first view' before out'
+
+-- the bytes are a log, and its events were shown
+pub record ShowsLog (log : List ℕ) (first now : View) (before after : Option (List ℕ)) : Type 0 where
+  pub events : List Event
+  pub reading : IsReading log events
+  pub told : now ≡ sees_all events first
+  pub printed : Appends before after (lines events)
