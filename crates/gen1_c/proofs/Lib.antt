@@ -4,3 +4,5 @@ pub mod Faults
 pub mod Begun
 -- Damage numbers that are due.
 pub mod Hits
+-- The log of an update, and what an update answered.
+pub mod Updates

@@ -34,8 +34,8 @@ returns-in-Some-damage_list-clause-tells c s which h e =
     let side = same_side c.in-Some.side which (c.in-Some.ensures.exact ∙ e) in
     let numbers = c.numbers.ensures.stands (setting_of s) s.field (within_out h (λ z. c.if-turn-eq0.false (turn ∙ z))) in
     let due = ap (λ it. damages (numbers_in it (move_at c.args.number) c.args.critical s.field)) (sym side)
-        ∙ ap (λ n. damages (numbers_in c.in-Some.side (move_at n) c.args.critical s.field)) (sym id.1)
-        ∙ ap damages (sym numbers) ∙ sym c.damage_list.ensures ∙ c.in-Some-damage_list.is in
+    ∙ ap (λ n. damages (numbers_in c.in-Some.side (move_at n) c.args.critical s.field)) (sym id.1)
+    ∙ ap damages (sym numbers) ∙ sym c.damage_list.ensures ∙ c.in-Some-damage_list.is in
     told (Ok c.in-Some-damage_list.list) _ _ _
     (due_list which c.args.number c.args.critical s.field c.in-Some-damage_list.list id.0 usual (λ z. c.if-turn-eq0.false (turn ∙ z)) due) (refl, refl)
 
@@ -47,7 +47,7 @@ returns-in-None-clause-tells c s which h e =
     let side = same_side c.in-Some.side which (c.in-Some.ensures.exact ∙ e) in
     let numbers = c.numbers.ensures.stands (setting_of s) s.field (within_out h (λ z. c.if-turn-eq0.false (turn ∙ z))) in
     let due = ap (λ it. damages (numbers_in it (move_at c.args.number) c.args.critical s.field)) (sym side)
-        ∙ ap (λ n. damages (numbers_in c.in-Some.side (move_at n) c.args.critical s.field)) (sym id.1)
-        ∙ ap damages (sym numbers) ∙ sym c.damage_list.ensures ∙ c.in-None.is in
+    ∙ ap (λ n. damages (numbers_in c.in-Some.side (move_at n) c.args.critical s.field)) (sym id.1)
+    ∙ ap damages (sym numbers) ∙ sym c.damage_list.ensures ∙ c.in-None.is in
     told (Err 5) _ _ _
     (due_divisor which c.args.number c.args.critical s.field id.0 usual (λ z. c.if-turn-eq0.false (turn ∙ z)) due) (refl, refl)
