@@ -67,7 +67,11 @@ impl Battle {
         let mut battle = Battle { bytes: [0; 384] };
         match gen1_new(&mut battle, one, two, seed, rules, limit) {
             0 => Ok(battle),
-            fault => Err(TeamFault { side: fault >> 16, place: fault >> 8 & 0xff, code: fault & 0xff }),
+            fault => Err(TeamFault {
+                side: fault >> 16,
+                place: fault >> 8 & 0xff,
+                code: fault & 0xff,
+            }),
         }
     }
 
@@ -92,7 +96,10 @@ impl Battle {
 
     /// An update, and its log.
     pub fn update(&mut self, one: u8, two: u8) -> Result<Log, Refused> {
-        let mut log = Log { bytes: [0; 512], length: 0 };
+        let mut log = Log {
+            bytes: [0; 512],
+            length: 0,
+        };
         // The pointer and the length are those of one array, apart from the battle and the length.
         let refused = unsafe { gen1_update(self, one, two, log.bytes.as_mut_ptr(), log.bytes.len(), &mut log.length) };
         match refused {
@@ -116,7 +123,14 @@ impl Log {
         loop {
             // Each pointer and the length behind it are those of one slice, and no two of them overlap.
             let code = unsafe {
-                gen1_next_line(log.as_ptr(), log.len(), &mut at, line.as_mut_ptr(), line.len(), &mut length)
+                gen1_next_line(
+                    log.as_ptr(),
+                    log.len(),
+                    &mut at,
+                    line.as_mut_ptr(),
+                    line.len(),
+                    &mut length,
+                )
             };
             if code != 0 {
                 return;

@@ -32,7 +32,14 @@ impl Numbers<'_> {
         let (species, level) = (self.next()?, self.next()?);
         let (dvs, exp) = (self.array()?, self.array()?);
         let [(a, b), (c, d), (e, f), (g, h)] = [self.chosen()?, self.chosen()?, self.chosen()?, self.chosen()?];
-        Some(Member { species, level, dvs, exp, moves: [a, c, e, g], pp_ups: [b, d, f, h] })
+        Some(Member {
+            species,
+            level,
+            dvs,
+            exp,
+            moves: [a, c, e, g],
+            pp_ups: [b, d, f, h],
+        })
     }
 
     fn chosen(&mut self) -> Option<(u8, u8)> {
@@ -40,7 +47,10 @@ impl Numbers<'_> {
     }
 
     fn team(&mut self) -> Option<Team> {
-        let mut team = Team { count: self.next()?, ..Team::default() };
+        let mut team = Team {
+            count: self.next()?,
+            ..Team::default()
+        };
         for member in team.members.get_mut(..usize::from(team.count))? {
             *member = self.member()?;
         }
@@ -50,7 +60,9 @@ impl Numbers<'_> {
 
 /// The line of the first fault, if there is one.
 fn play(input: &str, out: &mut impl Write) -> Result<(), String> {
-    let mut numbers = Numbers { words: input.split_whitespace() };
+    let mut numbers = Numbers {
+        words: input.split_whitespace(),
+    };
     let asked = || "input".to_string();
     let rules = numbers.next().ok_or_else(asked)?;
     let limit = numbers.next().ok_or_else(asked)?;
@@ -62,7 +74,9 @@ fn play(input: &str, out: &mut impl Write) -> Result<(), String> {
     let mut pair = 0;
     while let Some(choice) = numbers.next() {
         let other = numbers.next().ok_or_else(asked)?;
-        let log = battle.update(choice, other).map_err(|refused| format!("pair {pair} refused {}", refused.0))?;
+        let log = battle
+            .update(choice, other)
+            .map_err(|refused| format!("pair {pair} refused {}", refused.0))?;
         log.each_line(|line| out.write_all(line).expect("standard output"));
         pair += 1;
     }
