@@ -1,5 +1,5 @@
 -- The first member of a team that is at fault, as a loop over the members finds it.
-use Rattle.std.proofs.Common.{List, None, Option, Some, [], ap, arith, drop, drop_of_length-le, false, get_or, length, map, nat_lt, refl, take, sym, true, ℕ, ◌*◌, ◌+◌, ◌<◌, ◌==◌, ◌≡◌, ◌≤◌, ◌∙◌, ◌∷◌}
+use Rattle.std.proofs.Common.{List, None, Some, [], ap, arith, drop, drop_of_length-le, false, get_or, length, map, nat_lt, refl, take, sym, true, ℕ, ◌*◌, ◌+◌, ◌<◌, ◌==◌, ◌≡◌, ◌≤◌, ◌∙◌, ◌∷◌}
 use Rattle.std.proofs.lemmas.Bool.Decides.{nat_tests}
 use Rattle.std.proofs.lemmas.List.{drop_more, take-map}
 use Rattle.gen1_stats.specs.Sheets.{Sheet}

@@ -1,5 +1,5 @@
 -- Why there is no battle of two teams, and what loading bytes does.
-use Rattle.std.specs.Prelude.{Err, List, Ok, Result, if◌then◌else◌, nat_le, nat_lt, ℕ, ◌&&◌, ◌+◌, ◌==◌, ◌≡◌}
+use Rattle.std.specs.Prelude.{Err, List, Ok, Result, if◌then◌else◌, nat_le, ℕ, ◌&&◌, ◌+◌, ◌==◌, ◌≡◌}
 use Rattle.gen1_layout.specs.Parts.{Parts}
 use Rattle.gen1_layout.specs.Reading.{IsLoadedAs, number_of}
 use Rattle.gen1_layout.specs.declared.reading.ReadFault.{ReadFault}

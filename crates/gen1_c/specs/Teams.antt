@@ -1,5 +1,5 @@
 -- The team that a plain struct asks for, and why it is none.
-use Rattle.std.specs.Prelude.{List, None, Option, Some, [], if◌then◌else◌, map, nat_le, nat_lt, not, slice_index, take, ℕ, ◌&&◌, ◌*◌, ◌++◌, ◌+◌, ◌==◌, ◌∷◌}
+use Rattle.std.specs.Prelude.{List, None, Option, Some, [], if◌then◌else◌, map, nat_le, nat_lt, slice_index, take, ℕ, ◌&&◌, ◌*◌, ◌++◌, ◌+◌, ◌==◌, ◌∷◌}
 use Rattle.std.specs.List.{list_any}
 use Rattle.gen1_stats.specs.Refusals.{number_of, place_of}
 use Rattle.gen1_stats.specs.Sheets.{Sheet}
