@@ -1,5 +1,5 @@
 -- What a run has written and answers, beside what was due.
-use Rattle.std.specs.Prelude.{◌≡◌, ◌||◌, ◌<◌, ℕ, List, length, Bool, true, false, Option, Some, None, IfSome, Result, Ok, Err}
+use Rattle.std.specs.Prelude.{◌≡◌, ◌<◌, ℕ, List, length, Bool, true, false, Option, Some, None, IfSome, Result, Ok, Err}
 use Rattle.std.specs.Io.KnownBytes.{Appends}
 use Rattle.gen1_machine.specs.Sending.{AppendsFront, Sends}
 use Rattle.gen1_machine.specs.declared.io.DeviceFault.{DeviceFault}

@@ -1,4 +1,4 @@
-use Rattle.std.proofs.Common.{Err, Some, ap, arith, get_or, length, refl, sym, ◌<◌, ◌∙◌}
+use Rattle.std.proofs.Common.{Some, ap, arith, get_or, length, refl, sym, ◌<◌, ◌∙◌}
 use Rattle.gen1_engine.specs.Replaying.{step_by_bytes}
 use Rattle.gen1_engine.specs.Updating.{refusal_number}
 use Rattle.battle_commands.specs.declared.fault.ToolFault.TheVariants.{Pair}
