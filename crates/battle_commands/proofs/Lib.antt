@@ -3,3 +3,4 @@ pub mod Outcomes
 pub mod Duels
 pub mod CalcOutcomes
 pub mod Heard
+pub mod Pieces

@@ -3,7 +3,7 @@ use Rattle.std.proofs.Common.{◌≡◌, ◌||◌, ℕ, ◌<◌, ◌≤◌, Bool
 use Rattle.std.proofs.KnownBytes.{Appends-nil}
 use Rattle.serde_json.specs.Data.{Data}
 use Rattle.gen1_machine.specs.State.{State, Terms, first_state}
-use Rattle.battle_commands.specs.Answers.{Answers, is_write_fault}
+use Rattle.battle_commands.specs.Answers.{Answers, IsInputFault, is_write_fault}
 use Rattle.gen1_stats.specs.Members.{Member}
 use Rattle.gen1_stats.specs.Sheets.{Sheet as MemberSheet}
 use Rattle.gen1_stats.specs.Teams.{team_of, team_refusal}
@@ -41,6 +41,21 @@ pub answers_too_long : {A : Type 0} (due : State → List A → Due) (key : List
     → Answers {T = Unit {0}} (due_if due (asked_of key meaning input)) old old (Err TooLong)
 answers_too_long due key meaning input old h =
     subst (λ (d : Due). Answers {T = Unit {0}} d old old (Err TooLong)) (sym (ap (due_if due) (too_long key meaning input h))) (refl, Appends-nil old)
+
+-- no input was read
+
+pub answers_no_input : (due : List ℕ → Due) (fault : ToolFault) (told : Option (List ℕ)) (old : Option (List ℕ))
+    → ((input : List ℕ) → input_limit < length input → Answers {T = Unit {0}} (due input) old old (Err TooLong))
+    → IsInputFault fault told → IfSome told (λ input. Answers {T = Unit {0}} (due input) old old (Err fault))
+answers_no_input due Read told old long h = some_all told _ (λ input. answers_unread (due input) old)
+answers_no_input due Memory told old long h = some_all told _ (λ input. answers_unheld (due input) old)
+answers_no_input due TooLong told old long h = some_along told (λ input. input_limit < length input) _ long h
+answers_no_input due Json told old long h = absurd h
+answers_no_input due (Team side place refusal) told old long h = absurd h
+answers_no_input due (Pair number refusal) told old long h = absurd h
+answers_no_input due (Log number) told old long h = absurd h
+answers_no_input due Calc told old long h = absurd h
+answers_no_input due Write told old long h = absurd h
 
 -- a battle is asked for where neither team is refused
 pub asks_for : {A : Type 0} (key : List ℕ) (meaning : Data → Option A) (input : List ℕ) (sheet : BattleData × List A) → length input ≤ input_limit
@@ -106,3 +121,15 @@ unopened_writes T (Team side place refusal) asked b h = unfailed b
 unopened_writes T (Pair number refusal) asked b h = unfailed b
 unopened_writes T (Log number) asked b h = unfailed b
 unopened_writes T Calc asked b h = unfailed b
+
+-- where no input was read, neither
+pub unread_writes : (T : Type 0) (fault : ToolFault) (told : Option (List ℕ)) (b : Bool) → IsInputFault fault told → b ≡ (b || is_write_fault {T = T} (Err fault))
+unread_writes T Write told b h = absurd h
+unread_writes T Read told b h = unfailed b
+unread_writes T Memory told b h = unfailed b
+unread_writes T TooLong told b h = unfailed b
+unread_writes T Json told b h = absurd h
+unread_writes T (Team side place refusal) told b h = absurd h
+unread_writes T (Pair number refusal) told b h = absurd h
+unread_writes T (Log number) told b h = absurd h
+unread_writes T Calc told b h = absurd h

@@ -1,10 +1,12 @@
 -- What a run has written and answers, beside what was due.
-use Rattle.std.specs.Prelude.{◌≡◌, ◌||◌, ℕ, List, Bool, true, false, Option, Some, None, Result, Ok, Err}
+use Rattle.std.specs.Prelude.{◌≡◌, ◌||◌, ◌<◌, ℕ, List, length, Bool, true, false, Option, Some, None, IfSome, Result, Ok, Err}
 use Rattle.std.specs.Io.KnownBytes.{Appends}
-use Rattle.gen1_machine.specs.Sending.{AppendsFront}
+use Rattle.gen1_machine.specs.Sending.{AppendsFront, Sends}
+use Rattle.gen1_machine.specs.declared.io.DeviceFault.{DeviceFault}
+use Rattle.battle_commands.specs.Asked.{input_limit}
 use Rattle.battle_commands.specs.Due.{Due}
 use Rattle.battle_commands.specs.declared.fault.ToolFault.{ToolFault}
-use Rattle.battle_commands.specs.declared.fault.ToolFault.TheVariants.{Read, Write, Memory}
+use Rattle.battle_commands.specs.declared.fault.ToolFault.TheVariants.{Read, TooLong, Write, Memory}
 
 -- A fault of the world leaves a front of the text. Any other fault is the one that is due, after all of the text.
 abbrev pub FaultAnswers : Due → Option (List ℕ) → Option (List ℕ) → ToolFault → Type 0
@@ -17,10 +19,31 @@ abbrev pub Answers : {T : Type 0} → Due → Option (List ℕ) → Option (List
 Answers due old new (Ok x) = (due.fault ≡ None) × Appends old new due.text
 Answers due old new (Err fault) = FaultAnswers due old new fault
 
+-- faults of the devices
+
+abbrev pub of_write : ToolFault → Bool
+of_write Write = true
+of_write _ = false
+
+abbrev pub of_read : ToolFault → Bool
+of_read Read = true
+of_read _ = false
+
 abbrev pub is_write_fault : {T : Type 0} → Result T ToolFault → Bool
-is_write_fault (Err Write) = true
-is_write_fault _ = false
+is_write_fault (Ok x) = false
+is_write_fault (Err fault) = of_write fault
 
 abbrev pub is_read_fault : {T : Type 0} → Result T ToolFault → Bool
-is_read_fault (Err Read) = true
-is_read_fault _ = false
+is_read_fault (Ok x) = false
+is_read_fault (Err fault) = of_read fault
+
+-- why there is no input: its source failed, memory did, or there is too much of it
+abbrev pub IsInputFault : ToolFault → Option (List ℕ) → Type 0
+IsInputFault Read told = Unit {0}
+IsInputFault Memory told = Unit {0}
+IsInputFault TooLong told = IfSome told (λ input. input_limit < length input)
+IsInputFault fault told = ⊥
+
+-- a text is sent, of which nothing is answered: all of it, or a front where the sink has failed
+abbrev pub Tells : Option (List ℕ) → Option (List ℕ) → Bool → Bool → List ℕ → Type 0
+Tells old new failed fails text = (sent : Result (Unit {0}) DeviceFault) × Sends old new failed fails text sent

@@ -1,5 +1,6 @@
--- The exit status of each fault.
-use Rattle.std.specs.Prelude.{ℕ}
+-- The exit status of each fault, and what standard error has of it.
+use Rattle.std.specs.Prelude.{List, [], codes, decimal, ℕ, ◌++◌, ◌∷◌}
+use Rattle.gen1_machine.specs.Lines.{joined}
 use Rattle.battle_commands.specs.declared.fault.ToolFault.{ToolFault}
 use Rattle.battle_commands.specs.declared.fault.ToolFault.TheVariants.{Json, TooLong, Team, Pair, Log, Calc, Read, Write, Memory}
 
@@ -13,3 +14,18 @@ status_of Calc = 1
 status_of Read = 3
 status_of Write = 3
 status_of Memory = 4
+
+-- what is wrong, in words and numbers
+abbrev pub pieces_of : ToolFault → List (List ℕ)
+pieces_of Json = codes "json" ∷ []
+pieces_of TooLong = codes "too long" ∷ []
+pieces_of (Team side place refusal) = codes "team " ∷ decimal side ∷ codes " place " ∷ decimal place ∷ codes " refusal " ∷ decimal refusal ∷ []
+pieces_of (Pair number refusal) = codes "pair " ∷ decimal number ∷ codes " refused " ∷ decimal refusal ∷ []
+pieces_of (Log number) = codes "log " ∷ decimal number ∷ []
+pieces_of Calc = codes "calc" ∷ []
+pieces_of Read = codes "read" ∷ []
+pieces_of Write = codes "write" ∷ []
+pieces_of Memory = codes "memory" ∷ []
+
+abbrev pub error_line : ToolFault → List ℕ
+error_line fault = codes "error: " ++ joined (pieces_of fault) ++ codes "\n"

@@ -9,10 +9,10 @@ ghost use Rattle.battle_input.specs.SheetViews.{Gives};
 
 use crate::damages::{damages, has_usual_damage};
 use crate::fault::ToolFault;
+use crate::input::{INPUT_LIMIT, read_input};
 use crate::number_line::number_line;
-use crate::opening::INPUT_LIMIT;
 use battle_input::{CalcSheet, SheetFault, read_calc_sheet, value_in};
-use gen1_machine::{InputFault, Sink, Source, read_whole, send};
+use gen1_machine::{Sink, Source, send};
 use gen1_stats::Team;
 use std::alloc::Global;
 
@@ -34,11 +34,9 @@ pub fn play_calc<A: AllocGlobal, R: Source, W: Sink>(
     ensures read { R.has_failed reader.new ≡ (R.has_failed reader.old || is_read_fault result) }
     ensures write { W.has_failed writer.new ≡ (W.has_failed writer.old || is_write_fault result) }
 {
-    let input = match read_whole(rt.alloc(), reader, INPUT_LIMIT) {
+    let input = match read_input(rt.alloc(), reader) {
         Ok(input) => input,
-        Err(InputFault::Device) => return Err(ToolFault::Read),
-        Err(InputFault::TooLong) => return Err(ToolFault::TooLong),
-        Err(InputFault::Memory) => return Err(ToolFault::Memory),
+        Err(fault) => return Err(fault),
     };
     let numbers = match find_numbers(rt.alloc(), input.as_slice()) {
         Ok(numbers) => numbers,

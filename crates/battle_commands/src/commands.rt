@@ -1,3 +1,8 @@
+//! The command line.
+ghost use Rattle.std.specs.Prelude.{◌≡◌, ◌≤◌};
+ghost use Rattle.battle_commands.specs.Answers.{Tells};
+ghost use Rattle.battle_commands.specs.Faults.{error_line, status_of};
+
 use crate::calc::play_calc;
 use crate::fault::ToolFault;
 use crate::logs::play_print;
@@ -70,26 +75,27 @@ fn command<'a>(alloc: Global) -> Result<Command<'a>, AllocError> {
         .subcommand(reading(alloc, "room", ROOM_ABOUT, ROOM_INPUT)?)
 }
 
-/// Tells a fault on standard error, and answers its status. A fault of that stream changes nothing.
-pub fn report<E: Sink>(alloc: Global, fault: ToolFault, err: &mut E) -> u8 {
-    if fault != ToolFault::Memory {
-        if let Ok(text) = format!(in alloc; "error: {fault}\n") {
-            let _ = send(err, text.as_bytes());
-            return fault.status();
-        }
-    }
-    let _ = send(err, b"error: memory\n");
-    ToolFault::Memory.status()
+/// Tells a fault on standard error, and answers its status, from 1 to 4. A fault of that stream changes nothing. No memory is
+/// taken.
+pub fn report<E: Sink>(fault: ToolFault, err: &mut E) -> u8
+    ensures status { result ≡ status_of fault }
+    ensures most { result ≤ 4 }
+    ensures told { Tells (E.contents err.old) (E.contents err.new) (E.has_failed err.old) (E.has_failed err.new) (error_line fault) }
+{
+    let _ = send(err, fault.line().as_str().as_bytes());
+    fault.status()
 }
 
 /// Writes what clap answers to words that ask for nothing to run: help that was asked for to
 /// standard output, and what is wrong with the words to standard error.
-fn answer_words<O: Sink, E: Sink>(alloc: Global, error: &Error, out: &mut O, err: &mut E) -> u8 {
+fn answer_words<O: Sink, E: Sink>(alloc: Global, error: &Error, out: &mut O, err: &mut E) -> u8
+    ensures { result ≤ 4 }
+{
     if error.kind() == ErrorKind::OutOfMemory {
-        return report(alloc, ToolFault::Memory, err);
+        return report(ToolFault::Memory, err);
     }
     let Ok(text) = error.to_string(alloc) else {
-        return report(alloc, ToolFault::Memory, err);
+        return report(ToolFault::Memory, err);
     };
     if error.use_stderr() {
         let _ = send(err, text.as_bytes());
@@ -97,7 +103,7 @@ fn answer_words<O: Sink, E: Sink>(alloc: Global, error: &Error, out: &mut O, err
     }
     match send(out, text.as_bytes()) {
         Ok(()) => 0,
-        Err(_) => report(alloc, ToolFault::Write, err),
+        Err(_) => report(ToolFault::Write, err),
     }
 }
 
@@ -133,7 +139,7 @@ fn run<A: AllocGlobal + Files, I: Read + Drop, O: Sink>(
     }
 }
 
-/// Runs the words of a command line, the program's name first, and answers the exit status
+/// Runs the words of a command line, the program's name first, and answers the exit status, from 0 to 4
 /// (docs/PROGRAM.md). It reads `input` where no FILE is named, prints to `out`, and tells what is
 /// wrong on `err`.
 pub fn tool<A, S, I, O, E>(rt: &A, words: &[S], input: I, out: O, err: E) -> u8
@@ -143,12 +149,13 @@ where
     I: Read + Drop,
     O: Write + Drop,
     E: Write + Drop,
+    ensures { result ≤ 4 }
 {
     let mut out = Device::new(out);
     let mut err = Device::new(err);
     let alloc = rt.alloc();
     let Ok(command) = command(alloc) else {
-        return report(alloc, ToolFault::Memory, &mut err);
+        return report(ToolFault::Memory, &mut err);
     };
     let matches = match command.try_get_matches_from(words) {
         Ok(matches) => matches,
@@ -159,6 +166,6 @@ where
     };
     match run(rt, name, inner, input, &mut out) {
         Ok(()) => 0,
-        Err(fault) => report(alloc, fault, &mut err),
+        Err(fault) => report(fault, &mut err),
     }
 }

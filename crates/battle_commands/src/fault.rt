@@ -1,40 +1,43 @@
-ghost use Rattle.std.specs.Prelude.{◌≡◌};
+//! Why the program did not do all that it was asked.
+ghost use Rattle.std.specs.Prelude.{◌≡◌, ◌≤◌};
+ghost use Rattle.gen1_machine.specs.Lines.{joined};
+ghost use Rattle.battle_commands.specs.Faults.{error_line, pieces_of};
 
+use arrayvec::ArrayString;
 use gen1_stats::TeamRefusal;
-use thiserror::Error;
+use itoa::Buffer;
+use std::error::Error;
+use std::fmt;
+
+/// The most bytes of a fault's words: those of a pair, whose number may have 20 digits and whose refusal three.
+const WORDS_LENGTH: usize = 37;
+
+/// The same with `error: ` before and the line feed behind.
+const LINE_LENGTH: usize = 45;
 
 /// Why the program did not do all that it was asked. Each is shown as standard error tells it,
 /// after `error: ` (docs/PROGRAM.md).
-#[derive(Clone, Copy, Debug, PartialEq, Eq, Error)]
+#[derive(Clone, Copy, Debug, PartialEq, Eq)]
 pub enum ToolFault {
     /// The input is no JSON, or not of the shape that is asked for.
-    #[error("json")]
     Json,
     /// The input is longer than `INPUT_LIMIT` bytes.
-    #[error("too long")]
     TooLong,
     /// A side's team is refused. `side` is 1 or 2, `place` that of the member at fault, or 0 for
     /// the team as a whole, and `refusal` the number of the `TeamRefusal`.
-    #[error("team {side} place {place} refusal {refusal}")]
     Team { side: u8, place: u8, refusal: u8 },
     /// A pair of choices is refused. `number` counts the pairs from 0, and `refusal` is 1 where
     /// the battle is over, 2 and 3 where side 1 or 2 was not offered its choice.
-    #[error("pair {number} refused {refusal}")]
     Pair { number: usize, refusal: u8 },
     /// The bytes are no log, by the number of the `LogFault`, 1 to 3.
-    #[error("log {0}")]
     Log(u8),
     /// Damage numbers were asked for a move that has none.
-    #[error("calc")]
     Calc,
     /// The input could not be read.
-    #[error("read")]
     Read,
     /// The lines could not be written.
-    #[error("write")]
     Write,
     /// Memory was refused.
-    #[error("memory")]
     Memory,
 }
 
@@ -56,7 +59,8 @@ impl ToolFault {
     /// The exit status: 1 where the input is refused, 3 where a read or a write failed, 4 where
     /// memory was refused.
     pub fn status(self) -> u8
-        ensures { result ≡ status_of self }
+        ensures value { result ≡ status_of self }
+        ensures most { result ≤ 4 }
     {
         match self {
             ToolFault::Json
@@ -69,4 +73,62 @@ impl ToolFault {
             ToolFault::Memory => 4,
         }
     }
+
+    /// The line that standard error has of it (docs/PROGRAM.md).
+    pub fn line(self) -> ArrayString<LINE_LENGTH>
+        ensures { result.bytes ≡ error_line self }
+    {
+        let mut line = ArrayString::new();
+        line.push_str("error: ");
+        line.push_str(self.words().as_str());
+        line.push_str("\n");
+        line
+    }
+
+    /// What is wrong, in words and numbers.
+    fn words(self) -> ArrayString<WORDS_LENGTH>
+        ensures { result.bytes ≡ joined (pieces_of self) }
+    {
+        let mut words = ArrayString::new();
+        let mut digits = Buffer::new();
+        match self {
+            ToolFault::Json => words.push_str("json"),
+            ToolFault::TooLong => words.push_str("too long"),
+            ToolFault::Team {
+                side,
+                place,
+                refusal,
+            } => {
+                words.push_str("team ");
+                words.push_str(digits.format(side));
+                words.push_str(" place ");
+                words.push_str(digits.format(place));
+                words.push_str(" refusal ");
+                words.push_str(digits.format(refusal));
+            }
+            ToolFault::Pair { number, refusal } => {
+                words.push_str("pair ");
+                words.push_str(digits.format(number));
+                words.push_str(" refused ");
+                words.push_str(digits.format(refusal));
+            }
+            ToolFault::Log(number) => {
+                words.push_str("log ");
+                words.push_str(digits.format(number));
+            }
+            ToolFault::Calc => words.push_str("calc"),
+            ToolFault::Read => words.push_str("read"),
+            ToolFault::Write => words.push_str("write"),
+            ToolFault::Memory => words.push_str("memory"),
+        }
+        words
+    }
 }
+
+impl fmt::Display for ToolFault {
+    fn fmt<W: fmt::Write>(&self, f: &mut fmt::Formatter<W>) -> fmt::Result {
+        f.write_str(self.words().as_str())
+    }
+}
+
+impl Error for ToolFault {}

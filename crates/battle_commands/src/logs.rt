@@ -4,8 +4,8 @@ ghost use Rattle.battle_commands.specs.Answers.{is_read_fault, is_write_fault};
 ghost use Rattle.battle_commands.specs.Logs.{PrintsLog};
 
 use crate::fault::ToolFault;
-use crate::opening::INPUT_LIMIT;
-use gen1_machine::{InputFault, Sink, Source, read_whole, send};
+use crate::input::read_input;
+use gen1_machine::{Sink, Source, send};
 use gen1_printer::{PrintFault, print_log};
 
 /// Reads the bytes of a log, and writes the lines of its events (docs/PROGRAM.md).
@@ -24,11 +24,9 @@ pub fn play_print<A: AllocGlobal, R: Source, W: Sink>(
     ensures read { R.has_failed reader.new ≡ (R.has_failed reader.old || is_read_fault result) }
     ensures write { W.has_failed writer.new ≡ (W.has_failed writer.old || is_write_fault result) }
 {
-    let log = match read_whole(rt.alloc(), reader, INPUT_LIMIT) {
+    let log = match read_input(rt.alloc(), reader) {
         Ok(log) => log,
-        Err(InputFault::Device) => return Err(ToolFault::Read),
-        Err(InputFault::TooLong) => return Err(ToolFault::TooLong),
-        Err(InputFault::Memory) => return Err(ToolFault::Memory),
+        Err(fault) => return Err(fault),
     };
     let text = match print_log(rt.alloc(), log.as_slice()) {
         Ok(text) => text,

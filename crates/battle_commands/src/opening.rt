@@ -4,13 +4,11 @@ ghost use Rattle.battle_commands.specs.Asked.{asked_of};
 ghost use Rattle.battle_commands.specs.Opening.{Opens};
 
 use crate::fault::ToolFault;
+use crate::input::INPUT_LIMIT;
 use battle_input::{Item, SheetFault, read_sheet};
 use gen1_engine::Battle;
 use gen1_stats::Team;
 use std::alloc::Global;
-
-/// The greatest length of an input, in bytes.
-pub const INPUT_LIMIT: usize = 1_048_576;
 
 /// A battle that was asked for, and what is done in it: pairs of choices, or submissions to a room.
 #[derive(Drop)]

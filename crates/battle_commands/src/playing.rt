@@ -7,9 +7,10 @@ ghost use Rattle.battle_commands.specs.Answers.{Answers, is_read_fault, is_write
 ghost use Rattle.battle_commands.specs.Due.{due_from, run_due};
 
 use crate::fault::ToolFault;
-use crate::opening::{INPUT_LIMIT, open_bout};
+use crate::input::read_input;
+use crate::opening::open_bout;
 use gen1_engine::Battle;
-use gen1_machine::{Device, Event, EventList, InputFault, Sink, Source, read_whole, send};
+use gen1_machine::{Device, Event, EventList, Sink, Source, send};
 use gen1_printer::print_line;
 use std::alloc::{AllocError, Allocator, Global};
 
@@ -31,11 +32,9 @@ pub fn play<A: AllocGlobal, R: Source, W: Sink>(
     ensures read { R.has_failed reader.new ≡ (R.has_failed reader.old || is_read_fault result) }
     ensures write { W.has_failed writer.new ≡ (W.has_failed writer.old || is_write_fault result) }
 {
-    let input = match read_whole(rt.alloc(), reader, INPUT_LIMIT) {
+    let input = match read_input(rt.alloc(), reader) {
         Ok(input) => input,
-        Err(InputFault::Device) => return Err(ToolFault::Read),
-        Err(InputFault::TooLong) => return Err(ToolFault::TooLong),
-        Err(InputFault::Memory) => return Err(ToolFault::Memory),
+        Err(fault) => return Err(fault),
     };
     let mut bout = match open_bout::<(u8, u8)>(rt.alloc(), input.as_slice(), "choices") {
         Ok(bout) => bout,

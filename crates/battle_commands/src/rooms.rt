@@ -10,9 +10,10 @@ ghost use Rattle.battle_commands.specs.Due.{only};
 ghost use Rattle.battle_commands.specs.Rooms.{pieces_of_refusal, replies_due, room_due, text_of_reply};
 
 use crate::fault::ToolFault;
-use crate::opening::{INPUT_LIMIT, open_bout};
+use crate::input::read_input;
+use crate::opening::open_bout;
 use arrayvec::ArrayString;
-use gen1_machine::{InputFault, Side, Sink, Source, read_whole, send, send_all};
+use gen1_machine::{Side, Sink, Source, send, send_all};
 use gen1_printer::print_log;
 use gen1_room::{Room, RoomRefusal, Submitted};
 use itoa::Buffer;
@@ -39,11 +40,9 @@ pub fn play_room<A: AllocGlobal, R: Source, W: Sink>(
     ensures read { R.has_failed reader.new ≡ (R.has_failed reader.old || is_read_fault result) }
     ensures write { W.has_failed writer.new ≡ (W.has_failed writer.old || is_write_fault result) }
 {
-    let input = match read_whole(rt.alloc(), reader, INPUT_LIMIT) {
+    let input = match read_input(rt.alloc(), reader) {
         Ok(input) => input,
-        Err(InputFault::Device) => return Err(ToolFault::Read),
-        Err(InputFault::TooLong) => return Err(ToolFault::TooLong),
-        Err(InputFault::Memory) => return Err(ToolFault::Memory),
+        Err(fault) => return Err(fault),
     };
     let bout = match open_bout::<(Side, u32, u8)>(rt.alloc(), input.as_slice(), "submissions") {
         Ok(bout) => bout,

@@ -17,7 +17,7 @@ fn main(rt: HostRuntime) -> ExitCode {
     };
     let status = match words {
         Ok(words) => tool(&rt, words.as_slice(), rt.stdin(), rt.stdout(), rt.stderr()),
-        Err(_) => report(rt.alloc(), ToolFault::Memory, &mut Device::new(rt.stderr())),
+        Err(_) => report(ToolFault::Memory, &mut Device::new(rt.stderr())),
     };
     ExitCode::from(status)
 }

@@ -1,9 +1,9 @@
 //! `room`: the example of docs/PROGRAM.md, on devices that fail or take one byte in a call, and inputs that are cut or changed.
-use crate::devices::{Broken, Failing};
 use battle_commands::{ToolFault, play_room, tool};
 use gen1_machine::{Device, Sink};
 use std::alloc::AllocError;
 use std::test::Fail;
+use test_devices::{Broken, Failing};
 
 /// Two Tauros, open where submissions stand.
 static HEAD: &str =
@@ -37,7 +37,7 @@ fn the_example_is_answered(rt: HostRuntime) -> Result<(), Fail> {
 fn each_write_that_fails_is_told(rt: HostRuntime) -> Result<(), Fail> {
     let input = input(&rt, SUBMISSIONS)?;
     for takes_nothing in [false, true] {
-        for left in 0..=8u32 {
+        for left in 0..=8usize {
             let mut bytes = Vec::new(rt.alloc());
             let mut out = Device::new(Failing {
                 left,
@@ -58,7 +58,7 @@ fn each_write_that_fails_is_told(rt: HostRuntime) -> Result<(), Fail> {
 #[test]
 fn each_byte_that_is_not_written_is_told(rt: HostRuntime) -> Result<(), Fail> {
     let input = input(&rt, SUBMISSIONS)?;
-    for left in 0..=TEXT.len() as u32 {
+    for left in 0..=TEXT.len() {
         let mut bytes = Vec::new(rt.alloc());
         let mut out = Device::new(Failing {
             left,
@@ -68,7 +68,7 @@ fn each_byte_that_is_not_written_is_told(rt: HostRuntime) -> Result<(), Fail> {
         });
         let result = play_room(&rt, &mut Device::new(input.as_bytes()), &mut out);
         assert!(rt; TEXT.as_bytes().starts_with(bytes.as_slice()));
-        assert_eq!(rt; bytes.len(), left as usize);
+        assert_eq!(rt; bytes.len(), left);
         assert_eq!(rt; result.is_ok(), bytes.len() == TEXT.len());
     }
     Ok(())

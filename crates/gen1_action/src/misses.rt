@@ -77,7 +77,7 @@ fn miss_event(battle: &Packed, side: Side, id: MoveId) -> Event
     Event::Miss(battle.who(side))
 }
 
-// What the test is made at.
+// What the test is made at (docs/MECHANICS.md, "Hit test", "Kept accuracy").
 fn base_of(battle: &Packed, side: Side, id: MoveId, going_on: bool) -> u8
     ensures stands { Reads battle.now result λ f. (if going_on then (active_in side f).kept_accuracy else accuracy_byte (move_at id)) }
 {

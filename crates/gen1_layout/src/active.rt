@@ -204,7 +204,9 @@ fn sent_block(place: u8, first: Element, second: Element, stats: [u16; 4]) -> [u
     ensures { (m : Member) (halved quartered : ℕ) → stats ≡ stats_of m (sent_as place first second halved quartered)
         → result ≡ active_block m (sent_as place first second halved quartered) }
 {
-    [
+    // Behind place, types, stages and stats all is 0: no condition, no count, no move.
+    let mut block = [0; 36];
+    block[..17].copy_from_slice(&[
         place,
         first.number(),
         second.number(),
@@ -222,24 +224,6 @@ fn sent_block(place: u8, first: Element, second: Element, stats: [u16; 4]) -> [u
         high(stats[2]),
         low(stats[3]),
         high(stats[3]),
-        0,
-        0,
-        0,
-        0,
-        0,
-        0,
-        0,
-        0,
-        0,
-        0,
-        0,
-        0,
-        0,
-        0,
-        0,
-        0,
-        0,
-        0,
-        0,
-    ]
+    ]);
+    block
 }

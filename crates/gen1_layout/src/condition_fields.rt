@@ -1,4 +1,5 @@
-//! The conditions of a member that is out, with their numbers (docs/LAYOUT.md, "Active block", "Condition bits").
+//! The conditions of a member that is out (docs/MECHANICS.md, "Conditions"), with their numbers (docs/LAYOUT.md, "Active block",
+//! "Condition bits").
 ghost use Rattle.gen1_layout.specs.Words.{ActiveConditions, Changes, Field, List, None, Reads, Setting, Some, Within, WritesConditions, WritesConditionsIf, active_in, changed_conditions, conditions_in, false, length, member_in, slice_index_or, slice_set, underway_in, ℕ};
 ghost use Rattle.std.specs.Prelude.{if◌then◌else◌, slice_index, ◌-◌, ◌<◌, ◌^◌, ◌≡◌, ◌≤◌};
 ghost use Rattle.gen1_machine.specs.Conditions.{after_haze, broken_off};

@@ -5,7 +5,8 @@ ghost use Rattle.gen1_layout.specs.Flags.{any_at, set_at};
 
 use bitflags::{Flag, Flags, bitflag_items};
 
-/// The conditions of a member that is out (docs/LAYOUT.md, "Condition bits"), as a set of 17 bits.
+/// The conditions of a member that is out (docs/MECHANICS.md, "Conditions"), as a set of 17 bits (docs/LAYOUT.md, "Condition
+/// bits").
 ///
 /// A condition with a number of its own, as confusion, keeps it elsewhere in the active block.
 #[derive(Clone, Copy, PartialEq, Eq, Debug)]

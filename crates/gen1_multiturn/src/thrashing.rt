@@ -100,7 +100,8 @@ fn thrash_on<R: Rolls>(
     battle.put_thrash(side, turns.saturating_sub(1));
 }
 
-// Neither Bide nor trapping is on.
+// Neither Bide nor trapping is on. The accuracy is kept from here on, since a fault may come before the hit test
+// (docs/MECHANICS.md, "Going on", "Kept accuracy").
 fn begin_thrashing<R: Rolls>(battle: &mut Packed, side: Side, accuracy: u8, random: &mut R)
     ensures shown { (events : List Event) (move : Move) (origin : R) (g : Frame) (p : Progress) → accuracy_byte move ≡ accuracy
         → (underway side p).bide ≡ None → (underway side p).trapping ≡ None

@@ -1,6 +1,12 @@
 -- How an update closes.
 use Rattle.gen1_layout.proofs.Words.{Bool, IsBetween, None, Phase, Progress, Some, ap, arith, choose-false, false, nat_le, nat_tests, note, refl, stay, then-goes, true, ℕ, ◌▸◌}
-use Rattle.std.proofs.Common.{◌<◌, ◌≡◌, ◌≤◌, ◌∙◌}
+use Rattle.std.proofs.Common.{List, [], get_or, length, not, suc, sym, zero, ◌-◌, ◌<◌, ◌∷◌, ◌≡◌, ◌≤◌, ◌∙◌, ◌||◌}
+use Rattle.std.proofs.lemmas.Bool.{false≢true}
+use Rattle.gen1_tables.specs.Types.{any}
+use Rattle.gen1_stats.specs.Members.{is_living, nobody}
+use Rattle.gen1_machine.specs.declared.side.Side.{Side}
+use Rattle.gen1_machine.specs.declared.side.Side.TheVariants.{One, Two}
+use Rattle.gen1_machine.specs.State.{Field, has_fallen_in, member_in, party}
 use Rattle.gen1_machine.specs.declared.event.Event.TheVariants as events
 use Rattle.gen1_machine.specs.declared.terms.Outcome.{Outcome}
 use Rattle.gen1_machine.specs.declared.terms.Outcome.TheVariants.{Fault, Ongoing, Tie, WinOne, WinTwo}
@@ -24,6 +30,29 @@ late_so a b h = grind (arith, nat_tests)
 
 pub late_not : (a b : ℕ) → b < a → nat_le a b ≡ false
 late_not a b h = grind (arith, nat_tests)
+
+-- who is out and lives is one of those that live
+
+not_false : (b : Bool) → not b ≡ false → b ≡ true
+not_false true e = refl
+not_false false e = absurd (false≢true (sym e))
+
+any_at : {A : Type 0} (test : A → Bool) (xs : List A) (k : ℕ) (d : A) → k < length xs → test (get_or xs k d) ≡ true → any test xs ≡ true
+any_at test [] k d inside e = absurd (omega arith)
+any_at test (x ∷ xs) zero d inside e = rw e refl
+any_at test (x ∷ xs) (suc k) d inside e = rw (any_at test xs k d (omega arith) e) (or_true (test x))
+  where
+    or_true : (b : Bool) → (b || true) ≡ true
+    or_true true = refl
+    or_true false = refl
+
+pub lives_out : (s : Side) (f : Field) → IsBetween 1 (length (party s f).members) (party s f).active.place → has_fallen_in s f ≡ false
+    → any is_living (party s f).members ≡ true
+lives_out s f h e = any_at is_living (party s f).members ((party s f).active.place - 1) nobody (omega (arith, h.0, h.1)) (lives s e)
+  where
+    lives : (s : Side) → has_fallen_in s f ≡ false → is_living (get_or (party s f).members ((party s f).active.place - 1) nobody) ≡ true
+    lives One e = not_false (is_living (member_in One f)) e
+    lives Two e = not_false (is_living (member_in Two f)) e
 
 -- by whether there was a fault
 

@@ -1,26 +1,28 @@
 -- A member that comes out: the bytes, and what is told.
 use Rattle.gen1_layout.proofs.Words.{Active, Field, List, Member, None, Option, Parts, Progress, Setting, Shows, Side, [], ap, arith, changed_active, changed_conditions, given, lit≤, note, on_active, on_conditions, on_field, party, refl, subst, sym, then-goes, underway_in, ℕ}
-use Rattle.std.proofs.Common.{false, ◌++◌, ◌∷◌, ◌≡◌, ◌∙◌}
+use Rattle.std.proofs.Common.{false, max, ◌++◌, ◌/◌, ◌∷◌, ◌≡◌, ◌≤◌, ◌∙◌}
 use Rattle.gen1_layout.specs.Words.{Event, Packs}
 use Rattle.gen1_tables.specs.Species.{species_row}
 use Rattle.gen1_tables.specs.declared.element.Element.{Element}
 use Rattle.gen1_stats.specs.declared.status.Status.{Status}
 use Rattle.gen1_stats.specs.declared.status.Status.TheVariants.{Asleep, Burned, Frozen, Healthy, Paralysed, Poisoned}
+use Rattle.gen1_stats.specs.Members.{IsMember}
 use Rattle.gen1_machine.specs.declared.side.Side.TheVariants.{One, Two}
 use Rattle.gen1_machine.specs.Rules.{Rules}
 use Rattle.gen1_machine.specs.Sides.{other}
 use Rattle.gen1_machine.specs.Conditions.{without_trapping}
 use Rattle.gen1_machine.specs.CurrentStats.{with_penalty_of}
+use Rattle.gen1_machine.specs.Stages.{at_stage}
 use Rattle.gen1_machine.specs.State.{member_at, nobody_out, State, Terms}
 use Rattle.gen1_machine.specs.SwitchingIn.{send_out, sent_out, start, switch_event, with_sent_out}
 use Rattle.gen1_machine.specs.Step.{opened}
 use Rattle.gen1_machine.specs.Valid.{IsMembersUnder, IsOutcome, IsUnstarted}
 use Rattle.gen1_machine.specs.Plans.{InRange}
-use Rattle.gen1_layout.specs.SentOut.{sent_as}
+use Rattle.gen1_layout.specs.SentOut.{sent_as, stats_of}
 use Rattle.gen1_layout.specs.Shows.{ShowsPacked}
 use Rattle.gen1_layout.specs.Storable.{IsStorable, IsStorableParty}
 use Rattle.gen1_layout.proofs.Steps.{within_packed}
-use Rattle.gen1_requests.specs.ComingOut.{coming_out, halvings_of, quarterings_of, with_out}
+use Rattle.gen1_requests.specs.ComingOut.{coming_out, halvings_of, quarterings_of, stats_out, with_out}
 use Rattle.gen1_requests.specs.Updates.{beginning}
 
 -- the machine's member that comes out is the writer's, by what its status brings along
@@ -37,6 +39,38 @@ sent_made place m = by m.status
     by Burned = refl
     by Frozen = refl
     by Paralysed = refl
+
+-- the stats of who comes out are its own, but for that penalty
+
+at_level : (v : ℕ) → 5 ≤ v → v ≤ 999 → at_stage 6 v ≡ v
+at_level v low high = omega arith
+
+four : (a b c d a' b' c' d' : ℕ) → a ≡ a' → b ≡ b' → c ≡ c' → d ≡ d' → (a ∷ b ∷ c ∷ d ∷ []) ≡ (a' ∷ b' ∷ c' ∷ d' ∷ [])
+four a b c d a' b' c' d' e f g h = rw (e, f, g, h) refl
+
+pub stats_made : (place : ℕ) (first second : Element) (m : Member) → IsMember m
+    → stats_out m.status m.attack m.defense m.speed m.special ≡ stats_of m (sent_as place first second (halvings_of m.status) (quarterings_of m.status))
+stats_made place first second m ok = by m.status
+  where
+    attack : m.attack ≡ at_stage 6 m.attack
+    attack = sym (at_level m.attack ok.attack.0 ok.attack.1)
+
+    defense : m.defense ≡ at_stage 6 m.defense
+    defense = sym (at_level m.defense ok.defense.0 ok.defense.1)
+
+    speed : m.speed ≡ at_stage 6 m.speed
+    speed = sym (at_level m.speed ok.speed.0 ok.speed.1)
+
+    special : m.special ≡ at_stage 6 m.special
+    special = sym (at_level m.special ok.special.0 ok.special.1)
+
+    by : (status : Status) → stats_out status m.attack m.defense m.speed m.special ≡ stats_of m (sent_as place first second (halvings_of status) (quarterings_of status))
+    by Healthy = four _ _ _ _ _ _ _ _ attack defense speed special
+    by (Asleep turns marked) = four _ _ _ _ _ _ _ _ attack defense speed special
+    by Poisoned = four _ _ _ _ _ _ _ _ attack defense speed special
+    by Burned = four _ _ _ _ _ _ _ _ (ap (λ (v : ℕ). max 1 (v / 2)) attack) defense speed special
+    by Frozen = four _ _ _ _ _ _ _ _ attack defense speed special
+    by Paralysed = four _ _ _ _ _ _ _ _ attack defense (ap (λ (v : ℕ). max 1 (v / 4)) speed) special
 
 -- the phase as one record
 

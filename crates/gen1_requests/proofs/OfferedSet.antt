@@ -3,7 +3,6 @@ use Rattle.std.proofs.Common.{Bool, List, Option, [], ap, arith, false, get_or, 
 use Rattle.std.specs.Prelude.{if◌then◌else◌, ◌↔◌}
 use Rattle.std.proofs.lemmas.Bool.{false≢true}
 use Rattle.std.proofs.lemmas.Bool.Decides.{eqb_tells, leb_tells}
-use Rattle.gen1_tables.specs.Types.{any}
 use Rattle.gen1_stats.specs.declared.known_move.KnownMove.{KnownMove}
 use Rattle.gen1_stats.specs.Members.{Member, is_asleep, is_frozen, is_living, nobody, nothing_known}
 use Rattle.gen1_machine.specs.declared.side.Side.{Side}
@@ -18,7 +17,7 @@ use Rattle.gen1_machine.specs.Sides.{other}
 use Rattle.gen1_machine.specs.State.{Field, active_in, conditions_in, is_over, known_in, member_at, member_in, party, request_of, status_in, underway_in}
 use Rattle.gen1_machine.specs.OfferedChoices.{bars_slot, has_no_slot_in, is_committed, moves_offered, offered, offered_for, or_struggle, others_living_from, switches_offered, usable_from}
 use Rattle.gen1_machine.specs.Step.{is_among, same_choice}
-use Rattle.gen1_requests.specs.Offering.{HasNoSlot, IsCommitted, IsOffered, IsUsable, MayChoose, MayComeOut, MayMove, OffersTheSet, bides, charges, freezes, is_trapped, rages, recharges, sleeps, thrashes, traps}
+use Rattle.gen1_requests.specs.Offering.{HasNoSlot, IsCommitted, IsOffered, IsUsable, MayChoose, MayComeOut, OffersTheSet, bides, charges, freezes, is_trapped, rages, recharges, sleeps, thrashes, traps}
 use Rattle.gen1_requests.proofs.Collecting.{if_front, one_if}
 
 -- tests

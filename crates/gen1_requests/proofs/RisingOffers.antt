@@ -1,11 +1,11 @@
 -- The bytes of the machine's offered choices rise.
-use Rattle.std.proofs.Common.{Bool, List, Option, [], arith, get_or, inl, inr, length, map, not, nat_lt, refl, slice_index, subst, suc, sym, true, false, zero, ℕ, ◌&&◌, ◌++◌, ◌+◌, ◌-◌, ◌<◌, ◌==◌, ◌≡◌, ◌≤◌, ◌∙◌, ◌∷◌, ◌⊎◌, ap}
+use Rattle.std.proofs.Common.{Bool, List, Option, [], arith, inl, inr, length, map, slice_index, subst, suc, sym, true, false, zero, ℕ, ◌++◌, ◌+◌, ◌-◌, ◌<◌, ◌≡◌, ◌≤◌, ◌∷◌, ◌⊎◌}
 use Rattle.std.proofs.lemmas.List.Elements.{All-get_or}
 use Rattle.std.proofs.lemmas.List.{map-append}
 use Rattle.std.specs.Prelude.{if◌then◌else◌}
 use Rattle.std.specs.List.Sorted.{IsStrictlyIncreasing}
 use Rattle.gen1_stats.specs.declared.known_move.KnownMove.{KnownMove}
-use Rattle.gen1_stats.specs.Members.{Member, is_living, nobody}
+use Rattle.gen1_stats.specs.Members.{Member, nobody}
 use Rattle.gen1_machine.specs.declared.side.Side.{Side}
 use Rattle.gen1_machine.specs.declared.side.Side.TheVariants.{One, Two}
 use Rattle.gen1_machine.specs.declared.choice.Choice.{Choice}
@@ -16,9 +16,9 @@ use Rattle.gen1_machine.specs.declared.terms.Outcome.TheVariants as outcomes
 use Rattle.gen1_machine.specs.declared.terms.Request.{Request}
 use Rattle.gen1_machine.specs.declared.terms.Request.TheVariants as requests
 use Rattle.gen1_machine.specs.Choices.{byte_of_choice}
-use Rattle.gen1_machine.specs.State.{Field, Party, State, Terms, active_in, conditions_in, is_over, member_at, member_in, party, request_of, underway_in}
-use Rattle.gen1_machine.specs.OfferedChoices.{bars_slot, has_no_slot_in, is_committed, moves_offered, offered, offered_for, or_struggle, others_living_from, switches_offered, usable_from}
-use Rattle.gen1_machine.specs.Valid.{IsField, IsMemberUnder, IsParty, IsStarted, IsState, IsUnstarted}
+use Rattle.gen1_machine.specs.State.{Field, Party, Terms, active_in, conditions_in, is_over, member_at, member_in, party, request_of, underway_in}
+use Rattle.gen1_machine.specs.OfferedChoices.{has_no_slot_in, is_committed, moves_offered, offered, offered_for, or_struggle, others_living_from, switches_offered, usable_from}
+use Rattle.gen1_machine.specs.Valid.{IsField, IsMemberUnder, IsParty, IsStarted, IsUnstarted}
 use Rattle.gen1_requests.specs.Offering.{OffersRising}
 use Rattle.gen1_requests.proofs.BetweenUpdates.{asks_nothing}
 use Rattle.gen1_requests.proofs.OfferedSet.{move_passes, switch_passes}

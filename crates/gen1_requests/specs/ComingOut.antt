@@ -1,4 +1,5 @@
 -- A member that comes out, in the words of its writer (docs/MECHANICS.md, "Switching in").
+use Rattle.std.specs.Prelude.{List, [], max, ◌/◌, ◌∷◌}
 use Rattle.gen1_layout.specs.Words.{Event, Field, Member, Side, changed_active, member_at, party, ℕ}
 use Rattle.gen1_stats.specs.declared.status.Status.{Status}
 use Rattle.gen1_stats.specs.declared.status.Status.TheVariants.{Burned, Paralysed}
@@ -15,6 +16,12 @@ halvings_of _ = 0
 abbrev pub quarterings_of : Status → ℕ
 quarterings_of Paralysed = 1
 quarterings_of _ = 0
+
+-- four own stats with that penalty, Attack and Speed at least 1
+abbrev pub stats_out : Status → ℕ → ℕ → ℕ → ℕ → List ℕ
+stats_out Burned attack defense speed special = max 1 (attack / 2) ∷ defense ∷ speed ∷ special ∷ []
+stats_out Paralysed attack defense speed special = attack ∷ defense ∷ max 1 (speed / 4) ∷ special ∷ []
+stats_out _ attack defense speed special = attack ∷ defense ∷ speed ∷ special ∷ []
 
 -- the member at a place is out, and nothing else has changed
 abbrev pub with_out : Side → ℕ → Field → Field

@@ -1,6 +1,6 @@
 -- What each side may choose, as a set: each choice with the condition under which it is offered (docs/MECHANICS.md, "Offered
 -- choices").
-use Rattle.std.specs.Prelude.{false, is_some, map, suc, true, zero, ℕ, ◌≡◌, ◌≢◌, ◌≤◌, ◌⊎◌, ◌↔◌}
+use Rattle.std.specs.Prelude.{false, is_some, map, true, zero, ℕ, ◌≡◌, ◌≢◌, ◌≤◌, ◌⊎◌, ◌↔◌}
 use Rattle.std.specs.List.Sorted.{IsStrictlyIncreasing}
 use Rattle.gen1_layout.specs.Words.{Field, Side, conditions_in, is_asleep, is_frozen, is_living, known_in, member_at, member_in, other, party, request_of, status_in, underway_in}
 use Rattle.gen1_machine.specs.declared.choice.Choice.{Choice}

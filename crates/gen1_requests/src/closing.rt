@@ -1,6 +1,7 @@
 //! The end of an update (docs/MECHANICS.md, "Falls and requests"): who has fallen, who has won, and what is asked next.
 ghost use Rattle.std.specs.Prelude.{◌<◌, ◌≡◌};
-ghost use Rattle.gen1_layout.specs.Words.{AddsAtMost, AddsNone, Bool, Does, Event as EventOf, Frame, HasRoom, List, Progress, Reads, Shows, false, true, ◌▸◌};
+ghost use Rattle.gen1_tables.specs.Types.{any};
+ghost use Rattle.gen1_layout.specs.Words.{AddsAtMost, AddsNone, Bool, Does, Event as EventOf, Frame, HasRoom, List, Progress, Reads, Shows, false, is_living, party, true, ◌▸◌};
 ghost use Rattle.gen1_machine.specs.declared.event.Event.TheVariants as told;
 ghost use Rattle.gen1_machine.specs.Falls.{ask_for_moves, ask_nothing, battle_ends, close, faint_if_fallen, faint_in_order, settle, switch_if, the_fallen_faint};
 ghost use Rattle.gen1_machine.specs.Progress.{note};
@@ -109,8 +110,8 @@ fn end_if_decided(battle: &mut Packed, events: &mut EventList) -> bool
     ensures room { AddsAtMost 1 events.old events.new }
     ensures quiet { result ≡ false → AddsNone events.old events.new }
 {
-    let one = battle.has_living(Side::One);
-    let two = battle.has_living(Side::Two);
+    let one = has_living(battle, Side::One);
+    let two = has_living(battle, Side::Two);
     let late = battle.limit() <= battle.turn();
     let neither = !one & !two;
     if neither {
@@ -130,6 +131,16 @@ fn end_if_decided(battle: &mut Packed, events: &mut EventList) -> bool
         return true;
     }
     false
+}
+
+// In most updates who is out lives, and nobody else need be looked at.
+fn has_living(battle: &Packed, side: Side) -> bool
+    ensures { Reads battle.now result λ f. any is_living (party side f).members }
+{
+    if is_fallen(battle, side) {
+        return battle.has_living(side);
+    }
+    true
 }
 
 fn battle_ends(battle: &mut Packed, outcome: Outcome, event: Event, events: &mut EventList)

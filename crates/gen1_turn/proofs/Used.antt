@@ -1,8 +1,12 @@
 -- The number of a move that is used, and a member that stays as it is.
 use Rattle.std.proofs.Common.{if◌then◌else◌, set, ◌&&◌, ◌-◌, ◌≡◌}
-use Rattle.gen1_layout.proofs.Words.{Bool, Field, IsBetween, List, Member, None, Side, Some, ap, changed_member, false, member_in, nat_le, nobody, true, ℕ, ◌∙◌}
+use Rattle.gen1_layout.proofs.Words.{Active, Bool, Field, Frame, IsBetween, List, Member, None, Parts, Progress, Shows, Side, Some, active_in, ap, changed_active, changed_member, false, given, member_in, nat_le, nobody, on_active, on_field, refl, subst, sym, true, ℕ, ◌∙◌}
+use Rattle.gen1_layout.specs.Words.{Event}
 use Rattle.std.proofs.lemmas.List.{set-get_or}
 use Rattle.gen1_machine.specs.declared.side.Side.TheVariants.{One, Two}
+use Rattle.gen1_machine.specs.Progress.{active}
+use Rattle.gen1_machine.specs.State.{with_current_move, with_picked_move}
+use Rattle.gen1_machine.proofs.Acts.{unchanged}
 use Rattle.gen1_status.proofs.Comparing.{at_most}
 
 -- what a number makes
@@ -30,3 +34,19 @@ unchanged-member One change f same =
 unchanged-member Two change f same =
     ap (λ (m : Member). record f { two = record f.two { members = set f.two.members (f.two.active.place - 1) m } }) same
     ∙ ap (λ (ms : List Member). record f { two = record f.two { members = ms } }) (set-get_or f.two.members (f.two.active.place - 1) nobody)
+
+-- a pick that is no move's leaves the current move, and what is picked where the foe does not hold its member
+
+same_picked : (s : Side) (f : Field) → changed_active s (with_picked_move (active_in s f).picked_move) f ≡ f
+unfolding changed_active with_picked_move
+same_picked One f = refl
+same_picked Two f = refl
+
+module _ {g : Frame} {parts : Parts} {events : List Event} (s : Side) (p : Progress) where
+  pub still_current : Shows g parts events false p → Shows g parts events false (given (active s) (λ (a : Active). on_active s (with_current_move a.current_move)) p)
+  unfolding given on_active on_field
+  still_current h = subst (λ (f : Field). Shows g parts events false (record p { field = f })) (sym (unchanged s p.field)) h
+
+  pub still_picked : Shows g parts events false p → Shows g parts events false (given (active s) (λ (a : Active). on_active s (with_picked_move a.picked_move)) p)
+  unfolding given on_active on_field
+  still_picked h = subst (λ (f : Field). Shows g parts events false (record p { field = f })) (sym (same_picked s p.field)) h

@@ -63,7 +63,8 @@ fn action_parts<R: Rolls>(
     carry_out(battle, side, pick, id, known, random, events)
 }
 
-// However an action ends, the accuracy of its hit test is kept while rage or thrashing is on.
+// However an action ends, the accuracy of its hit test is kept while rage or thrashing is on (docs/MECHANICS.md, "Kept
+// accuracy").
 fn keep_accuracy(battle: &mut Packed, side: Side, tested: Option<u8>)
     ensures shown { (g : Frame) (p : Progress) (events : List Event) (stopped : Bool) → g.action.accuracy_tested ≡ tested
         → Shows g battle.old events stopped p → Shows g battle.new events stopped (keep_accuracy side p) }
@@ -72,6 +73,7 @@ fn keep_accuracy(battle: &mut Packed, side: Side, tested: Option<u8>)
     battle.put_kept_accuracy(side, byte);
 }
 
+// Of an action without a hit test, what was kept before (docs/MECHANICS.md, "Kept accuracy").
 fn accuracy_to_keep(battle: &Packed, side: Side, tested: Option<u8>) -> u8
     ensures stands { Reads battle.now result λ f. accuracy_after (underway_in side f) tested (active_in side f).kept_accuracy }
 {

@@ -107,17 +107,11 @@ fn set_picked(battle: &mut Packed, side: Side, pick: Pick)
     ensures shown { (g : Frame) (p : Progress) (events : List Event) → IsUsedMove (length (member_in side p.field).moves) (picked_after pick (active_in side p.field).picked_move)
         → Shows g battle.old events false p → Shows g battle.new events false (set_picked side pick p) }
 {
-    let used = picked_after(pick, battle.picked_move(side));
-    battle.put_picked_move(side, used);
-}
-
-fn picked_after(pick: Pick, old: UsedMove) -> UsedMove
-    ensures { result ≡ picked_after pick old }
-{
     match pick {
-        Pick::Use(used) => used,
-        Pick::Held => UsedMove::Nothing,
-        Pick::Continue | Pick::Idle => old,
+        Pick::Use(used) => battle.put_picked_move(side, used),
+        Pick::Held => battle.put_picked_move(side, UsedMove::Nothing),
+        Pick::Continue => {}
+        Pick::Idle => {}
     }
 }
 

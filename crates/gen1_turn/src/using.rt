@@ -1,6 +1,7 @@
 //! A move that is used: it becomes the current one, and costs PP (docs/MECHANICS.md, "Action", step 4).
 ghost use Rattle.std.specs.Prelude.{if◌then◌else◌, ◌-◌, ◌==◌, ◌≡◌, ◌≤◌};
 ghost use Rattle.gen1_layout.specs.Words.{AddsAtMost, Does, Event, Frame, HasRoom, IsBetween, List, Progress, Shows, active_in, false, length, member_in, move_at, not, other, who_in};
+ghost use Rattle.gen1_machine.specs.Charging.{make_current};
 ghost use Rattle.gen1_machine.specs.Action.{spend_pp, use_move};
 ghost use Rattle.gen1_machine.specs.Moves.{bides};
 ghost use Rattle.gen1_machine.specs.Picks.{used_by};
@@ -31,9 +32,22 @@ pub(crate) fn use_move(
         → Shows (knowing known.now g) battle.new events.new.items false (use_move side pick (move_at id) p) }
     ensures room { AddsAtMost 1 events.old events.new }
 {
-    make_current(battle, side, pick);
+    take_up(battle, side, pick);
     spend_pp_unless_going(battle, side, known);
     note_move(battle, side, id, events);
+}
+
+// A move that is picked becomes the current one; what goes on is that already.
+fn take_up(battle: &mut Packed, side: Side, pick: Pick)
+    ensures shown { (g : Frame) (p : Progress) (events : List Event) → IsUsedMove (length (member_in side p.field).moves) (used_by pick (active_in side p.field).current_move)
+        → Shows g battle.old events false p → Shows g battle.new events false (make_current side pick p) }
+{
+    match pick {
+        Pick::Use(_) => make_current(battle, side, pick),
+        Pick::Continue => {}
+        Pick::Idle => {}
+        Pick::Held => {}
+    }
 }
 
 fn spend_pp_unless_going(battle: &mut Packed, side: Side, known: &Known)

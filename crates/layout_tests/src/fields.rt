@@ -200,6 +200,7 @@ fn an_active_block(rt: HostRuntime) -> Result<(), Fail> {
     Ok(())
 }
 
+// A number goes with its condition; Haze ends all of these but the Substitute (docs/MECHANICS.md, "Conditions").
 #[test]
 fn conditions_with_numbers(rt: HostRuntime) -> Result<(), Fail> {
     let mut packed = begun()?;
@@ -230,6 +231,8 @@ fn conditions_with_numbers(rt: HostRuntime) -> Result<(), Fail> {
     Ok(())
 }
 
+// Bide, Thrash and Trapping, one at a time, each with its numbers; what breaks them off ends Charging too (docs/MECHANICS.md,
+// "Conditions").
 #[test]
 fn what_goes_on(rt: HostRuntime) -> Result<(), Fail> {
     let mut packed = begun()?;

@@ -241,6 +241,7 @@ const MOVE: usize = 39;
 
 const CURRENT: usize = 197;
 
+// A count is there exactly where its condition is (docs/MECHANICS.md, "Conditions").
 #[test]
 fn conditions_with_a_count(rt: HostRuntime) {
     // the byte and bit of the condition, its count's offset, least, most and one more
@@ -267,6 +268,8 @@ fn conditions_with_a_count(rt: HostRuntime) {
     answers(&rt, &[(LOW, 8 + 32 + 128), (HIGH, 1 + 16 + 64 + 128)], 0);
 }
 
+// Those that belong to the current move, by a move that they belong to, by another, and by none (docs/MECHANICS.md,
+// "Conditions").
 #[test]
 fn conditions_of_the_current_move(rt: HostRuntime) {
     // the byte and bit, a move, the turns and the kept accuracy

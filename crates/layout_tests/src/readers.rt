@@ -136,7 +136,8 @@ fn a_marked_sleeper_falls(rt: HostRuntime) -> Result<(), Fail> {
     Ok(())
 }
 
-// Bits 0, 1, 2, 4, 10 and 11 are 1, 2, 4, 16, 1024 and 2048.
+// Conditions that have no number, and the six of the current move (docs/MECHANICS.md, "Conditions"). Bits 0, 1, 2, 4, 10 and 11
+// are 1, 2, 4, 16, 1024 and 2048.
 #[test]
 fn several_conditions_at_once(rt: HostRuntime) -> Result<(), Fail> {
     let mut packed = begun()?;

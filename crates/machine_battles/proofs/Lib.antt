@@ -1,6 +1,9 @@
 -- What is compared of a battle, and battles that were worked out by hand.
 mod Reports
 mod WorkedBattles
+mod WorkedConditions
+mod WorkedEvents
+mod WorkedTeams
 -- Recorded battles, made by tools/evaluate.py.
 mod Battles1
 mod Battles2

@@ -6,9 +6,8 @@ use gen1_machine::{
 };
 use gen1_tables::Stat;
 use linked_list_allocator::LocalHeap;
-use std::io;
-use std::io::{Read, Write};
 use std::test::Fail;
+use test_devices::{Broken, Failing};
 
 #[test]
 fn ranges_end_where_they_should(rt: HostRuntime) {
@@ -149,56 +148,6 @@ fn stats_at_stages(rt: HostRuntime) {
         (5, -6, Stat::Special, 0, 1),
     ] {
         assert_eq!(rt; now(unmodified, stage, stat, penalties), want);
-    }
-}
-
-/// A writer whose write number `left` fails, by an error or by taking nothing.
-#[derive(Drop)]
-struct Failing<'a> {
-    left: usize,
-    takes_nothing: bool,
-    most: usize,
-    bytes: &'a mut Vec<u8>,
-}
-
-impl Write for Failing<'_> {
-    fn write(&mut self, bytes: &[u8]) -> io::Result<usize> {
-        if self.left == 0 {
-            if self.takes_nothing {
-                return Ok(0);
-            }
-            return Err(io::Error::from(io::ErrorKind::BrokenPipe));
-        }
-        self.left -= 1;
-        let count = bytes.len().min(self.most);
-        self.bytes.extend_from_slice(&bytes[..count])?;
-        Ok(count)
-    }
-
-    fn flush(&mut self) -> io::Result<()> {
-        Ok(())
-    }
-}
-
-/// A reader whose read number `left` fails.
-#[derive(Drop)]
-struct Broken<'a> {
-    left: usize,
-    most: usize,
-    bytes: &'a [u8],
-}
-
-impl Read for Broken<'_> {
-    fn read(&mut self, bytes: &mut [u8]) -> io::Result<usize> {
-        if self.left == 0 {
-            return Err(io::Error::from(io::ErrorKind::Other));
-        }
-        self.left -= 1;
-        let count = bytes.len().min(self.most).min(self.bytes.len());
-        let mut rest = self.bytes;
-        let taken = rest.read(&mut bytes[..count])?;
-        self.bytes = rest;
-        Ok(taken)
     }
 }
 

@@ -150,7 +150,8 @@ mod tests {
         assert_eq!(rt; replies[3], Err(RoomRefusal::AlreadyChosen));
         assert_eq!(rt; replies[8], Err(RoomRefusal::Over));
         assert_eq!(rt; room.battle().result().outcome, Outcome::WinTwo);
-        assert!(rt; restored(recorded()?, &SUBMISSIONS, &mut replies[..8]).is_none());
+        let mut too_few = [Ok(Submitted::Waiting); 8];
+        assert!(rt; restored(recorded()?, &SUBMISSIONS, &mut too_few).is_none());
         Ok(())
     }
 }

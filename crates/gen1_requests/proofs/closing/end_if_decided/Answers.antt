@@ -1,5 +1,5 @@
 use Rattle.std.proofs.Common.{not, ◌∙◌}
-use Rattle.gen1_layout.proofs.Words.{ap, choose-false, if_so, packed_of, past, stay, stops, sym}
+use Rattle.gen1_layout.proofs.Words.{ap, choose-false, if_so, past, stay, stops, sym}
 use Rattle.gen1_machine.specs.Falls.{end_if_decided}
 use Rattle.gen1_requests.proofs.Closed.{late_not, late_so, passed}
 use Rattle.gen1_requests.proofs.closing.end_if_decided.Goals as goal
@@ -7,23 +7,23 @@ use Rattle.gen1_requests.proofs.closing.end_if_decided.Goals as goal
 pub returns-then-neither-clause-shown : goal.returns-then-neither-clause-shown
 unfolding end_if_decided
 returns-then-neither-clause-shown c g p h =
-    let one = c.has_living-one.ensures.packs _ _ (packed_of h.within) in
-    let two = c.has_living-two.ensures.packs _ _ (packed_of h.within) in
+    let one = c.has_living-one.ensures _ _ h.within in
+    let two = c.has_living-two.ensures _ _ h.within in
     stops _ _ (if_so _ _ _ (rw (one, two) at c.if-neither.true) (c.battle_ends.ensures.shown tt g p h))
 
 pub returns-then-not-one-clause-shown : goal.returns-then-not-one-clause-shown
 unfolding end_if_decided
 returns-then-not-one-clause-shown c g p h =
-    let one = c.has_living-one.ensures.packs _ _ (packed_of h.within) in
-    let two = c.has_living-two.ensures.packs _ _ (packed_of h.within) in
+    let one = c.has_living-one.ensures _ _ h.within in
+    let two = c.has_living-two.ensures _ _ h.within in
     past _ _ _ (rw (one, two) at c.if-neither.false) h
     (stops _ _ (if_so _ _ _ (ap not (sym one ∙ c.if-not-one.true)) (c.battle_ends-then-not-one.ensures.shown tt g p h)))
 
 pub returns-then-not-two-clause-shown : goal.returns-then-not-two-clause-shown
 unfolding end_if_decided
 returns-then-not-two-clause-shown c g p h =
-    let one = c.has_living-one.ensures.packs _ _ (packed_of h.within) in
-    let two = c.has_living-two.ensures.packs _ _ (packed_of h.within) in
+    let one = c.has_living-one.ensures _ _ h.within in
+    let two = c.has_living-two.ensures _ _ h.within in
     past _ _ _ (rw (one, two) at c.if-neither.false) h
     (past _ _ _ (ap not (sym one ∙ c.if-not-one.false)) h
     (stops _ _ (if_so _ _ _ (ap not (sym two ∙ c.if-not-two.true)) (c.battle_ends-then-not-two.ensures.shown tt g p h))))
@@ -31,8 +31,8 @@ returns-then-not-two-clause-shown c g p h =
 pub returns-then-late-clause-shown : goal.returns-then-late-clause-shown
 unfolding end_if_decided
 returns-then-late-clause-shown c g p h =
-    let one = c.has_living-one.ensures.packs _ _ (packed_of h.within) in
-    let two = c.has_living-two.ensures.packs _ _ (packed_of h.within) in
+    let one = c.has_living-one.ensures _ _ h.within in
+    let two = c.has_living-two.ensures _ _ h.within in
     let limit = c.limit.ensures.stands _ _ h.within in
     let turn = c.turn.ensures.stands _ _ h.within in
     past _ _ _ (rw (one, two) at c.if-neither.false) h
@@ -43,8 +43,8 @@ returns-then-late-clause-shown c g p h =
 pub returns-clause-shown : goal.returns-clause-shown
 unfolding end_if_decided stay
 returns-clause-shown c g p h =
-    let one = c.has_living-one.ensures.packs _ _ (packed_of h.within) in
-    let two = c.has_living-two.ensures.packs _ _ (packed_of h.within) in
+    let one = c.has_living-one.ensures _ _ h.within in
+    let two = c.has_living-two.ensures _ _ h.within in
     let limit = c.limit.ensures.stands _ _ h.within in
     let turn = c.turn.ensures.stands _ _ h.within in
     let late = rw (limit, turn) at c.if-late.false in (

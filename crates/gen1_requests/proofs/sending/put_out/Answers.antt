@@ -1,9 +1,11 @@
 use Rattle.std.proofs.Common.{◌≡◌, ◌∙◌}
 use Rattle.gen1_layout.proofs.Words.{packed_of, party, refl}
+use Rattle.gen1_layout.proofs.WaysBack.{ok_inside}
+use Rattle.gen1_tables.specs.Species.{species_row}
 use Rattle.gen1_machine.specs.State.{member_at}
 use Rattle.gen1_machine.specs.SwitchingIn.{with_sent_out}
 use Rattle.gen1_requests.specs.ComingOut.{halvings_of, quarterings_of}
-use Rattle.gen1_requests.proofs.ComingOut.{sent_made}
+use Rattle.gen1_requests.proofs.ComingOut.{sent_made, stats_made}
 use Rattle.gen1_requests.proofs.sending.put_out.Goals as goal
 
 pub returns-in-Some : goal.returns-in-Some
@@ -19,7 +21,7 @@ returns-in-Some c =
           let own = c.own_stats_at.ensures.packs g f k in
           c.put_sent_out.ensures.stands g f (with_sent_out c.args.place m) (halvings_of m.status) (quarterings_of m.status) h
           (sent_made c.args.place m ∙ (rw (number, c.types.ensures, species) refl)) (rw number there.0) (rw number there.1)
-          (rw (number, c.now.ensures, c.now-2.ensures, c.now-3.ensures, c.now-4.ensures, c.halvings.ensures, c.quarterings.ensures, status, own, number) refl);
+          (rw (c.stats_out-stats.ensures, status, own, number) (stats_made c.args.place (species_row m.species).first_type (species_row m.species).second_type m (ok_inside k c.args.side c.args.place there.0 there.1).numbers));
       packs = λ g f k there.
           let number = c.number-at.ensures.value in
           let m = member_at c.args.place (party c.args.side f) in
@@ -28,7 +30,7 @@ returns-in-Some c =
           let own = c.own_stats_at.ensures.packs g f k in
           c.put_sent_out.ensures.begins g f (with_sent_out c.args.place m) (halvings_of m.status) (quarterings_of m.status) k
           (sent_made c.args.place m ∙ (rw (number, c.types.ensures, species) refl)) (rw number there.0)
-          (rw (number, c.now.ensures, c.now-2.ensures, c.now-3.ensures, c.now-4.ensures, c.halvings.ensures, c.quarterings.ensures, status, own, number) refl);
+          (rw (c.stats_out-stats.ensures, status, own, number) (stats_made c.args.place (species_row m.species).first_type (species_row m.species).second_type m (ok_inside k c.args.side c.args.place there.0 there.1).numbers));
     }
 
 pub returns-in_default : goal.returns-in_default

@@ -1,29 +1,20 @@
-use Rattle.std.proofs.Common.{◌≡◌, ◌∙◌}
-use Rattle.gen1_layout.proofs.Words.{packed_of, party, refl, sym}
-use Rattle.gen1_machine.specs.State.{member_at}
+use Rattle.gen1_layout.proofs.Words.{packed_of, refl}
 use Rattle.gen1_machine.specs.Conditions.{without_trapping}
-use Rattle.gen1_requests.specs.ComingOut.{coming_out}
 use Rattle.gen1_requests.proofs.ComingOut.{sends_as, told_is}
 use Rattle.gen1_requests.proofs.sending.send_out.Goals as goal
 
-pub returns-in-Some-clause-shown : goal.returns-in-Some-clause-shown
+pub returns-clause-shown : goal.returns-clause-shown
 unfolding without_trapping
-returns-in-Some-clause-shown c g p there h =
+returns-clause-shown c g p there h =
     let s = c.args.side in let place = c.args.place in
     let out = c.put_out.ensures.stands g.setting p.field h.within there in
     let free = c.end_trapping.ensures.stands _ _ without_trapping out refl in
-    let told = c.coming_out-told.ensures.packs g.setting p.field (packed_of h.within) there in
-    let event : c.in-Some.event ≡ coming_out s place (member_at place (party s p.field)) = let e = sym c.in-Some.is ∙ told in cc in
     rw (sends_as s place p h.ends) (record {
       within = rw (← c.other.ensures) free;
-      written = rw (c.push.ensures.items, h.written, event, told_is s place p.field) refl;
+      written = rw (c.tell_coming_out.ensures.told g.setting p.field (packed_of h.within) there, h.written, told_is s place p.field) refl;
       ends = h.ends;
       stream = h.stream;
       drawn = h.drawn;
       skips = h.skips;
       action = h.action;
     })
-
-pub returns-in_default-clause-shown : goal.returns-in_default-clause-shown
-returns-in_default-clause-shown c g p there h =
-    let told = c.coming_out-told.ensures.packs g.setting p.field (packed_of h.within) there in cc

@@ -5,6 +5,6 @@ use Rattle.gen1_turn.proofs.using.use_move.Goals as goal
 pub returns-clause-shown : goal.returns-clause-shown
 unfolding use_move
 returns-clause-shown c g p fits h =
-    let a = c.make_current.ensures.shown _ p _ fits h in
+    let a = c.take_up.ensures.shown _ p _ fits h in
     let b = c.spend_pp_unless_going.ensures.shown _ g _ a in
     goes _ _ a (goes _ _ b (c.note_move.ensures.shown _ _ b))

@@ -33,7 +33,7 @@ returns-in_err-update_events g c =
     let going : is_over s.field.outcome ≡ false =
     ap (λ (r : BattleResult). is_over r.outcome) (sym (c.result-now.ensures.stands s some.stands)) ∙ sym c.is_over.ensures ∙ c.if-is_over.false in
     let one = picked One s _ _ some.stands.valid going (c.choices.ensures s some.stands) c.pick-one.ensures in
-    let two = picked Two s _ _ some.stands.valid going (c.choices-2.ensures s some.stands) c.pick-two.ensures in
+    let two = picked Two s _ _ some.stands.valid going (c.choices-in-updates.ensures s some.stands) c.pick-two.ensures in
     let ok = accepts-offered s c.pick-one.result c.pick-two.result _ _ c.update_events.result one two (c.update_events.ensures.answers s some.stands) in
     absurd (false≢true (sym (ap is_ok c.in_err-update_events.was) ∙ ok))
 
@@ -47,5 +47,5 @@ pub returns-clause-ended : goal.returns-clause-ended
 returns-clause-ended g c s h =
     let all = c.updates.invariant s h in
     let most : accepted_in s all.pairs ≡ s.terms.limit + 11 =
-    omega (arith, all.counted, c.limit.ensures s h, c.from.ensures, c.updates-test.false, c.updates.auto.counter-end) in
+    omega (arith, all.counted, c.limit.ensures s h, c.from-end.ensures, c.updates-test.false, c.updates.auto.counter-end) in
     record { pairs = all.pairs; stands = all.stands; tells = c.result.ensures.stands (run s all.pairs).state all.stands; over = (runs_end s all.pairs h.valid).1 most }

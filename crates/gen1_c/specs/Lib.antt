@@ -1,0 +1,14 @@
+-- What is written to the front of a caller's memory.
+pub mod Fronts
+-- Teams as plain structs.
+pub mod Teams
+-- How a battle begins.
+pub mod Beginning
+-- What updates answer, and what is offered.
+pub mod Playing
+-- Events as plain structs.
+pub mod Events
+-- Events and lines of a log.
+pub mod Logs
+-- The damage of a hit.
+pub mod Damages

@@ -1,0 +1,75 @@
+//! The damage of a hit, as a battle stands.
+ghost use Rattle.std.specs.Prelude.{◌≡◌};
+ghost use Rattle.gen1_machine.specs.Moves.{move_at};
+ghost use Rattle.gen1_machine.specs.Numbers.{side_number};
+ghost use Rattle.gen1_machine.specs.State.{State};
+ghost use Rattle.gen1_machine.specs.declared.side.Side.{Side};
+ghost use Rattle.gen1_layout.specs.Within.{Stands};
+ghost use Rattle.gen1_c.specs.Damages.{TellsDamages, damages_due, has_own_damage, has_usual_damage};
+ghost use Rattle.gen1_c.specs.Playing.{IsNoSide};
+
+use gen1_hits::{damage_list, numbers};
+use gen1_layout::Packed;
+use gen1_machine::Side;
+use gen1_tables::{Effect, MoveId};
+
+const NO_SIDE: u8 = 1;
+
+const NO_MOVE: u8 = 2;
+
+const UNUSUAL: u8 = 3;
+
+const NOBODY: u8 = 4;
+
+const DIVISOR: u8 = 5;
+
+/// The damage of a hit by a move of a side at each factor from 217 to 255, as both members that are out now stand
+/// (docs/MECHANICS.md, "Damage numbers" to "Factor").
+#[unsafe(no_mangle)]
+pub extern "C" fn gen1_damage(
+    battle: &Packed,
+    side: u8,
+    number: u8,
+    critical: bool,
+    damages: &mut [u16; 39],
+) -> u8
+    ensures tells { (s : State) (which : Side) → Stands battle.now s → side ≡ side_number which
+        → TellsDamages (damages_due which number critical s.field) damages.old damages.new result }
+    ensures no_side { IsNoSide side → (result ≡ 1) × (damages.new ≡ damages.old) }
+{
+    let Some(side) = Side::from_number(side) else {
+        return NO_SIDE;
+    };
+    let Some(id) = MoveId::new(number) else {
+        return NO_MOVE;
+    };
+    if !has_usual_damage(id) {
+        return UNUSUAL;
+    }
+    if battle.turn() == 0 {
+        return NOBODY;
+    }
+    match damage_list(&numbers(battle, side, id, critical)) {
+        Some(list) => {
+            *damages = list;
+            0
+        }
+        None => DIVISOR,
+    }
+}
+
+// Whether a move has power, and no damage of its own rule (docs/MECHANICS.md, "Fixed damage and one-hit moves", "Counter").
+fn has_usual_damage(id: MoveId) -> bool
+    ensures { result ≡ has_usual_damage (move_at id) }
+{
+    id.power() > 0 && !has_own_damage(id.effect())
+}
+
+fn has_own_damage(effect: Effect) -> bool
+    ensures { result ≡ has_own_damage effect }
+{
+    matches!(
+        effect,
+        Effect::Counter | Effect::FixedDamage | Effect::OneHitKnockOut | Effect::SuperFang
+    )
+}

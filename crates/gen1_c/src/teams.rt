@@ -1,0 +1,142 @@
+//! Teams as plain structs (docs/MECHANICS.md, "Teams").
+ghost use Rattle.std.specs.Prelude.{IfErr, IfOk, OnOk, length, ◌+◌, ◌++◌, ◌<◌, ◌≡◌, ◌≢◌, ◌≤◌};
+ghost use Rattle.arrayvec.specs.ArrayVec.{array_vec_len};
+ghost use Rattle.gen1_stats.specs.Teams.{team_of};
+ghost use Rattle.gen1_c.specs.Teams.{chosen, fault_of, first_fault, given, member_fault, sheet_of, sheets_of, species_of, team_fault};
+
+use arrayvec::ArrayVec;
+use gen1_stats::{MemberSpec, Team, TeamRefusal};
+use gen1_tables::{MoveId, Species};
+
+/// A member as it is asked for. A place for a move that holds 0 is passed over.
+#[repr(C)]
+pub struct MemberForm {
+    /// 1 to 151.
+    pub species: u8,
+    /// 1 to 100.
+    pub level: u8,
+    /// 0 to 15: Attack, Defense, Speed, Special.
+    pub dvs: [u8; 4],
+    /// 1 to 165, or 0 for no move.
+    pub moves: [u8; 4],
+    /// 0 to 3, of the move at the same place.
+    pub pp_ups: [u8; 4],
+    /// HP, Attack, Defense, Speed, Special.
+    pub exp: [u16; 5],
+}
+
+/// A team: the first of the members, as many as are counted, at most six.
+#[repr(C)]
+pub struct TeamForm {
+    pub members: [MemberForm; 6],
+    pub count: u8,
+}
+
+// A number that is no species' or no move's, by its code.
+const NO_SUCH_SPECIES: u32 = 10;
+
+const NO_SUCH_MOVE: u32 = 11;
+
+// The team that is asked for. A fault is its code, and 256 for each place up to that of the member at fault.
+#[tactic(auto, unfolding(crate::specs::Teams::team_fault))]
+pub(crate) fn team_of(form: &TeamForm) -> Result<Team, u32>
+    ensures made { IfOk result (λ team. team ≡ team_of (sheets_of form.now)) }
+    ensures allowed { OnOk result (team_fault form.now ≡ 0) }
+    ensures refused { IfErr result (λ fault. (fault ≡ team_fault form.now) × (fault ≢ 0) × (fault < 65536)) }
+{
+    if form.count > 6 {
+        return Err(fault_of(TeamRefusal::TooMany));
+    }
+    let count = usize::from(form.count);
+    let fault = first_fault(&form.members[..count]);
+    if fault > 0 {
+        return Err(fault);
+    }
+    let [first, second, third, fourth, fifth, sixth] = &form.members;
+    let specs = [
+        spec_of(first),
+        spec_of(second),
+        spec_of(third),
+        spec_of(fourth),
+        spec_of(fifth),
+        spec_of(sixth),
+    ];
+    match Team::new(&specs[..count]) {
+        Ok(team) => Ok(team),
+        Err(refusal) => Err(fault_of(refusal)),
+    }
+}
+
+// The first member with a number that is no species' or no move's; 0 where there is none.
+fn first_fault(members: &[MemberForm]) -> u32
+    requires { length members.now ≤ 6 }
+    ensures value { result ≡ first_fault 1 members.now }
+    ensures small { result < 65536 }
+{
+    for (before, member) in members.iter().enumerate() {
+        let fault = member_fault(member);
+        if fault > 0 {
+            return 256 * (before as u32 + 1) + fault;
+        }
+    }
+    0
+}
+
+fn member_fault(member: &MemberForm) -> u32
+    ensures value { result ≡ member_fault member.now }
+    ensures small { result ≤ 11 }
+{
+    if Species::new(member.species).is_none() {
+        NO_SUCH_SPECIES
+    } else if member.moves.iter().any(|id| *id > 165) {
+        NO_SUCH_MOVE
+    } else {
+        0
+    }
+}
+
+fn fault_of(refusal: TeamRefusal) -> u32
+    ensures value { result ≡ fault_of refusal }
+    ensures some { 1 ≤ result }
+    ensures small { result < 65536 }
+{
+    256 * u32::from(refusal.place()) + u32::from(refusal.number())
+}
+
+fn spec_of(member: &MemberForm) -> MemberSpec
+    ensures { result ≡ sheet_of member.now }
+{
+    let (ids, ups) = (&member.moves, &member.pp_ups);
+    let mut moves = ArrayVec::new();
+    add_move(ids[0], ups[0], &mut moves);
+    add_move(ids[1], ups[1], &mut moves);
+    add_move(ids[2], ups[2], &mut moves);
+    add_move(ids[3], ups[3], &mut moves);
+    MemberSpec {
+        species: species_of(member.species),
+        level: member.level,
+        dvs: member.dvs,
+        exp: member.exp,
+        moves,
+    }
+}
+
+// Appends a move with its PP ups, where the number is a move's.
+fn add_move(number: u8, ups: u8, moves: &mut ArrayVec<(MoveId, u8), 4>)
+    requires { array_vec_len moves.old < 4 }
+    ensures items { moves.new.items ≡ moves.old.items ++ chosen number ups }
+    ensures few { array_vec_len moves.new ≤ array_vec_len moves.old + 1 }
+{
+    if let Some(id) = MoveId::new(number) {
+        moves.push((id, ups));
+    }
+}
+
+fn species_of(number: u8) -> Species
+    ensures { result ≡ species_of number }
+{
+    match Species::new(number) {
+        Some(species) => species,
+        None => Species::default(),
+    }
+}

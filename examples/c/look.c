@@ -1,0 +1,88 @@
+/*
+ * Plays a battle by itself, and looks at what else the library answers: what is offered, how the battle stands, events as
+ * structs, the damage of a hit, and a battle that is kept, tried and loaded.
+ *
+ *     cc -O2 -I include examples/c/look.c crates/gen1_c/out/libgen1_c.a -o look
+ *     ./look
+ */
+#include "gen1.h"
+
+#include <stdio.h>
+#include <string.h>
+
+/* A Tauros at level 100 with Body Slam, Hyper Beam, Blizzard and Earthquake. */
+static const gen1_member tauros = {
+    .species = 128,
+    .level = 100,
+    .dvs = {15, 15, 15, 15},
+    .moves = {34, 63, 59, 89},
+    .pp_ups = {3, 3, 3, 3},
+    .exp = {65535, 65535, 65535, 65535, 65535},
+};
+
+/* Prints what a move of side 1 would take at least and at most. */
+static void show_damage(const gen1_battle *battle, uint8_t move)
+{
+    uint16_t damages[39];
+    uint8_t code = gen1_damage(battle, GEN1_ONE, move, false, damages);
+    if (code == 0)
+        printf("move %d takes %d to %d\n", move, damages[0], damages[38]);
+    else
+        printf("move %d: code %d\n", move, code);
+}
+
+/* Whether the choice leaves side 1 no worse off than side 2, tried on a copy. */
+static bool wins_at_once(const gen1_battle *battle, uint8_t one, uint8_t two)
+{
+    gen1_battle copy = *battle;
+    size_t length;
+    return gen1_update(&copy, one, two, NULL, 0, &length) == 0 && GEN1_OUTCOME(gen1_result(&copy)) == GEN1_WIN_ONE;
+}
+
+/* The first choice of a side. */
+static uint8_t first_choice(const gen1_battle *battle, uint8_t side)
+{
+    uint8_t choices[9];
+    uint8_t count = gen1_choices(battle, side, choices);
+    return count == 0 || count == GEN1_NO_SIDE ? GEN1_PASS : choices[0];
+}
+
+/* Prints how much damage the events of a log tell of. */
+static void show_events(const uint8_t *log, size_t count)
+{
+    gen1_event event;
+    for (size_t at = 0; gen1_next_event(log, count, &at, &event) == 0;) {
+        if (event.tag == GEN1_TURN)
+            printf("turn %d\n", event.turn);
+        if (event.tag == GEN1_DAMAGE)
+            printf("side %d is at %d of %d\n", event.side, event.hp, event.max_hp);
+    }
+}
+
+int main(void)
+{
+    static const uint8_t seed[10] = {1, 36, 255, 7, 31, 100, 179, 254, 127, 10};
+    gen1_team team = {.members = {tauros}, .count = 1};
+    gen1_battle battle, loaded;
+    uint8_t log[GEN1_LOG_ROOM];
+    size_t length;
+
+    if (gen1_new(&battle, &team, &team, seed, 0, GEN1_LIMIT) != 0)
+        return 1;
+    show_damage(&battle, 34); /* nobody is out yet */
+    while (GEN1_OUTCOME(gen1_result(&battle)) == GEN1_ONGOING) {
+        uint8_t one = first_choice(&battle, GEN1_ONE), two = first_choice(&battle, GEN1_TWO);
+        if (wins_at_once(&battle, one, two))
+            puts("side 1 is about to win");
+        if (gen1_update(&battle, one, two, log, sizeof log, &length) != 0)
+            return 1;
+        show_events(log, length);
+    }
+    printf("outcome %d\n", GEN1_OUTCOME(gen1_result(&battle)));
+    show_damage(&battle, 34);
+    show_damage(&battle, 12); /* a move with no usual damage */
+
+    if (gen1_load(&loaded, battle.bytes, sizeof battle.bytes) != 0 || memcmp(&loaded, &battle, sizeof battle) != 0)
+        return 1;
+    return gen1_load(&loaded, battle.bytes, 383) == GEN1_LOAD_LENGTH ? 0 : 1;
+}

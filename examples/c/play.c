@@ -1,0 +1,102 @@
+/*
+ * Plays the battle that standard input asks for, and prints its lines as `battle_tool run` does.
+ *
+ *     cc -O2 -I include examples/c/play.c crates/gen1_c/out/libgen1_c.a -o play
+ *     ./play < examples/tauros.txt
+ *
+ * The input is decimal numbers with white space between them: the rules, the turn limit and the ten numbers of the seed; for
+ * each team how many members it has, and of each member species, level, four DVs, five numbers of experience, and four moves
+ * with their PP ups (0 0 where there is no move); and then pairs of choices, up to the end.
+ */
+#include "gen1.h"
+
+#include <stdio.h>
+#include <stdlib.h>
+
+/* The next number of standard input, or -1 at its end. */
+static int number(void)
+{
+    int value;
+    return scanf("%d", &value) == 1 ? value : -1;
+}
+
+/* The next number, where there has to be one from 0 up to `most`. */
+static int number_up_to(int most)
+{
+    int value = number();
+    if (value < 0 || value > most) {
+        fputs("error: input\n", stderr);
+        exit(1);
+    }
+    return value;
+}
+
+static void read_member(gen1_member *member)
+{
+    member->species = (uint8_t)number_up_to(255);
+    member->level = (uint8_t)number_up_to(255);
+    for (int at = 0; at < 4; at++)
+        member->dvs[at] = (uint8_t)number_up_to(255);
+    for (int at = 0; at < 5; at++)
+        member->exp[at] = (uint16_t)number_up_to(65535);
+    for (int at = 0; at < 4; at++) {
+        member->moves[at] = (uint8_t)number_up_to(255);
+        member->pp_ups[at] = (uint8_t)number_up_to(255);
+    }
+}
+
+static void read_team(gen1_team *team)
+{
+    team->count = (uint8_t)number_up_to(6);
+    for (int at = 0; at < team->count; at++)
+        read_member(&team->members[at]);
+}
+
+/* Begins the battle that standard input asks for. */
+static void begin(gen1_battle *battle)
+{
+    gen1_team one = {0}, two = {0};
+    uint8_t seed[10];
+    uint8_t rules = (uint8_t)number_up_to(255);
+    uint16_t limit = (uint16_t)number_up_to(65535);
+    for (int at = 0; at < 10; at++)
+        seed[at] = (uint8_t)number_up_to(255);
+    read_team(&one);
+    read_team(&two);
+    uint32_t fault = gen1_new(battle, &one, &two, seed, rules, limit);
+    if (fault != 0) {
+        fprintf(stderr, "error: team %u place %u refusal %u\n", (unsigned)GEN1_SIDE(fault), (unsigned)GEN1_PLACE(fault),
+                (unsigned)GEN1_CODE(fault));
+        exit(1);
+    }
+}
+
+/* Prints the lines of the log of an update. */
+static void print_log(const uint8_t *log, size_t count)
+{
+    char line[GEN1_LINE_ROOM];
+    size_t at = 0, length = 0;
+    while (gen1_next_line(log, count, &at, line, sizeof line, &length) == 0)
+        fwrite(line, 1, length, stdout);
+}
+
+int main(void)
+{
+    gen1_battle battle;
+    uint8_t log[GEN1_LOG_ROOM];
+    size_t length = 0;
+    begin(&battle);
+    for (int pair = 0;; pair++) {
+        int one = number();
+        if (one < 0)
+            return 0;
+        int two = number_up_to(255);
+        uint8_t refusal = gen1_update(&battle, (uint8_t)one, (uint8_t)two, log, sizeof log, &length);
+        if (refusal != 0) {
+            fflush(stdout);
+            fprintf(stderr, "error: pair %d refused %d\n", pair, refusal);
+            return 1;
+        }
+        print_log(log, length);
+    }
+}

@@ -1,0 +1,163 @@
+"""The library for Python: include/gen1.h by ctypes, over a shared library.
+
+    cc -shared -o libgen1.so -Wl,--whole-archive crates/gen1_c/out/libgen1_c.a -Wl,--no-whole-archive
+"""
+
+import ctypes
+from ctypes import POINTER, Structure, byref, c_bool, c_char, c_size_t, c_uint8, c_uint16, c_uint32
+
+LOG_ROOM = 512
+LINE_ROOM = 96
+NO_SIDE = 255
+
+
+class BattleBytes(Structure):
+    _fields_ = [("bytes", c_uint8 * 384)]
+
+
+class Member(Structure):
+    _fields_ = [
+        ("species", c_uint8), ("level", c_uint8), ("dvs", c_uint8 * 4), ("moves", c_uint8 * 4), ("pp_ups", c_uint8 * 4),
+        ("exp", c_uint16 * 5),
+    ]
+
+
+class Team(Structure):
+    _fields_ = [("members", Member * 6), ("count", c_uint8)]
+
+
+class Event(Structure):
+    _fields_ = [
+        (name, c_uint8)
+        for name in (
+            "tag", "side", "species", "move", "target_side", "target_species", "place", "level", "status", "detail", "amount")
+    ] + [("hp", c_uint16), ("max_hp", c_uint16), ("turn", c_uint16)]
+
+
+class Refused(Exception):
+    """A pair of choices was refused, by its number."""
+
+
+class TeamFault(Exception):
+    """There is no battle of these teams: the side, the place and the code."""
+
+
+class LoadFault(Exception):
+    """Bytes are no battle: the number of the first test that they fail."""
+
+
+class LogFault(Exception):
+    """Bytes are no log: the number of the fault."""
+
+
+def member(species, level, dvs, exp, moves):
+    """A member; `moves` are pairs of a move's number and its PP ups, at most four."""
+    made = Member(species=species, level=level, dvs=tuple(dvs), exp=tuple(exp))
+    for place, (number, ups) in enumerate(moves):
+        made.moves[place], made.pp_ups[place] = number, ups
+    return made
+
+
+def team(members):
+    """A team. A count above six is the library's to refuse."""
+    return Team(members=tuple(members[:6]), count=len(members))
+
+
+class Library:
+    """The calls of a shared library, with their types."""
+
+    def __init__(self, path):
+        self.calls = ctypes.CDLL(path)
+        battle, size, sizes = POINTER(BattleBytes), c_size_t, POINTER(c_size_t)
+        for name, answer, takes in (
+            ("gen1_new", c_uint32, [battle, POINTER(Team), POINTER(Team), c_uint8 * 10, c_uint8, c_uint16]),
+            ("gen1_load", c_uint8, [battle, ctypes.c_char_p, size]),
+            ("gen1_choices", c_uint8, [battle, c_uint8, c_uint8 * 9]),
+            ("gen1_update", c_uint8, [battle, c_uint8, c_uint8, POINTER(c_uint8), size, sizes]),
+            ("gen1_result", c_uint8, [battle]),
+            ("gen1_next_event", c_uint8, [ctypes.c_char_p, size, sizes, POINTER(Event)]),
+            ("gen1_next_line", c_uint8, [ctypes.c_char_p, size, sizes, POINTER(c_char), size, sizes]),
+            ("gen1_damage", c_uint8, [battle, c_uint8, c_uint8, c_bool, c_uint16 * 39]),
+        ):
+            call = getattr(self.calls, name)
+            call.restype, call.argtypes = answer, takes
+
+    def battle(self, one, two, seed, rules=0, limit=1000):
+        """A battle of two teams."""
+        made = Battle(self)
+        fault = self.calls.gen1_new(byref(made.held), byref(one), byref(two), (c_uint8 * 10)(*seed), rules, limit)
+        if fault:
+            raise TeamFault(fault >> 16, fault >> 8 & 0xff, fault & 0xff)
+        return made
+
+    def load(self, given):
+        """The battle of these bytes."""
+        made = Battle(self)
+        test = self.calls.gen1_load(byref(made.held), given, len(given))
+        if test:
+            raise LoadFault(test)
+        return made
+
+    def lines(self, log):
+        """The lines of a log, as bytes."""
+        at, length, text = c_size_t(0), c_size_t(0), ctypes.create_string_buffer(LINE_ROOM)
+        lines = []
+        while True:
+            code = self.calls.gen1_next_line(log, len(log), byref(at), text, LINE_ROOM, byref(length))
+            if code == 0:
+                lines.append(text.raw[:length.value])
+            elif code == 4:
+                return b"".join(lines)
+            else:
+                raise LogFault(code)
+
+    def events(self, log):
+        """The events of a log."""
+        at, events = c_size_t(0), []
+        while True:
+            event = Event()
+            code = self.calls.gen1_next_event(log, len(log), byref(at), byref(event))
+            if code == 0:
+                events.append(event)
+            elif code == 4:
+                return events
+            else:
+                raise LogFault(code)
+
+
+class Battle:
+    """A battle, all of which is its bytes."""
+
+    def __init__(self, library):
+        self.calls, self.held = library.calls, BattleBytes()
+
+    @property
+    def bytes(self):
+        return bytes(self.held.bytes)
+
+    def choices(self, side):
+        """What a side, 1 or 2, may choose."""
+        choices = (c_uint8 * 9)()
+        count = self.calls.gen1_choices(byref(self.held), side, choices)
+        if count == NO_SIDE:
+            raise ValueError(side)
+        return list(choices[:count])
+
+    def update(self, one, two):
+        """An update by a choice of each side; its log."""
+        log, length = (c_uint8 * LOG_ROOM)(), c_size_t(0)
+        refused = self.calls.gen1_update(byref(self.held), one, two, log, LOG_ROOM, byref(length))
+        if refused:
+            raise Refused(refused)
+        return bytes(log[:length.value])
+
+    def result(self):
+        """The outcome, and what is asked of each side."""
+        result = self.calls.gen1_result(byref(self.held))
+        return result & 7, result >> 3 & 3, result >> 5 & 3
+
+    def damage(self, side, number, critical=False):
+        """The damage of a hit by a move of a side, at each factor; or a code."""
+        damages = (c_uint16 * 39)()
+        code = self.calls.gen1_damage(byref(self.held), side, number, critical, damages)
+        return list(damages) if code == 0 else code
