@@ -1,7 +1,7 @@
 /*
  * gen1.h - first-generation link battles, for C and what calls C.
  *
- * The library is crates/gen1_c/out/libgen1_c.a. It needs nothing but memcpy, memmove, memset and memcmp of the C library.
+ * The library is crates/gen1_c/out/libgen1_c.a. It needs nothing but memcpy, memmove and memset of the C library.
  * The rules of battle are docs/MECHANICS.md, the numbers of species, moves and types docs/TABLES.md, the 384 bytes
  * docs/LAYOUT.md. crates/gen1_c/CALLING.md says what to call when, and which clause of a proved contract promises what.
  *

@@ -31,7 +31,7 @@ static void show_damage(const gen1_battle *battle, uint8_t move)
         printf("move %d: code %d\n", move, code);
 }
 
-/* Whether the choice leaves side 1 no worse off than side 2, tried on a copy. */
+/* Whether side 1 wins by this pair of choices, tried on a copy. */
 static bool wins_at_once(const gen1_battle *battle, uint8_t one, uint8_t two)
 {
     gen1_battle copy = *battle;
