@@ -57,8 +57,8 @@ fn act_unless_skipped<R: Rolls>(
     ensures shown { Acts R.byte R.next R.SPAN side pick battle.old events.old.items random.old known.old battle.new events.new.items random.new known.new result (λ r. do_part r (ActsPart side pick)) }
     ensures room { AddsAtMost 22 events.old events.new }
 {
-    *known = known.begun(side);
     if known.skips {
+        *known = known.begun(side);
         return false;
     }
     act(battle, side, pick, known, random, events)
@@ -84,6 +84,7 @@ pub(crate) fn sends_and_suffers(
 }
 
 // What a side suffers unless the turn was cut. The answer is whether it is cut now.
+#[inline(always)]
 fn suffer(battle: &mut Packed, side: Side, events: &mut EventList) -> bool
     requires { HasRoom 3 events.old }
     ensures shown { (g : Frame) (p : Progress) → Shows g battle.old events.old.items false p
