@@ -17,5 +17,5 @@ pub use gate_tests::gate;
 pub use infliction::{inflict, inflict_status};
 pub use penalties::take_penalty;
 pub use picking::pick;
-pub use residual_damage::residual;
+pub use residual_damage::{residual, suffers};
 pub use shifts::{lower_stage, raise_stage, shift_stage};

@@ -34,8 +34,9 @@ pub fn residual(battle: &mut Packed, side: Side, events: &mut EventList)
     suffer_seed(battle, side, events);
 }
 
-// Most members have neither poison nor a burn nor a seed.
-fn suffers(battle: &Packed, side: Side) -> bool
+/// Whether poison, a burn or Leech Seed takes anything from the member of `side` that is out, as long as it lives
+/// (docs/MECHANICS.md, "Residual"). Most members have none of them.
+pub fn suffers(battle: &Packed, side: Side) -> bool
     ensures stands { Reads battle.now result λ f. (takes_hp (status_in side f) || (conditions_in side f).seeded) }
 {
     if takes_hp(battle.status(side)) {

@@ -1,6 +1,6 @@
 //! The parts of a turn, each with what its side then suffers (docs/MECHANICS.md, "Order of a turn").
 ghost use Rattle.std.specs.Prelude.{◌||◌, ◌≡◌};
-ghost use Rattle.gen1_layout.specs.Words.{AddsAtMost, Bool, Does, Event, Frame, HasRoom, List, Progress, Reads, Shows, conditions_in, false, status_in};
+ghost use Rattle.gen1_layout.specs.Words.{AddsAtMost, Bool, Does, Event, Frame, HasRoom, List, Progress, Reads, Shows, false};
 ghost use Rattle.gen1_machine.specs.declared.side.Side.{Side as SideOf};
 ghost use Rattle.gen1_machine.specs.declared.side.Side.TheVariants as sides;
 ghost use Rattle.gen1_machine.specs.State.{has_fallen_in, is_over};
@@ -8,7 +8,6 @@ ghost use Rattle.gen1_machine.specs.Plans.{FitsPick, InRange, Plan};
 ghost use Rattle.gen1_machine.specs.Residual.{residual};
 ghost use Rattle.gen1_machine.specs.Ruling.{Ruling, ruling_of};
 ghost use Rattle.gen1_machine.specs.Turn.{Acts as ActsPart, Sends, do_part, end_spent_trapping, end_turn, is_spent};
-ghost use Rattle.gen1_status.specs.Hurting.{takes_hp};
 ghost use Rattle.gen1_action.specs.Knowing.{ShowsOver, knowing, with_broke};
 ghost use Rattle.gen1_action.specs.Planned.{Follows};
 ghost use Rattle.gen1_turn.specs.Acting.{Acts};
@@ -20,8 +19,7 @@ use gen1_layout::{Conditions, Packed};
 use gen1_machine::{EventList, Outcome, Pick, Place, Side};
 use gen1_requests::send_out;
 use gen1_rolls::Rolls;
-use gen1_stats::Status;
-use gen1_status::residual;
+use gen1_status::{residual, suffers};
 
 // A side's action, and what it then suffers. The answer is whether the rest of the turn falls away.
 pub(crate) fn acts_and_suffers<R: Rolls>(
@@ -94,27 +92,12 @@ fn suffer(battle: &mut Packed, side: Side, events: &mut EventList) -> bool
     if is_cut(battle) {
         return true;
     }
-    if !may_suffer(battle, side) {
+    // Then nothing is taken, and nothing is cut by it.
+    if !suffers(battle, side) {
         return false;
     }
     residual(battle, side, events);
     is_cut(battle)
-}
-
-// Most members have neither poison nor a burn nor a seed: then nothing is taken, and nothing is cut by it.
-fn may_suffer(battle: &Packed, side: Side) -> bool
-    ensures stands { Reads battle.now result λ f. (takes_hp (status_in side f) || (conditions_in side f).seeded) }
-{
-    if takes_hp(battle.status(side)) {
-        return true;
-    }
-    battle.is_on(side, Conditions::SEEDED)
-}
-
-fn takes_hp(status: Status) -> bool
-    ensures { result ≡ takes_hp status }
-{
-    matches!(status, Status::Poisoned | Status::Burned)
 }
 
 // Whether an active has fallen, or the battle is over.

@@ -6,10 +6,10 @@ use Rattle.gen1_turn.proofs.turn_parts.suffer.Goals as goal
 pub returns-then-is_cut-clause-shown : goal.returns-then-is_cut-clause-shown
 returns-then-is_cut-clause-shown c g p h = cut_before g _ _ c.args.side p (sym (c.is_cut.ensures.stands _ _ h.within) ∙ c.if-is_cut.true) h
 
-pub returns-then-not-may_suffer-clause-shown : goal.returns-then-not-may_suffer-clause-shown
-returns-then-not-may_suffer-clause-shown c g p h =
+pub returns-then-not-suffers-clause-shown : goal.returns-then-not-suffers-clause-shown
+returns-then-not-suffers-clause-shown c g p h =
     let whole = sym (c.is_cut.ensures.stands _ _ h.within) ∙ c.if-is_cut.false in
-    let spared = residual-spares c.args.side p (sym (c.may_suffer.ensures.stands _ _ h.within) ∙ c.if-not-may_suffer.true) h.ends in
+    let spared = residual-spares c.args.side p (sym (c.suffers.ensures.stands _ _ h.within) ∙ c.if-not-suffers.true) h.ends in
     cut_after g _ _ c.args.side p false (rw spared whole) whole (rw spared h)
 
 pub returns-clause-shown : goal.returns-clause-shown
