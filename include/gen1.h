@@ -135,8 +135,9 @@ uint8_t gen1_choices(const gen1_battle *battle, uint8_t side, uint8_t choices[9]
  * update are written to the front of `log`, and their number to `*length`; the bytes behind them stay. Without a log
  * `*length` becomes 0.
  *
- * Answers 0, or the first of the codes 1 to 4 that applies; nothing has changed then. GEN1_LOG_LOST comes for bytes that are
- * no valid battle alone: they were updated, but 512 bytes did not take the log, of which nothing was written.
+ * Answers 0, or the first of the codes 1 to 4 that applies; nothing has changed then, whatever the bytes of `battle` are.
+ * GEN1_LOG_LOST comes for bytes that are no valid battle alone: they were updated, but 512 bytes did not take the log, of which
+ * nothing was written.
  */
 uint8_t gen1_update(gen1_battle *battle, uint8_t one, uint8_t two, uint8_t *log, size_t room, size_t *length);
 

@@ -1,5 +1,5 @@
 //! The damage of a hit, as a battle stands.
-ghost use Rattle.std.specs.Prelude.{◌≡◌};
+ghost use Rattle.std.specs.Prelude.{◌≡◌, ◌≢◌};
 ghost use Rattle.gen1_machine.specs.Moves.{move_at};
 ghost use Rattle.gen1_machine.specs.Numbers.{side_number};
 ghost use Rattle.gen1_machine.specs.State.{State};
@@ -36,6 +36,8 @@ pub extern "C" fn gen1_damage(
     ensures tells { (s : State) (which : Side) → Stands battle.now s → side ≡ side_number which
         → TellsDamages (damages_due which number critical s.field) damages.old damages.new result }
     ensures no_side { IsNoSide side → (result ≡ 1) × (damages.new ≡ damages.old) }
+    // Whatever the bytes are.
+    ensures kept { result ≢ 0 → damages.new ≡ damages.old }
 {
     let Some(side) = Side::from_number(side) else {
         return NO_SIDE;

@@ -1,5 +1,5 @@
 //! An update of the bytes of a battle.
-ghost use Rattle.std.specs.Prelude.{IsOk, [], length, ◌≡◌, ◌≤◌};
+ghost use Rattle.std.specs.Prelude.{IsOk, OnErr, [], length, ◌≡◌, ◌≤◌};
 ghost use Rattle.gen1_machine.specs.Code.{codes_of};
 ghost use Rattle.gen1_machine.specs.State.{State, is_over};
 ghost use Rattle.gen1_machine.specs.declared.terms.Request.TheVariants.{Move};
@@ -54,6 +54,8 @@ pub fn update_events(
     ensures tells { (s : State) → Stands battle.old s → Tells s one two events.old events.new }
     ensures short { StandsForSome battle.old → IsOk result → length (codes_of events.new.items) ≤ 512 }
     ensures valid { StandsForSome battle.old → StandsForSome battle.new }
+    // Whether the bytes stand for a state or not.
+    ensures kept { OnErr result ((battle.new ≡ battle.old) × (events.new ≡ events.old)) }
 {
     if is_over(battle) {
         return Err(Refusal::Over);

@@ -47,4 +47,5 @@ returns c =
       tells = λ s h. tells_accepted c.args.events.now c.play.new.events (c.play.ensures s h (o s h));
       short = λ m is. short (c.play.ensures m.state m.stands (o m.state m.stands));
       valid = λ m. record { state = (step m.state c.args.one c.args.two).state; stands = (c.play.ensures m.state m.stands (o m.state m.stands)).stands };
+      kept = tt;
     }
