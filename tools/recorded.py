@@ -19,16 +19,19 @@ BATTLES = {"raging": 17, "outnumbered": 28, "digging": 50}
 TRACES = os.path.join("..", "shared", "battles", "traces.jsonl")
 FOLDER = os.path.join("crates", "turn_tests", "src", "recorded")
 
+SIDES = ("one", "two")
+PLACES = ("first", "second", "third", "fourth", "fifth", "sixth")
+
 HEAD = """//! A recorded battle: {species}. Made by tools/recorded.py.
 use crate::recorded::{{Update, played}};
 use crate::setting::member_of;
 use gen1_machine::{{Rules, TurnLimit}};
-use gen1_stats::Team;
+use gen1_stats::{{MemberSpec, Team}};
 use std::test::Fail;
 
 const SEED: [u8; 10] = {seed};
 
-fn one() -> Result<Team, Fail> {{
+{members}fn one() -> Result<Team, Fail> {{
     Ok(Team::new(&[{one}])?)
 }}
 
@@ -53,10 +56,32 @@ def a_list(items):
     return "[%s]" % ", ".join(map(str, items))
 
 
-def member(given):
-    moves = ", ".join('("%s", %d)' % (name, ups) for name, ups in given["moves"])
-    return 'member_of("%s", %d, %s, %s, &[%s])?' % (
-        given["species"], given["level"], a_list(given["dvs"]), a_list(given["exp"]), moves)
+def species_word(member):
+    """The species as the name of a function, as mr_mime."""
+    return "_".join(re.findall("[a-z0-9]+", member["species"].lower()))
+
+
+def member_names(given):
+    """The name of each member's function, by side: its species, and behind it its side and place where another has that species."""
+    words = [species_word(member) for side in SIDES for member in given[side]]
+    return {
+        side: [
+            word if words.count(word) == 1 else "%s_%s_of_side_%s" % (word, place, side)
+            for word, place in zip(map(species_word, given[side]), PLACES)
+        ]
+        for side in SIDES
+    }
+
+
+def member(name, given):
+    """A function of its own, so that none is long, and each is proved apart."""
+    moves = ", ".join('("%s", %d)' % (move, ups) for move, ups in given["moves"])
+    return 'fn %s() -> Result<MemberSpec, Fail> {\n    member_of("%s", %d, %s, %s, &[%s])\n}\n\n' % (
+        name, given["species"], given["level"], a_list(given["dvs"]), a_list(given["exp"]), moves)
+
+
+def called(names):
+    return ", ".join("%s()?" % name for name in names)
 
 
 def update(recorded):
@@ -74,12 +99,14 @@ def update(recorded):
 
 def module(recorded):
     given, updates = recorded["object"], recorded["updates"]
-    teams = [" and ".join(member["species"] for member in given[side]) for side in ("one", "two")]
+    teams = [" and ".join(member["species"] for member in given[side]) for side in SIDES]
+    names = member_names(given)
     return HEAD.format(
         species=" against ".join(teams),
         seed=a_list(given["seed"]),
-        one=", ".join(map(member, given["one"])),
-        two=", ".join(map(member, given["two"])),
+        members="".join("".join(map(member, names[side], given[side])) for side in SIDES),
+        one=called(names["one"]),
+        two=called(names["two"]),
         rules=given.get("rules", 0),
         limit=given.get("limit", 1000),
         count=len(updates),

@@ -4,4 +4,6 @@
 #[cfg(test)]
 mod rooms;
 #[cfg(test)]
+mod setting;
+#[cfg(test)]
 mod tests;

@@ -1,13 +1,11 @@
 //! `room`: the example of docs/PROGRAM.md, on devices that fail or take one byte in a call, and inputs that are cut or changed.
-use battle_commands::{ToolFault, play_room, tool};
-use gen1_machine::{Device, Sink};
+use crate::setting::{
+    Command, Printing, assert_long_is_refused, assert_ran, assert_refused, battle,
+};
+use battle_commands::{ToolFault, play_room};
+use gen1_machine::Device;
 use std::alloc::AllocError;
 use std::test::Fail;
-use test_devices::{Broken, Failing};
-
-/// Two Tauros, open where submissions stand.
-static HEAD: &str =
-    "{\"seed\":[1,36,255,7,31,100,179,254,127,10],\"one\":[{\"species\":\"Tauros\",\"level\":100,\"dvs\":[15,15,15,15],\"exp\":[65535,65535,65535,65535,65535],\"moves\":[[\"Strength\",3]]}],\"two\":[{\"species\":\"Tauros\",\"level\":100,\"dvs\":[15,15,15,15],\"exp\":[65535,65535,65535,65535,65535],\"moves\":[[\"Strength\",3]]}],\"submissions\":[";
 
 static SUBMISSIONS: &str = "[1,0,17],[1,0,17],[2,1,17],[2,0,17],[2,0,17],[1,1,20]";
 
@@ -16,19 +14,23 @@ static TEXT: &str =
 
 /// The object of two Tauros with these submissions.
 fn input(rt: &HostRuntime, submissions: &str) -> Result<String, AllocError> {
-    format!(in rt.alloc(); "{HEAD}{submissions}]}}")
+    let end = format!(in rt.alloc(); "\"submissions\":[{submissions}]}}")?;
+    battle(rt, &end)
+}
+
+/// The example, whose input is given.
+fn example(input: &str) -> Printing {
+    Printing {
+        command: Command::Room,
+        input,
+        text: TEXT,
+    }
 }
 
 #[test]
 fn the_example_is_answered(rt: HostRuntime) -> Result<(), Fail> {
     let input = input(&rt, SUBMISSIONS)?;
-    let mut out = Vec::new(rt.alloc());
-    let mut err = Vec::new(rt.alloc());
-    let words = ["battle_tool", "room"];
-    let answered = tool(&rt, &words, input.as_bytes(), &mut out, &mut err);
-    assert_eq!(rt; answered, 0);
-    assert!(rt; out.as_slice() == TEXT.as_bytes());
-    assert!(rt; err.is_empty());
+    assert_ran(&rt, "room", input.as_bytes(), (0, TEXT, ""), &"the example");
     Ok(())
 }
 
@@ -37,20 +39,7 @@ fn the_example_is_answered(rt: HostRuntime) -> Result<(), Fail> {
 fn each_write_that_fails_is_told(rt: HostRuntime) -> Result<(), Fail> {
     let input = input(&rt, SUBMISSIONS)?;
     for takes_nothing in [false, true] {
-        for left in 0..=8usize {
-            let mut bytes = Vec::new(rt.alloc());
-            let mut out = Device::new(Failing {
-                left,
-                takes_nothing,
-                most: 1000,
-                bytes: &mut bytes,
-            });
-            let result = play_room(&rt, &mut Device::new(input.as_bytes()), &mut out);
-            assert_eq!(rt; out.failed(), left < 8);
-            assert_eq!(rt; result == Err(ToolFault::Write), left < 8);
-            assert_eq!(rt; result.is_ok(), bytes.len() == TEXT.len());
-            assert!(rt; TEXT.as_bytes().starts_with(bytes.as_slice()));
-        }
+        example(&input).assert_writes_are_told(&rt, takes_nothing, 1000, 8);
     }
     Ok(())
 }
@@ -58,52 +47,21 @@ fn each_write_that_fails_is_told(rt: HostRuntime) -> Result<(), Fail> {
 #[test]
 fn each_byte_that_is_not_written_is_told(rt: HostRuntime) -> Result<(), Fail> {
     let input = input(&rt, SUBMISSIONS)?;
-    for left in 0..=TEXT.len() {
-        let mut bytes = Vec::new(rt.alloc());
-        let mut out = Device::new(Failing {
-            left,
-            takes_nothing: false,
-            most: 1,
-            bytes: &mut bytes,
-        });
-        let result = play_room(&rt, &mut Device::new(input.as_bytes()), &mut out);
-        assert!(rt; TEXT.as_bytes().starts_with(bytes.as_slice()));
-        assert_eq!(rt; bytes.len(), left);
-        assert_eq!(rt; result.is_ok(), bytes.len() == TEXT.len());
-    }
+    example(&input).assert_writes_are_told(&rt, false, 1, TEXT.len());
     Ok(())
 }
 
 #[test]
 fn each_read_that_fails_is_told(rt: HostRuntime) -> Result<(), Fail> {
-    let whole = input(&rt, SUBMISSIONS)?;
-    for most in [1usize, 7, 5000] {
-        let reads = whole.len().div_ceil(most) + 1;
-        for left in 0..=reads {
-            let mut out = Device::new(Vec::new(rt.alloc()));
-            let input = Broken {
-                left,
-                most,
-                bytes: whole.as_bytes(),
-            };
-            let result = play_room(&rt, &mut Device::new(input), &mut out);
-            assert_eq!(rt; result == Err(ToolFault::Read), left < reads);
-            assert_eq!(rt; out.get_ref().is_empty(), left < reads);
-            assert_eq!(rt; out.get_ref().as_slice() == TEXT.as_bytes(), left == reads);
-        }
-    }
+    let input = input(&rt, SUBMISSIONS)?;
+    example(&input).assert_reads_are_told(&rt);
     Ok(())
 }
 
 #[test]
 fn a_cut_input_is_no_json(rt: HostRuntime) -> Result<(), Fail> {
-    let whole = input(&rt, SUBMISSIONS)?;
-    for end in 0..whole.len() {
-        let mut out = Device::new(Vec::new(rt.alloc()));
-        let result = play_room(&rt, &mut Device::new(&whole.as_bytes()[..end]), &mut out);
-        assert_eq!(rt; result, Err(ToolFault::Json), "cut at {end}");
-        assert!(rt; out.into_inner().is_empty());
-    }
+    let input = input(&rt, SUBMISSIONS)?;
+    example(&input).assert_cuts_are_refused(&rt);
     Ok(())
 }
 
@@ -115,26 +73,14 @@ fn a_byte_that_is_no_text_is_no_json(rt: HostRuntime) -> Result<(), Fail> {
         let mut bytes = Vec::new(rt.alloc());
         bytes.extend_from_slice(whole.as_bytes())?;
         bytes.as_mut_slice()[place] = 0xFF;
-        let mut out = Device::new(Vec::new(rt.alloc()));
-        let result = play_room(&rt, &mut Device::new(bytes.as_slice()), &mut out);
-        assert_eq!(rt; result, Err(ToolFault::Json), "at {place}");
-        assert!(rt; out.into_inner().is_empty());
+        assert_refused(&rt, Command::Room, &bytes, ToolFault::Json, &place);
     }
     Ok(())
 }
 
 #[test]
 fn a_long_input_is_refused(rt: HostRuntime) -> Result<(), Fail> {
-    for (length, want) in [
-        (1_048_576usize, ToolFault::Json),
-        (1_048_577, ToolFault::TooLong),
-    ] {
-        let bytes = vec![in rt.alloc(); b' '; length]?;
-        let mut out = Device::new(Vec::new(rt.alloc()));
-        let result = play_room(&rt, &mut Device::new(bytes.as_slice()), &mut out);
-        assert_eq!(rt; result, Err(want));
-    }
-    Ok(())
+    assert_long_is_refused(&rt, Command::Room)
 }
 
 // A side from 1 to 2, a number of 32 bits and a byte, and nothing more.
@@ -151,10 +97,13 @@ fn submissions_have_ranges(rt: HostRuntime) -> Result<(), Fail> {
         "null",
     ] {
         let input = input(&rt, submission)?;
-        let mut out = Device::new(Vec::new(rt.alloc()));
-        let result = play_room(&rt, &mut Device::new(input.as_bytes()), &mut out);
-        assert_eq!(rt; result, Err(ToolFault::Json), "at {submission}");
-        assert!(rt; out.into_inner().is_empty());
+        assert_refused(
+            &rt,
+            Command::Room,
+            input.as_bytes(),
+            ToolFault::Json,
+            &submission,
+        );
     }
     let input = input(&rt, "[2,4294967295,255]")?;
     let mut out = Device::new(Vec::new(rt.alloc()));

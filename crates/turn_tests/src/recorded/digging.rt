@@ -2,74 +2,87 @@
 use crate::recorded::{Update, played};
 use crate::setting::member_of;
 use gen1_machine::{Rules, TurnLimit};
-use gen1_stats::Team;
+use gen1_stats::{MemberSpec, Team};
 use std::test::Fail;
 
 const SEED: [u8; 10] = [163, 60, 177, 206, 214, 164, 52, 236, 190, 152];
 
+fn nidoqueen() -> Result<MemberSpec, Fail> {
+    member_of(
+        "Nidoqueen",
+        21,
+        [6, 9, 7, 3],
+        [27134, 15497, 581, 53432, 15092],
+        &[
+            ("Leech Seed", 0),
+            ("Flamethrower", 1),
+            ("Bubble", 2),
+            ("Sharpen", 1),
+        ],
+    )
+}
+
+fn weezing_second_of_side_one() -> Result<MemberSpec, Fail> {
+    member_of(
+        "Weezing",
+        63,
+        [7, 8, 3, 13],
+        [19046, 16568, 64767, 0, 43761],
+        &[
+            ("Substitute", 0),
+            ("Rage", 1),
+            ("Toxic", 0),
+            ("Leech Seed", 3),
+        ],
+    )
+}
+
+fn lapras() -> Result<MemberSpec, Fail> {
+    member_of(
+        "Lapras",
+        100,
+        [8, 13, 6, 2],
+        [0, 0, 37088, 39810, 27896],
+        &[("Dig", 0)],
+    )
+}
+
+fn tentacruel() -> Result<MemberSpec, Fail> {
+    member_of(
+        "Tentacruel",
+        100,
+        [9, 14, 10, 4],
+        [28519, 0, 65041, 16221, 0],
+        &[
+            ("Explosion", 1),
+            ("Self-Destruct", 1),
+            ("Double-Edge", 0),
+            ("Jump Kick", 1),
+        ],
+    )
+}
+
+fn weezing_third_of_side_two() -> Result<MemberSpec, Fail> {
+    member_of(
+        "Weezing",
+        100,
+        [4, 0, 3, 9],
+        [2796, 62110, 42440, 30920, 13279],
+        &[
+            ("Submission", 0),
+            ("Dig", 0),
+            ("Leech Seed", 1),
+            ("Substitute", 1),
+        ],
+    )
+}
+
 fn one() -> Result<Team, Fail> {
-    Ok(Team::new(&[
-        member_of(
-            "Nidoqueen",
-            21,
-            [6, 9, 7, 3],
-            [27134, 15497, 581, 53432, 15092],
-            &[
-                ("Leech Seed", 0),
-                ("Flamethrower", 1),
-                ("Bubble", 2),
-                ("Sharpen", 1),
-            ],
-        )?,
-        member_of(
-            "Weezing",
-            63,
-            [7, 8, 3, 13],
-            [19046, 16568, 64767, 0, 43761],
-            &[
-                ("Substitute", 0),
-                ("Rage", 1),
-                ("Toxic", 0),
-                ("Leech Seed", 3),
-            ],
-        )?,
-    ])?)
+    Ok(Team::new(&[nidoqueen()?, weezing_second_of_side_one()?])?)
 }
 
 fn two() -> Result<Team, Fail> {
-    Ok(Team::new(&[
-        member_of(
-            "Lapras",
-            100,
-            [8, 13, 6, 2],
-            [0, 0, 37088, 39810, 27896],
-            &[("Dig", 0)],
-        )?,
-        member_of(
-            "Tentacruel",
-            100,
-            [9, 14, 10, 4],
-            [28519, 0, 65041, 16221, 0],
-            &[
-                ("Explosion", 1),
-                ("Self-Destruct", 1),
-                ("Double-Edge", 0),
-                ("Jump Kick", 1),
-            ],
-        )?,
-        member_of(
-            "Weezing",
-            100,
-            [4, 0, 3, 9],
-            [2796, 62110, 42440, 30920, 13279],
-            &[
-                ("Submission", 0),
-                ("Dig", 0),
-                ("Leech Seed", 1),
-                ("Substitute", 1),
-            ],
-        )?,
-    ])?)
+    Ok(Team::new(&[lapras()?, tentacruel()?, weezing_third_of_side_two()?])?)
 }
 
 #[test]

@@ -2,45 +2,57 @@
 use crate::recorded::{Update, played};
 use crate::setting::member_of;
 use gen1_machine::{Rules, TurnLimit};
-use gen1_stats::Team;
+use gen1_stats::{MemberSpec, Team};
 use std::test::Fail;
 
 const SEED: [u8; 10] = [138, 205, 155, 10, 232, 168, 18, 34, 202, 81];
 
-fn one() -> Result<Team, Fail> {
-    Ok(Team::new(&[member_of(
+fn seaking() -> Result<MemberSpec, Fail> {
+    member_of(
         "Seaking",
         90,
         [0, 4, 1, 8],
         [40459, 33019, 14623, 305, 0],
         &[("Hyper Beam", 0), ("Disable", 0)],
-    )?])?)
+    )
+}
+
+fn magneton() -> Result<MemberSpec, Fail> {
+    member_of(
+        "Magneton",
+        25,
+        [15, 10, 3, 9],
+        [62256, 0, 64589, 3008, 0],
+        &[("Disable", 0), ("Wrap", 0)],
+    )
+}
+
+fn dugtrio() -> Result<MemberSpec, Fail> {
+    member_of(
+        "Dugtrio",
+        36,
+        [10, 7, 3, 14],
+        [42075, 43280, 0, 0, 0],
+        &[("Night Shade", 0), ("Wing Attack", 0), ("Sonic Boom", 0)],
+    )
+}
+
+fn krabby() -> Result<MemberSpec, Fail> {
+    member_of(
+        "Krabby",
+        31,
+        [3, 5, 3, 6],
+        [48219, 50204, 60278, 1013, 41419],
+        &[("Confuse Ray", 0), ("Fire Spin", 0)],
+    )
+}
+
+fn one() -> Result<Team, Fail> {
+    Ok(Team::new(&[seaking()?])?)
 }
 
 fn two() -> Result<Team, Fail> {
-    Ok(Team::new(&[
-        member_of(
-            "Magneton",
-            25,
-            [15, 10, 3, 9],
-            [62256, 0, 64589, 3008, 0],
-            &[("Disable", 0), ("Wrap", 0)],
-        )?,
-        member_of(
-            "Dugtrio",
-            36,
-            [10, 7, 3, 14],
-            [42075, 43280, 0, 0, 0],
-            &[("Night Shade", 0), ("Wing Attack", 0), ("Sonic Boom", 0)],
-        )?,
-        member_of(
-            "Krabby",
-            31,
-            [3, 5, 3, 6],
-            [48219, 50204, 60278, 1013, 41419],
-            &[("Confuse Ray", 0), ("Fire Spin", 0)],
-        )?,
-    ])?)
+    Ok(Team::new(&[magneton()?, dugtrio()?, krabby()?])?)
 }
 
 #[test]

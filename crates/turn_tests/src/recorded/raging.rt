@@ -2,68 +2,78 @@
 use crate::recorded::{Update, played};
 use crate::setting::member_of;
 use gen1_machine::{Rules, TurnLimit};
-use gen1_stats::Team;
+use gen1_stats::{MemberSpec, Team};
 use std::test::Fail;
 
 const SEED: [u8; 10] = [71, 145, 76, 253, 184, 20, 180, 241, 159, 182];
 
-fn one() -> Result<Team, Fail> {
-    Ok(Team::new(&[
-        member_of(
-            "Weezing",
-            100,
-            [5, 12, 6, 4],
-            [13821, 22188, 61408, 18840, 0],
-            &[("Minimize", 2), ("Ember", 2), ("Rage", 1), ("Clamp", 0)],
-        )?,
-        member_of(
-            "Tauros",
-            100,
-            [12, 0, 1, 13],
-            [3949, 0, 23746, 0, 45831],
-            &[
-                ("Body Slam", 1),
-                ("Thunder Shock", 0),
-                ("Rage", 2),
-                ("Leer", 2),
-            ],
-        )?,
-        member_of(
-            "Moltres",
-            100,
-            [7, 6, 10, 4],
-            [22195, 22856, 12168, 20044, 34293],
-            &[
-                ("Fire Punch", 2),
-                ("Fury Attack", 1),
-                ("Comet Punch", 2),
-                ("Rage", 0),
-            ],
-        )?,
-        member_of(
-            "Poliwrath",
-            100,
-            [1, 14, 5, 12],
-            [47471, 44130, 0, 5733, 0],
-            &[("Ember", 0), ("Wrap", 3), ("Clamp", 0), ("Slam", 3)],
-        )?,
-        member_of(
-            "Drowzee",
-            100,
-            [10, 14, 5, 13],
-            [1247, 13811, 0, 47979, 27523],
-            &[
-                ("Body Slam", 2),
-                ("Pin Missile", 0),
-                ("Flamethrower", 3),
-                ("Absorb", 2),
-            ],
-        )?,
-    ])?)
+fn weezing() -> Result<MemberSpec, Fail> {
+    member_of(
+        "Weezing",
+        100,
+        [5, 12, 6, 4],
+        [13821, 22188, 61408, 18840, 0],
+        &[("Minimize", 2), ("Ember", 2), ("Rage", 1), ("Clamp", 0)],
+    )
 }
 
-fn two() -> Result<Team, Fail> {
-    Ok(Team::new(&[member_of(
+fn tauros() -> Result<MemberSpec, Fail> {
+    member_of(
+        "Tauros",
+        100,
+        [12, 0, 1, 13],
+        [3949, 0, 23746, 0, 45831],
+        &[
+            ("Body Slam", 1),
+            ("Thunder Shock", 0),
+            ("Rage", 2),
+            ("Leer", 2),
+        ],
+    )
+}
+
+fn moltres() -> Result<MemberSpec, Fail> {
+    member_of(
+        "Moltres",
+        100,
+        [7, 6, 10, 4],
+        [22195, 22856, 12168, 20044, 34293],
+        &[
+            ("Fire Punch", 2),
+            ("Fury Attack", 1),
+            ("Comet Punch", 2),
+            ("Rage", 0),
+        ],
+    )
+}
+
+fn poliwrath() -> Result<MemberSpec, Fail> {
+    member_of(
+        "Poliwrath",
+        100,
+        [1, 14, 5, 12],
+        [47471, 44130, 0, 5733, 0],
+        &[("Ember", 0), ("Wrap", 3), ("Clamp", 0), ("Slam", 3)],
+    )
+}
+
+fn drowzee() -> Result<MemberSpec, Fail> {
+    member_of(
+        "Drowzee",
+        100,
+        [10, 14, 5, 13],
+        [1247, 13811, 0, 47979, 27523],
+        &[
+            ("Body Slam", 2),
+            ("Pin Missile", 0),
+            ("Flamethrower", 3),
+            ("Absorb", 2),
+        ],
+    )
+}
+
+fn charmander() -> Result<MemberSpec, Fail> {
+    member_of(
         "Charmander",
         100,
         [14, 1, 9, 3],
@@ -74,7 +84,15 @@ fn two() -> Result<Team, Fail> {
             ("Twineedle", 1),
             ("Fury Attack", 3),
         ],
-    )?])?)
+    )
+}
+
+fn one() -> Result<Team, Fail> {
+    Ok(Team::new(&[weezing()?, tauros()?, moltres()?, poliwrath()?, drowzee()?])?)
+}
+
+fn two() -> Result<Team, Fail> {
+    Ok(Team::new(&[charmander()?])?)
 }
 
 #[test]

@@ -1,0 +1,181 @@
+//! What the tests of the subcommands share: two Tauros as JSON, and what a subcommand answers, on devices that fail too.
+use battle_commands::{ToolFault, play, play_calc, play_room, tool};
+use gen1_machine::{Device, Sink, Source};
+use std::alloc::AllocError;
+use std::fmt::Debug;
+use std::process::Abort;
+use std::rt::Files;
+use std::test::Fail;
+use test_devices::{Broken, Failing};
+
+/// A Tauros of this level, as JSON.
+pub(crate) fn tauros(rt: &HostRuntime, level: &str) -> Result<String, AllocError> {
+    format!(in rt.alloc();
+        "{{\"species\":\"Tauros\",\"level\":{level},\"dvs\":[15,15,15,15],\"exp\":[65535,65535,65535,65535,65535],\"moves\":[[\"Strength\",3]]}}"
+    )
+}
+
+/// The object of a battle of two Tauros, with the end that is given behind its teams.
+pub(crate) fn battle(rt: &HostRuntime, end: &str) -> Result<String, AllocError> {
+    let member = tauros(rt, "100")?;
+    format!(in rt.alloc();
+        "{{\"seed\":[1,36,255,7,31,100,179,254,127,10],\"one\":[{member}],\"two\":[{member}],{end}"
+    )
+}
+
+/// A subcommand that reads an object.
+#[derive(Clone, Copy)]
+pub(crate) enum Command {
+    Run,
+    Room,
+    Calc,
+}
+
+fn answer<R: Source, W: Sink>(
+    rt: &impl AllocGlobal,
+    command: Command,
+    input: &mut R,
+    out: &mut W,
+) -> Result<(), ToolFault> {
+    match command {
+        Command::Run => play(rt, input, out),
+        Command::Room => play_room(rt, input, out),
+        Command::Calc => play_calc(rt, input, out),
+    }
+}
+
+/// Asserts that the subcommand answers this fault and prints nothing, at a place or an input that a failure names.
+pub(crate) fn assert_refused(
+    rt: &(impl AllocGlobal + Abort),
+    command: Command,
+    input: &[u8],
+    fault: ToolFault,
+    at: &impl Debug,
+) {
+    let mut out = Device::new(Vec::new(rt.alloc()));
+    let result = answer(rt, command, &mut Device::new(input), &mut out);
+    assert_eq!(rt; result, Err(fault), "at {at:?}");
+    assert!(rt; out.into_inner().is_empty(), "at {at:?}");
+}
+
+/// Asserts that the longest input is read, and that one byte more is refused.
+pub(crate) fn assert_long_is_refused(
+    rt: &(impl AllocGlobal + Abort),
+    command: Command,
+) -> Result<(), Fail> {
+    for (length, fault) in [
+        (1_048_576usize, ToolFault::Json),
+        (1_048_577, ToolFault::TooLong),
+    ] {
+        let bytes = vec![in rt.alloc(); b' '; length]?;
+        assert_refused(rt, command, bytes.as_slice(), fault, &length);
+    }
+    Ok(())
+}
+
+/// A subcommand with an input, and the text that it prints for it.
+#[derive(Clone, Copy)]
+pub(crate) struct Printing<'a> {
+    pub(crate) command: Command,
+    pub(crate) input: &'a str,
+    pub(crate) text: &'a str,
+}
+
+impl Printing<'_> {
+    /// Asserts that each write that fails is told, where a write takes `most` bytes at the most and the text needs `writes`.
+    pub(crate) fn assert_writes_are_told(
+        &self,
+        rt: &(impl AllocGlobal + Abort),
+        takes_nothing: bool,
+        most: usize,
+        writes: usize,
+    ) {
+        for left in 0..=writes {
+            let mut bytes = Vec::new(rt.alloc());
+            let mut out = Device::new(Failing {
+                left,
+                takes_nothing,
+                most,
+                bytes: &mut bytes,
+            });
+            let mut input = Device::new(self.input.as_bytes());
+            let result = answer(rt, self.command, &mut input, &mut out);
+            assert_same(rt, out.failed(), left < writes);
+            assert_same(rt, result, told(left < writes, ToolFault::Write));
+            self.assert_is_front(rt, &bytes, left == writes);
+            assert_same(rt, bytes.is_empty(), left == 0);
+            if most == 1 {
+                assert_same(rt, bytes.len(), left);
+            }
+        }
+    }
+
+    fn assert_is_front(&self, rt: &impl Abort, bytes: &[u8], whole: bool) {
+        assert!(rt; self.text.as_bytes().starts_with(bytes));
+        assert_eq!(rt; bytes.len() == self.text.len(), whole);
+    }
+
+    /// Asserts that each read that fails is told, and that nothing is printed then.
+    pub(crate) fn assert_reads_are_told(&self, rt: &(impl AllocGlobal + Abort)) {
+        for most in [1usize, 7, 5000] {
+            let reads = self.input.len().div_ceil(most) + 1;
+            for left in 0..=reads {
+                let mut input = Device::new(Broken {
+                    left,
+                    most,
+                    bytes: self.input.as_bytes(),
+                });
+                let mut out = Device::new(Vec::new(rt.alloc()));
+                let result = answer(rt, self.command, &mut input, &mut out);
+                assert_same(rt, result, told(left < reads, ToolFault::Read));
+                let text = if left < reads { "" } else { self.text };
+                assert_same(rt, out.get_ref().as_slice() == text.as_bytes(), true);
+            }
+        }
+    }
+
+    /// Asserts that the input is no JSON wherever it is cut.
+    pub(crate) fn assert_cuts_are_refused(&self, rt: &(impl AllocGlobal + Abort)) {
+        let whole = self.input.as_bytes();
+        for end in 0..whole.len() {
+            assert_refused(rt, self.command, &whole[..end], ToolFault::Json, &end);
+        }
+    }
+}
+
+fn told(has_failed: bool, fault: ToolFault) -> Result<(), ToolFault> {
+    if has_failed { Err(fault) } else { Ok(()) }
+}
+
+/// The status of `battle_tool` with this word, and what it wrote to its standard output and error.
+pub(crate) fn ran(
+    rt: &(impl AllocGlobal + Files),
+    word: &str,
+    input: &[u8],
+) -> (u8, Vec<u8>, Vec<u8>) {
+    let mut out = Vec::new(rt.alloc());
+    let mut err = Vec::new(rt.alloc());
+    let words = ["battle_tool", word];
+    let status = tool(rt, &words, input, &mut out, &mut err);
+    (status, out, err)
+}
+
+/// Asserts that `battle_tool` with this word ends with this status, text and fault, at an input that a failure names.
+pub(crate) fn assert_ran(
+    rt: &(impl AllocGlobal + Files + Abort),
+    word: &str,
+    input: &[u8],
+    expected: (u8, &str, &str),
+    at: &impl Debug,
+) {
+    let (status, text, fault) = expected;
+    let (found, out, err) = ran(rt, word, input);
+    assert_eq!(rt; found, status, "at {at:?}");
+    assert!(rt; out.as_slice() == text.as_bytes(), "at {at:?}");
+    assert!(rt; err.as_slice() == fault.as_bytes(), "at {at:?}");
+}
+
+/// Asserts that these are the same. A test calls it, since an assertion in its own body costs the proof of the test seconds.
+pub(crate) fn assert_same<T: PartialEq + Debug + Drop>(rt: &impl Abort, found: T, expected: T) {
+    assert_eq!(rt; found, expected);
+}
