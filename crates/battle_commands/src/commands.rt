@@ -1,7 +1,12 @@
 //! The command line.
-ghost use Rattle.std.specs.Prelude.{◌≡◌, ◌≤◌};
-ghost use Rattle.battle_commands.specs.Answers.{Tells};
+ghost use Rattle.std.specs.Prelude.{◌≡◌, ◌≤◌, ◌||◌, IfSome, None, codes};
+ghost use Rattle.clap.specs.Matches.{first_value, found_of};
+ghost use Rattle.battle_commands.specs.Answers.{Answers, Tells, is_read_fault, is_write_fault};
+ghost use Rattle.battle_commands.specs.Calc.{PrintsDamages, damages_due};
+ghost use Rattle.battle_commands.specs.Due.{run_due};
 ghost use Rattle.battle_commands.specs.Faults.{error_line, status_of};
+ghost use Rattle.battle_commands.specs.Logs.{PrintsLog};
+ghost use Rattle.battle_commands.specs.Rooms.{room_due};
 
 use crate::calc::play_calc;
 use crate::fault::ToolFault;
@@ -113,7 +118,18 @@ fn run_named<A: AllocGlobal, I: Source, O: Sink>(
     name: &str,
     input: &mut I,
     out: &mut O,
-) -> Result<(), ToolFault> {
+) -> Result<(), ToolFault>
+    ensures print { name.now ≡ codes "print"
+        → IfSome (I.remaining input.old) (λ log. PrintsLog log (O.contents out.old) (O.contents out.new) result) }
+    ensures calc { name.now ≡ codes "calc"
+        → IfSome (I.remaining input.old) (λ asked. PrintsDamages (damages_due asked) (O.contents out.old) (O.contents out.new) result) }
+    ensures room { name.now ≡ codes "room"
+        → IfSome (I.remaining input.old) (λ asked. Answers (room_due asked) (O.contents out.old) (O.contents out.new) result) }
+    ensures run { name.now ≡ codes "run"
+        → IfSome (I.remaining input.old) (λ asked. Answers (run_due asked) (O.contents out.old) (O.contents out.new) result) }
+    ensures read { I.has_failed input.new ≡ (I.has_failed input.old || is_read_fault result) }
+    ensures write { O.has_failed out.new ≡ (O.has_failed out.old || is_write_fault result) }
+{
     match name {
         "print" => play_print(rt, input, out),
         "calc" => play_calc(rt, input, out),
@@ -129,7 +145,17 @@ fn run<A: AllocGlobal + Files, I: Read + Drop, O: Sink>(
     matches: &ArgMatches,
     input: I,
     out: &mut O,
-) -> Result<(), ToolFault> {
+) -> Result<(), ToolFault>
+    ensures print { first_value (found_of matches.now) (codes "FILE") ≡ None → name.now ≡ codes "print"
+        → IfSome (I.remaining input) (λ log. PrintsLog log (O.contents out.old) (O.contents out.new) result) }
+    ensures calc { first_value (found_of matches.now) (codes "FILE") ≡ None → name.now ≡ codes "calc"
+        → IfSome (I.remaining input) (λ asked. PrintsDamages (damages_due asked) (O.contents out.old) (O.contents out.new) result) }
+    ensures room { first_value (found_of matches.now) (codes "FILE") ≡ None → name.now ≡ codes "room"
+        → IfSome (I.remaining input) (λ asked. Answers (room_due asked) (O.contents out.old) (O.contents out.new) result) }
+    ensures run { first_value (found_of matches.now) (codes "FILE") ≡ None → name.now ≡ codes "run"
+        → IfSome (I.remaining input) (λ asked. Answers (run_due asked) (O.contents out.old) (O.contents out.new) result) }
+    ensures write { O.has_failed out.new ≡ (O.has_failed out.old || is_write_fault result) }
+{
     match matches.get_str("FILE") {
         None => run_named(rt, name, &mut Device::new(input), out),
         Some(path) => match fs::open(rt, path) {

@@ -1,5 +1,5 @@
 //! Why the program did not do all that it was asked.
-ghost use Rattle.std.specs.Prelude.{◌≡◌, ◌≤◌};
+ghost use Rattle.std.specs.Prelude.{◌≡◌, ◌≤◌, Some};
 ghost use Rattle.gen1_machine.specs.Lines.{joined};
 ghost use Rattle.battle_commands.specs.Faults.{error_line, pieces_of};
 
@@ -126,6 +126,8 @@ impl ToolFault {
 }
 
 impl fmt::Display for ToolFault {
+    ghost output = { λ fault. Some (joined (pieces_of fault)) };
+
     fn fmt<W: fmt::Write>(&self, f: &mut fmt::Formatter<W>) -> fmt::Result {
         f.write_str(self.words().as_str())
     }
