@@ -147,17 +147,25 @@ fn told(has_failed: bool, fault: ToolFault) -> Result<(), ToolFault> {
     if has_failed { Err(fault) } else { Ok(()) }
 }
 
-/// The status of `battle_tool` with this word, and what it wrote to its standard output and error.
+/// The status of `battle_tool` with these words, and what it wrote to its standard output and error.
+pub(crate) fn ran_words(
+    rt: &(impl AllocGlobal + Files),
+    words: &[&str],
+    input: &[u8],
+) -> (u8, Vec<u8>, Vec<u8>) {
+    let mut out = Vec::new(rt.alloc());
+    let mut err = Vec::new(rt.alloc());
+    let status = tool(rt, words, input, &mut out, &mut err);
+    (status, out, err)
+}
+
+/// The same with one word, on its standard input.
 pub(crate) fn ran(
     rt: &(impl AllocGlobal + Files),
     word: &str,
     input: &[u8],
 ) -> (u8, Vec<u8>, Vec<u8>) {
-    let mut out = Vec::new(rt.alloc());
-    let mut err = Vec::new(rt.alloc());
-    let words = ["battle_tool", word];
-    let status = tool(rt, &words, input, &mut out, &mut err);
-    (status, out, err)
+    ran_words(rt, &["battle_tool", word], input)
 }
 
 /// Asserts that `battle_tool` with this word ends with this status, text and fault, at an input that a failure names.
