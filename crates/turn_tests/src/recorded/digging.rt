@@ -1,6 +1,6 @@
 //! A recorded battle: Nidoqueen and Weezing against Lapras and Tentacruel and Weezing. Made by tools/recorded.py.
 use crate::recorded::{Update, played};
-use crate::setting::member_of;
+use crate::setting::{assert_same, member_of};
 use gen1_machine::{Rules, TurnLimit};
 use gen1_stats::{MemberSpec, Team};
 use std::test::Fail;
@@ -90,7 +90,7 @@ fn the_battle_is_played_as_it_was_recorded(rt: HostRuntime) -> Result<(), Fail> 
     let rules = Rules::new(1).ok_or("no such rules")?;
     let limit = TurnLimit::new(1000).ok_or("no such limit")?;
     let as_recorded = played(&one()?, &two()?, SEED, rules, limit, &UPDATES)?;
-    assert_eq!(rt; as_recorded, UPDATES.len());
+    assert_same(&rt, as_recorded, UPDATES.len());
     Ok(())
 }
 
