@@ -48,7 +48,8 @@ fn the_battle_is_played_as_it_was_recorded(rt: HostRuntime) -> Result<(), Fail> 
     Ok(())
 }}
 
-const UPDATES: [Update; {count}] = [
+// A constant would be proved at greater cost.
+static UPDATES: [Update; {count}] = [
 """
 
 

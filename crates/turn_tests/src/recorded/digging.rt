@@ -94,7 +94,8 @@ fn the_battle_is_played_as_it_was_recorded(rt: HostRuntime) -> Result<(), Fail> 
     Ok(())
 }
 
-const UPDATES: [Update; 10] = [
+// A constant would be proved at greater cost.
+static UPDATES: [Update; 10] = [
     Update {
         choices: (0x00, 0x00),
         log: "02011f0115500050000002028301647a017a0100010100",

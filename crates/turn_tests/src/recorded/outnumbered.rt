@@ -64,7 +64,8 @@ fn the_battle_is_played_as_it_was_recorded(rt: HostRuntime) -> Result<(), Fail> 
     Ok(())
 }
 
-const UPDATES: [Update; 9] = [
+// A constant would be proved at greater cost.
+static UPDATES: [Update; 9] = [
     Update {
         choices: (0x00, 0x00),
         log: "020177015a240124010002025201195100510000010100",

@@ -104,7 +104,8 @@ fn the_battle_is_played_as_it_was_recorded(rt: HostRuntime) -> Result<(), Fail> 
     Ok(())
 }
 
-const UPDATES: [Update; 6] = [
+// A constant would be proved at greater cost.
+static UPDATES: [Update; 6] = [
     Update {
         choices: (0x00, 0x00),
         log: "02016e01641d011d01000202040164e200e20000010100",
