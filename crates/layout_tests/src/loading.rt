@@ -284,31 +284,21 @@ fn conditions_of_the_current_move(rt: HostRuntime) {
         (HIGH, 4, 63, 0, 0),
         (HIGH, 8, 99, 0, 255),
     ] {
-        let own = [
-            (at, bit),
-            (MOVE, id),
-            (CURRENT, 1),
-            (194, turns),
-            (199, kept),
-        ];
-        answers(&rt, &own, 0);
-        let other = [
-            (at, bit),
-            (MOVE, 70),
-            (CURRENT, 1),
-            (194, turns),
-            (199, kept),
-        ];
-        answers(&rt, &other, 5);
-        let none = [
-            (at, bit),
-            (MOVE, id),
-            (CURRENT, 0),
-            (194, turns),
-            (199, kept),
-        ];
-        answers(&rt, &none, 5);
+        for (used, current, number) in [(id, 1, 0), (70, 1, 5), (id, 0, 5)] {
+            let fields = [
+                (at, bit),
+                (MOVE, used),
+                (CURRENT, current),
+                (194, turns),
+                (199, kept),
+            ];
+            answers(&rt, &fields, number);
+        }
     }
+}
+
+#[test]
+fn numbers_of_the_current_move(rt: HostRuntime) {
     // turns of Bide 0 and 4, of trapping 5, of nothing 1
     answers(&rt, &[(LOW, 1), (MOVE, 117), (CURRENT, 1)], 5);
     answers(&rt, &[(LOW, 1), (MOVE, 117), (CURRENT, 1), (194, 4)], 5);

@@ -43,6 +43,10 @@ fn ranges_end_where_they_should(rt: HostRuntime) {
         );
         assert_eq!(rt; Level::new(number).is_some(), level);
     }
+}
+
+#[test]
+fn health_is_within_its_maximum(rt: HostRuntime) {
     for (hp, max, known) in [
         (0, 11, true),
         (999, 999, true),
