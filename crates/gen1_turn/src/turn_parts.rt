@@ -55,8 +55,8 @@ fn act_unless_skipped<R: Rolls>(
     ensures shown { Acts R.byte R.next R.SPAN side pick battle.old events.old.items random.old known.old battle.new events.new.items random.new known.new result (λ r. do_part r (ActsPart side pick)) }
     ensures room { AddsAtMost 22 events.old events.new }
 {
+    *known = known.begun(side);
     if known.skips {
-        *known = known.begun(side);
         return false;
     }
     act(battle, side, pick, known, random, events)
