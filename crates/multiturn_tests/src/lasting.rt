@@ -4,11 +4,10 @@ use crate::duel::{
     CURRENT, ENERGY, FLAGS, FOE, KEPT, LAST, TURNS, USER, assert_same, assert_same_for, bytes_of,
     named, two_tauros, with,
 };
-use gen1_layout::{Conditions, Packed};
+use gen1_layout::Conditions;
 use gen1_machine::{DamageSource, Event, EventList, UsedMove, Volatile};
 use gen1_multiturn::{bide, charge, substitute, thrash, trap};
 use gen1_rolls::{LinkRandom, Rolls, Sweep};
-use std::process::Abort;
 use std::test::Fail;
 
 #[test]
@@ -56,19 +55,6 @@ fn thrashing_begins(rt: HostRuntime) -> Result<(), Fail> {
     Ok(())
 }
 
-// What Bide answers, and the bytes that it leaves.
-fn assert_bide(
-    rt: &impl Abort,
-    battle: &mut Packed,
-    link: &mut LinkRandom,
-    events: &mut EventList,
-    energy: Option<u16>,
-    bytes: [u8; 384],
-) {
-    assert_same(rt, bide(battle, USER, link, events), energy);
-    assert_same(rt, bytes_of(battle), bytes);
-}
-
 #[test]
 fn bide_begins_stores_and_lets_go(rt: HostRuntime) -> Result<(), Fail> {
     let mut battle = two_tauros()?;
@@ -76,18 +62,22 @@ fn bide_begins_stores_and_lets_go(rt: HostRuntime) -> Result<(), Fail> {
     let mut events = EventList::new();
     let mut link = LinkRandom::new([4; 10]);
     let begun = with(before, &[(FLAGS, 1), (TURNS, 2)]);
-    assert_bide(&rt, &mut battle, &mut link, &mut events, None, begun);
+    assert_same(&rt, bide(&mut battle, USER, &mut link, &mut events), None);
+    assert_same(&rt, bytes_of(&battle), begun);
     assert_same(&rt, link.index(), 1);
     // 300 is 44 and 1 times 256.
     battle.put_last_damage(300);
     let damage = with(before, &[(LAST, 44), (LAST + 1, 1)]);
     let stored = [(FLAGS, 1), (TURNS, 1), (ENERGY, 44), (ENERGY + 1, 1)];
     let stored = with(damage, &stored);
-    assert_bide(&rt, &mut battle, &mut link, &mut events, None, stored);
+    assert_same(&rt, bide(&mut battle, USER, &mut link, &mut events), None);
+    assert_same(&rt, bytes_of(&battle), stored);
     // Twice 301 is 602, which is 90 and 2 times 256.
     battle.put_last_damage(1);
     let let_go = with(before, &[(LAST, 90), (LAST + 1, 2)]);
-    assert_bide(&rt, &mut battle, &mut link, &mut events, Some(602), let_go);
+    let energy = bide(&mut battle, USER, &mut link, &mut events);
+    assert_same(&rt, energy, Some(602));
+    assert_same(&rt, bytes_of(&battle), let_go);
     assert_same(&rt, link.index(), 1);
     let told = [
         Event::Start(battle.who(USER), Volatile::Bide),
