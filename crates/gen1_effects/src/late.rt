@@ -50,7 +50,7 @@ pub fn group_two<R: Rolls>(
 }
 
 /// The same in the middle of an action, of which more may be known. The action ends with it (docs/MECHANICS.md, "Action").
-#[inline(never)]
+#[inline(never)] // docs/SPEED.md, "Hints on inlining"
 pub fn group_two_knowing<R: Rolls>(
     battle: &mut Packed,
     side: Side,

@@ -9,7 +9,7 @@ use gen1_machine::{DamageSource, Event, EventList, Side};
 /// Takes HP from the member of `side` that is out: `amount`, or as many as there are. `Damage` with the health after it and
 /// the source is written where that takes any, and one place in `events` is to be free for it (docs/MECHANICS.md, "Landing",
 /// "Residual"). Nothing else changes.
-#[inline(always)]
+#[inline(always)] // docs/SPEED.md, "Hints on inlining"
 pub fn lose_hp(
     battle: &mut Packed,
     side: Side,

@@ -12,7 +12,7 @@ use gen1_tables::{Effect, Element, MoveId, Stat};
 
 /// The numbers of a hit on the foe (docs/MECHANICS.md, "Damage numbers"). A critical hit doubles the level and takes the
 /// own stats, past stages, penalties and screens.
-#[inline(always)]
+#[inline(always)] // docs/SPEED.md, "Hints on inlining"
 pub fn numbers(battle: &Packed, side: Side, id: MoveId, critical: bool) -> Numbers
     ensures stands { Reads battle.now result (numbers_in side (move_at id) critical) }
 {

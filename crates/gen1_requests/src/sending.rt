@@ -13,7 +13,7 @@ use gen1_stats::Status;
 /// Sends out the member of `side` at a place of its team: with all stages 0, no condition, no current and no picked move, and
 /// with one penalty if it is paralysed or burned. The foe's Trapping ends; members, last damage and header stay as they are.
 /// One event is written, `Switch` (docs/MECHANICS.md, "Switching in").
-#[inline(always)]
+#[inline(always)] // docs/SPEED.md, "Hints on inlining"
 pub fn send_out(battle: &mut Packed, side: Side, place: Place, events: &mut EventList)
     requires space { HasRoom 1 events.old }
     ensures shown { (g : Frame) (p : Progress) → InRange side place p.field → Shows g battle.old events.old.items false p

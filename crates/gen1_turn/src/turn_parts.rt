@@ -82,7 +82,7 @@ pub(crate) fn sends_and_suffers(
 }
 
 // What a side suffers unless the turn was cut. The answer is whether it is cut now.
-#[inline(always)]
+#[inline(always)] // docs/SPEED.md, "Hints on inlining"
 fn suffer(battle: &mut Packed, side: Side, events: &mut EventList) -> bool
     requires { HasRoom 3 events.old }
     ensures shown { (g : Frame) (p : Progress) → Shows g battle.old events.old.items false p

@@ -65,7 +65,7 @@ pub fn group_one<R: Rolls>(
 
 /// The same as [`group_one`] in the middle of an action, of which `known` tells: whether a hit test was missed, and at which
 /// byte it was made, is known then, and after Haze whether the foe is skipped in this turn.
-#[inline(never)]
+#[inline(never)] // docs/SPEED.md, "Hints on inlining"
 pub fn group_one_knowing<R: Rolls>(
     battle: &mut Packed,
     side: Side,
