@@ -115,9 +115,8 @@ fn play_turn(battle: &mut Packed, one: Choice, two: Choice, events: &mut EventLi
 {
     match battle.generator() {
         Some(generator) => {
-            let mut random = generator;
-            turn(battle, one, two, &mut random, events);
-            battle.put_generator(&random);
+            let left = turn(battle, one, two, generator, events);
+            battle.put_generator(&left);
         }
         None => {}
     }

@@ -3,6 +3,7 @@
 
 mod acting;
 mod by_effect;
+mod by_side;
 mod carrying_out;
 mod damaging;
 mod leading_up;

@@ -14,6 +14,7 @@ ghost use Rattle.gen1_turn.specs.Acting.{Acts};
 ghost use Rattle.gen1_turn.specs.Turning.{LeavesRest, PartLeaves, suffering};
 
 use crate::act;
+use crate::by_side::BySide;
 use gen1_action::Known;
 use gen1_layout::{Conditions, Packed};
 use gen1_machine::{EventList, Outcome, Pick, Place, Side};
@@ -21,8 +22,29 @@ use gen1_requests::send_out;
 use gen1_rolls::Rolls;
 use gen1_status::{residual, suffers};
 
-// A side's action, and what it then suffers. The answer is whether the rest of the turn falls away.
+// A side's action, and what it then suffers, by code of its own for each side. The answer is whether the rest of the turn falls
+// away.
 pub(crate) fn acts_and_suffers<R: Rolls>(
+    battle: &mut Packed,
+    side: Side,
+    pick: Pick,
+    known: &mut Known,
+    random: &mut BySide<R>,
+    events: &mut EventList,
+) -> bool
+    requires { HasRoom 25 events.old }
+    ensures shown { (origin : R) (g : Frame) (p : Progress) (plan : SideOf → Plan) → FitsPick pick (plan side) → Follows g.setting.terms plan p
+        → ShowsOver R.byte R.next R.SPAN origin known.old g battle.old events.old.items random.old false p
+        → PartLeaves (λ stopped q. ShowsOver R.byte R.next R.SPAN origin known.new g battle.new events.new.items random.new stopped q) result (do_part (ruling_of g.setting.terms) (ActsPart side pick)) side p }
+    ensures room { AddsAtMost 25 events.old events.new }
+{
+    match side {
+        Side::One => act_and_suffer(battle, Side::One, pick, known, &mut random.0, events),
+        Side::Two => act_and_suffer(battle, Side::Two, pick, known, random, events),
+    }
+}
+
+fn act_and_suffer<R: Rolls>(
     battle: &mut Packed,
     side: Side,
     pick: Pick,

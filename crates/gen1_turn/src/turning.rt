@@ -13,6 +13,7 @@ ghost use Rattle.gen1_machine.specs.Valid.{IsUsedMove};
 ghost use Rattle.gen1_action.specs.Knowing.{knowing, with_broke};
 ghost use Rattle.gen1_turn.specs.Turning.{Chooses, DoesTurn, acts_in_turn};
 
+use crate::by_side::BySide;
 use crate::ordering::first_side;
 use crate::turn_parts::{acts_and_suffers, end_turn, sends_and_suffers};
 use gen1_action::Known;
@@ -27,7 +28,7 @@ pub(crate) fn take_turn<R: Rolls>(
     one: Choice,
     two: Choice,
     known: &mut Known,
-    random: &mut R,
+    random: &mut BySide<R>,
     events: &mut EventList,
 )
     requires { HasRoom 50 events.old }
@@ -50,7 +51,7 @@ fn play_choices<R: Rolls>(
     one: Choice,
     two: Choice,
     known: &mut Known,
-    random: &mut R,
+    random: &mut BySide<R>,
     events: &mut EventList,
 )
     requires { HasRoom 50 events.old }
@@ -87,7 +88,7 @@ fn both_pick<R: Rolls>(
     one: Pick,
     two: Pick,
     known: &mut Known,
-    random: &mut R,
+    random: &mut BySide<R>,
     events: &mut EventList,
 )
     requires { HasRoom 50 events.old }
@@ -122,7 +123,7 @@ fn both_act<R: Rolls>(
     mine: Pick,
     others: Pick,
     known: &mut Known,
-    random: &mut R,
+    random: &mut BySide<R>,
     events: &mut EventList,
 )
     requires { HasRoom 50 events.old }
@@ -146,7 +147,7 @@ fn one_picks<R: Rolls>(
     pick: Pick,
     place: Place,
     known: &mut Known,
-    random: &mut R,
+    random: &mut BySide<R>,
     events: &mut EventList,
 )
     requires { HasRoom 50 events.old }

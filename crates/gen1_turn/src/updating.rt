@@ -11,6 +11,7 @@ ghost use Rattle.gen1_machine.specs.Step.{close_update};
 ghost use Rattle.gen1_layout.specs.Within.{Stands, setting_of};
 ghost use Rattle.gen1_requests.specs.Updates.{Plays, UpdatedDrawing, drawing_on};
 
+use crate::by_side::BySide;
 use crate::turning::take_turn;
 use gen1_action::Known;
 use gen1_layout::Packed;
@@ -28,17 +29,20 @@ pub fn turn<R: Rolls>(
     battle: &mut Packed,
     one: Choice,
     two: Choice,
-    random: &mut R,
+    random: R,
     events: &mut EventList,
-)
+) -> R
     requires empty { events.old.items ≡ [] }
     ensures updated { (s : State) (origin : R) (stream : Stream) (drawn : ℕ) → Stands battle.old s → Plays s Move one two
-        → IsStream stream → StandsAt R.byte R.next R.SPAN origin stream drawn random.old
-        → UpdatedDrawing R.byte R.next R.SPAN origin stream (setting_of s) battle.new events.new.items random.new
+        → IsStream stream → StandsAt R.byte R.next R.SPAN origin stream drawn random
+        → UpdatedDrawing R.byte R.next R.SPAN origin stream (setting_of s) battle.new events.new.items result
         (close_update (ruling_of s.terms) (turn (ruling_of s.terms) one two (drawing_on stream drawn s))) }
     ensures room { AddsAtMost 53 events.old events.new }
 {
     let mut known = Known::new();
-    take_turn(battle, one, two, &mut known, random, events);
+    let mut by_side = BySide(random);
+    take_turn(battle, one, two, &mut known, &mut by_side, events);
     close(battle, known.side, events);
+    let BySide(left) = by_side;
+    left
 }

@@ -34,14 +34,14 @@ pub(crate) fn switch(place: u8) -> Result<Choice, Fail> {
     Ok(Choice::Switch(Place::new(place).ok_or("no such place")?))
 }
 
-pub(crate) fn play<R: Rolls>(
+pub(crate) fn play<R: Rolls + Copy>(
     battle: &mut Packed,
     one: Choice,
     two: Choice,
     random: &mut R,
 ) -> EventList {
     let mut events = EventList::new();
-    turn(battle, one, two, random, &mut events);
+    *random = turn(battle, one, two, *random, &mut events);
     events
 }
 

@@ -37,4 +37,4 @@ returns-clause-updated t c s origin stream drawn stands plays w at =
     ) in
     let q : Progress = turn (ruling_of s.terms) one two p in
     let d = c.close.ensures.shown (record (knowing (with_broke a.1.0 c.take_turn.new.known) g) { drawn = q.drawn }) (record q { stopped = false }) refl (reopened a.1.1.shows) in
-    record { within = d.1.within; written = d.1.written; stands = stands_there a.1.1.stands (sym d.1.drawn) }
+    record { within = d.1.within; written = d.1.written; stands = rw c.by_side.view_is (stands_there a.1.1.stands (sym d.1.drawn)) }

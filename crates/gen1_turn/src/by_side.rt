@@ -1,0 +1,34 @@
+//! A generator by two types, one for the action of each side.
+
+use gen1_rolls::Rolls;
+use std::marker::Model;
+
+/// A generator of its own type, and by this one too, which draws the same. What is generic in its generator is compiled once
+/// for each type, so that side 1's action, which draws from `.0`, and side 2's, which draws from this, are code apart: in each
+/// of them the side, and with it every address, is a constant (docs/SPEED.md, "An action for each side").
+#[derive(Drop)]
+pub(crate) struct BySide<R>(pub(crate) R);
+
+impl<R> Model for BySide<R> {
+    ghost Value = { R };
+
+    ghost view = { λ r. r.0 };
+
+    ghost inverse = { λ r. record { 0 = r } };
+}
+
+impl<R: Rolls> Rolls for BySide<R> {
+    const SPAN: usize = R::SPAN;
+
+    ghost SPAN = { R.SPAN };
+
+    ghost byte = { R.byte };
+
+    ghost next = { R.next };
+
+    fn draw(&mut self) -> u8 {
+        self.0.draw()
+    }
+
+    ghost positive = { R.positive };
+}
