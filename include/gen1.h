@@ -48,7 +48,7 @@ typedef struct gen1_team {
     uint8_t count;
 } gen1_team;
 
-/* The room that the log of any update of a valid battle has in: no update has more than 64 events and 512 bytes. */
+/* The room that the log of any update has in, whatever the bytes of its battle are. */
 #define GEN1_LOG_ROOM 512
 
 /* The room that any line has in. */
@@ -136,8 +136,6 @@ uint8_t gen1_choices(const gen1_battle *battle, uint8_t side, uint8_t choices[9]
  * `*length` becomes 0.
  *
  * Answers 0, or the first of the codes 1 to 4 that applies; nothing has changed then, whatever the bytes of `battle` are.
- * GEN1_LOG_LOST comes for bytes that are no valid battle alone: they were updated, but 512 bytes did not take the log, of which
- * nothing was written.
  */
 uint8_t gen1_update(gen1_battle *battle, uint8_t one, uint8_t two, uint8_t *log, size_t room, size_t *length);
 
@@ -145,8 +143,7 @@ enum {
     GEN1_OVER = 1,            /* the battle is over */
     GEN1_NOT_OFFERED_ONE = 2, /* side 1's choice was not offered (nor perhaps side 2's) */
     GEN1_NOT_OFFERED_TWO = 3, /* side 2's was not */
-    GEN1_SMALL_LOG = 4,       /* there is room for a log, but less than GEN1_LOG_ROOM; tested before the other three */
-    GEN1_LOG_LOST = 5         /* the bytes were no battle */
+    GEN1_SMALL_LOG = 4        /* there is room for a log, but less than GEN1_LOG_ROOM; tested before the other three */
 };
 
 /* How a battle stands, and what is asked of each side for the next update: one byte, to be taken apart by these. */

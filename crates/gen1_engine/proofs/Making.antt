@@ -1,5 +1,5 @@
 -- Which update a pair of offered choices is, what the machine makes of it, and what was refused.
-use Rattle.std.proofs.Common.{Bool, List, ap, arith, [], false, inl, inr, length, refl, subst, sym, true, ◌∙◌, ◌∷◌, ◌≡◌, ◌≤◌, ◌⊎◌}
+use Rattle.std.proofs.Common.{Bool, List, ap, arith, [], false, inl, inr, refl, subst, sym, true, ◌∙◌, ◌∷◌, ◌≡◌, ◌≤◌, ◌⊎◌}
 use Rattle.gen1_machine.specs.declared.side.Side.{Side}
 use Rattle.gen1_machine.specs.declared.side.Side.TheVariants.{One, Two}
 use Rattle.gen1_machine.specs.declared.terms.Outcome.{Outcome}
@@ -8,7 +8,6 @@ use Rattle.gen1_machine.specs.declared.terms.Request.TheVariants as requests
 use Rattle.gen1_machine.specs.declared.event.Event.{Event}
 use Rattle.gen1_machine.specs.declared.choice.Choice.{Choice}
 use Rattle.gen1_machine.specs.declared.choice.Choice.TheVariants as choices
-use Rattle.gen1_machine.specs.Code.{codes_of}
 use Rattle.gen1_machine.specs.State.{Field, State, Terms, has_fallen_in, is_over}
 use Rattle.gen1_machine.specs.Progress.{Progress}
 use Rattle.gen1_machine.specs.Ruling.{ruling_of}
@@ -175,6 +174,3 @@ bounded s one two = by (step s one two).answer refl
     by : (a : Answer) → (step s one two).answer ≡ a → IsBoundedAs s a (step s one two).state
     by (Refused why) e = tt
     by (Accepted events) e = step_is_bounded s one two events e
-
-pub short : {s : State} {one two : Choice} {parts : Parts} {events : List Event} → Steps s one two parts events → length (codes_of events) ≤ 512
-short {s = s} {one = one} {two = two} {events = events} h = (step_is_bounded s one two events h.answers).short

@@ -4,6 +4,7 @@ ghost use Rattle.gen1_machine.specs.Code.{codes_of};
 ghost use Rattle.gen1_machine.specs.State.{State, is_over};
 ghost use Rattle.gen1_machine.specs.declared.terms.Request.TheVariants.{Move};
 ghost use Rattle.gen1_layout.specs.Within.{Stands};
+ghost use Rattle.gen1_layout.specs.Words.{AddsAtMost};
 ghost use Rattle.gen1_layout.specs.ReadingMeaning.{StandsForSome};
 ghost use Rattle.gen1_requests.specs.Updates.{Plays, Steps};
 ghost use Rattle.gen1_engine.specs.Updating.{Answers, AreOffered, Logs, Tells, result_of};
@@ -52,9 +53,9 @@ pub fn update_events(
 ) -> Result<BattleResult, Refusal>
     ensures answers { (s : State) → Stands battle.old s → Answers s one two battle.old battle.new result }
     ensures tells { (s : State) → Stands battle.old s → Tells s one two events.old events.new }
-    ensures short { StandsForSome battle.old → IsOk result → length (codes_of events.new.items) ≤ 512 }
     ensures valid { StandsForSome battle.old → StandsForSome battle.new }
     // Whether the bytes stand for a state or not.
+    ensures short { IsOk result → length (codes_of events.new.items) ≤ 512 }
     ensures kept { OnErr result ((battle.new ≡ battle.old) × (events.new ≡ events.old)) }
 {
     if is_over(battle) {
@@ -94,7 +95,8 @@ pub(crate) fn is_over(battle: &Packed) -> bool
 // An update whose choices are offered.
 fn play(battle: &mut Packed, one: Choice, two: Choice, events: &mut EventList)
     requires empty { events.old.items ≡ [] }
-    ensures { (s : State) → Stands battle.old s → AreOffered s one two → Steps s one two battle.new events.new.items }
+    ensures stepped { (s : State) → Stands battle.old s → AreOffered s one two → Steps s one two battle.new events.new.items }
+    ensures room { AddsAtMost 51 events.old events.new }
 {
     match battle.request(Side::One) {
         Request::Move => play_turn(battle, one, two, events),
@@ -111,7 +113,8 @@ fn play(battle: &mut Packed, one: Choice, two: Choice, events: &mut EventList)
 // A turn draws from the numbers of the header, and leaves them there as they then stand.
 fn play_turn(battle: &mut Packed, one: Choice, two: Choice, events: &mut EventList)
     requires empty { events.old.items ≡ [] }
-    ensures { (s : State) → Stands battle.old s → Plays s Move one two → Steps s one two battle.new events.new.items }
+    ensures stepped { (s : State) → Stands battle.old s → Plays s Move one two → Steps s one two battle.new events.new.items }
+    ensures room { AddsAtMost 51 events.old events.new }
 {
     match battle.generator() {
         Some(generator) => {

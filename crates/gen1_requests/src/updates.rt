@@ -27,6 +27,8 @@ pub fn start(battle: &mut Packed, events: &mut EventList)
     ensures updated { (s : State) → Stands battle.old s → Starts s
         → Updated (setting_of s) battle.new events.new.items (close_update (ruling_of s.terms) (start (opened s))) }
     ensures stepped { (s : State) → Stands battle.old s → Starts s → Steps s Pass Pass battle.new events.new.items }
+    // Whatever the bytes are.
+    ensures room { AddsAtMost 5 events.old events.new }
 {
     send_both_first(battle, events);
     close(battle, Side::One, events);
@@ -40,6 +42,8 @@ pub fn replace(battle: &mut Packed, one: Choice, two: Choice, events: &mut Event
     ensures updated { (s : State) → Stands battle.old s → Plays s Switch one two
         → Updated (setting_of s) battle.new events.new.items (close_update (ruling_of s.terms) (replace one two (opened s))) }
     ensures stepped { (s : State) → Stands battle.old s → Plays s Switch one two → Steps s one two battle.new events.new.items }
+    // Whatever the bytes are.
+    ensures room { AddsAtMost 5 events.old events.new }
 {
     send_both_chosen(battle, one, two, events);
     close(battle, Side::One, events);

@@ -15,7 +15,7 @@ use gen1_rolls::Rolls;
 use gen1_status::gate;
 
 /// Plays the action of `side`, by its pick, from its gate to the accuracy that is kept (docs/MECHANICS.md, "Action"). The answer
-/// is whether the battle is over then, as it is by a fault. At most 22 events are written, for which places in `events` are to be
+/// is whether the battle is over then, as it is by a fault. At most 21 events are written, for which places in `events` are to be
 /// free. What is known of the last action is forgotten, but for who is skipped.
 pub fn act<R: Rolls>(
     battle: &mut Packed,
@@ -25,9 +25,9 @@ pub fn act<R: Rolls>(
     random: &mut R,
     events: &mut EventList,
 ) -> bool
-    requires { HasRoom 22 events.old }
+    requires { HasRoom 21 events.old }
     ensures shown { Acts R.byte R.next R.SPAN side pick battle.old events.old.items random.old known.old battle.new events.new.items random.new known.new result (λ r. act r side pick) }
-    ensures room { AddsAtMost 22 events.old events.new }
+    ensures room { AddsAtMost 21 events.old events.new }
 {
     *known = known.begun(side);
     action_parts(battle, side, pick, known, random, events);
@@ -50,10 +50,10 @@ fn action_parts<R: Rolls>(
     random: &mut R,
     events: &mut EventList,
 ) -> bool
-    requires room { HasRoom 22 events.old }
+    requires room { HasRoom 21 events.old }
     requires counts { IsUncounted known.old }
     ensures shown { DoesParts R.byte R.next R.SPAN side pick battle.old events.old.items random.old known.old battle.new events.new.items random.new known.new result (λ r. action_parts r side pick) }
-    ensures room { AddsAtMost 22 events.old events.new }
+    ensures room { AddsAtMost 21 events.old events.new }
 {
     if gate(battle, side, pick, random, events).stops() {
         return true;

@@ -31,10 +31,10 @@ pub(crate) fn carry_out<R: Rolls>(
     random: &mut R,
     events: &mut EventList,
 ) -> bool
-    requires room { HasRoom 19 events.old }
+    requires room { HasRoom 18 events.old }
     requires counts { IsUncounted known.old }
     ensures shown { DoesTaking R.byte R.next R.SPAN side pick (move_at id).effect battle.old events.old.items random.old known.old battle.new events.new.items random.new known.new result (λ r. carry_out r side pick (move_at id)) }
-    ensures room { AddsAtMost 19 events.old events.new }
+    ensures room { AddsAtMost 18 events.old events.new }
 {
     if bide_knowing(battle, side, known, events) {
         return true;
@@ -58,6 +58,7 @@ fn lead_up_unless_let_go<R: Rolls>(
     ensures shown { DoesTaking R.byte R.next R.SPAN side pick (move_at id).effect battle.old events.old.items random.old known.old battle.new events.new.items random.new known.new result (λ r. unless lets_energy_go (lead_up side pick (move_at id))) }
     ensures same { result ≡ false → known.new ≡ known.old }
     ensures room { AddsAtMost 4 events.old events.new }
+    ensures few { result ≡ false → AddsAtMost 3 events.old events.new }
 {
     if known.letting_go {
         return false;

@@ -32,6 +32,7 @@ pub(crate) fn lead_up<R: Rolls>(
     ensures shown { DoesTaking R.byte R.next R.SPAN side pick (move_at id).effect battle.old events.old.items random.old known.old battle.new events.new.items random.new known.new result (λ r. lead_up side pick (move_at id)) }
     ensures same { result ≡ false → known.new ≡ known.old }
     ensures room { AddsAtMost 4 events.old events.new }
+    ensures few { result ≡ false → AddsAtMost 3 events.old events.new }
 {
     if charge_knowing(battle, side, pick, id, known, random, events) {
         return true;
@@ -53,6 +54,7 @@ fn begin_move<R: Rolls>(
     ensures shown { DoesAt R.byte R.next R.SPAN side (move_at id).effect battle.old events.old.items random.old known.old battle.new events.new.items random.new known.new result (λ r. begin_move side (move_at id)) }
     ensures same { result ≡ false → known.new ≡ known.old }
     ensures room { AddsAtMost 2 events.old events.new }
+    ensures few { result ≡ false → AddsAtMost 1 events.old events.new }
 {
     if early_effect(battle, side, id, known, random, events) {
         return true;

@@ -32,11 +32,11 @@ pub(crate) fn acts_and_suffers<R: Rolls>(
     random: &mut BySide<R>,
     events: &mut EventList,
 ) -> bool
-    requires { HasRoom 25 events.old }
+    requires { HasRoom 24 events.old }
     ensures shown { (origin : R) (g : Frame) (p : Progress) (plan : SideOf → Plan) → FitsPick pick (plan side) → Follows g.setting.terms plan p
         → ShowsOver R.byte R.next R.SPAN origin known.old g battle.old events.old.items random.old false p
         → PartLeaves (λ stopped q. ShowsOver R.byte R.next R.SPAN origin known.new g battle.new events.new.items random.new stopped q) result (do_part (ruling_of g.setting.terms) (ActsPart side pick)) side p }
-    ensures room { AddsAtMost 25 events.old events.new }
+    ensures room { AddsAtMost 24 events.old events.new }
 {
     match side {
         Side::One => act_and_suffer(battle, Side::One, pick, known, &mut random.0, events),
@@ -52,11 +52,11 @@ fn act_and_suffer<R: Rolls>(
     random: &mut R,
     events: &mut EventList,
 ) -> bool
-    requires { HasRoom 25 events.old }
+    requires { HasRoom 24 events.old }
     ensures shown { (origin : R) (g : Frame) (p : Progress) (plan : SideOf → Plan) → FitsPick pick (plan side) → Follows g.setting.terms plan p
         → ShowsOver R.byte R.next R.SPAN origin known.old g battle.old events.old.items random.old false p
         → PartLeaves (λ stopped q. ShowsOver R.byte R.next R.SPAN origin known.new g battle.new events.new.items random.new stopped q) result (do_part (ruling_of g.setting.terms) (ActsPart side pick)) side p }
-    ensures room { AddsAtMost 25 events.old events.new }
+    ensures room { AddsAtMost 24 events.old events.new }
 {
     if act_unless_skipped(battle, side, pick, known, random, events) {
         return true;
@@ -73,9 +73,9 @@ fn act_unless_skipped<R: Rolls>(
     random: &mut R,
     events: &mut EventList,
 ) -> bool
-    requires { HasRoom 22 events.old }
+    requires { HasRoom 21 events.old }
     ensures shown { Acts R.byte R.next R.SPAN side pick battle.old events.old.items random.old known.old battle.new events.new.items random.new known.new result (λ r. do_part r (ActsPart side pick)) }
-    ensures room { AddsAtMost 22 events.old events.new }
+    ensures room { AddsAtMost 21 events.old events.new }
 {
     *known = known.begun(side);
     if known.skips {

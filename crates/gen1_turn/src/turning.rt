@@ -31,9 +31,9 @@ pub(crate) fn take_turn<R: Rolls>(
     random: &mut BySide<R>,
     events: &mut EventList,
 )
-    requires { HasRoom 50 events.old }
+    requires { HasRoom 48 events.old }
     ensures shown { DoesTurn R.byte R.next R.SPAN battle.old events.old.items random.old known.old battle.new events.new.items random.new known.new (Chooses one two) (λ r. turn r one two) }
-    ensures room { AddsAtMost 50 events.old events.new }
+    ensures room { AddsAtMost 48 events.old events.new }
 {
     end_flinch(battle, Side::One);
     end_flinch(battle, Side::Two);
@@ -54,9 +54,9 @@ fn play_choices<R: Rolls>(
     random: &mut BySide<R>,
     events: &mut EventList,
 )
-    requires { HasRoom 50 events.old }
+    requires { HasRoom 48 events.old }
     ensures shown { DoesTurn R.byte R.next R.SPAN battle.old events.old.items random.old known.old battle.new events.new.items random.new known.new (Chooses one two) (λ r. play_turn r one two) }
-    ensures room { AddsAtMost 50 events.old events.new }
+    ensures room { AddsAtMost 48 events.old events.new }
 {
     match one {
         Choice::Move(_) => match two {
@@ -91,10 +91,10 @@ fn both_pick<R: Rolls>(
     random: &mut BySide<R>,
     events: &mut EventList,
 )
-    requires { HasRoom 50 events.old }
+    requires { HasRoom 48 events.old }
     ensures shown { DoesTurn R.byte R.next R.SPAN battle.old events.old.items random.old known.old battle.new events.new.items random.new known.new
         (λ plan p. FitsPick one (plan sides.One) × FitsPick two (plan sides.Two)) (λ r. both_pick r one two) }
-    ensures room { AddsAtMost 50 events.old events.new }
+    ensures room { AddsAtMost 48 events.old events.new }
 {
     set_picked(battle, Side::One, one);
     set_picked(battle, Side::Two, two);
@@ -126,10 +126,10 @@ fn both_act<R: Rolls>(
     random: &mut BySide<R>,
     events: &mut EventList,
 )
-    requires { HasRoom 50 events.old }
+    requires { HasRoom 48 events.old }
     ensures shown { DoesTurn R.byte R.next R.SPAN battle.old events.old.items random.old known.old battle.new events.new.items random.new known.new
         (λ plan p. FitsPick mine (plan side) × FitsPick others (plan (other side))) (λ r. do_parts r (acts_in_turn side mine others)) }
-    ensures room { AddsAtMost 50 events.old events.new }
+    ensures room { AddsAtMost 48 events.old events.new }
 {
     if acts_and_suffers(battle, side, mine, known, random, events) {
         return;
@@ -150,10 +150,10 @@ fn one_picks<R: Rolls>(
     random: &mut BySide<R>,
     events: &mut EventList,
 )
-    requires { HasRoom 50 events.old }
+    requires { HasRoom 48 events.old }
     ensures shown { DoesTurn R.byte R.next R.SPAN battle.old events.old.items random.old known.old battle.new events.new.items random.new known.new
         (λ plan p. FitsPick pick (plan side) × (plan (other side) ≡ Any) × InRange (other side) place p.field) (λ r. one_picks r side pick place) }
-    ensures room { AddsAtMost 50 events.old events.new }
+    ensures room { AddsAtMost 48 events.old events.new }
 {
     set_picked(battle, side, pick);
     if sends_and_suffers(battle, side.other(), place, known, events) {
@@ -173,11 +173,11 @@ fn both_switch(
     known: &mut Known,
     events: &mut EventList,
 )
-    requires { HasRoom 50 events.old }
+    requires { HasRoom 48 events.old }
     ensures shown { (g : Frame) (p : Progress) (broke : Bool) → InRange sides.One one p.field → InRange sides.Two two p.field
         → Shows (knowing (with_broke broke known.old) g) battle.old events.old.items false p
         → (stopped : Bool) × Shows (knowing known.new g) battle.new events.new.items stopped (do_parts (ruling_of g.setting.terms) (both_switch one two) p) }
-    ensures room { AddsAtMost 50 events.old events.new }
+    ensures room { AddsAtMost 48 events.old events.new }
 {
     if sends_and_suffers(battle, Side::One, one, known, events) {
         return;

@@ -23,7 +23,7 @@ use gen1_rolls::Rolls;
 /// faint, and the battle ends, or asks for switches or for the next turn (docs/MECHANICS.md, "Order of a turn", "Falls and
 /// requests").
 ///
-/// Draws come from `random` alone: the index and the numbers in the bytes stay as they are. The events of the update, 53 at most,
+/// Draws come from `random` alone: the index and the numbers in the bytes stay as they are. The events of the update, 51 at most,
 /// are written to `events`, which is to be empty.
 pub fn turn<R: Rolls>(
     battle: &mut Packed,
@@ -37,7 +37,7 @@ pub fn turn<R: Rolls>(
         → IsStream stream → StandsAt R.byte R.next R.SPAN origin stream drawn random
         → UpdatedDrawing R.byte R.next R.SPAN origin stream (setting_of s) battle.new events.new.items result
         (close_update (ruling_of s.terms) (turn (ruling_of s.terms) one two (drawing_on stream drawn s))) }
-    ensures room { AddsAtMost 53 events.old events.new }
+    ensures room { AddsAtMost 51 events.old events.new }
 {
     let mut known = Known::new();
     let mut by_side = BySide(random);

@@ -13,8 +13,8 @@ use Rattle.gen1_requests.proofs.BetweenUpdates.{within_asked}
 use Rattle.gen1_engine.proofs.Making.{both_move, turn_made, turned_so}
 use Rattle.gen1_engine.proofs.updating.play_turn.Goals as goal
 
-pub returns-in-Some : goal.returns-in-Some
-returns-in-Some c s h plays =
+pub returns-in-Some-clause-stepped : goal.returns-in-Some-clause-stepped
+returns-in-Some-clause-stepped c s h plays =
     let both = both_move s h.valid plays.goes_on plays.asked_for in
     let apart : (requests.Pass ≡ requests.Move → ⊥) = λ e. cc in
     let w = within_asked One h both.0 apart in
@@ -26,8 +26,8 @@ returns-in-Some c s h plays =
     turned_so s c.args.one c.args.two q h.valid (turn_made s c.args.one c.args.two h.valid plays)
     (c.put_generator.ensures.stands (setting_of s) q.field q.drawn left.within (ring-stands left.stands long)) left.written
 
-pub returns-in-None : goal.returns-in-None
-returns-in-None c s h plays =
+pub returns-in-None-clause-stepped : goal.returns-in-None-clause-stepped
+returns-in-None-clause-stepped c s h plays =
     let both = both_move s h.valid plays.goes_on plays.asked_for in
     let apart : (requests.Pass ≡ requests.Move → ⊥) = λ e. cc in
     let w = within_asked One h both.0 apart in

@@ -1,11 +1,12 @@
-use Rattle.std.proofs.Common.{sym, ◌∙◌}
+use Rattle.std.proofs.Common.{ap, arith, length, sym, ◌∙◌}
 use Rattle.gen1_machine.specs.declared.side.Side.TheVariants.{One, Two}
 use Rattle.gen1_machine.specs.Step.{NotOffered, Over, step}
 use Rattle.gen1_machine.specs.State.{State}
 use Rattle.gen1_layout.specs.Within.{Stands}
 use Rattle.gen1_engine.specs.Updating.{AreOffered}
 use Rattle.gen1_engine.proofs.Answering.{answers_accepted, answers_refused, tells_accepted, tells_refused}
-use Rattle.gen1_engine.proofs.Making.{short, step_first, step_over, step_second}
+use Rattle.gen1_engine.proofs.Lists.{few_fit}
+use Rattle.gen1_engine.proofs.Making.{step_first, step_over, step_second}
 use Rattle.gen1_engine.proofs.updating.update_events.Goals as goal
 
 pub returns-then-is_over-clause-answers : goal.returns-then-is_over-clause-answers
@@ -43,9 +44,9 @@ returns c =
     let o : (s : State) → Stands c.args.battle.now s → AreOffered s c.args.one c.args.two =
     λ s h. record { first = sym (c.is_offered.ensures s h) ∙ c.if-not-is_offered.false; second = sym (c.is_offered-2.ensures s h) ∙ c.if-not-is_offered-2.false } in
     record {
-      answers = λ s h. let t = c.play.ensures s h (o s h) in answers_accepted c.args.battle.now c.result.result t (c.result.ensures (step s c.args.one c.args.two).state t.stands);
-      tells = λ s h. tells_accepted c.args.events.now c.play.new.events (c.play.ensures s h (o s h));
-      short = λ m is. short (c.play.ensures m.state m.stands (o m.state m.stands));
-      valid = λ m. record { state = (step m.state c.args.one c.args.two).state; stands = (c.play.ensures m.state m.stands (o m.state m.stands)).stands };
+      answers = λ s h. let t = c.play.ensures.stepped s h (o s h) in answers_accepted c.args.battle.now c.result.result t (c.result.ensures (step s c.args.one c.args.two).state t.stands);
+      tells = λ s h. tells_accepted c.args.events.now c.play.new.events (c.play.ensures.stepped s h (o s h));
+      short = λ is. few_fit c.play.new.events.items (omega (arith, ap length c.clear.ensures, c.play.ensures.room));
+      valid = λ m. record { state = (step m.state c.args.one c.args.two).state; stands = (c.play.ensures.stepped m.state m.stands (o m.state m.stands)).stands };
       kept = tt;
     }

@@ -1,4 +1,4 @@
-use Rattle.std.proofs.Common.{◌≡◌}
+use Rattle.std.proofs.Common.{arith, ◌≡◌}
 use Rattle.gen1_layout.proofs.Words.{false, refl}
 use Rattle.gen1_machine.specs.declared.side.Side.TheVariants.{One, Two}
 use Rattle.gen1_machine.specs.declared.terms.Request.TheVariants.{Pass, Switch}
@@ -15,7 +15,7 @@ use Rattle.gen1_requests.proofs.updates.replace.Goals as goal
 
 pub returns : goal.returns
 unfolding close_update
-returns c = record { updated = left; stepped = λ s stands plays. replaced-so s c.args.one c.args.two stands.valid plays (left s stands plays) }
+returns c = record { updated = left; stepped = λ s stands plays. replaced-so s c.args.one c.args.two stands.valid plays (left s stands plays); room = omega (arith, c.send_both_chosen.ensures.room, c.close.ensures.room) }
   where
     left : (s : State) → Stands c.args.battle.now s → Plays s Switch c.args.one c.args.two
         → Updated (setting_of s) c.close.new.battle c.close.new.events.items (close_update (ruling_of s.terms) (replace c.args.one c.args.two (opened s)))

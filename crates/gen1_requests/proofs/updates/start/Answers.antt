@@ -1,3 +1,4 @@
+use Rattle.std.proofs.Common.{arith}
 use Rattle.gen1_layout.proofs.Words.{false, refl}
 use Rattle.gen1_machine.specs.Ruling.{ruling_of}
 use Rattle.gen1_machine.specs.State.{State}
@@ -11,7 +12,7 @@ use Rattle.gen1_requests.proofs.updates.start.Goals as goal
 
 pub returns : goal.returns
 unfolding close_update
-returns c = record { updated = left; stepped = λ s stands starts. started-so s stands.valid starts (left s stands starts) }
+returns c = record { updated = left; stepped = λ s stands starts. started-so s stands.valid starts (left s stands starts); room = omega (arith, c.send_both_first.ensures.room, c.close.ensures.room) }
   where
     left : (s : State) → Stands c.args.battle.now s → Starts s → Updated (setting_of s) c.close.new.battle c.close.new.events.items (close_update (ruling_of s.terms) (start (opened s)))
     left s stands starts =
