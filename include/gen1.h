@@ -10,7 +10,7 @@
  *   - No global state: calls on different battles may run at the same time in any threads. Calls on one battle may not, unless
  *     all of them take it as const.
  *   - Every number that you may pass is answered. One that is out of its range gets a code; and where a call answers a code,
- *     nothing behind its pointers has changed (the exceptions are said at the calls).
+ *     nothing behind its pointers has changed.
  *   - What nothing can check is yours to keep: a pointer points to as much memory as its type says, or as the size beside it
  *     says, and is not NULL (a NULL with size 0 is allowed); no two of the pointers of a call overlap.
  *   - A battle that gen1_new or gen1_load made, and that only gen1_update has changed, stands for a valid state. For other
