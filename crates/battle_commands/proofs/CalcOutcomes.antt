@@ -4,10 +4,11 @@ use Rattle.std.specs.Prelude.{ok_or}
 use Rattle.std.proofs.KnownBytes.{Appends-nil}
 use Rattle.gen1_stats.specs.Teams.{team_refusal}
 use Rattle.gen1_machine.specs.Moves.{move_at}
+use Rattle.gen1_hits.specs.UsualDamage.{has_usual_damage}
 use Rattle.battle_input.specs.Sheets.{json_of}
 use Rattle.battle_commands.specs.Asked.{input_limit}
 use Rattle.battle_commands.specs.Answers.{IsInputFault}
-use Rattle.battle_commands.specs.Calc.{PrintsDamages, damages_due, damages_of, has_usual_damage}
+use Rattle.battle_commands.specs.Calc.{PrintsDamages, damages_due, damages_of}
 use Rattle.battle_commands.specs.Logs.{PrintsLog}
 use Rattle.battle_input.specs.CalcSheets.{calc_sheet_of}
 use Rattle.battle_input.specs.declared.calc_sheet.CalcSheet.{CalcSheet}

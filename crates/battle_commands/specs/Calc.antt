@@ -1,14 +1,13 @@
 -- What is due from `calc` for an input, and what it has written and answers.
-use Rattle.std.specs.Prelude.{Bool, Err, List, None, Ok, Option, Result, Some, [], false, if◌then◌else◌, length, nat_lt, not, ok_or, option_and_then, true, ℕ, ◌&&◌, ◌∷◌, ◌≡◌}
+use Rattle.std.specs.Prelude.{Err, List, None, Ok, Option, Result, Some, [], if◌then◌else◌, length, nat_lt, ok_or, option_and_then, ℕ, ◌∷◌, ◌≡◌}
 use Rattle.std.specs.Io.KnownBytes.{Appends}
-use Rattle.gen1_tables.specs.declared.effect.Effect.{Effect}
-use Rattle.gen1_tables.specs.declared.effect.Effect.TheVariants.{Counter, FixedDamage, OneHitKnockOut, SuperFang}
 use Rattle.gen1_stats.specs.Teams.{member_of as begun_of, team_refusal}
 use Rattle.gen1_machine.specs.Damage.{numbers_in}
-use Rattle.gen1_machine.specs.Moves.{Move, move_at}
+use Rattle.gen1_machine.specs.Moves.{move_at}
 use Rattle.gen1_machine.specs.Sending.{AppendsFront}
 use Rattle.gen1_machine.specs.declared.side.Side.TheVariants.{One}
 use Rattle.gen1_hits.specs.Factors.{damages}
+use Rattle.gen1_hits.specs.UsualDamage.{has_usual_damage}
 use Rattle.battle_input.specs.Sheets.{json_of}
 use Rattle.battle_commands.specs.Asked.{input_limit, unless}
 use Rattle.battle_input.specs.CalcSheets.{calc_sheet_of}
@@ -17,17 +16,6 @@ use Rattle.battle_commands.specs.NumberLine.{number_line}
 use Rattle.battle_input.specs.declared.calc_sheet.CalcSheet.{CalcSheet}
 use Rattle.battle_commands.specs.declared.fault.ToolFault.{ToolFault}
 use Rattle.battle_commands.specs.declared.fault.ToolFault.TheVariants.{Calc, Json, Memory, Read, TooLong, Write}
-
-abbrev pub has_own_damage : Effect → Bool
-has_own_damage Counter = true
-has_own_damage FixedDamage = true
-has_own_damage OneHitKnockOut = true
-has_own_damage SuperFang = true
-has_own_damage _ = false
-
--- whether a move has power, and no damage of its own rule
-abbrev pub has_usual_damage : Move → Bool
-has_usual_damage move = nat_lt 0 move.power && not (has_own_damage move.effect)
 
 -- the damage at each factor from 217 to 255, of the attacker's move against the defender; none where the divisor is 0
 unfoldable pub damages_of : CalcSheet → Option (List ℕ)

@@ -7,11 +7,12 @@ ghost use Rattle.battle_input.specs.CalcSheets.{calc_sheet_of};
 ghost use Rattle.battle_commands.specs.Opening.{Finds};
 ghost use Rattle.battle_input.specs.SheetViews.{Gives};
 
-use crate::damages::{damages, has_usual_damage};
+use crate::damages::damages;
 use crate::fault::ToolFault;
 use crate::input::{INPUT_LIMIT, read_input};
 use crate::number_line::number_line;
 use battle_input::{CalcSheet, SheetFault, read_calc_sheet, value_in};
+use gen1_hits::has_usual_damage;
 use gen1_machine::{Sink, Source, send};
 use gen1_stats::Team;
 use std::alloc::Global;

@@ -2,31 +2,13 @@
 ghost use Rattle.std.specs.Prelude.{[], ◌∷◌, ◌≡◌};
 ghost use Rattle.gen1_stats.specs.Sheets.{Sheet as MemberSheet};
 ghost use Rattle.gen1_stats.specs.Teams.{member_of, team_of};
-ghost use Rattle.gen1_machine.specs.Moves.{move_at};
-ghost use Rattle.battle_commands.specs.Calc.{damages_of, has_own_damage, has_usual_damage};
+ghost use Rattle.battle_commands.specs.Calc.{damages_of};
 
 use crate::duel::begin_duel;
 use gen1_hits::{damage_list, numbers};
 use gen1_machine::Side;
 use gen1_stats::Team;
-use gen1_tables::{Effect, MoveId};
-
-/// Whether a move has the usual damage, of which damage numbers can tell: it has power, and deals
-/// no damage of its own rule (docs/MECHANICS.md, "Fixed damage and one-hit moves", "Counter").
-pub fn has_usual_damage(id: MoveId) -> bool
-    ensures { result ≡ has_usual_damage (move_at id) }
-{
-    id.power() > 0 && !has_own_damage(id.effect())
-}
-
-fn has_own_damage(effect: Effect) -> bool
-    ensures { result ≡ has_own_damage effect }
-{
-    matches!(
-        effect,
-        Effect::Counter | Effect::FixedDamage | Effect::OneHitKnockOut | Effect::SuperFang
-    )
-}
+use gen1_tables::MoveId;
 
 /// The damage of a move at each factor from 217 to 255, between the members of two teams of one
 /// (docs/MECHANICS.md, "Damage numbers" to "Factor"): both are just sent out, and the first one

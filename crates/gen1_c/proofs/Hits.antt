@@ -9,10 +9,11 @@ use Rattle.gen1_machine.specs.Numbers.{side_number}
 use Rattle.gen1_machine.specs.State.{Field, State}
 use Rattle.gen1_machine.specs.Valid.{IsStarted, IsUnstarted}
 use Rattle.gen1_hits.specs.Factors.{damages}
+use Rattle.gen1_hits.specs.UsualDamage.{has_usual_damage}
 use Rattle.gen1_layout.specs.Parts.{Parts}
 use Rattle.gen1_layout.specs.Within.{Stands, Within, setting_of}
 use Rattle.gen1_layout.proofs.Storing.{within_of}
-use Rattle.gen1_c.specs.Damages.{TellsDamages, damages_due, has_usual_damage}
+use Rattle.gen1_c.specs.Damages.{TellsDamages, damages_due}
 
 pub same_side : (a b : Side) → side_number a ≡ side_number b → a ≡ b
 same_side One One e = refl

@@ -1,17 +1,16 @@
 //! The damage of a hit, as a battle stands.
 ghost use Rattle.std.specs.Prelude.{◌≡◌, ◌≢◌};
-ghost use Rattle.gen1_machine.specs.Moves.{move_at};
 ghost use Rattle.gen1_machine.specs.Numbers.{side_number};
 ghost use Rattle.gen1_machine.specs.State.{State};
 ghost use Rattle.gen1_machine.specs.declared.side.Side.{Side};
 ghost use Rattle.gen1_layout.specs.Within.{Stands};
-ghost use Rattle.gen1_c.specs.Damages.{TellsDamages, damages_due, has_own_damage, has_usual_damage};
+ghost use Rattle.gen1_c.specs.Damages.{TellsDamages, damages_due};
 ghost use Rattle.gen1_c.specs.Playing.{IsNoSide};
 
-use gen1_hits::{damage_list, numbers};
+use gen1_hits::{damage_list, has_usual_damage, numbers};
 use gen1_layout::Packed;
 use gen1_machine::Side;
-use gen1_tables::{Effect, MoveId};
+use gen1_tables::MoveId;
 
 const NO_SIDE: u8 = 1;
 
@@ -58,20 +57,4 @@ pub extern "C" fn gen1_damage(
         }
         None => DIVISOR,
     }
-}
-
-// Whether a move has power, and no damage of its own rule (docs/MECHANICS.md, "Fixed damage and one-hit moves", "Counter").
-fn has_usual_damage(id: MoveId) -> bool
-    ensures { result ≡ has_usual_damage (move_at id) }
-{
-    id.power() > 0 && !has_own_damage(id.effect())
-}
-
-fn has_own_damage(effect: Effect) -> bool
-    ensures { result ≡ has_own_damage effect }
-{
-    matches!(
-        effect,
-        Effect::Counter | Effect::FixedDamage | Effect::OneHitKnockOut | Effect::SuperFang
-    )
 }

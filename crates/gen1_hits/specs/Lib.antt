@@ -3,6 +3,8 @@ pub mod Numbers
 pub mod TypeRows
 -- The damage at each factor, and what is drawn for one.
 pub mod Factors
+-- Which moves have the usual damage.
+pub mod UsualDamage
 -- What an action knows after a landing, and after a hit test.
 pub mod Landed
 pub mod Tested

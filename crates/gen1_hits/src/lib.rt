@@ -10,6 +10,7 @@ mod hp;
 mod landing;
 mod strength;
 mod type_rows;
+mod usual_damage;
 
 pub use accuracy::{Hit, hit_test, scaled_accuracy};
 pub use critical_hits::{critical, critical_bound};
@@ -19,3 +20,4 @@ pub use hp::{gain_hp, lose_hp};
 pub use landing::{Landed, land, land_on_hp, land_on_substitute};
 pub use strength::{numbers, own_numbers};
 pub use type_rows::type_steps;
+pub use usual_damage::has_usual_damage;

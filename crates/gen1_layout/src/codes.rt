@@ -22,8 +22,10 @@ pub(crate) fn outcome_from(byte: u8) -> Outcome
     }
 }
 
-pub(crate) fn byte_of_outcome(outcome: Outcome) -> u8
-    ensures { ((code : ℕ) → outcome ≡ Outcome.Fault code → code ≤ 2) → result ≡ outcome_byte outcome }
+/// The byte that stands for an outcome (docs/LAYOUT.md, "Header"), from 0 to 5.
+pub fn byte_of_outcome(outcome: Outcome) -> u8
+    ensures value { ((code : ℕ) → outcome ≡ Outcome.Fault code → code ≤ 2) → result ≡ outcome_byte outcome }
+    ensures small { result ≤ 5 }
 {
     match outcome {
         Outcome::Ongoing => 0,
@@ -44,8 +46,10 @@ pub(crate) fn request_from(byte: u8) -> Request
     }
 }
 
-pub(crate) fn byte_of_request(request: Request) -> u8
-    ensures { result ≡ request_byte request }
+/// The byte that stands for what is asked of a side (docs/LAYOUT.md, "Header"), from 0 to 2.
+pub fn byte_of_request(request: Request) -> u8
+    ensures value { result ≡ request_byte request }
+    ensures small { result ≤ 2 }
 {
     match request {
         Request::Pass => 0,

@@ -37,6 +37,7 @@ mod packed;
 mod reading;
 mod telling;
 
+pub use codes::{byte_of_outcome, byte_of_request};
 pub use conditions::Conditions;
 pub use packed::{Packed, in_two};
 pub use reading::{ReadFault, laws};

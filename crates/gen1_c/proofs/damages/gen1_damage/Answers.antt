@@ -4,7 +4,7 @@ use Rattle.gen1_machine.specs.Moves.{move_at}
 use Rattle.gen1_layout.specs.Within.{setting_of}
 use Rattle.gen1_requests.proofs.BetweenUpdates.{packs_of}
 use Rattle.gen1_hits.specs.Factors.{damages}
-use Rattle.gen1_c.specs.Damages.{has_usual_damage}
+use Rattle.gen1_hits.specs.UsualDamage.{has_usual_damage}
 use Rattle.gen1_c.proofs.Begun.{kept_out, let_through}
 use Rattle.gen1_c.proofs.Hits.{due_divisor, due_list, due_no_move, due_nobody, due_unusual, same_side, told, within_out}
 use Rattle.gen1_c.proofs.damages.gen1_damage.Goals as goal

@@ -6,7 +6,7 @@ use Rattle.gen1_layout.proofs.packed.Packed.put_outcome.Goals as goal
 pub returns-clause-packs : goal.returns-clause-packs
 unfolding with_outcome
 returns-clause-packs c g f h ok =
-    let byte = c.byte_of_outcome-byte.ensures (λ code e. (subst IsOutcome e ok).1) in
+    let byte = c.byte_of_outcome-byte.ensures.value (λ code e. (subst IsOutcome e ok).1) in
     header_packed (with_outcome c.args.outcome f) _ h (rw (c.header_mut.ensures.value, header_packs h, byte) refl) refl refl h.last_damage h.turn ok
 
 pub returns-clause-stands : goal.returns-clause-stands

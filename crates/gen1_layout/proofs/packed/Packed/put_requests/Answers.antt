@@ -6,7 +6,7 @@ pub returns-clause-packs : goal.returns-clause-packs
 unfolding with_requests
 returns-clause-packs c g f h =
     header_packed (with_requests c.args.one c.args.two f) _ h
-    (rw (c.header_mut-header.ensures.value, header_packs h, c.byte_of_request-one.ensures, c.byte_of_request-two.ensures) refl) refl refl
+    (rw (c.header_mut-header.ensures.value, header_packs h, c.byte_of_request-one.ensures.value, c.byte_of_request-two.ensures.value) refl) refl refl
     h.last_damage h.turn h.outcome
 
 pub returns-clause-stands : goal.returns-clause-stands

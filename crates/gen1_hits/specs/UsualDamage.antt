@@ -1,0 +1,16 @@
+-- Which moves have the usual damage.
+use Rattle.std.specs.Prelude.{Bool, false, nat_lt, not, true, ◌&&◌}
+use Rattle.gen1_tables.specs.declared.effect.Effect.{Effect}
+use Rattle.gen1_tables.specs.declared.effect.Effect.TheVariants.{Counter, FixedDamage, OneHitKnockOut, SuperFang}
+use Rattle.gen1_machine.specs.Moves.{Move}
+
+abbrev pub has_own_damage : Effect → Bool
+has_own_damage Counter = true
+has_own_damage FixedDamage = true
+has_own_damage OneHitKnockOut = true
+has_own_damage SuperFang = true
+has_own_damage _ = false
+
+-- whether a move has power, and no damage of its own rule
+abbrev pub has_usual_damage : Move → Bool
+has_usual_damage move = nat_lt 0 move.power && not (has_own_damage move.effect)

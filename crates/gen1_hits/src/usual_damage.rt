@@ -1,0 +1,23 @@
+//! Which moves have the usual damage.
+ghost use Rattle.std.specs.Prelude.{◌≡◌};
+ghost use Rattle.gen1_machine.specs.Moves.{move_at};
+ghost use Rattle.gen1_hits.specs.UsualDamage.{has_own_damage, has_usual_damage};
+
+use gen1_tables::{Effect, MoveId};
+
+/// Whether a move has the usual damage, of which damage numbers can tell: it has power, and deals no damage of its own rule
+/// (docs/MECHANICS.md, "Fixed damage and one-hit moves", "Counter").
+pub fn has_usual_damage(id: MoveId) -> bool
+    ensures { result ≡ has_usual_damage (move_at id) }
+{
+    id.power() > 0 && !has_own_damage(id.effect())
+}
+
+fn has_own_damage(effect: Effect) -> bool
+    ensures { result ≡ has_own_damage effect }
+{
+    matches!(
+        effect,
+        Effect::Counter | Effect::FixedDamage | Effect::OneHitKnockOut | Effect::SuperFang
+    )
+}
