@@ -1,6 +1,6 @@
 -- How an update closes.
-use Rattle.gen1_layout.proofs.Words.{Bool, IsBetween, None, Phase, Progress, Some, ap, arith, choose-false, false, nat_le, nat_tests, note, refl, stay, then-goes, true, ℕ, ◌▸◌}
-use Rattle.std.proofs.Common.{List, [], get_or, length, not, suc, sym, zero, ◌-◌, ◌<◌, ◌∷◌, ◌≡◌, ◌≤◌, ◌∙◌, ◌||◌}
+use Rattle.gen1_layout.proofs.Words.{Bool, Event, Frame, IsBetween, None, Parts, Phase, Progress, Shows, Some, ap, arith, choose-false, false, if_not, nat_le, nat_tests, note, refl, stay, stays, then-goes, true, ℕ, ◌▸◌}
+use Rattle.std.proofs.Common.{List, [], get_or, length, not, suc, sym, zero, ◌&&◌, ◌-◌, ◌<◌, ◌∷◌, ◌≡◌, ◌∙◌, ◌||◌}
 use Rattle.std.proofs.lemmas.Bool.{false≢true}
 use Rattle.gen1_tables.specs.Types.{any}
 use Rattle.gen1_stats.specs.Members.{is_living, nobody}
@@ -10,7 +10,7 @@ use Rattle.gen1_machine.specs.State.{Field, has_fallen_in, member_in, party}
 use Rattle.gen1_machine.specs.declared.event.Event.TheVariants as events
 use Rattle.gen1_machine.specs.declared.terms.Outcome.{Outcome}
 use Rattle.gen1_machine.specs.declared.terms.Outcome.TheVariants.{Fault, Ongoing, Tie, WinOne, WinTwo}
-use Rattle.gen1_machine.specs.Falls.{ask_nothing, close, settle, the_fallen_faint}
+use Rattle.gen1_machine.specs.Falls.{ask_nothing, close, faint_if_fallen, settle, the_fallen_faint}
 use Rattle.gen1_machine.specs.Progress.{when}
 use Rattle.gen1_machine.specs.Ruling.{Ruling}
 use Rattle.gen1_machine.specs.Valid.{IsOutcome}
@@ -23,13 +23,10 @@ passed test f k p e go =
     let is : when test f p ≡ p = choose-false test f stay p e in
     then-goes (when test f) k p (ap (λ (q : Progress). q.stopped) is ∙ go) ∙ ap k is
 
--- whether the last turn is over
+-- a turn is left before the last
 
-pub late_so : (a b : ℕ) → a ≤ b → nat_le a b ≡ true
-late_so a b h = grind (arith, nat_tests)
-
-pub late_not : (a b : ℕ) → b < a → nat_le a b ≡ false
-late_not a b h = grind (arith, nat_tests)
+pub turn_left : (limit turn : ℕ) → nat_le limit turn ≡ false → turn < limit
+turn_left limit turn e = grind (arith, nat_tests)
 
 -- who is out and lives is one of those that live
 
@@ -53,6 +50,28 @@ lives_out s f h e = any_at is_living (party s f).members ((party s f).active.pla
     lives : (s : Side) → has_fallen_in s f ≡ false → is_living (get_or (party s f).members ((party s f).active.place - 1) nobody) ≡ true
     lives One e = not_false (is_living (member_in One f)) e
     lives Two e = not_false (is_living (member_in Two f)) e
+
+-- where both live who are out
+
+pub neither_lost : (a b : Bool) → a ≡ true → (not a && not b) ≡ false
+neither_lost a b e = rw e refl
+
+pub neither_fell : (a b : Bool) → a ≡ false → b ≡ false → (a || b) ≡ false
+neither_fell a b one two = rw (one, two) refl
+
+both_false : (a b : Bool) → (not a && not b) ≡ true → (a ≡ false) × (b ≡ false)
+both_false false false e = (refl, refl)
+both_false false true e = absurd (false≢true e)
+both_false true b e = absurd (false≢true e)
+
+pub nobody_fell : (both : Bool) (f : Field) → both ≡ (not (has_fallen_in One f) && not (has_fallen_in Two f)) → both ≡ true → (s : Side) → has_fallen_in s f ≡ false
+nobody_fell both f e is One = (both_false (has_fallen_in One f) (has_fallen_in Two f) (sym e ∙ is)).0
+nobody_fell both f e is Two = (both_false (has_fallen_in One f) (has_fallen_in Two f) (sym e ∙ is)).1
+
+pub faints_not : {g : Frame} {parts : Parts} {events : List Event} {p : Progress} (s : Side) → has_fallen_in s p.field ≡ false → Shows g parts events false p
+    → Shows g parts events false (faint_if_fallen s p)
+unfolding faint_if_fallen
+faints_not s e h = if_not _ _ _ e (stays h)
 
 -- by whether there was a fault
 

@@ -1,8 +1,9 @@
 //! The end of an update (docs/MECHANICS.md, "Falls and requests"): who has fallen, who has won, and what is asked next.
-ghost use Rattle.std.specs.Prelude.{◌<◌, ◌≡◌};
+ghost use Rattle.std.specs.Prelude.{not, ◌&&◌, ◌<◌, ◌≡◌};
 ghost use Rattle.gen1_tables.specs.Types.{any};
-ghost use Rattle.gen1_layout.specs.Words.{AddsAtMost, AddsNone, Bool, Does, Event as EventOf, Frame, HasRoom, List, Progress, Reads, Shows, false, is_living, party, true, ◌▸◌};
+ghost use Rattle.gen1_layout.specs.Words.{AddsAtMost, AddsNone, Bool, Does, Event as EventOf, Field, Frame, HasRoom, List, Progress, Reads, Setting, Shows, Within, false, is_living, nat_le, party, true, ◌▸◌};
 ghost use Rattle.gen1_machine.specs.declared.event.Event.TheVariants as told;
+ghost use Rattle.gen1_machine.specs.declared.side.Side.TheVariants as sides;
 ghost use Rattle.gen1_machine.specs.Falls.{ask_for_moves, ask_nothing, battle_ends, close, faint_if_fallen, faint_in_order, settle, switch_if, the_fallen_faint};
 ghost use Rattle.gen1_machine.specs.Progress.{note};
 ghost use Rattle.gen1_machine.specs.Ruling.{ruling_of};
@@ -59,8 +60,33 @@ fn faint_and_settle(battle: &mut Packed, actor: Side, events: &mut EventList)
         → (stopped : Bool) × Shows g battle.new events.new.items stopped ((the_fallen_faint ▸ settle (ruling_of g.setting.terms)) p) }
     ensures room { AddsAtMost 3 events.old events.new }
 {
+    if nobody_has_fallen(battle) {
+        go_on(battle, events);
+        return;
+    }
     faint_in_order(battle, actor, events);
     settle(battle, events);
+}
+
+// One look for the many updates in which nobody faints.
+fn nobody_has_fallen(battle: &Packed) -> bool
+    ensures stands { Reads battle.now result λ f. (not (has_fallen_in sides.One f) && not (has_fallen_in sides.Two f)) }
+{
+    !is_fallen(battle, Side::One) && !is_fallen(battle, Side::Two)
+}
+
+// What is settled where both live who are out: neither side has lost.
+fn go_on(battle: &mut Packed, events: &mut EventList)
+    requires space { HasRoom 1 events.old }
+    ensures shown { (g : Frame) (p : Progress) → has_fallen_in sides.One p.field ≡ false → has_fallen_in sides.Two p.field ≡ false
+        → Shows g battle.old events.old.items false p → (stopped : Bool) × Shows g battle.new events.new.items stopped (settle (ruling_of g.setting.terms) p) }
+    ensures room { AddsAtMost 1 events.old events.new }
+{
+    if is_last_turn(battle) {
+        battle_ends(battle, Outcome::Tie, Event::Tie, events);
+    } else {
+        ask_for_moves(battle, events);
+    }
 }
 
 fn faint_in_order(battle: &mut Packed, actor: Side, events: &mut EventList)
@@ -102,6 +128,13 @@ fn settle(battle: &mut Packed, events: &mut EventList)
     ask_next(battle, events);
 }
 
+// Whether no turn is left.
+fn is_last_turn(battle: &Packed) -> bool
+    ensures stands { (g : Setting) (f : Field) → Within g battle.now f → result ≡ nat_le g.terms.limit f.turn }
+{
+    battle.limit() <= battle.turn()
+}
+
 // Whether the battle has ended. A win in the last turn is a win.
 fn end_if_decided(battle: &mut Packed, events: &mut EventList) -> bool
     requires space { HasRoom 1 events.old }
@@ -112,7 +145,7 @@ fn end_if_decided(battle: &mut Packed, events: &mut EventList) -> bool
 {
     let one = has_living(battle, Side::One);
     let two = has_living(battle, Side::Two);
-    let late = battle.limit() <= battle.turn();
+    let late = is_last_turn(battle);
     let neither = !one & !two;
     if neither {
         battle_ends(battle, Outcome::Tie, Event::Tie, events);

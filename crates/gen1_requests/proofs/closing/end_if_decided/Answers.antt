@@ -1,7 +1,7 @@
 use Rattle.std.proofs.Common.{not, ◌∙◌}
 use Rattle.gen1_layout.proofs.Words.{ap, choose-false, if_so, past, stay, stops, sym}
 use Rattle.gen1_machine.specs.Falls.{end_if_decided}
-use Rattle.gen1_requests.proofs.Closed.{late_not, late_so, passed}
+use Rattle.gen1_requests.proofs.Closed.{passed, turn_left}
 use Rattle.gen1_requests.proofs.closing.end_if_decided.Goals as goal
 
 pub returns-then-neither-clause-shown : goal.returns-then-neither-clause-shown
@@ -33,25 +33,21 @@ unfolding end_if_decided
 returns-then-late-clause-shown c g p h =
     let one = c.has_living-one.ensures _ _ h.within in
     let two = c.has_living-two.ensures _ _ h.within in
-    let limit = c.limit.ensures.stands _ _ h.within in
-    let turn = c.turn.ensures.stands _ _ h.within in
     past _ _ _ (rw (one, two) at c.if-neither.false) h
     (past _ _ _ (ap not (sym one ∙ c.if-not-one.false)) h
     (past _ _ _ (ap not (sym two ∙ c.if-not-two.false)) h
-    (if_so _ _ _ (late_so _ _ (rw (limit, turn) at c.if-late.true)) (c.battle_ends-then-late.ensures.shown tt g p h))))
+    (if_so _ _ _ (sym (c.is_last_turn-late.ensures.stands _ _ h.within) ∙ c.if-late.true) (c.battle_ends-then-late.ensures.shown tt g p h))))
 
 pub returns-clause-shown : goal.returns-clause-shown
 unfolding end_if_decided stay
 returns-clause-shown c g p h =
     let one = c.has_living-one.ensures _ _ h.within in
     let two = c.has_living-two.ensures _ _ h.within in
-    let limit = c.limit.ensures.stands _ _ h.within in
-    let turn = c.turn.ensures.stands _ _ h.within in
-    let late = rw (limit, turn) at c.if-late.false in (
+    let late = sym (c.is_last_turn-late.ensures.stands _ _ h.within) ∙ c.if-late.false in (
       passed _ _ _ p (rw (one, two) at c.if-neither.false) h.ends
           ∙ passed _ _ _ p (ap not (sym one ∙ c.if-not-one.false)) h.ends
           ∙ passed _ _ _ p (ap not (sym two ∙ c.if-not-two.false)) h.ends
-          ∙ choose-false _ _ _ p (late_not _ _ late),
+          ∙ choose-false _ _ _ p late,
       h,
-      late,
+      turn_left _ _ late,
     )
