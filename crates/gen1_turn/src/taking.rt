@@ -1,5 +1,5 @@
 //! Which move an action takes, and whether that goes on (docs/MECHANICS.md, "Picks", "Going on").
-ghost use Rattle.std.specs.Prelude.{◌&&◌, ◌≡◌};
+ghost use Rattle.std.specs.Prelude.{◌&&◌, ◌≡◌, ◌≤◌};
 ghost use Rattle.gen1_layout.specs.Words.{Event, Field, IsBetween, List, Reads, Setting, Within, active_in, false, length, member_in, not, underway_in};
 ghost use Rattle.gen1_machine.specs.Action.{keeps_going, see_if_going_on};
 ghost use Rattle.gen1_machine.specs.Picks.{is_use, number_in, used_by};
@@ -70,7 +70,16 @@ pub(crate) fn number_of(battle: &Packed, side: Side, used: UsedMove) -> u8
 {
     match used {
         UsedMove::Nothing => 0,
-        UsedMove::Slot(slot) => battle.move_in(side, slot.max(1).min(4)),
+        UsedMove::Slot(slot) => battle.move_in(side, among_slots(slot)),
         UsedMove::Struggle => STRUGGLE,
     }
+}
+
+// A slot from 1 to 4 is itself. Whatever else a byte holds is made one of them.
+pub(crate) fn among_slots(slot: u8) -> u8
+    ensures low { 1 ≤ result }
+    ensures high { result ≤ 4 }
+    ensures same { IsBetween 1 4 slot → result ≡ slot }
+{
+    slot.wrapping_sub(1) % 4 + 1
 }

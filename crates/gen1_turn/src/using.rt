@@ -11,6 +11,7 @@ ghost use Rattle.gen1_machine.specs.Valid.{IsUsedMove};
 ghost use Rattle.gen1_action.specs.Knowing.{DoesKnowing, knowing};
 
 use crate::by_effect::bides;
+use crate::taking::among_slots;
 use gen1_action::Known;
 use gen1_layout::Packed;
 use gen1_machine::{Event, EventList, Pick, Side, UsedMove};
@@ -74,7 +75,7 @@ fn spend_pp_of(battle: &mut Packed, side: Side, slot: u8)
     ensures shown { (g : Frame) (p : Progress) (events : List Event) → IsBetween 1 (length (member_in side p.field).moves) slot
         → Shows g battle.old events false p → Shows g battle.new events false (on_member side (with_pp_spent (UsedMove.Slot slot)) p) }
 {
-    let slot = slot.max(1).min(4);
+    let slot = among_slots(slot);
     let left = less_pp(battle.pp(side, slot));
     battle.put_pp(side, slot, left);
 }

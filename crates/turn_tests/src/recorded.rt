@@ -47,9 +47,9 @@ fn play(battle: &mut Packed, one: Choice, two: Choice) -> EventList {
     match (battle.request(Side::One), battle.request(Side::Two)) {
         (Request::Pass, Request::Pass) => start(battle, &mut events),
         (Request::Move, Request::Move) => {
-            if let Some(mut random) = battle.generator() {
-                turn(battle, one, two, &mut random, &mut events);
-                battle.put_generator(&random);
+            if let Some(random) = battle.generator() {
+                let left = turn(battle, one, two, random, &mut events);
+                battle.put_generator(&left);
             }
         }
         _ => replace(battle, one, two, &mut events),
