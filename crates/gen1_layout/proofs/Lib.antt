@@ -7,6 +7,7 @@ pub mod Bits
 pub mod Blocks
 pub mod Counts
 pub mod Steps
+mod Out
 pub mod WaysBack
 pub mod Chain
 pub mod Words

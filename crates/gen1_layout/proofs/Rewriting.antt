@@ -1,6 +1,6 @@
 -- A part of a list after a part of it was written anew.
 use Rattle.std.proofs.Common.{List, ap, append_assoc, arith, drop, length, length-append, length-drop, sym, take, take-append-drop, ℕ, ◌++◌, ◌+◌, ◌-◌, ◌≡◌, ◌≤◌, ◌∙◌}
-use Rattle.std.proofs.lemmas.List.{drop-append-le, drop-drop, drop-take, drop_at, length-take-le, take-append-le, take-take, take_at}
+use Rattle.std.proofs.lemmas.List.{drop-append-le, drop-drop, drop-take, drop_at, length-take-le, take-append-le, take_at}
 use Rattle.std.specs.List.{refill}
 use Rattle.gen1_layout.specs.Parts.{part, rewritten}
 

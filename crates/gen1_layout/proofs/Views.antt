@@ -1,13 +1,13 @@
 -- What a part that is written anew makes of the parts of a battle.
-use Rattle.std.proofs.Common.{List, ap, append_assoc, arith, drop, length, length-append, lit≤, refl, suc, sym, take, zero, ℕ, ◌++◌, ◌+◌, ◌≡◌, ◌≤◌, ◌∙◌}
-use Rattle.std.proofs.lemmas.List.{drop_at, take_all, take_at}
+use Rattle.std.proofs.Common.{List, ap, arith, drop, length, length-append, lit≤, refl, suc, sym, take, zero, ℕ, ◌++◌, ◌+◌, ◌≡◌, ◌≤◌, ◌∙◌}
+use Rattle.std.proofs.lemmas.List.{drop_at, take_at}
 use Rattle.std.specs.List.{refill}
 use Rattle.std.specs.Prelude.{slice_set}
 use Rattle.gen1_machine.specs.declared.side.Side.{Side}
 use Rattle.gen1_machine.specs.declared.side.Side.TheVariants.{One, Two}
 use Rattle.gen1_machine.specs.Sides.{other}
 use Rattle.gen1_layout.specs.Parts.{active_of, bytes_of_side, bytes_of_sides, in_order, joined, member_at, member_of, part, parts_of, refilled, rewritten, side_at, side_of, side_parts, with_active, with_member, with_side, with_sides, Parts}
-use Rattle.gen1_layout.specs.Joined.{joined-parts, part-part, side_one-joined, side_two-joined}
+use Rattle.gen1_layout.specs.Joined.{part-part, side_one-joined, side_two-joined}
 use Rattle.gen1_layout.proofs.Rewriting.{length-part, length-refill, part-above, part-below, part-first, part-first_of, part-inside, part-same, part-second_of, refill-same}
 
 -- a side below or above what is written is as it was

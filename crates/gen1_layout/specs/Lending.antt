@@ -1,10 +1,10 @@
 -- What a lent part leaves when its loan is over: that part written anew, and every other part as it was.
-use Rattle.std.specs.Prelude.{List, ℕ, ◌-◌}
+use Rattle.std.specs.Prelude.{List, ℕ, ◌+◌, ◌-◌}
 use Rattle.std.specs.Borrow.{Array, Fml, Lends, LendsBoth, MutBor, u8}
 use Rattle.std.specs.List.{refill}
 use Rattle.gen1_machine.specs.declared.side.Side.{Side}
 use Rattle.gen1_machine.specs.Sides.{other}
-use Rattle.gen1_layout.specs.Parts.{active_of, in_order, joined, member_of, parts_of, refilled, rewritten, with_active, with_member, with_sides, Parts}
+use Rattle.gen1_layout.specs.Parts.{active_of, in_order, joined, member_of, out_at, parts_of, refilled, rewritten, with_active, with_member, with_sides, Parts}
 use Rattle.gen1_layout.specs.contracts.packed.Packed.{the_row}
 
 -- the bytes from one offset up to another
@@ -40,3 +40,7 @@ abbrev pub LendsMember : Side → ℕ → MutBor Parts → MutBor (List ℕ) →
 LendsMember s place packed lent =
     Lends the_row (Array u8 0) packed lent λ written.
     with_member s place (refill 24 (member_of s place packed.now) written) packed.now
+
+-- the bytes of the member that is out, wherever they begin
+abbrev pub LendsOut : Side → MutBor Parts → MutBor (List ℕ) → Fml
+LendsOut s packed lent = LendsPart (out_at s packed.now) (out_at s packed.now + 24) packed lent

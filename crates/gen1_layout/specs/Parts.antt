@@ -1,6 +1,6 @@
 -- The 384 bytes as their parts (docs/LAYOUT.md): a header of 24, and for each side six members of 24 and an active block
 -- of 36.
-use Rattle.std.specs.Prelude.{List, [], drop, flat_map, slice_index_or, slice_set, take, ℕ, ◌*◌, ◌++◌, ◌+◌, ◌-◌, ◌∷◌}
+use Rattle.std.specs.Prelude.{List, [], drop, flat_map, slice_index, slice_index_or, slice_set, take, ℕ, ◌%◌, ◌*◌, ◌++◌, ◌+◌, ◌-◌, ◌∷◌}
 use Rattle.std.specs.List.{refill}
 use Rattle.gen1_machine.specs.declared.side.Side.{Side}
 use Rattle.gen1_machine.specs.declared.side.Side.TheVariants.{One, Two}
@@ -62,6 +62,10 @@ in_order Two own others = others ++ own
 
 abbrev pub active_of : Side → Parts → List ℕ
 active_of s p = (side_of s p).active
+
+-- where the bytes of the member that is out begin, whose place from 1 stands first in the active block
+abbrev pub out_at : Side → Parts → ℕ
+out_at s p = side_at s + 24 * (slice_index (active_of s p) 0 % 8) - 24
 
 -- places are counted from 1
 abbrev pub member_of : Side → ℕ → Parts → List ℕ

@@ -207,18 +207,16 @@ impl Packed {
     pub fn put_hp(&mut self, side: Side, hp: u16)
         ensures stands { WritesMemberIf side self.old self.new (λ m. record m { hp = hp }) λ g f. hp ≤ (member_in side f).max }
     {
-        let place = self.place(side);
-        put_word!(self.member_mut(side, place), 4..6, hp);
+        put_word!(self.member_out_mut(side), 4..6, hp);
     }
 
     /// Writes the status of the member that is out.
     pub fn put_status(&mut self, side: Side, status: Status)
         ensures stands { WritesMemberIf side self.old self.new (λ m. record m { status = status }) λ g f. IsStatus g.terms.rules status }
     {
-        let place = self.place(side);
         let byte = byte_of_status(status);
         let mark = mark_of_status(status);
-        let member = self.member_mut(side, place);
+        let member = self.member_out_mut(side);
         member[14] = byte;
         member[23] = mark;
     }
@@ -227,8 +225,7 @@ impl Packed {
     pub fn put_fallen(&mut self, side: Side)
         ensures stands { WritesMember side self.old self.new λ m. record m { hp = 0; status = Healthy } }
     {
-        let place = self.place(side);
-        let member = self.member_mut(side, place);
+        let member = self.member_out_mut(side);
         member[4] = 0;
         member[5] = 0;
         member[14] = 0;
@@ -243,7 +240,6 @@ impl Packed {
             → change (member_in side f) ≡ record (member_in side f) { moves = slice_set (member_in side f).moves (slot - 1) (record (known_in slot (member_in side f).moves) { pp = pp }) }
             → slot ≤ length (member_in side f).moves → pp ≤ 63 → Within g self.new (changed_member side change f) }
     {
-        let place = self.place(side);
-        self.member_mut(side, place)[slot as usize + 18] = pp;
+        self.member_out_mut(side)[slot as usize + 18] = pp;
     }
 }

@@ -5,8 +5,8 @@ ghost use Rattle.std.specs.Borrow.{sem};
 ghost use Rattle.gen1_machine.specs.State.{State};
 ghost use Rattle.gen1_machine.specs.Layout.{active_block, bytes_of, header_block, member_block};
 ghost use Rattle.gen1_layout.specs.Within.{blocks_of, state_in};
-ghost use Rattle.gen1_layout.specs.Parts.{active_of, bytes_of_side, bytes_of_sides, in_order, joined, member_at as member_starts, member_of, part, parts_of, side_at, side_of};
-ghost use Rattle.gen1_layout.specs.Lending.{LendsActive, LendsBothSides, LendsHeader, LendsInTwo, LendsMember, LendsPart, LendsSide, LendsSides};
+ghost use Rattle.gen1_layout.specs.Parts.{active_of, bytes_of_side, bytes_of_sides, in_order, joined, member_at as member_starts, member_of, out_at, part, parts_of, side_at, side_of};
+ghost use Rattle.gen1_layout.specs.Lending.{LendsActive, LendsBothSides, LendsHeader, LendsInTwo, LendsMember, LendsOut, LendsPart, LendsSide, LendsSides};
 
 use gen1_machine::Side;
 use std::alloc::AllocError;
@@ -180,15 +180,34 @@ impl Packed {
         &self.0[from..from + 24]
     }
 
-    // The bytes of the member that is out. Its place is from 1 to 6; whatever the byte is, a place below 8 stays inside the
-    // 384 bytes.
+    // Where the bytes of the member that is out begin. Its place is from 1 to 6; whatever the byte is, a place below 8 stays
+    // inside the 384 bytes.
+    fn start_of_out(&self, side: Side) -> usize
+        ensures at { result ≡ out_at side self.now }
+        ensures within { result + 24 ≤ 384 }
+    {
+        let place = (self.active(side)[0] % 8) as usize;
+        start_of_side(side) + 24 * place - 24
+    }
+
+    // The 24 bytes of the member that is out.
     pub(crate) fn member_out(&self, side: Side) -> &[u8]
         ensures len { length result.now ≡ 24 }
         ensures stands { Reads self.now result.now λ f. member_block (member_in side f) }
     {
-        let place = (self.active(side)[0] % 8) as usize;
-        let at = start_of_side(side) + 24 * place - 24;
+        let at = self.start_of_out(side);
         &self.0[at..at + 24]
+    }
+
+    // The same, for writing.
+    pub(crate) fn member_out_mut(&mut self, side: Side) -> &mut [u8]
+        ensures* writes_back { sem 𝓛 (LendsOut side self.entry result) }
+        ensures stands { Reads self.old result.now λ f. member_block (member_in side f) }
+        ensures len { length result.now ≡ 24 }
+        ensures packed { (length (joined self.old) ≡ 384) × (parts_of (joined self.old) ≡ self.old) }
+    {
+        let at = self.start_of_out(side);
+        self.part_mut(at, at + 24)
     }
 }
 

@@ -1,7 +1,8 @@
-use Rattle.std.proofs.Common.{◌%◌, ◌*◌, ◌+◌, ◌-◌, ◌≡◌}
-use Rattle.gen1_layout.proofs.Words.{List, Parts, active_in, ap, arith, out_holds, refl, slice_index, sym, ℕ, ◌∙◌}
+use Rattle.std.proofs.Common.{◌+◌, ◌-◌, ◌≡◌}
+use Rattle.gen1_layout.proofs.Words.{Parts, active_in, ap, arith, out_holds, refl, sym, ◌∙◌}
 use Rattle.gen1_layout.specs.Parts.{member_at, member_of}
 use Rattle.gen1_layout.proofs.Blocks.{party_in}
+use Rattle.gen1_layout.proofs.Out.{out_starts}
 use Rattle.gen1_layout.proofs.Views.{member-part}
 use Rattle.gen1_layout.proofs.packed.Packed.member_out.Goals as goal
 
@@ -10,10 +11,7 @@ returns-clause-stands c g f h =
     let s = c.args.side in
     let place = (active_in s f).place in
     let v = party_in g f s h.storable in
-    let byte : slice_index c.active.result.now 0 ≡ place = ap (λ (l : List ℕ). slice_index l 0) (c.active.ensures.stands g f h) in
-    let start = c.start_of_side.result in
-    let at : start + 24 * (slice_index c.active.result.now 0 % 8) - 24 ≡ member_at s place =
-    omega (arith, byte, c.start_of_side.ensures.at, v.place.0, v.place.1, v.members.size.1) in
+    let at = c.start_of_out-at.ensures.at ∙ out_starts h s in
     let count : member_at s place + 24 - member_at s place ≡ 24 = omega arith in
     rw (at, count)
     (sym (member-part s place c.self.inside.0 v.place.0 (omega (arith, v.place.1, v.members.size.1)))
