@@ -141,6 +141,7 @@ fn do_harm<R: Rolls>(
     }
 }
 
+#[inline(always)] // docs/SPEED.md, "Hints on inlining"
 fn way_of(effect: Effect) -> Way
     ensures { result ≡ way_of effect }
 {

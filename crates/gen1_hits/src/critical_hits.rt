@@ -20,6 +20,7 @@ const SLASH: u8 = 163;
 
 /// Takes the critical draw for a move of `side`, and tells whether the hit is critical. The battle stays as it is, and no
 /// event is written (docs/MECHANICS.md, "Critical hits").
+#[inline(always)] // docs/SPEED.md, "Hints on inlining"
 pub fn critical<R: Rolls>(battle: &Packed, side: Side, id: MoveId, random: &mut R) -> bool
     ensures shown { (origin : R) (g : Frame) (events : List Event) (p : Progress)
         → ShowsDrawn R.byte R.next R.SPAN origin g battle.now events random.old false p

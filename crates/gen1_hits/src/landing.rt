@@ -84,6 +84,7 @@ fn breaks(damage: u16, hp: u8) -> bool
 /// Lands `damage` on the HP of `target`. The last damage becomes what is taken, the damage or as many HP as there are;
 /// `Damage` with the source is written where that is any, and one place in `events` is to be free for it (docs/MECHANICS.md,
 /// "Landing").
+#[inline(always)] // docs/SPEED.md, "Hints on inlining"
 pub fn land_on_hp(
     battle: &mut Packed,
     target: Side,

@@ -65,6 +65,7 @@ fn hits_more(effect: Effect) -> bool
 }
 
 // The hit of a move that makes one.
+#[inline(always)] // docs/SPEED.md, "Hints on inlining"
 fn hit_once(battle: &mut Packed, side: Side, id: MoveId, known: &mut Known, events: &mut EventList)
     requires room { HasRoom 4 events.old }
     requires one { hits_more (move_at id).effect ≡ false }

@@ -17,6 +17,7 @@ use gen1_tables::{Effect, MoveId};
 /// Jump Kick then take 1 HP from the user, past its Substitute, with `Damage`, and the last damage becomes 1; after
 /// Self-Destruct and Explosion the user's HP become 0, and its status and Seeded are cleared. Two places in `events` are to be
 /// free; nothing else changes (docs/MECHANICS.md, "Action", step 9).
+#[inline(always)] // docs/SPEED.md, "Hints on inlining"
 pub fn missed_move(battle: &mut Packed, side: Side, id: MoveId, events: &mut EventList)
     requires { HasRoom 2 events.old }
     ensures shown { Does battle.old events.old.items battle.new events.new.items true (missed_move side (move_at id)) }

@@ -14,6 +14,7 @@ use gen1_machine::{Choice, Outcome, Request, Side};
 
 /// Whether a choice is one of those that [`offered`](crate::offered) lists for the side (docs/MECHANICS.md, "Offered
 /// choices"). The list is not made, so this takes a fraction of its time.
+#[inline(always)] // docs/SPEED.md, "Hints on inlining"
 pub fn is_offered(battle: &Packed, side: Side, choice: &Choice) -> bool
     ensures { (s : State) → Stands battle.now s → result ≡ offers s side choice.now }
 {

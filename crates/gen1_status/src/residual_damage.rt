@@ -16,6 +16,7 @@ use gen1_stats::Status;
 /// With the bad-poison mark each of the two first raises the counter by 1, to 64 at most, and takes so many times as much.
 /// The seed heals the foe the full amount, also where less was left to take. `Damage` is written for what either takes, and
 /// `Heal` for what the foe gains: three places in `events` are to be free for them.
+#[inline(always)] // docs/SPEED.md, "Hints on inlining"
 pub fn residual(battle: &mut Packed, side: Side, events: &mut EventList)
     requires { HasRoom 3 events.old }
     ensures shown { Does battle.old events.old.items battle.new events.new.items false (residual side) }

@@ -85,6 +85,7 @@ fn act_unless_skipped<R: Rolls>(
 }
 
 // A member that comes out, and what it then suffers. The answer is whether the rest of the turn falls away.
+#[inline(always)] // docs/SPEED.md, "Hints on inlining"
 pub(crate) fn sends_and_suffers(
     battle: &mut Packed,
     side: Side,

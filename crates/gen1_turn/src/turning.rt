@@ -141,6 +141,7 @@ fn both_act<R: Rolls>(
 }
 
 // One side uses a move; the other switches first.
+#[inline(always)] // docs/SPEED.md, "Hints on inlining"
 fn one_picks<R: Rolls>(
     battle: &mut Packed,
     side: Side,

@@ -19,6 +19,7 @@ use gen1_multiturn::make_current;
 use gen1_tables::MoveId;
 
 // A move is used; Bide has no event for it.
+#[inline(always)] // docs/SPEED.md, "Hints on inlining"
 pub(crate) fn use_move(
     battle: &mut Packed,
     side: Side,

@@ -8,6 +8,7 @@ use gen1_layout::{Conditions, Packed};
 use gen1_machine::{CantReason, Event, EventList, Kind, Side};
 use gen1_stats::Status;
 
+#[inline(always)] // docs/SPEED.md, "Hints on inlining"
 pub(super) fn gate_of_status(battle: &mut Packed, side: Side, events: &mut EventList) -> bool
     requires { HasRoom 1 events.old }
     ensures shown { Does battle.old events.old.items battle.new events.new.items result (gate_of_status side) }

@@ -7,6 +7,7 @@ use super::cant;
 use gen1_layout::{Conditions, Packed};
 use gen1_machine::{CantReason, DisabledSlot, Event, EventList, Side, Volatile};
 
+#[inline(always)] // docs/SPEED.md, "Hints on inlining"
 pub(super) fn gate_of_turn(battle: &mut Packed, side: Side, events: &mut EventList) -> bool
     requires { HasRoom 1 events.old }
     ensures shown { Does battle.old events.old.items battle.new events.new.items result (gate_of_turn side) }

@@ -15,9 +15,9 @@ returns-then-is_last_turn-clause-shown c g p one two h =
     let late = sym (c.is_last_turn.ensures.stands _ _ h.within) ∙ c.if-is_last_turn.true in (
       true,
       stops _ _ (past _ _ _ (neither_lost _ _ first) h
-      (past _ _ _ (ap not first) h
-      (past _ _ _ (ap not second) h
-      (if_so _ _ _ late (c.battle_ends.ensures.shown tt g p h))))),
+          (past _ _ _ (ap not first) h
+          (past _ _ _ (ap not second) h
+          (if_so _ _ _ late (c.battle_ends.ensures.shown tt g p h))))),
     )
 
 pub returns-else-is_last_turn-clause-shown : goal.returns-else-is_last_turn-clause-shown
@@ -28,7 +28,7 @@ returns-else-is_last_turn-clause-shown c g p one two h =
     let second = lives_out Two p.field (party_in g.setting p.field Two w).place two in
     let left = sym (c.is_last_turn.ensures.stands _ _ h.within) ∙ c.if-is_last_turn.false in
     let same = passed _ _ _ p (neither_lost _ _ first) h.ends
-        ∙ passed _ _ _ p (ap not first) h.ends
-        ∙ passed _ _ _ p (ap not second) h.ends
-        ∙ choose-false _ _ _ p left in
+    ∙ passed _ _ _ p (ap not first) h.ends
+    ∙ passed _ _ _ p (ap not second) h.ends
+    ∙ choose-false _ _ _ p left in
     (false, passing _ _ same h (if_not _ _ _ (neither_fell _ _ one two) (c.ask_for_moves.ensures.shown g p (turn_left _ _ left) h)))
