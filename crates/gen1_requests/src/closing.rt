@@ -166,7 +166,7 @@ fn end_if_decided(battle: &mut Packed, events: &mut EventList) -> bool
     false
 }
 
-// In most updates who is out lives, and nobody else need be looked at.
+// Where who is out lives, nobody else need be looked at.
 fn has_living(battle: &Packed, side: Side) -> bool
     ensures { Reads battle.now result λ f. any is_living (party side f).members }
 {

@@ -44,6 +44,7 @@ pub(crate) fn acts_and_suffers<R: Rolls>(
     }
 }
 
+// The same, by code that is compiled for one side.
 fn act_and_suffer<R: Rolls>(
     battle: &mut Packed,
     side: Side,

@@ -23,8 +23,8 @@ use gen1_rolls::Rolls;
 /// faint, and the battle ends, or asks for switches or for the next turn (docs/MECHANICS.md, "Order of a turn", "Falls and
 /// requests").
 ///
-/// Draws come from `random` alone: the index and the numbers in the bytes stay as they are. The events of the update, 51 at most,
-/// are written to `events`, which is to be empty.
+/// Draws come from `random` alone, which is given back as they leave it: the index and the numbers in the bytes stay as they
+/// are. The events of the update, 51 at most, are written to `events`, which is to be empty.
 pub fn turn<R: Rolls>(
     battle: &mut Packed,
     one: Choice,
