@@ -1,6 +1,8 @@
 //! Values worked out by hand (docs/MECHANICS.md, "Damage", "Types", "Factor").
 use crate::battles::{named, two_tauros};
-use gen1_hits::{Numbers, damage, damage_list, factor, numbers, own_numbers, type_steps};
+use gen1_hits::{
+    Numbers, damage, damage_list, factor, has_usual_damage, numbers, own_numbers, type_steps,
+};
 use gen1_layout::Conditions;
 use gen1_machine::Side;
 use gen1_rolls::{LinkRandom, Sweep};
@@ -105,4 +107,19 @@ fn factors_are_drawn(rt: HostRuntime) {
     assert_eq!(rt; random.index(), 0);
     assert_eq!(rt; factor(999, &mut random), 999);
     assert_eq!(rt; random.index(), 2);
+}
+
+// Power alone does not make it (docs/MECHANICS.md, "Fixed damage and one-hit moves", "Counter").
+#[test]
+fn moves_with_the_usual_damage(rt: HostRuntime) -> Result<(), Fail> {
+    let usual = [
+        has_usual_damage(named("Body Slam")?),
+        has_usual_damage(named("Growl")?),
+        has_usual_damage(named("Counter")?),
+        has_usual_damage(named("Seismic Toss")?),
+        has_usual_damage(named("Super Fang")?),
+        has_usual_damage(named("Guillotine")?),
+    ];
+    assert_eq!(rt; usual, [true, false, false, false, false, false]);
+    Ok(())
 }
