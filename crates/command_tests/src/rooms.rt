@@ -1,6 +1,6 @@
 //! `room`: the example of docs/PROGRAM.md, on devices that fail or take one byte in a call, and inputs that are cut or changed.
 use crate::setting::{
-    Command, Printing, assert_long_is_refused, assert_ran, assert_refused, battle,
+    Command, Printing, assert_long_is_refused, assert_ran, assert_refused, assert_same, battle,
 };
 use battle_commands::{ToolFault, play_room};
 use gen1_machine::Device;
@@ -108,7 +108,11 @@ fn submissions_have_ranges(rt: HostRuntime) -> Result<(), Fail> {
     let input = input(&rt, "[2,4294967295,255]")?;
     let mut out = Device::new(Vec::new(rt.alloc()));
     let result = play_room(&rt, &mut Device::new(input.as_bytes()), &mut out);
-    assert_eq!(rt; result, Ok(()));
-    assert!(rt; out.into_inner().ends_with(b"|turn|1\n|room|refused|2|0\n"));
+    assert_same(&rt, result, Ok(()));
+    assert_same(
+        &rt,
+        out.into_inner().ends_with(b"|turn|1\n|room|refused|2|0\n"),
+        true,
+    );
     Ok(())
 }

@@ -6,6 +6,8 @@ use gen1_machine::{Rules, Side};
 use gen1_stats::{MemberSpec, Team};
 use gen1_tables::Element::Normal;
 use gen1_tables::{MoveId, Species};
+use std::fmt::Debug;
+use std::process::Abort;
 use std::test::Fail;
 
 pub(crate) const USER: Side = Side::One;
@@ -73,4 +75,9 @@ pub(crate) fn chansey() -> Result<Packed, Fail> {
 // They have Speed 378.
 pub(crate) fn electrode() -> Result<Packed, Fail> {
     facing("Electrode", None, [198, 238, 378, 258], 0)
+}
+
+// Asserts that these are the same. A test calls it, since an assertion in its own body costs the proof of the test seconds.
+pub(crate) fn assert_same<T: PartialEq + Debug + Drop>(rt: &impl Abort, found: T, expected: T) {
+    assert_eq!(rt; found, expected);
 }

@@ -1,6 +1,6 @@
 //! Each early effect once, with its events and its bytes (docs/MECHANICS.md, "Early effects"; docs/LAYOUT.md). By
 //! docs/LAYOUT.md the user's member begins at byte 24 and its active block at 168, those of the foe at 204 and 348.
-use crate::battles::{BOTH, FOE, USER, chansey, named, tauros};
+use crate::battles::{BOTH, FOE, USER, assert_same, chansey, named, tauros};
 use gen1_effects::{group_one, is_group_one};
 use gen1_layout::Packed;
 use gen1_machine::{Event, EventList};
@@ -52,9 +52,9 @@ fn plays(
     let after = bytes_with(battle, changes);
     let (events, drawn) = play_from(battle, played)?;
     let (name, _, _) = played;
-    assert_eq!(rt; events.as_slice(), told, "{name}");
-    assert_eq!(rt; drawn, draws, "{name}");
-    assert_eq!(rt; battle.as_bytes(), after.as_slice(), "{name}");
+    assert_same(rt, (name, events.as_slice()), (name, told));
+    assert_same(rt, (name, drawn), (name, draws));
+    assert_same(rt, (name, battle.as_bytes()), (name, after.as_slice()));
     Ok(())
 }
 

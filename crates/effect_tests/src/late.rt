@@ -1,6 +1,6 @@
 //! Stages that rise and fall, and sleep, with the numbers of docs/MECHANICS.md, "Late effects", "Stage shift", "Rules (sleep
 //! clause, freeze clause)". 75 was the last damage.
-use crate::battles::{self, BOTH, FOE, USER, electrode, named, send_out};
+use crate::battles::{self, BOTH, FOE, USER, assert_same, electrode, named, send_out};
 use gen1_effects::{group_two, is_group_two};
 use gen1_layout::{Conditions, Packed};
 use gen1_machine::{Event, EventList, Kind, Side, StageCount};
@@ -62,15 +62,15 @@ fn plays(
 ) -> Result<(), Fail> {
     let (events, drawn) = play_from(battle, played)?;
     let (name, _, _) = played;
-    assert_eq!(rt; drawn, draws, "{name}");
+    assert_same(rt, (name, drawn), (name, draws));
     compare(rt, battle, &events, told, want);
     Ok(())
 }
 
 // What has been told, and the bytes.
 fn compare(rt: &impl Abort, battle: &Packed, events: &EventList, told: &[Event], want: &Packed) {
-    assert_eq!(rt; events.as_slice(), told);
-    assert_eq!(rt; battle.as_bytes(), want.as_bytes());
+    assert_same(rt, events.as_slice(), told);
+    assert_same(rt, battle.as_bytes(), want.as_bytes());
 }
 
 // A move that misses, whose last damage is 0 then.

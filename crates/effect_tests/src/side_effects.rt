@@ -1,5 +1,7 @@
 //! What a move may do besides its damage, with the numbers of docs/MECHANICS.md, "Side effects".
-use crate::battles::{BOTH, FOE, USER, named, send_out, tauros, tauros_under, tauros_with};
+use crate::battles::{
+    BOTH, FOE, USER, assert_same, named, send_out, tauros, tauros_under, tauros_with,
+};
 use gen1_effects::side_effect;
 use gen1_layout::Packed;
 use gen1_machine::{Event, EventList};
@@ -45,13 +47,13 @@ fn plays(
 ) -> Result<(), Fail> {
     let (events, drawn) = play_from(battle, played)?;
     let (name, _, _) = played;
-    assert_eq!(rt; drawn, draws, "{name}");
+    assert_same(rt, (name, drawn), (name, draws));
     tells(rt, &events, told);
     Ok(())
 }
 
 fn tells(rt: &impl Abort, events: &EventList, told: &[Event]) {
-    assert_eq!(rt; events.as_slice(), told);
+    assert_same(rt, events.as_slice(), told);
 }
 
 // It leaves all bytes alone and tells nothing, after so many draws.
@@ -66,7 +68,7 @@ fn does_nothing(
     before.copy_from_slice(battle.as_bytes());
     for link in BOTH {
         plays(rt, battle, (name, byte, link), &[], draws)?;
-        assert_eq!(rt; battle.as_bytes(), before.as_slice(), "{name}");
+        assert_same(rt, (name, battle.as_bytes()), (name, before.as_slice()));
     }
     Ok(())
 }

@@ -1,5 +1,5 @@
 //! A battle before its first update (docs/LAYOUT.md).
-use crate::setting::{SEED, bytes_of, stands_at, team, two_tauros};
+use crate::setting::{SEED, assert_same, bytes_of, stands_at, team, two_tauros};
 use gen1_engine::{Battle, BattleResult};
 use gen1_machine::{Choice, Outcome, Request, Rules, Side, TurnLimit};
 use std::test::Fail;
@@ -18,10 +18,10 @@ const TAUROS: [u8; 24] = [
 fn the_bytes_of_two_teams(rt: HostRuntime) -> Result<(), Fail> {
     let battle = two_tauros()?;
     let bytes = battle.bytes();
-    assert!(rt; stands_at(bytes, 0, &HEADER));
-    assert!(rt; stands_at(bytes, 24, &TAUROS));
-    assert!(rt; stands_at(bytes, 204, &TAUROS));
-    assert!(rt; stands_at(bytes, 348, &[0; 36]));
+    assert_same(&rt, stands_at(bytes, 0, &HEADER), true);
+    assert_same(&rt, stands_at(bytes, 24, &TAUROS), true);
+    assert_same(&rt, stands_at(bytes, 204, &TAUROS), true);
+    assert_same(&rt, stands_at(bytes, 348, &[0; 36]), true);
     Ok(())
 }
 
@@ -33,14 +33,16 @@ fn both_pass_first(rt: HostRuntime) -> Result<(), Fail> {
         request_one: Request::Pass,
         request_two: Request::Pass,
     };
-    assert_eq!(rt; battle.result(), asked);
-    assert_eq!(rt;
+    assert_same(&rt, battle.result(), asked);
+    assert_same(
+        &rt,
         battle.choices(Side::One).as_slice(),
-        [Choice::Pass].as_slice()
+        [Choice::Pass].as_slice(),
     );
-    assert_eq!(rt;
+    assert_same(
+        &rt,
         battle.choices(Side::Two).as_slice(),
-        [Choice::Pass].as_slice()
+        [Choice::Pass].as_slice(),
     );
     Ok(())
 }
@@ -49,13 +51,17 @@ fn both_pass_first(rt: HostRuntime) -> Result<(), Fail> {
 fn rules_and_limit_are_kept(rt: HostRuntime) -> Result<(), Fail> {
     let team = team()?;
     let usual = two_tauros()?;
-    assert_eq!(rt; (usual.rules(), usual.limit()), (Rules::default(), 1000));
+    assert_same(
+        &rt,
+        (usual.rules(), usual.limit()),
+        (Rules::default(), 1000),
+    );
     let rules = Rules::new(2).ok_or("no such rules")?;
     let ruled = Battle::with_rules(&team, &team, SEED, rules);
-    assert_eq!(rt; (ruled.rules(), ruled.limit()), (rules, 1000));
+    assert_same(&rt, (ruled.rules(), ruled.limit()), (rules, 1000));
     let limit = TurnLimit::new(9999).ok_or("no such limit")?;
     let limited = Battle::with_limit(&team, &team, SEED, rules, limit);
-    assert_eq!(rt; (limited.rules(), limited.limit()), (rules, 9999));
+    assert_same(&rt, (limited.rules(), limited.limit()), (rules, 9999));
     Ok(())
 }
 
@@ -63,6 +69,6 @@ fn rules_and_limit_are_kept(rt: HostRuntime) -> Result<(), Fail> {
 fn a_clone_has_the_same_bytes(rt: HostRuntime) -> Result<(), Fail> {
     let battle = two_tauros()?;
     let copy = battle.clone()?;
-    assert_eq!(rt; bytes_of(&copy), bytes_of(&battle));
+    assert_same(&rt, bytes_of(&copy), bytes_of(&battle));
     Ok(())
 }

@@ -1,4 +1,5 @@
 //! Battles that are loaded, by docs/LAYOUT.md, "Loading".
+use crate::setting::assert_same;
 use gen1_engine::Battle;
 use gen1_machine::{Outcome, Request, Side};
 use std::test::Fail;
@@ -35,28 +36,28 @@ fn fault(bytes: &[u8]) -> u8 {
 fn bytes_are_loaded_as_they_are(rt: HostRuntime) -> Result<(), Fail> {
     let bytes = paralysed();
     let battle = Battle::load(&bytes)?;
-    assert_eq!(rt; battle.bytes(), bytes.as_slice());
-    assert_eq!(rt; battle.result().outcome, Outcome::Ongoing);
-    assert_eq!(rt; battle.result().request_two, Request::Move);
-    assert_eq!(rt; battle.choices(Side::One).len(), 1);
+    assert_same(&rt, battle.bytes(), bytes.as_slice());
+    assert_same(&rt, battle.result().outcome, Outcome::Ongoing);
+    assert_same(&rt, battle.result().request_two, Request::Move);
+    assert_same(&rt, battle.choices(Side::One).len(), 1);
     Ok(())
 }
 
 #[test]
 fn the_first_fault_is_told(rt: HostRuntime) -> Result<(), Fail> {
     let bytes = paralysed();
-    assert_eq!(rt; fault(&bytes), 0);
+    assert_same(&rt, fault(&bytes), 0);
     let (_, cut) = bytes.as_slice().split_last().ok_or("no byte")?;
-    assert_eq!(rt; fault(cut), 1);
+    assert_same(&rt, fault(cut), 1);
     let mut version = bytes;
     version[0] = 0;
-    assert_eq!(rt; fault(&version), 2);
+    assert_same(&rt, fault(&version), 2);
     // HP of 354 where the most is 353.
     let mut hp = bytes;
     hp[28] = 98;
-    assert_eq!(rt; fault(&hp), 4);
+    assert_same(&rt, fault(&hp), 4);
     let mut speed = bytes;
     speed[181] = 80;
-    assert_eq!(rt; fault(&speed), 6);
+    assert_same(&rt, fault(&speed), 6);
     Ok(())
 }

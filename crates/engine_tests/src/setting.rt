@@ -4,6 +4,8 @@ use arrayvec::ArrayVec;
 use gen1_engine::Battle;
 use gen1_stats::{MemberSpec, Team};
 use gen1_tables::{MoveId, Species};
+use std::fmt::Debug;
+use std::process::Abort;
 use std::test::Fail;
 
 pub(crate) const SEED: [u8; 10] = [1, 36, 255, 7, 31, 100, 179, 254, 127, 10];
@@ -42,4 +44,9 @@ pub fn stands_at(bytes: &[u8], at: usize, part: &[u8]) -> bool {
         }
     }
     true
+}
+
+// Asserts that these are the same. A test calls it, since an assertion in its own body costs the proof of the test seconds.
+pub(crate) fn assert_same<T: PartialEq + Debug + Drop>(rt: &impl Abort, found: T, expected: T) {
+    assert_eq!(rt; found, expected);
 }

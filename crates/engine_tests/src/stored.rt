@@ -1,5 +1,5 @@
 //! The stored run of battle_tool: two Tauros, two turns, and side 1 wins (docs/MECHANICS.md, "Log bytes").
-use crate::setting::{bytes_of, stands_at, two_tauros};
+use crate::setting::{assert_same, bytes_of, stands_at, two_tauros};
 use gen1_engine::{Battle, BattleResult, Refusal, ReplayFault, write_log};
 use gen1_events::LogBuf;
 use gen1_machine::{Choice, Device, EventList, MoveSlot, Outcome, Request, Side};
@@ -69,12 +69,12 @@ fn the_log_of_each_update(rt: HostRuntime) -> Result<(), Fail> {
     let mut battle = two_tauros()?;
     let mut log = LogBuf::new();
     battle.update(Choice::Pass, Choice::Pass, &mut log)?;
-    assert_eq!(rt; log.as_slice(), START.as_slice());
+    assert_same(&rt, log.as_slice(), START.as_slice());
     battle.update(strength()?, strength()?, &mut log)?;
-    assert_eq!(rt; log.as_slice(), FIRST.as_slice());
+    assert_same(&rt, log.as_slice(), FIRST.as_slice());
     let result = battle.update(strength()?, strength()?, &mut log);
-    assert_eq!(rt; result, Ok(WON));
-    assert_eq!(rt; log.as_slice(), SECOND.as_slice());
+    assert_same(&rt, result, Ok(WON));
+    assert_same(&rt, log.as_slice(), SECOND.as_slice());
     Ok(())
 }
 
@@ -84,9 +84,9 @@ fn the_events_of_an_update(rt: HostRuntime) -> Result<(), Fail> {
     let mut events = EventList::new();
     let mut log = LogBuf::new();
     battle.update_events(strength()?, strength()?, &mut events)?;
-    assert_eq!(rt; events.len(), 6);
+    assert_same(&rt, events.len(), 6);
     write_log(&events, &mut log);
-    assert_eq!(rt; log.as_slice(), FIRST.as_slice());
+    assert_same(&rt, log.as_slice(), FIRST.as_slice());
     Ok(())
 }
 
@@ -94,12 +94,12 @@ fn the_events_of_an_update(rt: HostRuntime) -> Result<(), Fail> {
 fn a_replay_writes_every_log(rt: HostRuntime) -> Result<(), Fail> {
     let mut battle = two_tauros()?;
     let mut sink = Device::new(Vec::new(rt.alloc()));
-    assert_eq!(rt; battle.replay(&PAIRS, &mut sink), Ok(WON));
+    assert_same(&rt, battle.replay(&PAIRS, &mut sink), Ok(WON));
     let bytes = sink.into_inner();
-    assert_eq!(rt; bytes.len(), 82);
-    assert!(rt; stands_at(bytes.as_slice(), 0, &START));
-    assert!(rt; stands_at(bytes.as_slice(), 23, &FIRST));
-    assert!(rt; stands_at(bytes.as_slice(), 59, &SECOND));
+    assert_same(&rt, bytes.len(), 82);
+    assert_same(&rt, stands_at(bytes.as_slice(), 0, &START), true);
+    assert_same(&rt, stands_at(bytes.as_slice(), 23, &FIRST), true);
+    assert_same(&rt, stands_at(bytes.as_slice(), 59, &SECOND), true);
     Ok(())
 }
 
@@ -112,9 +112,9 @@ fn a_replay_tells_a_write_that_fails(rt: HostRuntime) -> Result<(), Fail> {
         bytes: &mut bytes,
     });
     let result = battle.replay(&PAIRS, &mut sink);
-    assert_eq!(rt; result, Err(ReplayFault::Write { done: 2 }));
-    assert_eq!(rt; bytes.len(), 30);
-    assert_eq!(rt; battle.bytes()[1], 2);
+    assert_same(&rt, result, Err(ReplayFault::Write { done: 2 }));
+    assert_same(&rt, bytes.len(), 30);
+    assert_same(&rt, battle.bytes()[1], 2);
     Ok(())
 }
 
@@ -124,8 +124,8 @@ fn a_replay_tells_a_refused_pair(rt: HostRuntime) -> Result<(), Fail> {
     let mut sink = Device::new(Vec::new(rt.alloc()));
     let result = battle.replay(&[(0x00, 0x00), (0x11, 0x15)], &mut sink);
     let why = Refusal::NotOffered(Side::Two);
-    assert_eq!(rt; result, Err(ReplayFault::Refused { pair: 1, why }));
-    assert_eq!(rt; sink.into_inner().len(), 23);
+    assert_same(&rt, result, Err(ReplayFault::Refused { pair: 1, why }));
+    assert_same(&rt, sink.into_inner().len(), 23);
     Ok(())
 }
 
@@ -136,11 +136,11 @@ fn a_refused_pair_changes_nothing(rt: HostRuntime) -> Result<(), Fail> {
     let mut log = LogBuf::new();
     log.push(7);
     let result = battle.update_by_bytes(0x14, 0x11, &mut log);
-    assert_eq!(rt; result, Err(Refusal::NotOffered(Side::One)));
+    assert_same(&rt, result, Err(Refusal::NotOffered(Side::One)));
     let result = battle.update_by_bytes(0x11, 0xff, &mut log);
-    assert_eq!(rt; result, Err(Refusal::NotOffered(Side::Two)));
-    assert_eq!(rt; bytes_of(&battle), before);
-    assert_eq!(rt; log.as_slice(), [7].as_slice());
+    assert_same(&rt, result, Err(Refusal::NotOffered(Side::Two)));
+    assert_same(&rt, bytes_of(&battle), before);
+    assert_same(&rt, log.as_slice(), [7].as_slice());
     Ok(())
 }
 
@@ -151,11 +151,12 @@ fn an_ended_battle_refuses_all(rt: HostRuntime) -> Result<(), Fail> {
     for (one, two) in PAIRS {
         battle.update_by_bytes(one, two, &mut log)?;
     }
-    assert_eq!(rt;
+    assert_same(
+        &rt,
         battle.update_by_bytes(0x00, 0x00, &mut log),
-        Err(Refusal::Over)
+        Err(Refusal::Over),
     );
-    assert_eq!(rt; log.as_slice(), SECOND.as_slice());
+    assert_same(&rt, log.as_slice(), SECOND.as_slice());
     Ok(())
 }
 
@@ -166,8 +167,8 @@ fn a_clone_plays_on_alone(rt: HostRuntime) -> Result<(), Fail> {
     let mut copy = battle.clone()?;
     let mut log = LogBuf::new();
     copy.update_by_bytes(0x11, 0x11, &mut log)?;
-    assert_eq!(rt; bytes_of(&battle), before);
+    assert_same(&rt, bytes_of(&battle), before);
     battle.update_by_bytes(0x11, 0x11, &mut log)?;
-    assert_eq!(rt; bytes_of(&battle), bytes_of(&copy));
+    assert_same(&rt, bytes_of(&battle), bytes_of(&copy));
     Ok(())
 }

@@ -24,7 +24,7 @@ use Rattle.gen1_machine.specs.GoingOn.{bide_goes_on}
 use Rattle.gen1_machine.specs.Charging.{begin_charge, charge, make_current}
 use Rattle.gen1_machine.specs.Action.{damage_of, gate_or_held, lands_at_once, lead_up, lets_energy_go, move_taken_in, prelude, see_if_going_on, use_move}
 use Rattle.gen1_machine.specs.Valid.{effect_of, IsField, IsUnderway, IsUsedMove}
-use Rattle.gen1_machine.specs.Plans.{with_plan, Doing, FitsPick, HoldsPlan, IsPlanned, Plan, Plans}
+use Rattle.gen1_machine.specs.Plans.{with_plan, Doing, FitsPick, IsPlanned, Plan, Plans}
 use Rattle.gen1_machine.proofs.Keeps.{choose-keeps, note-keeps, stay-keeps, stop-keeps, then-keeps, Keeps}
 use Rattle.gen1_machine.proofs.Leads.{choose-false, keeps-leads, then-leads, Leads}
 use Rattle.gen1_machine.proofs.Sound.{party-valid, planned-holds, planned-sound, replanned, taken-up, with_plan-is}

@@ -1,5 +1,4 @@
 -- How what is shown goes through draws until one meets a test, and through the end of an action.
-use Rattle.std.proofs.Common.{◌≡◌}
 use Rattle.gen1_layout.proofs.Words.{Bool, Event, Frame, List, Parts, Phase, Progress, ShowsDrawn, drawn_goes, drawn_stops, false, halted, refl, still, stop, true, ℕ, ◌▸◌}
 pub use Rattle.gen1_action.proofs.Searching.{drawn_none, drawn_until}
 

@@ -5,19 +5,30 @@ ghost use Rattle.gen1_rolls.specs.Streams.{Stream, byte_at, span, first, low_bit
 
 use crate::{LinkRandom, Rolls, Sweep, renew, until};
 use std::cell::Cell;
+use std::fmt::Debug;
+use std::process::Abort;
+
+// Asserts that these are the same. A test calls it, since an assertion in its own body costs the proof of the test seconds.
+fn assert_same<T: PartialEq + Debug + Drop>(rt: &impl Abort, found: T, expected: T) {
+    assert_eq!(rt; found, expected);
+}
 
 #[test]
 fn nine_numbers_are_drawn_and_then_renewed(rt: HostRuntime) {
     let mut random = LinkRandom::new([1, 2, 3, 4, 5, 6, 7, 8, 9, 10]);
     for want in [1, 2, 3, 4, 5, 6, 7, 8, 9, 6, 11, 16] {
-        assert_eq!(rt; random.draw(), want);
+        assert_same(&rt, random.draw(), want);
     }
-    assert_eq!(rt; [renew(1), renew(2), renew(3)], [6, 11, 16]);
-    assert_eq!(rt; random.index(), 3);
-    assert_eq!(rt; random.numbers(), [6, 11, 16, 21, 26, 31, 36, 41, 46, 10]);
+    assert_same(&rt, [renew(1), renew(2), renew(3)], [6, 11, 16]);
+    assert_same(&rt, random.index(), 3);
+    assert_same(
+        &rt,
+        random.numbers(),
+        [6, 11, 16, 21, 26, 31, 36, 41, 46, 10],
+    );
     let same = LinkRandom::from_parts(3, random.numbers());
-    assert_eq!(rt; same, Some(random));
-    assert_eq!(rt; LinkRandom::from_parts(9, [0; 10]), None);
+    assert_same(&rt, same, Some(random));
+    assert_same(&rt, LinkRandom::from_parts(9, [0; 10]), None);
 }
 
 /// What `until` answers for a number, and after how many draws. No byte is 256.
@@ -33,15 +44,19 @@ fn found<R: Rolls>(r: &mut R, wanted: u16) -> (Option<u8>, u32) {
 #[test]
 fn the_first_draw_that_meets_a_test(rt: HostRuntime) {
     let mut sweep = Sweep::new(7);
-    assert_eq!(rt; found(&mut sweep, 6), (Some(6), 256));
-    assert_eq!(rt; sweep, Sweep::new(7));
-    assert_eq!(rt; found(&mut sweep, 256), (None, 256));
+    assert_same(&rt, found(&mut sweep, 6), (Some(6), 256));
+    assert_same(&rt, sweep, Sweep::new(7));
+    assert_same(&rt, found(&mut sweep, 256), (None, 256));
     let mut random = LinkRandom::new([0; 10]);
-    assert_eq!(rt; found(&mut random, 51), (Some(51), 2296));
-    assert_eq!(rt; random.index(), 1);
-    assert_eq!(rt; random.numbers(), [51, 51, 51, 51, 51, 51, 51, 51, 51, 0]);
-    assert_eq!(rt; found(&mut random, 256), (None, 2304));
-    assert_eq!(rt; random.index(), 1);
+    assert_same(&rt, found(&mut random, 51), (Some(51), 2296));
+    assert_same(&rt, random.index(), 1);
+    assert_same(
+        &rt,
+        random.numbers(),
+        [51, 51, 51, 51, 51, 51, 51, 51, 51, 0],
+    );
+    assert_same(&rt, found(&mut random, 256), (None, 2304));
+    assert_same(&rt, random.index(), 1);
 }
 
 /// Draws a count from 1 to 7: the lowest three bits of the first draw where they are not 0.
@@ -71,6 +86,6 @@ fn index_behind(seed: [u8; 10]) -> u8
 
 #[test]
 fn callers_of_any_generator(rt: HostRuntime) {
-    assert_eq!(rt; count(&mut Sweep::new(248)), 1);
-    assert_eq!(rt; index_behind([8, 8, 8, 3, 0, 0, 0, 0, 0, 0]), 4);
+    assert_same(&rt, count(&mut Sweep::new(248)), 1);
+    assert_same(&rt, index_behind([8, 8, 8, 3, 0, 0, 0, 0, 0, 0]), 4);
 }

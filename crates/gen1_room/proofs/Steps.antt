@@ -1,5 +1,5 @@
 -- Updates by choices that are offered, and what an accepted update left.
-use Rattle.std.proofs.Common.{List, Ok, ap, arith, false, inl, inr, refl, true, ℕ, ◌≡◌, ◌⊎◌}
+use Rattle.std.proofs.Common.{List, Ok, ap, arith, false, inl, inr, refl, true, ◌≡◌, ◌⊎◌}
 use Rattle.gen1_machine.specs.declared.side.Side.{Side}
 use Rattle.gen1_machine.specs.declared.side.Side.TheVariants.{One}
 use Rattle.gen1_machine.specs.declared.terms.Outcome.{Outcome}

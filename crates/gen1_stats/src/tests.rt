@@ -2,6 +2,8 @@
 use crate::{KnownMove, Member, MemberSpec, Status, Team, TeamRefusal, hp_stat, stat};
 use arrayvec::ArrayVec;
 use gen1_tables::{MoveId, Species};
+use std::fmt::Debug;
+use std::process::Abort;
 use std::test::Fail;
 
 // A Tauros at level 100, with full DVs and experience, and these moves with their PP ups.
@@ -26,70 +28,78 @@ fn refusal_of(moves: &[(&str, u8)]) -> Result<Option<TeamRefusal>, &'static str>
     Ok(Team::new(&[tauros(moves)?]).err())
 }
 
+// Asserts that these are the same. A test calls it, since an assertion in its own body costs the proof of the test seconds.
+pub(crate) fn assert_same<T: PartialEq + Debug + Drop>(rt: &impl Abort, found: T, expected: T) {
+    assert_eq!(rt; found, expected);
+}
+
 #[test]
 fn a_team_of_one(rt: HostRuntime) -> Result<(), Fail> {
     let team = Team::new(&[tauros(&[("Strength", 3), ("Wrap", 0)])?])?;
     let [member] = team.members() else {
         return Err("one member")?;
     };
-    assert_eq!(rt; member.species().name(), "Tauros");
-    assert_eq!(rt; member.level(), 100);
-    assert_eq!(rt; member.max_hp(), 353);
-    assert_eq!(rt; member.attack(), 298);
-    assert_eq!(rt; member.defense(), 288);
-    assert_eq!(rt; member.speed(), 318);
-    assert_eq!(rt; member.special(), stat(70, 15, 65535, 100));
+    assert_same(&rt, member.species().name(), "Tauros");
+    assert_same(&rt, member.level(), 100);
+    assert_same(&rt, member.max_hp(), 353);
+    assert_same(&rt, member.attack(), 298);
+    assert_same(&rt, member.defense(), 288);
+    assert_same(&rt, member.speed(), 318);
+    assert_same(&rt, member.special(), stat(70, 15, 65535, 100));
     let pp = |known: &KnownMove| known.pp;
-    assert_eq!(rt; member.moves().first().map(pp), Some(24));
-    assert_eq!(rt; member.moves().last().map(pp), Some(20));
+    assert_same(&rt, member.moves().first().map(pp), Some(24));
+    assert_same(&rt, member.moves().last().map(pp), Some(20));
     Ok(())
 }
 
 #[test]
 fn the_most_hp(rt: HostRuntime) {
     let chansey = 250;
-    assert_eq!(rt; hp_stat(chansey, 15, 65535, 100), 703);
+    assert_same(&rt, hp_stat(chansey, 15, 65535, 100), 703);
 }
 
 #[test]
 fn the_least_member(rt: HostRuntime) {
-    assert_eq!(rt; Member::default().max_hp(), 11);
-    assert_eq!(rt; Status::default(), Status::Healthy);
+    assert_same(&rt, Member::default().max_hp(), 11);
+    assert_same(&rt, Status::default(), Status::Healthy);
 }
 
 #[test]
 fn refusals_come_in_order(rt: HostRuntime) -> Result<(), Fail> {
-    assert_eq!(rt; refusal_of(&[("Strength", 3)])?, None);
-    assert_eq!(rt; refusal_of(&[])?, Some(TeamRefusal::NoMove(1)));
+    assert_same(&rt, refusal_of(&[("Strength", 3)])?, None);
+    assert_same(&rt, refusal_of(&[])?, Some(TeamRefusal::NoMove(1)));
     let wrong = [
         ("Strength", 4),
         ("Strength", 0),
         ("Struggle", 0),
         ("Metronome", 0),
     ];
-    assert_eq!(rt; refusal_of(&wrong)?, Some(TeamRefusal::MoveLeftOut(1)));
-    assert_eq!(rt;
+    assert_same(&rt, refusal_of(&wrong)?, Some(TeamRefusal::MoveLeftOut(1)));
+    assert_same(
+        &rt,
         refusal_of(&wrong[..3])?,
-        Some(TeamRefusal::StruggleChosen(1))
+        Some(TeamRefusal::StruggleChosen(1)),
     );
-    assert_eq!(rt;
+    assert_same(
+        &rt,
         refusal_of(&wrong[..2])?,
-        Some(TeamRefusal::RepeatedMove(1))
+        Some(TeamRefusal::RepeatedMove(1)),
     );
-    assert_eq!(rt; refusal_of(&wrong[..1])?, Some(TeamRefusal::PpUps(1)));
+    assert_same(&rt, refusal_of(&wrong[..1])?, Some(TeamRefusal::PpUps(1)));
     Ok(())
 }
 
 #[test]
 fn refusals_of_members(rt: HostRuntime) -> Result<(), Fail> {
-    assert_eq!(rt; Team::new(&[]).err(), Some(TeamRefusal::Empty));
+    assert_same(&rt, Team::new(&[]).err(), Some(TeamRefusal::Empty));
     let mut members = Vec::new(rt.alloc());
     for _ in 0..7 {
         members.push(tauros(&[("Strength", 0)])?)?;
     }
-    assert_eq!(rt;
+    assert_same(
+        &rt,
         Team::new(members.as_slice()).err(),
-        Some(TeamRefusal::TooMany)
+        Some(TeamRefusal::TooMany),
     );
     let mut second = tauros(&[("Strength", 0)])?;
     second.level = 0;
@@ -97,7 +107,7 @@ fn refusals_of_members(rt: HostRuntime) -> Result<(), Fail> {
     let mut third = tauros(&[])?;
     third.dvs = [0, 0, 0, 16];
     let refusal = Team::new(&[tauros(&[("Strength", 0)])?, second, third]).err();
-    assert_eq!(rt; refusal, Some(TeamRefusal::Level(2)));
+    assert_same(&rt, refusal, Some(TeamRefusal::Level(2)));
     Ok(())
 }
 
@@ -144,10 +154,10 @@ fn refusals_in_numbers_and_words(rt: HostRuntime) -> Result<(), Fail> {
             "member 1: a move has more than three PP ups",
         ),
     ] {
-        assert_eq!(rt; refusal.number(), number);
-        assert_eq!(rt; refusal.place(), place);
+        assert_same(&rt, refusal.number(), number);
+        assert_same(&rt, refusal.place(), place);
         let printed = format!(in rt.alloc(); "{refusal}")?;
-        assert_eq!(rt; printed.as_str(), text);
+        assert_same(&rt, printed.as_str(), text);
     }
     Ok(())
 }

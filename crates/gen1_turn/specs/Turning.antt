@@ -7,8 +7,8 @@ use Rattle.gen1_machine.specs.declared.side.Side.TheVariants.{One, Two}
 use Rattle.gen1_machine.specs.Progress.{unless}
 use Rattle.gen1_machine.specs.Ruling.{Ruling, ruling_of}
 use Rattle.gen1_machine.specs.Residual.{residual}
-use Rattle.gen1_machine.specs.Turn.{is_cut, Acts, Part, Suffers}
-use Rattle.gen1_machine.specs.Plans.{Comes, Plan, PlanOf}
+use Rattle.gen1_machine.specs.Turn.{do_part, is_cut, Acts, Part, Suffers}
+use Rattle.gen1_machine.specs.Plans.{Comes, FitsPick, Plan, PlanOf}
 use Rattle.gen1_layout.specs.Parts.{Parts}
 use Rattle.gen1_action.specs.declared.known.Known.{Known}
 use Rattle.gen1_action.specs.Knowing.{ShowsOver}
@@ -34,6 +34,13 @@ suffering s rest = unless is_cut (residual s ▸ unless is_cut rest)
 -- a part of a turn, and what its side then suffers
 abbrev pub PartLeaves : (Bool → Progress → Type 0) → Bool → Phase → Side → Progress → Type 0
 PartLeaves Shown falls part s = LeavesRest Shown falls (λ rest. part ▸ suffering s rest) (λ p. residual s (part p))
+
+-- a side's action by this pick, and what the side then suffers
+abbrev pub ActsAndSuffers : {A : Type 0} → (A → ℕ) → (A → A) → ℕ → Side → Pick → Parts → List Event → A → Known → Parts → List Event → A → Known → Bool → Type 0
+ActsAndSuffers {A = A} byte next width side pick parts events old k parts' events' new k' falls =
+    (origin : A) (g : Frame) (p : Progress) (plan : Side → Plan) → FitsPick pick (plan side) → Follows g.setting.terms plan p
+    → ShowsOver byte next width origin k g parts events old false p
+    → PartLeaves (ShowsOver byte next width origin k' g parts' events' new) falls (do_part (ruling_of g.setting.terms) (Acts side pick)) side p
 
 -- code of a turn, of which nobody asks whether the rest then falls away
 abbrev pub Ends : {A : Type 0} → (A → ℕ) → (A → A) → ℕ → A → Known → Frame → Parts → List Event → A → Progress → Type 0

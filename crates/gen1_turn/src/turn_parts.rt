@@ -1,17 +1,15 @@
 //! The parts of a turn, each with what its side then suffers (docs/MECHANICS.md, "Order of a turn").
 ghost use Rattle.std.specs.Prelude.{◌||◌, ◌≡◌};
 ghost use Rattle.gen1_layout.specs.Words.{AddsAtMost, Bool, Does, Event, Frame, HasRoom, List, Progress, Reads, Shows, false};
-ghost use Rattle.gen1_machine.specs.declared.side.Side.{Side as SideOf};
 ghost use Rattle.gen1_machine.specs.declared.side.Side.TheVariants as sides;
 ghost use Rattle.gen1_machine.specs.State.{has_fallen_in, is_over};
-ghost use Rattle.gen1_machine.specs.Plans.{FitsPick, InRange, Plan};
+ghost use Rattle.gen1_machine.specs.Plans.{InRange};
 ghost use Rattle.gen1_machine.specs.Residual.{residual};
-ghost use Rattle.gen1_machine.specs.Ruling.{Ruling, ruling_of};
+ghost use Rattle.gen1_machine.specs.Ruling.{Ruling};
 ghost use Rattle.gen1_machine.specs.Turn.{Acts as ActsPart, Sends, do_part, end_spent_trapping, end_turn, is_spent};
-ghost use Rattle.gen1_action.specs.Knowing.{ShowsOver, knowing, with_broke};
-ghost use Rattle.gen1_action.specs.Planned.{Follows};
+ghost use Rattle.gen1_action.specs.Knowing.{knowing, with_broke};
 ghost use Rattle.gen1_turn.specs.Acting.{Acts};
-ghost use Rattle.gen1_turn.specs.Turning.{LeavesRest, PartLeaves, suffering};
+ghost use Rattle.gen1_turn.specs.Turning.{ActsAndSuffers, LeavesRest, PartLeaves, suffering};
 
 use crate::act;
 use crate::by_side::BySide;
@@ -33,9 +31,7 @@ pub(crate) fn acts_and_suffers<R: Rolls>(
     events: &mut EventList,
 ) -> bool
     requires { HasRoom 24 events.old }
-    ensures shown { (origin : R) (g : Frame) (p : Progress) (plan : SideOf → Plan) → FitsPick pick (plan side) → Follows g.setting.terms plan p
-        → ShowsOver R.byte R.next R.SPAN origin known.old g battle.old events.old.items random.old false p
-        → PartLeaves (λ stopped q. ShowsOver R.byte R.next R.SPAN origin known.new g battle.new events.new.items random.new stopped q) result (do_part (ruling_of g.setting.terms) (ActsPart side pick)) side p }
+    ensures shown { ActsAndSuffers R.byte R.next R.SPAN side pick battle.old events.old.items random.old known.old battle.new events.new.items random.new known.new result }
     ensures room { AddsAtMost 24 events.old events.new }
 {
     match side {
@@ -54,9 +50,7 @@ fn act_and_suffer<R: Rolls>(
     events: &mut EventList,
 ) -> bool
     requires { HasRoom 24 events.old }
-    ensures shown { (origin : R) (g : Frame) (p : Progress) (plan : SideOf → Plan) → FitsPick pick (plan side) → Follows g.setting.terms plan p
-        → ShowsOver R.byte R.next R.SPAN origin known.old g battle.old events.old.items random.old false p
-        → PartLeaves (λ stopped q. ShowsOver R.byte R.next R.SPAN origin known.new g battle.new events.new.items random.new stopped q) result (do_part (ruling_of g.setting.terms) (ActsPart side pick)) side p }
+    ensures shown { ActsAndSuffers R.byte R.next R.SPAN side pick battle.old events.old.items random.old known.old battle.new events.new.items random.new known.new result }
     ensures room { AddsAtMost 24 events.old events.new }
 {
     if act_unless_skipped(battle, side, pick, known, random, events) {

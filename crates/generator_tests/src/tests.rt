@@ -12,6 +12,8 @@ use gen1_rolls::Rolls;
 use gen1_stats::{MemberSpec, Status, Team};
 use gen1_status::{Gate, gate};
 use gen1_tables::{Element, MoveId, Species};
+use std::fmt::Debug;
+use std::process::Abort;
 use std::test::Fail;
 
 mod effects;
@@ -44,13 +46,18 @@ fn two_tauros() -> Result<Packed, Fail> {
     Ok(battle)
 }
 
+// Asserts that these are the same. A test calls it, since an assertion in its own body costs the proof of the test seconds.
+pub(crate) fn assert_same<T: PartialEq + Debug + Drop>(rt: &impl Abort, found: T, expected: T) {
+    assert_eq!(rt; found, expected);
+}
+
 #[test]
 fn a_countdown(rt: HostRuntime) {
     let mut random = own_stream(1);
     for want in [1, 0, 255, 254] {
-        assert_eq!(rt; random.draw(), want);
+        assert_same(&rt, random.draw(), want);
     }
-    assert_eq!(rt; random, Countdown::new(253));
+    assert_same(&rt, random, Countdown::new(253));
 }
 
 // Below 110 / 2: 6 is 48 rotated, 7 is 56, 198 is 54 and 230 is 55.
@@ -58,57 +65,72 @@ fn a_countdown(rt: HostRuntime) {
 fn critical_draws(rt: HostRuntime) -> Result<(), Fail> {
     let battle = two_tauros()?;
     for (number, critical) in [(6, true), (7, false), (198, true), (230, false)] {
-        assert_eq!(rt; critical_at(&battle, USER, strength()?, number), critical);
+        assert_same(
+            &rt,
+            critical_at(&battle, USER, strength()?, number),
+            critical,
+        );
     }
     let mut random = Countdown::new(0);
-    assert_eq!(rt; critical_by(&battle, USER, strength()?, &mut random), true);
-    assert_eq!(rt; random, Countdown::new(255));
+    assert_same(
+        &rt,
+        critical_by(&battle, USER, strength()?, &mut random),
+        true,
+    );
+    assert_same(&rt, random, Countdown::new(255));
     Ok(())
 }
 
 // Rotated, 179 is 217 and 177 is 216, which is too low, as is each even number. From 178 on, 255 is the first that is a factor.
 #[test]
 fn factors(rt: HostRuntime) {
-    assert_eq!(rt; factor_at(100, 179), 85);
-    assert_eq!(rt; factor_at(100, 255), 100);
-    assert_eq!(rt; factor_at(1, 179), 1);
+    assert_same(&rt, factor_at(100, 179), 85);
+    assert_same(&rt, factor_at(100, 255), 100);
+    assert_same(&rt, factor_at(1, 179), 1);
     let mut random = Countdown::new(180);
-    assert_eq!(rt; factor_by(100, &mut random), 85);
-    assert_eq!(rt; random, Countdown::new(178));
-    assert_eq!(rt; factor_by(1, &mut random), 1);
-    assert_eq!(rt; random, Countdown::new(178));
-    assert_eq!(rt; factor_by(100, &mut random), 100);
-    assert_eq!(rt; random, Countdown::new(254));
+    assert_same(&rt, factor_by(100, &mut random), 85);
+    assert_same(&rt, random, Countdown::new(178));
+    assert_same(&rt, factor_by(1, &mut random), 1);
+    assert_same(&rt, random, Countdown::new(178));
+    assert_same(&rt, factor_by(100, &mut random), 100);
+    assert_same(&rt, random, Countdown::new(254));
 }
 
 #[test]
 fn hit_tests(rt: HostRuntime) -> Result<(), Fail> {
     let mut battle = two_tauros()?;
-    assert_eq!(rt; hit_test_at(&mut battle, USER, strength()?, 255, 254), true);
-    assert_eq!(rt;
+    assert_same(
+        &rt,
+        hit_test_at(&mut battle, USER, strength()?, 255, 254),
+        true,
+    );
+    assert_same(
+        &rt,
         hit_test_at(&mut battle, USER, strength()?, 255, 255),
-        false
+        false,
     );
     let mut random = Countdown::new(76);
     battle.put_accuracy(USER, 5);
     let missed = hit_test_by(&mut battle, USER, strength()?, 116, &mut random);
     // 66 percent of 116, rounded down.
-    assert_eq!(rt;
+    assert_same(
+        &rt,
         missed,
         Hit {
             hit: false,
-            kept: 76
-        }
+            kept: 76,
+        },
     );
     let hit = hit_test_by(&mut battle, USER, strength()?, 116, &mut random);
-    assert_eq!(rt;
+    assert_same(
+        &rt,
         hit,
         Hit {
             hit: true,
-            kept: 76
-        }
+            kept: 76,
+        },
     );
-    assert_eq!(rt; random, Countdown::new(74));
+    assert_same(&rt, random, Countdown::new(74));
     Ok(())
 }
 
@@ -118,18 +140,19 @@ fn gates(rt: HostRuntime) -> Result<(), Fail> {
     let mut random = Countdown::new(0);
     let mut quiet = EventList::new();
     let answer = gate_by(&mut battle, USER, STRENGTH, &mut random, &mut quiet);
-    assert_eq!(rt; (answer, random), (Gate::Go, Countdown::new(0)));
+    assert_same(&rt, (answer, random), (Gate::Go, Countdown::new(0)));
     battle.put_status(USER, Status::Paralysed);
     for (number, stops) in [(63, false), (62, true)] {
         let mut events = EventList::new();
-        assert_eq!(rt;
+        assert_same(
+            &rt,
             gate_at(&mut battle, USER, STRENGTH, number, &mut events),
-            stops
+            stops,
         );
     }
     let mut events = EventList::new();
     let answer = gate_by(&mut battle, USER, STRENGTH, &mut random, &mut events);
-    assert_eq!(rt; (answer, random), (Gate::Stop, Countdown::new(255)));
+    assert_same(&rt, (answer, random), (Gate::Stop, Countdown::new(255)));
     Ok(())
 }
 
@@ -146,14 +169,16 @@ fn held(rt: HostRuntime) -> Result<(), Fail> {
     let mut events = EventList::new();
     let mut random = Countdown::new(255);
     let answer = gate(&mut battle, USER, Pick::Held, &mut random, &mut events);
-    assert_eq!(rt; (answer, random), (Gate::Stop, Countdown::new(255)));
-    assert_eq!(rt;
+    assert_same(&rt, (answer, random), (Gate::Stop, Countdown::new(255)));
+    assert_same(
+        &rt,
         events.as_slice(),
-        [Event::Cant(battle.who(USER), CantReason::PartiallyTrapped)].as_slice()
+        [Event::Cant(battle.who(USER), CantReason::PartiallyTrapped)].as_slice(),
     );
-    assert_eq!(rt;
+    assert_same(
+        &rt,
         (battle.status(USER), battle.confused(USER)),
-        (asleep, Some(2))
+        (asleep, Some(2)),
     );
     Ok(())
 }

@@ -1,4 +1,5 @@
 //! Each field at its least and its greatest value, and one past either (docs/LAYOUT.md, "Loading").
+use crate::comparing::assert_same;
 use gen1_layout::{Packed, ReadFault};
 use std::process::Abort;
 
@@ -76,30 +77,30 @@ fn answer(bytes: &[u8]) -> u8 {
 
 // What reading two Tauros with these changes answers: 0, or the fault.
 fn answers(rt: &impl Abort, changes: &[(usize, u8)], number: u8) {
-    assert_eq!(rt; answer(&changed(changes)), number, "{changes:?}");
+    assert_same(rt, (changes, answer(&changed(changes))), (changes, number));
 }
 
 #[test]
 fn two_tauros_are_read(rt: HostRuntime) {
     let form = two_tauros();
-    assert!(rt; is_loaded_as(&form, &form));
+    assert_same(&rt, is_loaded_as(&form, &form), true);
 }
 
 #[test]
 fn lengths(rt: HostRuntime) {
-    assert_eq!(rt; answer(&[]), 1);
-    assert_eq!(rt; answer(&[3; 383]), 1);
-    assert_eq!(rt; answer(&[3; 385]), 1);
+    assert_same(&rt, answer(&[]), 1);
+    assert_same(&rt, answer(&[3; 383]), 1);
+    assert_same(&rt, answer(&[3; 385]), 1);
 }
 
 #[test]
 fn versions(rt: HostRuntime) {
-    assert_eq!(rt; answer(&[0; 384]), 2);
+    assert_same(&rt, answer(&[0; 384]), 2);
     answers(&rt, &[(0, 4)], 2);
     for version in 1..3 {
         answers(&rt, &[(0, version)], 3);
         let old = changed(&[(0, version), (20, 0), (21, 0)]);
-        assert!(rt; is_loaded_as(&old, &two_tauros()));
+        assert_same(&rt, is_loaded_as(&old, &two_tauros()), true);
     }
     answers(&rt, &[(0, 2), (20, 0), (21, 0), (19, 3)], 0);
     answers(&rt, &[(0, 1), (20, 0), (21, 0), (19, 1)], 3);
@@ -150,7 +151,7 @@ fn members(rt: HostRuntime) {
         for (low, high, number) in [(5, 0, 0), (4, 0, 4), (231, 3, 0), (232, 3, 4)] {
             let mut form = three_tauros();
             put(&mut form, &[(at, low), (next, high)]);
-            assert_eq!(rt; answer(&form), number);
+            assert_same(&rt, answer(&form), number);
         }
     }
 }
@@ -165,7 +166,7 @@ fn statuses(rt: HostRuntime) {
     for (status, number) in [(0, 0), (8, 4)] {
         let mut form = three_tauros();
         put(&mut form, &[(52, 0), (53, 0), (62, status)]);
-        assert_eq!(rt; answer(&form), number);
+        assert_same(&rt, answer(&form), number);
     }
     // marks
     answers(&rt, &[(19, 1), (38, 7), (47, 1)], 0);
@@ -197,12 +198,12 @@ fn places(rt: HostRuntime) {
     for start in [72, 96, 120, 144] {
         put_block(&mut six, start, &TAUROS);
     }
-    assert_eq!(rt; answer(&six), 0);
+    assert_same(&rt, answer(&six), 0);
     put_block(&mut six, 48, &[0; 24]);
-    assert_eq!(rt; answer(&six), 4);
+    assert_same(&rt, answer(&six), 4);
     let mut nobody = two_tauros();
     put_block(&mut nobody, 24, &[0; 24]);
-    assert_eq!(rt; answer(&nobody), 4);
+    assert_same(&rt, answer(&nobody), 4);
     answers(&rt, &[(71, 1)], 4);
     answers(&rt, &[(347, 1)], 4);
 }
@@ -382,9 +383,9 @@ fn replacements(rt: HostRuntime) {
             &mut form,
             &[(28, 0), (29, 0), (17, 2), (18, 0), (1, low), (2, 3)],
         );
-        assert_eq!(rt; answer(&form), number);
+        assert_same(&rt, answer(&form), number);
         form[18] = 2;
-        assert_eq!(rt; answer(&form), 7);
+        assert_same(&rt, answer(&form), 7);
     }
 }
 
@@ -393,16 +394,16 @@ fn before_the_first_turn(rt: HostRuntime) {
     let mut form = changed(&[(1, 0), (17, 0), (18, 0)]);
     put_block(&mut form, 168, &[0; 36]);
     put_block(&mut form, 348, &[0; 36]);
-    assert_eq!(rt; answer(&form), 0);
+    assert_same(&rt, answer(&form), 0);
     let mut over = form;
     put(&mut over, &[(16, 4)]);
-    assert_eq!(rt; answer(&over), 7);
+    assert_same(&rt, answer(&over), 7);
     let mut fallen = form;
     put(&mut fallen, &[(28, 0), (29, 0)]);
-    assert_eq!(rt; answer(&fallen), 7);
+    assert_same(&rt, answer(&fallen), 7);
 }
 
 #[test]
 fn faults_have_texts(rt: HostRuntime) {
-    assert_eq!(rt; ReadFault::Request.number(), 7);
+    assert_same(&rt, ReadFault::Request.number(), 7);
 }

@@ -1,4 +1,5 @@
 //! Members by their places, several conditions at once, the terms, and a battle at turn 0 (docs/LAYOUT.md).
+use crate::comparing::assert_same;
 use arrayvec::ArrayVec;
 use gen1_layout::{Conditions, Packed};
 use gen1_machine::{Health, Level, Outcome, Request, Rules, Side, TurnLimit};
@@ -48,35 +49,40 @@ fn members_by_their_places(rt: HostRuntime) -> Result<(), Fail> {
     let packed = at_turn_0()?;
     for place in 1..3 {
         let side = Side::Two;
-        assert_eq!(rt;
+        assert_same(
+            &rt,
             packed.species_from(side, place),
-            Species::from_name("Tauros")
+            Species::from_name("Tauros"),
         );
-        assert_eq!(rt; packed.level_at(side, place), 100);
-        assert_eq!(rt; packed.level_from(side, place), Level::new(100));
-        assert_eq!(rt; packed.max_hp_at(side, place), 353);
-        assert_eq!(rt; packed.own_stats_at(side, place), [298, 288, 318, 238]);
-        assert_eq!(rt;
+        assert_same(&rt, packed.level_at(side, place), 100);
+        assert_same(&rt, packed.level_from(side, place), Level::new(100));
+        assert_same(&rt, packed.max_hp_at(side, place), 353);
+        assert_same(&rt, packed.own_stats_at(side, place), [298, 288, 318, 238]);
+        assert_same(
+            &rt,
             packed.health_from(side, place),
-            Health::new(353, 353, None)
+            Health::new(353, 353, None),
         );
-        assert_eq!(rt;
+        assert_same(
+            &rt,
             (packed.move_at(side, place, 1), packed.pp_at(side, place, 1)),
-            (70, 24)
+            (70, 24),
         );
-        assert_eq!(rt;
+        assert_same(
+            &rt,
             (packed.move_at(side, place, 2), packed.pp_at(side, place, 2)),
-            (35, 20)
+            (35, 20),
         );
-        assert_eq!(rt;
+        assert_same(
+            &rt,
             (packed.move_at(side, place, 3), packed.pp_at(side, place, 3)),
-            (0, 0)
+            (0, 0),
         );
     }
-    assert_eq!(rt; packed.species_from(Side::One, 2), None);
-    assert_eq!(rt; packed.level_from(Side::One, 2), None);
-    assert_eq!(rt; packed.health_from(Side::One, 2), None);
-    assert_eq!(rt; packed.own_stats_at(Side::One, 2), [0; 4]);
+    assert_same(&rt, packed.species_from(Side::One, 2), None);
+    assert_same(&rt, packed.level_from(Side::One, 2), None);
+    assert_same(&rt, packed.health_from(Side::One, 2), None);
+    assert_same(&rt, packed.own_stats_at(Side::One, 2), [0; 4]);
     Ok(())
 }
 
@@ -84,24 +90,27 @@ fn members_by_their_places(rt: HostRuntime) -> Result<(), Fail> {
 #[test]
 fn the_terms_and_a_battle_at_turn_0(rt: HostRuntime) -> Result<(), Fail> {
     let mut packed = at_turn_0()?;
-    assert_eq!(rt; &packed.header()[19..22], &[3, 44, 1][..]);
-    assert_eq!(rt; Some(packed.rules()), Rules::new(3));
-    assert_eq!(rt;
+    assert_same(&rt, &packed.header()[19..22], &[3, 44, 1][..]);
+    assert_same(&rt, Some(packed.rules()), Rules::new(3));
+    assert_same(
+        &rt,
         (packed.sleep_clause(), packed.freeze_clause()),
-        (true, true)
+        (true, true),
     );
-    assert_eq!(rt;
+    assert_same(
+        &rt,
         (packed.limit(), packed.turn(), packed.last_damage()),
-        (300, 0, 0)
+        (300, 0, 0),
     );
-    assert_eq!(rt; packed.outcome(), Outcome::Ongoing);
-    assert_eq!(rt; packed.request(Side::Two), Request::Pass);
-    assert_eq!(rt; packed.generator().is_some(), true);
+    assert_same(&rt, packed.outcome(), Outcome::Ongoing);
+    assert_same(&rt, packed.request(Side::Two), Request::Pass);
+    assert_same(&rt, packed.generator().is_some(), true);
     packed.put_next_turn();
     packed.put_requests(Request::Move, Request::Pass);
-    assert_eq!(rt;
+    assert_same(
+        &rt,
         (packed.turn(), packed.request(Side::One)),
-        (1, Request::Move)
+        (1, Request::Move),
     );
     Ok(())
 }
@@ -115,23 +124,26 @@ fn a_marked_sleeper_falls(rt: HostRuntime) -> Result<(), Fail> {
     };
     packed.put_status(Side::One, status);
     packed.put_status(Side::Two, status);
-    assert_eq!(rt;
+    assert_same(
+        &rt,
         (packed.mark(Side::One, 1), packed.mark(Side::Two, 2)),
-        (true, false)
+        (true, false),
     );
     packed.put_fallen(Side::One);
     packed.put_fallen(Side::Two);
-    assert_eq!(rt;
+    assert_same(
+        &rt,
         (packed.hp(Side::One), packed.status(Side::One)),
-        (0, Status::Healthy)
+        (0, Status::Healthy),
     );
-    assert_eq!(rt; packed.mark(Side::One, 1), false);
+    assert_same(&rt, packed.mark(Side::One, 1), false);
     // The bytes of HP, status and mark.
     let member = packed.member(Side::One, 1);
-    assert_eq!(rt; [member[4], member[5], member[14], member[23]], [0; 4]);
-    assert_eq!(rt;
+    assert_same(&rt, [member[4], member[5], member[14], member[23]], [0; 4]);
+    assert_same(
+        &rt,
         (packed.has_living(Side::One), packed.has_living(Side::Two)),
-        (false, true)
+        (false, true),
     );
     Ok(())
 }
@@ -144,14 +156,14 @@ fn several_conditions_at_once(rt: HostRuntime) -> Result<(), Fail> {
     let side = Side::Two;
     let either = Conditions::MIST | Conditions::SEEDED;
     packed.put_flag(side, Conditions::SEEDED, true);
-    assert_eq!(rt; packed.has_any(side, either), true);
-    assert_eq!(rt; packed.has_any(side, Conditions::CONTINUES), false);
-    assert_eq!(rt; packed.has_any(Side::One, either), false);
+    assert_same(&rt, packed.has_any(side, either), true);
+    assert_same(&rt, packed.has_any(side, Conditions::CONTINUES), false);
+    assert_same(&rt, packed.has_any(Side::One, either), false);
     packed.put_flag(side, Conditions::RAGE, true);
-    assert_eq!(rt; packed.has_any(side, Conditions::CONTINUES), true);
-    assert_eq!(rt; Conditions::CONTINUES.has_any(either), false);
+    assert_same(&rt, packed.has_any(side, Conditions::CONTINUES), true);
+    assert_same(&rt, Conditions::CONTINUES.has_any(either), false);
     packed.put_flag(side, Conditions::BIDE, true);
-    assert_eq!(rt; packed.conditions(side).has_any(Conditions::BIDE), true);
+    assert_same(&rt, packed.conditions(side).has_any(Conditions::BIDE), true);
     Ok(())
 }
 
@@ -159,7 +171,7 @@ fn several_conditions_at_once(rt: HostRuntime) -> Result<(), Fail> {
 fn accuracy_and_evasion_have_no_number(rt: HostRuntime) -> Result<(), Fail> {
     let mut packed = begun()?;
     packed.put_accuracy(Side::One, 12);
-    assert_eq!(rt; packed.current_stat(Side::One, Stat::Accuracy), 1);
-    assert_eq!(rt; packed.current_stat(Side::One, Stat::Evasion), 1);
+    assert_same(&rt, packed.current_stat(Side::One, Stat::Accuracy), 1);
+    assert_same(&rt, packed.current_stat(Side::One, Stat::Evasion), 1);
     Ok(())
 }

@@ -6,22 +6,31 @@ use gen1_machine::{
 };
 use gen1_tables::Stat;
 use linked_list_allocator::LocalHeap;
+use std::fmt::Debug;
+use std::process::Abort;
 use std::test::Fail;
 use test_devices::{Broken, Failing};
+
+// Asserts that these are the same. A test calls it, since an assertion in its own body costs the proof of the test seconds.
+fn assert_same<T: PartialEq + Debug + Drop>(rt: &impl Abort, found: T, expected: T) {
+    assert_eq!(rt; found, expected);
+}
 
 #[test]
 fn ranges_end_where_they_should(rt: HostRuntime) {
     for (number, known) in [(0, false), (1, true), (9999, true), (10000, false)] {
-        assert_eq!(rt;
+        assert_same(
+            &rt,
             TurnLimit::new(number).map(TurnLimit::number),
-            known.then_some(number)
+            known.then_some(number),
         );
-        assert_eq!(rt;
+        assert_same(
+            &rt,
             TurnNumber::new(number).map(TurnNumber::number),
-            known.then_some(number)
+            known.then_some(number),
         );
     }
-    assert_eq!(rt; TurnLimit::default().number(), 1000);
+    assert_same(&rt, TurnLimit::default().number(), 1000);
     for (number, slot, stages, hits, place, level) in [
         (0, true, false, false, false, false),
         (1, true, true, true, true, true),
@@ -33,15 +42,16 @@ fn ranges_end_where_they_should(rt: HostRuntime) {
         (100, false, false, false, false, true),
         (101, false, false, false, false, false),
     ] {
-        assert_eq!(rt; MoveSlot::new(number).is_some(), slot);
-        assert_eq!(rt; StageCount::new(number).is_some(), stages);
-        assert_eq!(rt; FaultCode::new(number).is_some(), stages);
-        assert_eq!(rt; HitCount::new(number).is_some(), hits);
-        assert_eq!(rt;
+        assert_same(&rt, MoveSlot::new(number).is_some(), slot);
+        assert_same(&rt, StageCount::new(number).is_some(), stages);
+        assert_same(&rt, FaultCode::new(number).is_some(), stages);
+        assert_same(&rt, HitCount::new(number).is_some(), hits);
+        assert_same(
+            &rt,
             Place::new(number).map(Place::number),
-            place.then_some(number)
+            place.then_some(number),
         );
-        assert_eq!(rt; Level::new(number).is_some(), level);
+        assert_same(&rt, Level::new(number).is_some(), level);
     }
 }
 
@@ -54,11 +64,12 @@ fn health_is_within_its_maximum(rt: HostRuntime) {
         (9, 10, false),
     ] {
         let health = Health::new(hp, max, Some(Kind::Burn));
-        assert_eq!(rt; health.is_some(), known);
+        assert_same(&rt, health.is_some(), known);
         if let Some(health) = health {
-            assert_eq!(rt;
+            assert_same(
+                &rt,
                 (health.hp(), health.max(), health.kind()),
-                (hp, max, Some(Kind::Burn))
+                (hp, max, Some(Kind::Burn)),
             );
         }
     }
@@ -74,14 +85,15 @@ fn rules_are_two_bits(rt: HostRuntime) -> Result<(), Fail> {
         (3, true, true),
     ] {
         let rules = Rules::new(bits).ok_or("at most 3")?;
-        assert_eq!(rt; rules.bits(), bits);
-        assert_eq!(rt;
+        assert_same(&rt, rules.bits(), bits);
+        assert_same(
+            &rt,
             (rules.sleep_clause(), rules.freeze_clause()),
-            (sleep, freeze)
+            (sleep, freeze),
         );
     }
-    assert_eq!(rt; Rules::default().bits(), 0);
-    assert_eq!(rt; Rules::new(4), None);
+    assert_same(&rt, Rules::default().bits(), 0);
+    assert_same(&rt, Rules::new(4), None);
     Ok(())
 }
 
@@ -99,32 +111,41 @@ fn choices_are_bytes(rt: HostRuntime) {
         (0x26, last_place),
         (0x27, None),
     ] {
-        assert_eq!(rt; Choice::from_byte(byte), choice);
-        assert_eq!(rt; choice.map(Choice::byte), choice.map(|_| byte));
+        assert_same(&rt, Choice::from_byte(byte), choice);
+        assert_same(
+            &rt,
+            choice.map(Choice::byte),
+            choice.is_some().then_some(byte),
+        );
     }
 }
 
 // The numbers of fields (docs/MECHANICS.md, "Events").
 #[test]
 fn numbers_of_log_bytes(rt: HostRuntime) {
-    assert_eq!(rt; Side::from_number(2), Some(Side::One.other()));
-    assert_eq!(rt; Side::Two.number(), 2);
-    assert_eq!(rt; Kind::from_number(5), Some(Kind::Paralysis));
-    assert_eq!(rt; Kind::Freeze.number(), 4);
-    assert_eq!(rt;
+    assert_same(&rt, Side::from_number(2), Some(Side::One.other()));
+    assert_same(&rt, Side::Two.number(), 2);
+    assert_same(&rt, Kind::from_number(5), Some(Kind::Paralysis));
+    assert_same(&rt, Kind::Freeze.number(), 4);
+    assert_same(
+        &rt,
         CantReason::from_number(3),
-        Some(CantReason::PartiallyTrapped)
+        Some(CantReason::PartiallyTrapped),
     );
-    assert_eq!(rt; CantReason::Disabled.number(), 6);
-    assert_eq!(rt; DamageSource::from_number(0), Some(DamageSource::Direct));
-    assert_eq!(rt; DamageSource::Confusion.number(), 5);
-    assert_eq!(rt; Volatile::from_number(13), Some(Volatile::Splash));
-    assert_eq!(rt; Volatile::Trapped.number(), 11);
-    assert_eq!(rt; stat_from_number(3), Some(Stat::Speed));
-    assert_eq!(rt; stat_number(Stat::Evasion), 6);
+    assert_same(&rt, CantReason::Disabled.number(), 6);
+    assert_same(
+        &rt,
+        DamageSource::from_number(0),
+        Some(DamageSource::Direct),
+    );
+    assert_same(&rt, DamageSource::Confusion.number(), 5);
+    assert_same(&rt, Volatile::from_number(13), Some(Volatile::Splash));
+    assert_same(&rt, Volatile::Trapped.number(), 11);
+    assert_same(&rt, stat_from_number(3), Some(Stat::Speed));
+    assert_same(&rt, stat_number(Stat::Evasion), 6);
     let mut events = EventList::new();
     events.push(Event::default());
-    assert_eq!(rt; (events.len(), events.capacity()), (1, 64));
+    assert_same(&rt, (events.len(), events.capacity()), (1, 64));
 }
 
 // Worked draws (docs/MECHANICS.md, "Link numbers").
@@ -132,7 +153,7 @@ fn numbers_of_log_bytes(rt: HostRuntime) {
 fn link_numbers(rt: HostRuntime) {
     let seed = [1, 2, 3, 4, 5, 6, 7, 8, 9, 10];
     for (n, byte) in [(0, 1), (8, 9), (9, 6), (10, 11), (11, 16), (9 * 256, 1)] {
-        assert_eq!(rt; link(&seed, n), byte);
+        assert_same(&rt, link(&seed, n), byte);
     }
 }
 
@@ -151,7 +172,7 @@ fn stats_at_stages(rt: HostRuntime) {
         (298, 127, Stat::Special, 0, 999),
         (5, -6, Stat::Special, 0, 1),
     ] {
-        assert_eq!(rt; now(unmodified, stage, stat, penalties), want);
+        assert_same(&rt, now(unmodified, stage, stat, penalties), want);
     }
 }
 
@@ -169,11 +190,11 @@ fn each_write_that_fails_is_told(rt: HostRuntime) -> Result<(), Fail> {
                     bytes: &mut bytes,
                 });
                 let result = send_all(&mut sink, &[b"|tie\n", b"|win|p1\n"]);
-                assert_eq!(rt; result.is_err(), left < writes);
-                assert_eq!(rt; sink.failed(), left < writes);
+                assert_same(&rt, result.is_err(), left < writes);
+                assert_same(&rt, sink.failed(), left < writes);
                 let written = (left * most).min(text.len());
-                assert!(rt; text.starts_with(bytes.as_slice()));
-                assert!(rt; bytes.len() <= written);
+                assert_same(&rt, text.starts_with(bytes.as_slice()), true);
+                assert_same(&rt, bytes.len() <= written, true);
             }
         }
     }
@@ -191,10 +212,10 @@ fn each_read_that_fails_is_told(rt: HostRuntime) {
                 bytes: input.as_slice(),
             });
             let result = read_whole(rt.alloc(), &mut source, 20);
-            assert_eq!(rt; source.failed(), left < reads);
+            assert_same(&rt, source.failed(), left < reads);
             match result {
-                Ok(bytes) => assert!(rt; left == reads && bytes.as_slice() == input.as_slice()),
-                Err(fault) => assert!(rt; left < reads && fault == InputFault::Device),
+                Ok(bytes) => assert_same(&rt, (left, bytes.as_slice()), (reads, input.as_slice())),
+                Err(fault) => assert_same(&rt, (left < reads, fault), (true, InputFault::Device)),
             }
         }
     }
@@ -207,10 +228,10 @@ fn an_input_ends_at_its_limit(rt: HostRuntime) -> Result<(), Fail> {
         let limit = limit as usize;
         let mut source = Device::new(input.as_slice());
         match read_whole(rt.alloc(), &mut source, limit) {
-            Ok(bytes) => assert!(rt; limit == 5000 && bytes.as_slice() == input.as_slice()),
+            Ok(bytes) => assert_same(&rt, (limit, bytes.as_slice()), (5000, input.as_slice())),
             Err(fault) => {
-                assert!(rt; limit < 5000 && fault == InputFault::TooLong);
-                assert_eq!(rt; source.get_ref().len(), 5000 - (limit + 1));
+                assert_same(&rt, (limit < 5000, fault), (true, InputFault::TooLong));
+                assert_same(&rt, source.get_ref().len(), 4999usize.saturating_sub(limit));
             }
         }
     }
@@ -224,14 +245,14 @@ fn each_growth_that_is_refused_is_told(rt: HostRuntime) -> Result<(), Fail> {
     for step in 0..40usize {
         let heap = LocalHeap::new(rt.alloc(), 2048 * step)?;
         match read_whole(&heap, &mut Device::new(input.as_slice()), 1 << 20) {
-            Ok(bytes) => assert!(rt; bytes.as_slice() == input.as_slice()),
+            Ok(bytes) => assert_same(&rt, bytes.as_slice(), input.as_slice()),
             Err(fault) => {
-                assert_eq!(rt; fault, InputFault::Memory);
+                assert_same(&rt, fault, InputFault::Memory);
                 refused = refused.saturating_add(1);
             }
         }
     }
-    assert!(rt; 5 < refused && refused < 40);
+    assert_same(&rt, (5 < refused, refused < 40), (true, true));
     Ok(())
 }
 
@@ -239,11 +260,19 @@ fn each_growth_that_is_refused_is_told(rt: HostRuntime) -> Result<(), Fail> {
 fn devices_are_made_of_stds(rt: HostRuntime) -> Result<(), Fail> {
     let mut room = [0u8; 4];
     let mut to_slice = Device::new(room.as_mut_slice());
-    assert!(rt; send(&mut to_slice, b"ab").is_ok() && !to_slice.failed());
-    assert!(rt; send(&mut to_slice, b"cde").is_err() && to_slice.failed());
-    assert!(rt; room == [97u8, 98, 99, 100]);
+    assert_same(
+        &rt,
+        (send(&mut to_slice, b"ab").is_ok(), to_slice.failed()),
+        (true, false),
+    );
+    assert_same(
+        &rt,
+        (send(&mut to_slice, b"cde").is_err(), to_slice.failed()),
+        (true, true),
+    );
+    assert_same(&rt, room, [97u8, 98, 99, 100]);
     let mut to_list = Device::new(Vec::new(rt.alloc()));
-    assert!(rt; send(&mut to_list, b"xyz").is_ok());
-    assert!(rt; to_list.into_inner().as_slice() == b"xyz".as_slice());
+    assert_same(&rt, send(&mut to_list, b"xyz").is_ok(), true);
+    assert_same(&rt, to_list.into_inner().as_slice(), b"xyz".as_slice());
     Ok(())
 }

@@ -1,8 +1,8 @@
 //! Counter, by the words of docs/MECHANICS.md, "Counter". A Tauros has base Speed 110, so that a draw, rotated left by 3 bits,
 //! is critical below 55 ("Critical hits").
 use crate::duel::{
-    FOE, LAST, USER, assert_same, assert_same_for, battle_of, bytes_of, named, send_out, tauros,
-    with,
+    FOE, LAST, USER, assert_bytes, assert_same, assert_same_for, battle_of, bytes_of, named,
+    send_out, tauros, with,
 };
 use gen1_action::Known;
 use gen1_layout::Packed;
@@ -110,7 +110,7 @@ fn a_counter_that_hits(rt: HostRuntime) -> Result<(), Fail> {
         let known = countered(&mut battle, &mut sweep)?;
         assert_same(&rt, (known.critical, known.missed), (critical, false));
         assert_same(&rt, known.accuracy_tested, Some(255));
-        assert_same(&rt, bytes_of(&battle), with(before, &[(LAST, 200)]));
+        assert_bytes(&rt, &battle, with(before, &[(LAST, 200)]));
         assert_same(&rt, sweep.draw(), byte + 2);
     }
     let mut battle = picked(&FIRST, Slot(1))?;
@@ -136,7 +136,7 @@ fn a_counter_that_misses(rt: HostRuntime) -> Result<(), Fail> {
         (known.missed, known.accuracy_tested),
         (true, Some(255)),
     );
-    assert_same(&rt, bytes_of(&battle), with(before, &[(LAST, 0)]));
+    assert_bytes(&rt, &battle, with(before, &[(LAST, 0)]));
     assert_same(&rt, sweep.draw(), 0);
     // By the foe's move it is kept, and the critical draw is the only one.
     let mut battle = picked(&FIRST, Slot(2))?;

@@ -1,7 +1,7 @@
 //! Two members who are out, for the tests: the bytes of their battle, and the offsets of docs/LAYOUT.md.
 use arrayvec::ArrayVec;
 use gen1_layout::Packed;
-use gen1_machine::Side;
+use gen1_machine::{Event, EventList, Side};
 use gen1_stats::{MemberSpec, Team};
 use gen1_tables::{Element, MoveId, Species};
 use std::fmt::Debug;
@@ -102,4 +102,14 @@ pub(crate) fn assert_same_for<T: PartialEq + Debug + Drop>(
     expected: T,
 ) {
     assert_eq!(rt; found, expected, "{name:?}");
+}
+
+// Asserts that these are the events.
+pub(crate) fn assert_told(rt: &impl Abort, events: &EventList, told: &[Event]) {
+    assert_eq!(rt; events.as_slice(), told);
+}
+
+// Asserts that these are the battle's bytes.
+pub(crate) fn assert_bytes(rt: &impl Abort, battle: &Packed, expected: [u8; 384]) {
+    assert_eq!(rt; bytes_of(battle), expected);
 }

@@ -1,7 +1,7 @@
 //! Fixed damage, Super Fang and Psywave, by the words of docs/MECHANICS.md, "Fixed damage and one-hit moves".
 use crate::duel::{
-    FOE, LAST, OUTCOME, USER, assert_same, assert_same_for, battle_of, bytes_of, named, tauros,
-    two_tauros, with,
+    FOE, LAST, OUTCOME, USER, assert_bytes, assert_same, assert_same_for, battle_of, bytes_of,
+    named, tauros, two_tauros, with,
 };
 use gen1_action::Known;
 use gen1_layout::Packed;
@@ -113,17 +113,13 @@ fn psywave_at_level_1_is_a_fault(rt: HostRuntime) -> Result<(), Fail> {
     let (ended, known) = used(&mut battle, "Psywave", &mut sweep)?;
     assert_same(&rt, (ended, known.missed), (true, false));
     assert_same(&rt, battle.outcome(), Outcome::Fault(2));
-    assert_same(
-        &rt,
-        bytes_of(&battle),
-        with(before, &[(OUTCOME, 5), (LAST, 75)]),
-    );
+    assert_bytes(&rt, &battle, with(before, &[(OUTCOME, 5), (LAST, 75)]));
     assert_same(&rt, sweep.draw(), 204);
     // Where it misses it is a miss alone.
     let mut battle = of_level(1)?;
     let (ended, known) = used(&mut battle, "Psywave", &mut Sweep::new(204))?;
     assert_same(&rt, (ended, known.missed), (false, true));
-    assert_same(&rt, bytes_of(&battle), before);
+    assert_bytes(&rt, &battle, before);
     Ok(())
 }
 

@@ -1,6 +1,8 @@
 //! Trapping and thrashing that go on, and trapping of a foe that a move has no effect on, by the words of docs/MECHANICS.md,
 //! "Going on".
-use crate::duel::{FLAGS, FOE, KEPT, TURNS, USER, assert_same, bytes_of, named, two_tauros, with};
+use crate::duel::{
+    FLAGS, FOE, KEPT, TURNS, USER, assert_bytes, assert_same, bytes_of, named, two_tauros, with,
+};
 use gen1_action::{Known, hit_or_miss};
 use gen1_hits::{land, numbers, type_steps};
 use gen1_layout::{Conditions, Packed};
@@ -45,11 +47,7 @@ fn a_trap_goes_on(rt: HostRuntime) -> Result<(), Fail> {
         battle.put_trapping(USER, turns);
         let mut sweep = Sweep::new(7);
         trap_knowing(&mut battle, USER, &going_on(), &mut sweep);
-        assert_same(
-            &rt,
-            bytes_of(&battle),
-            with(before, &[(FLAGS, 4), (TURNS, left)]),
-        );
+        assert_bytes(&rt, &battle, with(before, &[(FLAGS, 4), (TURNS, left)]));
         assert_same(&rt, sweep.draw(), 7);
     }
     Ok(())
@@ -64,11 +62,7 @@ fn thrashing_goes_on(rt: HostRuntime) -> Result<(), Fail> {
     let mut sweep = Sweep::new(7);
     for left in [2, 1] {
         let events = thrashed_on(&mut battle, "Thrash", &mut sweep)?;
-        assert_same(
-            &rt,
-            bytes_of(&battle),
-            with(before, &[(FLAGS, 2), (TURNS, left)]),
-        );
+        assert_bytes(&rt, &battle, with(before, &[(FLAGS, 2), (TURNS, left)]));
         assert_same(&rt, events.len(), 0);
     }
     assert_same(&rt, sweep.draw(), 7);
@@ -85,9 +79,9 @@ fn thrashing_ends_in_confusion(rt: HostRuntime) -> Result<(), Fail> {
         battle.put_thrash(USER, 1);
         let mut link = LinkRandom::new([byte; 10]);
         let events = thrashed_on(&mut battle, "Petal Dance", &mut link)?;
-        assert_same(
+        assert_bytes(
             &rt,
-            bytes_of(&battle),
+            &battle,
             with(before, &[(FLAGS, 64), (FLAGS + 5, count), (KEPT, 255)]),
         );
         let told = [Event::Start(battle.who(USER), Volatile::Confusion)];
@@ -116,9 +110,9 @@ fn a_ghost_is_held_for_0(rt: HostRuntime) -> Result<(), Fail> {
         let mut events = EventList::new();
         land(&mut battle, USER, damage, &mut events);
         let flags = if held { 4 } else { 0 };
-        assert_same(
+        assert_bytes(
             &rt,
-            bytes_of(&battle),
+            &battle,
             with(before, &[(FLAGS, flags), (TURNS, turns)]),
         );
         assert_same(&rt, events.len(), 0);

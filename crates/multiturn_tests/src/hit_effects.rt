@@ -1,5 +1,5 @@
 //! What comes with a hit, by the words of docs/MECHANICS.md, "Recoil, drain and explosion", "Going on" and "Landing".
-use crate::duel::{FOE, USER, assert_same, assert_same_for, two_tauros};
+use crate::duel::{FOE, USER, assert_same, assert_same_for, assert_told, two_tauros};
 use crate::hitting::{healed, hit, hurt};
 use gen1_layout::Conditions;
 use gen1_machine::{DamageSource, Event, Volatile};
@@ -24,7 +24,7 @@ fn recoil_is_a_quarter_of_what_landed(rt: HostRuntime) -> Result<(), Fail> {
             hurt(&battle, FOE, foe, DamageSource::Direct)?,
             hurt(&battle, USER, user, DamageSource::Recoil)?,
         ];
-        assert_same(&rt, events.as_slice(), told.as_slice());
+        assert_told(&rt, &events, &told);
         // The user's own Substitute does not take it.
         assert_same(
             &rt,
@@ -75,7 +75,7 @@ fn a_full_user_drains_without_an_event(rt: HostRuntime) -> Result<(), Fail> {
     let mut battle = two_tauros()?;
     let (_, events) = hit(&mut battle, "Absorb", 40, &mut Sweep::new(0))?;
     let told = [hurt(&battle, FOE, 313, DamageSource::Direct)?];
-    assert_same(&rt, events.as_slice(), told.as_slice());
+    assert_told(&rt, &events, &told);
     assert_same(&rt, battle.last_damage(), 20);
     Ok(())
 }
@@ -87,7 +87,7 @@ fn a_broken_substitute_heals_nobody(rt: HostRuntime) -> Result<(), Fail> {
     battle.put_substitute(FOE, Some(20));
     let (_, events) = hit(&mut battle, "Leech Life", 40, &mut Sweep::new(0))?;
     let told = [Event::End(battle.who(FOE), Volatile::Substitute)];
-    assert_same(&rt, events.as_slice(), told.as_slice());
+    assert_told(&rt, &events, &told);
     assert_same(&rt, (battle.hp(USER), battle.last_damage()), (100, 40));
     Ok(())
 }
@@ -100,7 +100,7 @@ fn an_exploding_user_falls(rt: HostRuntime) -> Result<(), Fail> {
     let mut link = LinkRandom::new([9; 10]);
     let (_, events) = hit(&mut battle, "Explosion", 200, &mut link)?;
     let told = [hurt(&battle, FOE, 153, DamageSource::Direct)?];
-    assert_same(&rt, events.as_slice(), told.as_slice());
+    assert_told(&rt, &events, &told);
     assert_same(
         &rt,
         (battle.hp(USER), battle.status(USER)),
@@ -131,10 +131,10 @@ fn rage_starts_where_it_lands(rt: HostRuntime) -> Result<(), Fail> {
         hurt(&battle, FOE, 333, DamageSource::Direct)?,
         Event::Start(battle.who(USER), Volatile::Rage),
     ];
-    assert_same(&rt, first.as_slice(), told.as_slice());
+    assert_told(&rt, &first, &told);
     let (_, second) = hit(&mut battle, "Rage", 20, &mut Sweep::new(0))?;
     let told = [hurt(&battle, FOE, 313, DamageSource::Direct)?];
-    assert_same(&rt, second.as_slice(), told.as_slice());
+    assert_told(&rt, &second, &told);
     assert_same(&rt, battle.is_on(USER, Conditions::RAGE), true);
     Ok(())
 }
@@ -147,7 +147,7 @@ fn a_one_hit_move_tells_what_it_is(rt: HostRuntime) -> Result<(), Fail> {
         hurt(&battle, FOE, 0, DamageSource::Direct)?,
         Event::OneHitKnockOut,
     ];
-    assert_same(&rt, events.as_slice(), told.as_slice());
+    assert_told(&rt, &events, &told);
     let mut battle = two_tauros()?;
     battle.put_substitute(FOE, Some(88));
     let (_, events) = hit(&mut battle, "Guillotine", 65535, &mut Sweep::new(0))?;
@@ -155,6 +155,6 @@ fn a_one_hit_move_tells_what_it_is(rt: HostRuntime) -> Result<(), Fail> {
         Event::End(battle.who(FOE), Volatile::Substitute),
         Event::OneHitKnockOut,
     ];
-    assert_same(&rt, events.as_slice(), told.as_slice());
+    assert_told(&rt, &events, &told);
     Ok(())
 }

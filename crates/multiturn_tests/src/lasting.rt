@@ -1,8 +1,8 @@
 //! Moves that last, by the words of docs/MECHANICS.md, "Going on" and "Charging", and the offsets of docs/LAYOUT.md. Both
 //! sides have a Tauros out: 353 HP, of which a quarter is 88.
 use crate::duel::{
-    CURRENT, ENERGY, FLAGS, FOE, KEPT, LAST, TURNS, USER, assert_same, assert_same_for, bytes_of,
-    named, two_tauros, with,
+    CURRENT, ENERGY, FLAGS, FOE, KEPT, LAST, TURNS, USER, assert_bytes, assert_same,
+    assert_same_for, assert_told, bytes_of, named, two_tauros, with,
 };
 use gen1_layout::Conditions;
 use gen1_machine::{DamageSource, Event, EventList, UsedMove, Volatile};
@@ -19,11 +19,7 @@ fn a_trap_begins(rt: HostRuntime) -> Result<(), Fail> {
         let before = bytes_of(&two_tauros()?);
         let mut sweep = Sweep::new(byte);
         trap(&mut battle, USER, &mut sweep);
-        assert_same(
-            &rt,
-            bytes_of(&battle),
-            with(before, &[(FLAGS, 4), (TURNS, turns)]),
-        );
+        assert_bytes(&rt, &battle, with(before, &[(FLAGS, 4), (TURNS, turns)]));
         assert_same(&rt, sweep.draw(), byte.wrapping_add(draws));
     }
     let mut battle = two_tauros()?;
@@ -41,9 +37,9 @@ fn thrashing_begins(rt: HostRuntime) -> Result<(), Fail> {
         let mut events = EventList::new();
         let mut sweep = Sweep::new(byte);
         thrash(&mut battle, USER, &mut sweep, &mut events);
-        assert_same(
+        assert_bytes(
             &rt,
-            bytes_of(&battle),
+            &battle,
             with(before, &[(FLAGS, 2), (TURNS, turns), (KEPT, 255)]),
         );
         assert_same(&rt, (events.len(), sweep.draw()), (0, byte.wrapping_add(1)));
@@ -63,7 +59,7 @@ fn bide_begins_stores_and_lets_go(rt: HostRuntime) -> Result<(), Fail> {
     let mut link = LinkRandom::new([4; 10]);
     let begun = with(before, &[(FLAGS, 1), (TURNS, 2)]);
     assert_same(&rt, bide(&mut battle, USER, &mut link, &mut events), None);
-    assert_same(&rt, bytes_of(&battle), begun);
+    assert_bytes(&rt, &battle, begun);
     assert_same(&rt, link.index(), 1);
     // 300 is 44 and 1 times 256.
     battle.put_last_damage(300);
@@ -71,20 +67,20 @@ fn bide_begins_stores_and_lets_go(rt: HostRuntime) -> Result<(), Fail> {
     let stored = [(FLAGS, 1), (TURNS, 1), (ENERGY, 44), (ENERGY + 1, 1)];
     let stored = with(damage, &stored);
     assert_same(&rt, bide(&mut battle, USER, &mut link, &mut events), None);
-    assert_same(&rt, bytes_of(&battle), stored);
+    assert_bytes(&rt, &battle, stored);
     // Twice 301 is 602, which is 90 and 2 times 256.
     battle.put_last_damage(1);
     let let_go = with(before, &[(LAST, 90), (LAST + 1, 2)]);
     let energy = bide(&mut battle, USER, &mut link, &mut events);
     assert_same(&rt, energy, Some(602));
-    assert_same(&rt, bytes_of(&battle), let_go);
+    assert_bytes(&rt, &battle, let_go);
     assert_same(&rt, link.index(), 1);
     let told = [
         Event::Start(battle.who(USER), Volatile::Bide),
         Event::Activate(battle.who(USER), Volatile::Bide),
         Event::End(battle.who(USER), Volatile::Bide),
     ];
-    assert_same(&rt, events.as_slice(), told.as_slice());
+    assert_told(&rt, &events, &told);
     Ok(())
 }
 
@@ -97,7 +93,7 @@ fn an_energy_of_32768_lets_out_0(rt: HostRuntime) -> Result<(), Fail> {
     let mut sweep = Sweep::new(9);
     let energy = bide(&mut battle, USER, &mut sweep, &mut EventList::new());
     assert_same(&rt, (energy, sweep.draw()), (Some(0), 9));
-    assert_same(&rt, bytes_of(&battle), before);
+    assert_bytes(&rt, &battle, before);
     Ok(())
 }
 
@@ -117,7 +113,7 @@ fn a_charge_hides_who_digs(rt: HostRuntime) -> Result<(), Fail> {
         assert_same(&rt, charge(&mut battle, USER, id, &mut events), false);
         assert_same_for(&rt, &name, bytes_of(&battle), with(before, &[(CURRENT, 1)]));
         let told = [Event::Prepare(battle.who(USER), id)];
-        assert_same(&rt, events.as_slice(), told.as_slice());
+        assert_told(&rt, &events, &told);
     }
     Ok(())
 }
@@ -133,13 +129,9 @@ fn what_is_picked_is_charged(rt: HostRuntime) -> Result<(), Fail> {
     // A move that does not charge changes nothing, and the action goes on.
     let ended = charge(&mut battle, USER, named("Strength")?, &mut events);
     assert_same(&rt, (ended, events.len()), (false, 0));
-    assert_same(&rt, bytes_of(&battle), before);
+    assert_bytes(&rt, &battle, before);
     charge(&mut battle, USER, named("Skull Bash")?, &mut events);
-    assert_same(
-        &rt,
-        bytes_of(&battle),
-        with(before, &[(FLAGS, 16), (CURRENT, 1)]),
-    );
+    assert_bytes(&rt, &battle, with(before, &[(FLAGS, 16), (CURRENT, 1)]));
     Ok(())
 }
 
@@ -153,33 +145,25 @@ fn a_substitute_costs_a_quarter(rt: HostRuntime) -> Result<(), Fail> {
         let mut events = EventList::new();
         substitute(&mut battle, USER, &mut events);
         let after = with(before, &[(28, low), (29, high), (FLAGS + 1, 2), (189, 88)]);
-        assert_same(&rt, bytes_of(&battle), after);
+        assert_bytes(&rt, &battle, after);
         let health = battle.health(USER).ok_or("no health")?;
         let told = [
             Event::Start(battle.who(USER), Volatile::Substitute),
             Event::Damage(battle.who(USER), health, DamageSource::Direct),
         ];
-        assert_same(&rt, events.as_slice(), told.as_slice());
+        assert_told(&rt, &events, &told);
         // One is up.
         events.clear();
         substitute(&mut battle, USER, &mut events);
-        assert_same(&rt, bytes_of(&battle), after);
-        assert_same(
-            &rt,
-            events.as_slice(),
-            [Event::Fail(battle.who(USER))].as_slice(),
-        );
+        assert_bytes(&rt, &battle, after);
+        assert_told(&rt, &events, &[Event::Fail(battle.who(USER))]);
     }
     let mut battle = two_tauros()?;
     battle.put_hp(USER, 87);
     let before = bytes_of(&battle);
     let mut events = EventList::new();
     substitute(&mut battle, USER, &mut events);
-    assert_same(&rt, bytes_of(&battle), before);
-    assert_same(
-        &rt,
-        events.as_slice(),
-        [Event::Fail(battle.who(USER))].as_slice(),
-    );
+    assert_bytes(&rt, &battle, before);
+    assert_told(&rt, &events, &[Event::Fail(battle.who(USER))]);
     Ok(())
 }

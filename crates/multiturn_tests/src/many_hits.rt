@@ -1,5 +1,5 @@
 //! Moves that hit several times, by the words of docs/MECHANICS.md, "Many hits".
-use crate::duel::{FOE, assert_same, assert_same_for, two_tauros};
+use crate::duel::{FOE, assert_same, assert_same_for, assert_told, two_tauros};
 use crate::hitting::{hit, hit_count, hurt};
 use gen1_machine::{DamageSource, Event, Volatile};
 use gen1_rolls::{LinkRandom, Rolls, Sweep};
@@ -67,7 +67,7 @@ fn a_broken_substitute_ends_the_hits(rt: HostRuntime) -> Result<(), Fail> {
         Event::End(foe, Volatile::Substitute),
         hit_count(&battle, FOE, 3)?,
     ];
-    assert_same(&rt, events.as_slice(), told.as_slice());
+    assert_told(&rt, &events, &told);
     assert_same(&rt, (battle.hp(FOE), battle.substitute(FOE)), (353, None));
     assert_same(&rt, (known.broke, known.hits_planned), (true, Some(5)));
     Ok(())
@@ -81,7 +81,7 @@ fn a_first_hit_that_breaks_plans_none(rt: HostRuntime) -> Result<(), Fail> {
         let mut sweep = Sweep::new(2);
         let (known, events) = hit(&mut battle, name, 10, &mut sweep)?;
         let told = [Event::End(battle.who(FOE), Volatile::Substitute)];
-        assert_same(&rt, events.as_slice(), told.as_slice());
+        assert_told(&rt, &events, &told);
         assert_same(&rt, (known.hits_made, known.hits_planned), (1, None));
         assert_same(&rt, sweep.draw(), 2);
     }
@@ -100,7 +100,7 @@ fn a_fall_ends_the_hits(rt: HostRuntime) -> Result<(), Fail> {
         hurt(&battle, FOE, 0, DamageSource::Direct)?,
         hit_count(&battle, FOE, 3)?,
     ];
-    assert_same(&rt, events.as_slice(), told.as_slice());
+    assert_told(&rt, &events, &told);
     assert_same(&rt, (battle.last_damage(), known.hits_made), (5, 3));
     Ok(())
 }
@@ -115,7 +115,7 @@ fn the_count_is_drawn_where_the_first_hit_fells(rt: HostRuntime) -> Result<(), F
         hurt(&battle, FOE, 0, DamageSource::Direct)?,
         hit_count(&battle, FOE, 1)?,
     ];
-    assert_same(&rt, events.as_slice(), told.as_slice());
+    assert_told(&rt, &events, &told);
     assert_same(&rt, (known.hits_planned, sweep.draw()), (Some(2), 1));
     Ok(())
 }

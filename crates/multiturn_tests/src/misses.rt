@@ -1,6 +1,7 @@
 //! What a miss brings, by the words of docs/MECHANICS.md, "Action", step 9.
 use crate::duel::{
-    FOE, LAST, USER, assert_same, assert_same_for, bytes_of, named, two_tauros, with,
+    FOE, LAST, USER, assert_bytes, assert_same, assert_same_for, assert_told, bytes_of, named,
+    two_tauros, with,
 };
 use crate::hitting::hurt;
 use gen1_layout::{Conditions, Packed};
@@ -45,7 +46,7 @@ fn a_crash_goes_past_the_users_substitute(rt: HostRuntime) -> Result<(), Fail> {
             hurt(&battle, USER, 352, DamageSource::Direct)?,
         ];
         assert_same_for(&rt, &name, events.as_slice(), told.as_slice());
-        assert_same(&rt, bytes_of(&battle), with(before, &[(LAST, 1), (28, 96)]));
+        assert_bytes(&rt, &battle, with(before, &[(LAST, 1), (28, 96)]));
     }
     Ok(())
 }
@@ -60,7 +61,7 @@ fn who_crashes_with_1_hp_falls(rt: HostRuntime) -> Result<(), Fail> {
         Event::Immune(battle.who(FOE)),
         hurt(&battle, USER, 0, DamageSource::Direct)?,
     ];
-    assert_same(&rt, events.as_slice(), told.as_slice());
+    assert_told(&rt, &events, &told);
     assert_same(&rt, (battle.hp(USER), battle.hp(FOE)), (0, 353));
     Ok(())
 }

@@ -1,7 +1,7 @@
 //! One-hit moves, by the words of docs/MECHANICS.md, "Fixed damage and one-hit moves". Their accuracy byte is 76, and the bytes
 //! that give a factor are the odd ones from 179 on ("Factor").
 use crate::duel::{
-    FOE, LAST, USER, assert_same, assert_same_for, bytes_of, named, two_tauros, with,
+    FOE, LAST, USER, assert_bytes, assert_same, assert_same_for, bytes_of, named, two_tauros, with,
 };
 use gen1_action::Known;
 use gen1_hits::{Landed, land};
@@ -85,11 +85,7 @@ fn the_hit_test_is_at_76(rt: HostRuntime) -> Result<(), Fail> {
         let mut link = LinkRandom::new([0, 255, byte, 0, 0, 0, 0, 0, 0, 0]);
         let known = used(&mut battle, "Horn Drill", &mut link)?;
         assert_same(&rt, known.missed, missed);
-        assert_same(
-            &rt,
-            bytes_of(&battle),
-            with(before, &[(LAST, low), (LAST + 1, low)]),
-        );
+        assert_bytes(&rt, &battle, with(before, &[(LAST, low), (LAST + 1, low)]));
         assert_same(&rt, link.index(), 3);
     }
     Ok(())

@@ -1,6 +1,6 @@
 //! Rage that builds, by the words of docs/MECHANICS.md, "Going on". Tauros has an Attack of 298, which is 447 a stage up and 596
 //! two.
-use crate::duel::{FOE, USER, assert_same, assert_same_for, bytes_of, two_tauros};
+use crate::duel::{FOE, USER, assert_bytes, assert_same, assert_same_for, bytes_of, two_tauros};
 use crate::hitting::hit;
 use gen1_layout::{Conditions, Packed};
 use gen1_machine::{Event, EventList};
@@ -76,7 +76,7 @@ fn it_builds_no_further_than_6(rt: HostRuntime) -> Result<(), Fail> {
     let before = bytes_of(&battle);
     let mut events = EventList::new();
     rage(&mut battle, USER, &mut events);
-    assert_same(&rt, bytes_of(&battle), before);
+    assert_bytes(&rt, &battle, before);
     assert_same(&rt, events.len(), 0);
     Ok(())
 }
@@ -90,7 +90,7 @@ fn who_has_none_or_has_fallen_builds_none(rt: HostRuntime) -> Result<(), Fail> {
         let before = bytes_of(&battle);
         let mut events = EventList::new();
         rage(&mut battle, USER, &mut events);
-        assert_same(&rt, bytes_of(&battle), before);
+        assert_bytes(&rt, &battle, before);
         assert_same(&rt, events.len(), 0);
     }
     Ok(())

@@ -1,6 +1,6 @@
 //! What an action knows, and its hit test, with the numbers of docs/MECHANICS.md, "Hit test" and "Action", and the type rows
 //! of docs/TABLES.md. Both sides have a Tauros out.
-use crate::battles::{self, FOE, USER, named, tells};
+use crate::battles::{self, FOE, USER, assert_same, named, tells};
 use gen1_action::{Known, hit_or_miss, must_hit, note_miss};
 use gen1_layout::{Conditions, Packed};
 use gen1_machine::{Event, EventList};
@@ -63,23 +63,25 @@ fn an_action_begins(rt: HostRuntime) -> Result<(), Fail> {
         skips: true,
     };
     let next = last.begun(FOE);
-    assert_eq!(rt; (next.side, next.skips), (FOE, true));
-    assert_eq!(rt;
+    assert_same(&rt, (next.side, next.skips), (FOE, true));
+    assert_same(
+        &rt,
         [
             next.going_on,
             next.letting_go,
             next.missed,
             next.critical,
             next.through_types,
-            next.broke
+            next.broke,
         ],
-        [false; 6]
+        [false; 6],
     );
-    assert_eq!(rt;
+    assert_same(
+        &rt,
         (next.hits_made, next.hits_planned, next.accuracy_tested),
-        (0, None, None)
+        (0, None, None),
     );
-    assert_eq!(rt; Known::new().begun(FOE).skips, false);
+    assert_same(&rt, Known::new().begun(FOE).skips, false);
     Ok(())
 }
 
@@ -94,18 +96,20 @@ fn tests(
     draws: u8,
 ) {
     let (knowns, sweep, drawn) = tested(battle, id, before, byte);
-    assert_eq!(rt; knowns, [after; 2]);
-    assert_eq!(rt;
+    assert_same(rt, knowns, [after; 2]);
+    assert_same(
+        rt,
         (sweep, drawn),
-        (Sweep::new(byte.wrapping_add(draws)), draws)
+        (Sweep::new(byte.wrapping_add(draws)), draws),
     );
 }
 
 // The last damage, and the user's trapping.
 fn has(rt: &impl Abort, battle: &Packed, last_damage: u16, trapping: Option<u8>) {
-    assert_eq!(rt;
+    assert_same(
+        rt,
         (battle.last_damage(), battle.trapping(USER)),
-        (last_damage, trapping)
+        (last_damage, trapping),
     );
 }
 
@@ -183,7 +187,7 @@ fn must_test(
     let mut known = Known::new();
     let mut random = Sweep::new(byte);
     let stopped = must_hit(battle, USER, id, &mut known, &mut random, &mut events);
-    assert_eq!(rt; stopped, ends);
+    assert_same(rt, stopped, ends);
     tells(rt, &events, told);
 }
 

@@ -5,6 +5,7 @@ use gen1_machine::{Event, EventList, Side};
 use gen1_stats::{MemberSpec, Team};
 use gen1_tables::Element::Normal;
 use gen1_tables::{MoveId, Species};
+use std::fmt::Debug;
 use std::process::Abort;
 use std::test::Fail;
 
@@ -81,5 +82,10 @@ pub(crate) fn two_magikarp() -> Result<Packed, Fail> {
 
 // What has been told.
 pub(crate) fn tells(rt: &impl Abort, events: &EventList, told: &[Event]) {
-    assert_eq!(rt; events.as_slice(), told);
+    assert_same(rt, events.as_slice(), told);
+}
+
+// Asserts that these are the same. A test calls it, since an assertion in its own body costs the proof of the test seconds.
+pub(crate) fn assert_same<T: PartialEq + Debug + Drop>(rt: &impl Abort, found: T, expected: T) {
+    assert_eq!(rt; found, expected);
 }

@@ -1,4 +1,5 @@
 //! The lines of library use that README.md shows: a hit, from the teams to its damage.
+use crate::battles::assert_same;
 use arrayvec::ArrayVec;
 use gen1_hits::{critical, damage, factor, hit_test, numbers, type_steps};
 use gen1_layout::Packed;
@@ -36,6 +37,6 @@ fn a_hit_of_body_slam(rt: HostRuntime) -> Result<(), Fail> {
     let accuracy = slam.accuracy_byte();
     let hits = hit_test(&mut battle, Side::One, slam, accuracy, &mut random).hit;
     // Rotated, the draw 1 is 8, below the bound of 55; 36 is no factor, and 255 is the greatest; 7 is below 255.
-    assert_eq!(rt; (critical, dealt, hits), (true, 217, true));
+    assert_same(&rt, (critical, dealt, hits), (true, 217, true));
     Ok(())
 }

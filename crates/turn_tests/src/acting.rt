@@ -4,7 +4,9 @@
 //! Each side has a Tauros out, of 353 HP. At level 100 a move of power P and no critical hit deals `42 * P * 74 / 72 / 50 + 2`, and
 //! half as much more where it is Normal. A sweep from 178 draws no critical hit, the factor 217 and then 180; one from 253 draws
 //! none either, then past 254 the factor 255, and 0.
-use crate::setting::{FOE, USER, assert_same, bytes_of, started_with, who, with};
+use crate::setting::{
+    FOE, USER, assert_bytes, assert_same, assert_told, bytes_of, started_with, who, with,
+};
 use gen1_action::Known;
 use gen1_layout::{Conditions, Packed};
 use gen1_machine::{
@@ -49,10 +51,10 @@ fn dig_is_prepared_and_costs_pp_as_it_strikes(rt: HostRuntime) -> Result<(), Fai
     );
     // Charging is bit 4, and Invulnerable bit 5; the current move stands at 197.
     let charged = with(with(before, 185, &[48]), 197, &[1]);
-    assert_same(&rt, bytes_of(&battle), charged);
+    assert_bytes(&rt, &battle, charged);
     let dig = MoveId::from_name("Dig").ok_or("no such move")?;
     let told = [Event::Prepare(who(USER, "Tauros")?, dig)];
-    assert_same(&rt, events.as_slice(), told.as_slice());
+    assert_told(&rt, &events, &told);
     assert_same(
         &rt,
         acted(&mut battle, Pick::Continue, 178, &mut events),
@@ -60,9 +62,9 @@ fn dig_is_prepared_and_costs_pp_as_it_strikes(rt: HostRuntime) -> Result<(), Fai
     );
     // 88 at the factor 217 is 74; HP 279 are 23 beside 256, and 9 PP are left of 10.
     let struck = with(with(with(before, 3, &[74]), 208, &[23, 1]), 43, &[9]);
-    assert_same(&rt, bytes_of(&battle), with(struck, 197, &[1]));
+    assert_bytes(&rt, &battle, with(struck, 197, &[1]));
     let told = [uses("Dig")?, hurt(FOE, 279, DamageSource::Direct)?];
-    assert_same(&rt, events.as_slice(), told.as_slice());
+    assert_told(&rt, &events, &told);
     Ok(())
 }
 
@@ -80,13 +82,9 @@ fn a_move_costs_pp(rt: HostRuntime) -> Result<(), Fail> {
         );
         // 106 at the factor 217 is 90, and HP 263 are 7 beside 256.
         let after = with(with(before, 3, &[90]), 208, &[7, 1]);
-        assert_same(
-            &rt,
-            bytes_of(&battle),
-            with(with(after, 43, &[left]), 197, &[1]),
-        );
+        assert_bytes(&rt, &battle, with(with(after, 43, &[left]), 197, &[1]));
         let told = [uses("Strength")?, hurt(FOE, 263, DamageSource::Direct)?];
-        assert_same(&rt, events.as_slice(), told.as_slice());
+        assert_told(&rt, &events, &told);
     }
     Ok(())
 }
@@ -122,17 +120,13 @@ fn struggle_costs_no_pp_and_recoils(rt: HostRuntime) -> Result<(), Fail> {
     );
     // 67 at the factor 217 is 57, of which half is 28: HP 296 and 325. Struggle is number 5 as the current move.
     let hit = with(with(before, 3, &[57]), 208, &[40, 1]);
-    assert_same(
-        &rt,
-        bytes_of(&battle),
-        with(with(hit, 28, &[69, 1]), 197, &[5]),
-    );
+    assert_bytes(&rt, &battle, with(with(hit, 28, &[69, 1]), 197, &[5]));
     let told = [
         uses("Struggle")?,
         hurt(FOE, 296, DamageSource::Direct)?,
         hurt(USER, 325, DamageSource::Recoil)?,
     ];
-    assert_same(&rt, events.as_slice(), told.as_slice());
+    assert_told(&rt, &events, &told);
     Ok(())
 }
 
@@ -205,7 +199,7 @@ fn thrashing_ends_in_confusion(rt: HostRuntime) -> Result<(), Fail> {
         Event::Start(who(USER, "Tauros")?, Volatile::Confusion),
         hurt(FOE, 0, DamageSource::Direct)?,
     ];
-    assert_same(&rt, events.as_slice(), told.as_slice());
+    assert_told(&rt, &events, &told);
     assert_same(&rt, battle.confused(USER), Some(2));
     Ok(())
 }
@@ -228,7 +222,7 @@ fn wrap_with_0_pp_is_used_anew(rt: HostRuntime) -> Result<(), Fail> {
         (63, Some(1)),
     );
     let told = [uses("Wrap")?, hurt(FOE, 332, DamageSource::Direct)?];
-    assert_same(&rt, events.as_slice(), told.as_slice());
+    assert_told(&rt, &events, &told);
     Ok(())
 }
 
@@ -247,13 +241,9 @@ fn wrap_goes_on_without_a_draw(rt: HostRuntime) -> Result<(), Fail> {
         (false, 9),
     );
     // The turns stand at 194; HP 332 are 76 beside 256.
-    assert_same(
-        &rt,
-        bytes_of(&battle),
-        with(with(before, 194, &[0]), 208, &[76, 1]),
-    );
+    assert_bytes(&rt, &battle, with(with(before, 194, &[0]), 208, &[76, 1]));
     let told = [uses("Wrap")?, hurt(FOE, 332, DamageSource::Direct)?];
-    assert_same(&rt, events.as_slice(), told.as_slice());
+    assert_told(&rt, &events, &told);
     Ok(())
 }
 
@@ -275,7 +265,7 @@ fn bide_stores_and_lets_go(rt: HostRuntime) -> Result<(), Fail> {
     ] {
         assert_same(&rt, acted(&mut battle, pick, 4, &mut events), (false, next));
         assert_same(&rt, (battle.hp(FOE), battle.pp(USER, 1)), (hp, 9));
-        assert_same(&rt, events.as_slice(), told);
+        assert_told(&rt, &events, told);
         battle.put_last_damage(50);
     }
     Ok(())
@@ -296,7 +286,7 @@ fn a_kick_that_misses_crashes(rt: HostRuntime) -> Result<(), Fail> {
         Event::Miss(who(USER, "Tauros")?),
         hurt(USER, 352, DamageSource::Direct)?,
     ];
-    assert_same(&rt, events.as_slice(), told.as_slice());
+    assert_told(&rt, &events, &told);
     assert_same(&rt, (battle.hp(FOE), battle.last_damage()), (353, 1));
     Ok(())
 }
@@ -313,7 +303,7 @@ fn a_ghost_is_immune(rt: HostRuntime) -> Result<(), Fail> {
         (false, 180),
     );
     let told = [uses("Strength")?, Event::Immune(who(FOE, "Tauros")?)];
-    assert_same(&rt, events.as_slice(), told.as_slice());
+    assert_told(&rt, &events, &told);
     assert_same(&rt, (battle.hp(FOE), battle.last_damage()), (353, 0));
     Ok(())
 }
@@ -331,7 +321,7 @@ fn a_late_effect_takes_its_hit_test(rt: HostRuntime) -> Result<(), Fail> {
         let ends = (false, byte.wrapping_add(1));
         assert_same(&rt, acted(&mut battle, SLOT, byte, &mut events), ends);
         assert_same(&rt, battle.stage(FOE, Stat::Attack), stage);
-        assert_same(&rt, events.as_slice(), [uses("Growl")?, second].as_slice());
+        assert_told(&rt, &events, &[uses("Growl")?, second]);
     }
     Ok(())
 }
@@ -346,9 +336,9 @@ fn who_is_held_does_nothing(rt: HostRuntime) -> Result<(), Fail> {
         acted(&mut battle, Pick::Held, 9, &mut events),
         (false, 9),
     );
-    assert_same(&rt, bytes_of(&battle), before);
+    assert_bytes(&rt, &battle, before);
     let told = [Event::Cant(who(USER, "Tauros")?, CantReason::PartiallyTrapped)];
-    assert_same(&rt, events.as_slice(), told.as_slice());
+    assert_told(&rt, &events, &told);
     Ok(())
 }
 
@@ -363,12 +353,8 @@ fn a_defense_of_512_under_reflect_ends_the_battle(rt: HostRuntime) -> Result<(),
     assert_same(&rt, battle.outcome(), Outcome::Fault(1));
     // What came before the fault stands: 14 PP, and the current move.
     battle.put_outcome(Outcome::Ongoing);
-    assert_same(
-        &rt,
-        bytes_of(&battle),
-        with(with(before, 43, &[14]), 197, &[1]),
-    );
-    assert_same(&rt, events.as_slice(), [uses("Strength")?].as_slice());
+    assert_bytes(&rt, &battle, with(with(before, 43, &[14]), 197, &[1]));
+    assert_told(&rt, &events, &[uses("Strength")?]);
     Ok(())
 }
 

@@ -1,6 +1,7 @@
 //! The end of an update, by docs/MECHANICS.md, "Falls and requests" and "Turn limit".
 use crate::setting::{
-    FOE, USER, assert_same, bytes_of, started, started_alone, started_within, turn, who, with,
+    FOE, USER, assert_bytes, assert_same, assert_told, bytes_of, started, started_alone,
+    started_within, turn, who, with,
 };
 use gen1_layout::Packed;
 use gen1_machine::{Event, EventList, FaultCode, Outcome, Request, Side};
@@ -27,8 +28,8 @@ fn the_next_turn_begins(rt: HostRuntime) -> Result<(), Fail> {
     let mut battle = started()?;
     let before = bytes_of(&battle);
     let events = closed_with(&mut battle, &[]);
-    assert_same(&rt, events.as_slice(), [turn(2)?].as_slice());
-    assert_same(&rt, bytes_of(&battle), with(before, 1, &[2, 0]));
+    assert_told(&rt, &events, &[turn(2)?]);
+    assert_bytes(&rt, &battle, with(before, 1, &[2, 0]));
     assert_same(&rt, requests(&battle), (Request::Move, Request::Move));
     Ok(())
 }
@@ -43,7 +44,7 @@ fn a_switch_is_asked_for_who_fell(rt: HostRuntime) -> Result<(), Fail> {
         battle.put_status(side, Status::Frozen);
         let events = closed_with(&mut battle, &[side]);
         let told = [Event::Faint(who(side, "Tauros")?)];
-        assert_same(&rt, events.as_slice(), told.as_slice());
+        assert_told(&rt, &events, &told);
         assert_same(&rt, requests(&battle), asked);
         assert_same(&rt, battle.status(side), Status::Healthy);
         assert_same(
@@ -64,7 +65,7 @@ fn the_rest_of_the_fallen_stays(rt: HostRuntime) -> Result<(), Fail> {
     let before = bytes_of(&battle);
     closed_with(&mut battle, &[FOE]);
     let after = with(with(before, 208, &[0, 0]), 17, &[0, 2]);
-    assert_same(&rt, bytes_of(&battle), after);
+    assert_bytes(&rt, &battle, after);
     Ok(())
 }
 
@@ -80,7 +81,7 @@ fn the_foe_of_the_last_actor_faints_first(rt: HostRuntime) -> Result<(), Fail> {
             Event::Faint(who(foe, "Tauros")?),
             Event::Faint(who(actor, "Tauros")?),
         ];
-        assert_same(&rt, events.as_slice(), told.as_slice());
+        assert_told(&rt, &events, &told);
         assert_same(&rt, requests(&battle), (Request::Switch, Request::Switch));
     }
     Ok(())
@@ -92,7 +93,7 @@ fn the_last_to_live_wins(rt: HostRuntime) -> Result<(), Fail> {
         let mut battle = started_alone()?;
         let events = closed_with(&mut battle, &[loser]);
         let told = [Event::Faint(who(loser, "Tauros")?), Event::Win(winner)];
-        assert_same(&rt, events.as_slice(), told.as_slice());
+        assert_told(&rt, &events, &told);
         assert_same(&rt, (battle.turn(), battle.outcome()), (1, outcome));
         assert_same(&rt, requests(&battle), (Request::Pass, Request::Pass));
     }
@@ -108,7 +109,7 @@ fn nobody_lives_in_a_tie(rt: HostRuntime) -> Result<(), Fail> {
         Event::Faint(who(USER, "Tauros")?),
         Event::Tie,
     ];
-    assert_same(&rt, events.as_slice(), told.as_slice());
+    assert_told(&rt, &events, &told);
     assert_same(&rt, battle.outcome(), Outcome::Tie);
     assert_same(&rt, requests(&battle), (Request::Pass, Request::Pass));
     Ok(())
@@ -121,9 +122,9 @@ fn turn_1000_ends_in_a_tie(rt: HostRuntime) -> Result<(), Fail> {
         battle.put_next_turn();
     }
     let events = closed_with(&mut battle, &[]);
-    assert_same(&rt, events.as_slice(), [turn(1000)?].as_slice());
+    assert_told(&rt, &events, &[turn(1000)?]);
     let events = closed_with(&mut battle, &[]);
-    assert_same(&rt, events.as_slice(), [Event::Tie].as_slice());
+    assert_told(&rt, &events, &[Event::Tie]);
     assert_same(&rt, (battle.turn(), battle.outcome()), (1000, Outcome::Tie));
     assert_same(&rt, requests(&battle), (Request::Pass, Request::Pass));
     Ok(())
@@ -134,7 +135,7 @@ fn no_replacement_follows_the_last_turn(rt: HostRuntime) -> Result<(), Fail> {
     let mut battle = started_within(1)?;
     let events = closed_with(&mut battle, &[FOE]);
     let told = [Event::Faint(who(FOE, "Tauros")?), Event::Tie];
-    assert_same(&rt, events.as_slice(), told.as_slice());
+    assert_told(&rt, &events, &told);
     assert_same(&rt, battle.outcome(), Outcome::Tie);
     assert_same(&rt, requests(&battle), (Request::Pass, Request::Pass));
     Ok(())
@@ -148,7 +149,7 @@ fn a_win_in_the_last_turn_is_a_win(rt: HostRuntime) -> Result<(), Fail> {
     }
     let events = closed_with(&mut battle, &[USER]);
     let told = [Event::Faint(who(USER, "Tauros")?), Event::Win(FOE)];
-    assert_same(&rt, events.as_slice(), told.as_slice());
+    assert_told(&rt, &events, &told);
     assert_same(
         &rt,
         (battle.turn(), battle.outcome()),
@@ -167,8 +168,8 @@ fn nobody_faints_at_a_fault(rt: HostRuntime) -> Result<(), Fail> {
         let before = bytes_of(&battle);
         let events = closed_with(&mut battle, &[]);
         let code = FaultCode::new(number).ok_or("no such fault")?;
-        assert_same(&rt, events.as_slice(), [Event::Fault(code)].as_slice());
-        assert_same(&rt, bytes_of(&battle), with(before, 17, &[0, 0]));
+        assert_told(&rt, &events, &[Event::Fault(code)]);
+        assert_bytes(&rt, &battle, with(before, 17, &[0, 0]));
     }
     Ok(())
 }

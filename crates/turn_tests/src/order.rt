@@ -1,6 +1,6 @@
 //! Who acts first in a turn, by docs/MECHANICS.md, "Order of a turn". Tauros has a Speed of 318, Snorlax one of 158.
 use crate::duels::{both, duel, hurt, knowing, play, slot, uses};
-use crate::setting::{FOE, USER, assert_same, turn};
+use crate::setting::{FOE, USER, assert_same, assert_told, turn};
 use gen1_layout::Packed;
 use gen1_machine::{CantReason, Event, EventList, UsedMove, Volatile, Who};
 use gen1_rolls::{LinkRandom, Rolls, Sweep};
@@ -40,12 +40,12 @@ fn a_tie_of_speed_is_drawn(rt: HostRuntime) -> Result<(), Fail> {
     let (one, two) = both("Tauros", "Tauros")?;
     for byte in [0, 127] {
         let (events, draws) = tied_splash(byte)?;
-        assert_same(&rt, events.as_slice(), splashes(one, two)?.as_slice());
+        assert_told(&rt, &events, &splashes(one, two)?);
         assert_same(&rt, draws, 1);
     }
     for byte in [128, 255] {
         let (events, draws) = tied_splash(byte)?;
-        assert_same(&rt, events.as_slice(), splashes(two, one)?.as_slice());
+        assert_told(&rt, &events, &splashes(two, one)?);
         assert_same(&rt, draws, 1);
     }
     Ok(())
@@ -58,7 +58,7 @@ fn a_tie_is_drawn_from_a_link_battles_numbers(rt: HostRuntime) -> Result<(), Fai
         let mut battle = facing(("Tauros", "Splash"), ("Tauros", "Splash"))?;
         let mut link = LinkRandom::new([byte; 10]);
         let events = play(&mut battle, slot(1)?, slot(1)?, &mut link);
-        assert_same(&rt, events.as_slice(), splashes(first, second)?.as_slice());
+        assert_told(&rt, &events, &splashes(first, second)?);
         assert_same(&rt, link.index(), 1);
     }
     Ok(())
@@ -70,12 +70,12 @@ fn the_faster_acts_first_with_no_draw(rt: HostRuntime) -> Result<(), Fail> {
     let mut sweep = Sweep::new(0);
     let events = play(&mut battle, slot(1)?, slot(1)?, &mut sweep);
     let (one, two) = both("Snorlax", "Tauros")?;
-    assert_same(&rt, events.as_slice(), splashes(two, one)?.as_slice());
+    assert_told(&rt, &events, &splashes(two, one)?);
     assert_same(&rt, drawn_since(0, sweep), 0);
     let mut battle = facing(("Tauros", "Splash"), ("Snorlax", "Splash"))?;
     let events = play(&mut battle, slot(1)?, slot(1)?, &mut Sweep::new(255));
     let (one, two) = both("Tauros", "Snorlax")?;
-    assert_same(&rt, events.as_slice(), splashes(one, two)?.as_slice());
+    assert_told(&rt, &events, &splashes(one, two)?);
     Ok(())
 }
 
@@ -95,7 +95,7 @@ fn a_slower_quick_attack_is_first(rt: HostRuntime) -> Result<(), Fail> {
         Event::Activate(two, Volatile::Splash),
         turn(2)?,
     ];
-    assert_same(&rt, events.as_slice(), told.as_slice());
+    assert_told(&rt, &events, &told);
     // 180 is that of the hit test.
     assert_same(&rt, drawn_since(1, sweep), 180);
     Ok(())
@@ -126,7 +126,7 @@ fn a_sleeper_keeps_the_move_that_it_picked(rt: HostRuntime) -> Result<(), Fail> 
         } else {
             [splash[0], splash[1], cant, turn(2)?]
         };
-        assert_same(&rt, events.as_slice(), told.as_slice());
+        assert_told(&rt, &events, &told);
         assert_same(&rt, drawn_since(0, sweep), 0);
     }
     Ok(())
@@ -146,7 +146,7 @@ fn counters_of_equal_speed_take_one_draw(rt: HostRuntime) -> Result<(), Fail> {
             Event::Miss(second),
             turn(2)?,
         ];
-        assert_same(&rt, events.as_slice(), told.as_slice());
+        assert_told(&rt, &events, &told);
         // One for the order, and the critical draw of each.
         assert_same(&rt, drawn_since(byte, sweep), 3);
     }
@@ -166,7 +166,7 @@ fn a_counter_is_last(rt: HostRuntime) -> Result<(), Fail> {
         Event::Miss(one),
         turn(2)?,
     ];
-    assert_same(&rt, events.as_slice(), told.as_slice());
+    assert_told(&rt, &events, &told);
     assert_same(&rt, drawn_since(0, sweep), 1);
     Ok(())
 }
@@ -185,7 +185,7 @@ fn who_is_held_has_picked_no_move(rt: HostRuntime) -> Result<(), Fail> {
         Event::Cant(two, CantReason::PartiallyTrapped),
         turn(2)?,
     ];
-    assert_same(&rt, events.as_slice(), told.as_slice());
+    assert_told(&rt, &events, &told);
     assert_same(&rt, battle.picked_move(FOE), UsedMove::Nothing);
     Ok(())
 }

@@ -146,3 +146,13 @@ pub(crate) fn turn(number: u16) -> Result<Event, Fail> {
 pub(crate) fn assert_same<T: PartialEq + Debug + Drop>(rt: &impl Abort, found: T, expected: T) {
     assert_eq!(rt; found, expected);
 }
+
+// Asserts that these are the events.
+pub(crate) fn assert_told(rt: &impl Abort, events: &EventList, told: &[Event]) {
+    assert_eq!(rt; events.as_slice(), told);
+}
+
+// Asserts that these are the battle's bytes.
+pub(crate) fn assert_bytes(rt: &impl Abort, battle: &Packed, expected: [u8; 384]) {
+    assert_eq!(rt; bytes_of(battle), expected);
+}

@@ -1,7 +1,7 @@
 //! The first update of a battle, by docs/MECHANICS.md, "Switching in" and "Falls and requests".
 use crate::setting::{
-    FOE, TAUROS_OUT, USER, assert_same, bytes_of, started_within, tauros_out, turn, unstarted,
-    unstarted_alone, with,
+    FOE, TAUROS_OUT, USER, assert_bytes, assert_same, assert_told, bytes_of, started_within,
+    tauros_out, turn, unstarted, unstarted_alone, with,
 };
 use gen1_layout::Packed;
 use gen1_machine::{EventList, Kind, Outcome, Request};
@@ -19,11 +19,11 @@ fn a_battle_begins_with_turn_1(rt: HostRuntime) -> Result<(), Fail> {
         tauros_out(FOE, 353, None)?,
         turn(1)?,
     ];
-    assert_same(&rt, events.as_slice(), told.as_slice());
+    assert_told(&rt, &events, &told);
     // The turn is 1, moves are asked of both, and both are out; no draw was made.
     let turned = with(with(before, 1, &[1, 0]), 17, &[1, 1]);
     let out = with(with(turned, 168, &TAUROS_OUT), 348, &TAUROS_OUT);
-    assert_same(&rt, bytes_of(&battle), out);
+    assert_bytes(&rt, &battle, out);
     Ok(())
 }
 
@@ -64,13 +64,13 @@ fn a_hurt_and_burned_member_comes_out_first(rt: HostRuntime) -> Result<(), Fail>
         tauros_out(FOE, 100, Some(Kind::Burn))?,
         turn(1)?,
     ];
-    assert_same(&rt, events.as_slice(), told.as_slice());
+    assert_told(&rt, &events, &told);
     // Half of 298 is 149.
     let out = with(
         with(bytes_of(&started_within(1000)?), 208, &[100, 0]),
         218,
         &[16],
     );
-    assert_same(&rt, bytes_of(&battle), with(out, 357, &[149, 0]));
+    assert_bytes(&rt, &battle, with(out, 357, &[149, 0]));
     Ok(())
 }

@@ -1,6 +1,7 @@
 //! Members that come out in a battle, by docs/MECHANICS.md, "Switching in" and "Falls and requests".
 use crate::setting::{
-    FOE, GENGAR_OUT, USER, assert_same, bytes_of, gengar_out, started, tauros_out, turn, with,
+    FOE, GENGAR_OUT, USER, assert_bytes, assert_same, assert_told, bytes_of, gengar_out, started,
+    tauros_out, turn, with,
 };
 use gen1_layout::{Conditions, Packed};
 use gen1_machine::{Choice, DisabledSlot, EventList, Kind, Place, Request, Side, UsedMove};
@@ -34,8 +35,8 @@ fn a_switch_resets_stages_and_moves(rt: HostRuntime) -> Result<(), Fail> {
     battle.put_kept_accuracy(USER, 255);
     let mut events = EventList::new();
     send_out(&mut battle, USER, place(2)?, &mut events);
-    assert_same(&rt, bytes_of(&battle), with(before, 168, &GENGAR_OUT));
-    assert_same(&rt, events.as_slice(), [gengar_out(USER)?].as_slice());
+    assert_bytes(&rt, &battle, with(before, 168, &GENGAR_OUT));
+    assert_told(&rt, &events, &[gengar_out(USER)?]);
     Ok(())
 }
 
@@ -50,8 +51,8 @@ fn a_switch_leaves_no_condition(rt: HostRuntime) -> Result<(), Fail> {
     battle.put_thrash(FOE, 3);
     let mut events = EventList::new();
     send_out(&mut battle, FOE, place(2)?, &mut events);
-    assert_same(&rt, bytes_of(&battle), with(before, 348, &GENGAR_OUT));
-    assert_same(&rt, events.as_slice(), [gengar_out(FOE)?].as_slice());
+    assert_bytes(&rt, &battle, with(before, 348, &GENGAR_OUT));
+    assert_told(&rt, &events, &[gengar_out(FOE)?]);
     Ok(())
 }
 
@@ -63,7 +64,7 @@ fn a_switch_ends_the_foes_trapping(rt: HostRuntime) -> Result<(), Fail> {
         let before = bytes_of(&battle);
         battle.put_trapping(foe, 3);
         send_out(&mut battle, side, place(2)?, &mut EventList::new());
-        assert_same(&rt, bytes_of(&battle), with(before, start, &GENGAR_OUT));
+        assert_bytes(&rt, &battle, with(before, start, &GENGAR_OUT));
     }
     Ok(())
 }
@@ -91,11 +92,7 @@ fn a_status_brings_its_penalty(rt: HostRuntime) -> Result<(), Fail> {
         battle.put_hp(USER, 41);
         battle.put_status(USER, status);
         let events = away_and_back(&mut battle)?;
-        assert_same(
-            &rt,
-            events.as_slice(),
-            [tauros_out(USER, 41, kind)?].as_slice(),
-        );
+        assert_told(&rt, &events, &[tauros_out(USER, 41, kind)?]);
         let stats = [Stat::Attack, Stat::Defense, Stat::Speed, Stat::Special].map(
             |stat| battle.current_stat(USER, stat),
         );
@@ -136,10 +133,10 @@ fn a_replacement_comes_out(rt: HostRuntime) -> Result<(), Fail> {
     let choice = Choice::Switch(place(2)?);
     replace(&mut battle, Choice::Pass, choice, &mut events);
     let told = [gengar_out(FOE)?, turn(2)?];
-    assert_same(&rt, events.as_slice(), told.as_slice());
+    assert_told(&rt, &events, &told);
     // Turn 2, and moves are asked of both.
     let turned = with(with(before, 1, &[2, 0]), 17, &[1, 1]);
-    assert_same(&rt, bytes_of(&battle), with(turned, 348, &GENGAR_OUT));
+    assert_bytes(&rt, &battle, with(turned, 348, &GENGAR_OUT));
     Ok(())
 }
 
@@ -150,7 +147,7 @@ fn of_two_replacements_side_1s_is_first(rt: HostRuntime) -> Result<(), Fail> {
     let choice = Choice::Switch(place(2)?);
     replace(&mut battle, choice, choice, &mut events);
     let told = [gengar_out(USER)?, gengar_out(FOE)?, turn(2)?];
-    assert_same(&rt, events.as_slice(), told.as_slice());
+    assert_told(&rt, &events, &told);
     assert_same(&rt, battle.active(USER), GENGAR_OUT.as_slice());
     assert_same(&rt, battle.active(FOE), GENGAR_OUT.as_slice());
     Ok(())

@@ -2,8 +2,8 @@
 //! the greater Speed, Snorlax 523.
 use crate::duels::{both, duel, hurt, knowing, play, poisoned, slot, switch, uses};
 use crate::setting::{
-    FOE, SEED, USER, assert_same, bytes_of, gengar_out, tauros_out, turn, unstarted_alone, who,
-    with,
+    FOE, SEED, USER, assert_same, assert_told, bytes_of, gengar_out, tauros_out, turn,
+    unstarted_alone, who, with,
 };
 use gen1_layout::{Conditions, Packed};
 use gen1_machine::{
@@ -44,7 +44,7 @@ fn a_switch_comes_before_quick_attack(rt: HostRuntime) -> Result<(), Fail> {
         Event::Immune(two),
         turn(2)?,
     ];
-    assert_same(&rt, events.as_slice(), told.as_slice());
+    assert_told(&rt, &events, &told);
     let mut battle = facing("Splash", "Quick Attack")?;
     let events = play(&mut battle, switch(2)?, slot(1)?, &mut Sweep::new(0));
     let (one, two) = both("Gengar", "Snorlax")?;
@@ -54,7 +54,7 @@ fn a_switch_comes_before_quick_attack(rt: HostRuntime) -> Result<(), Fail> {
         Event::Immune(one),
         turn(2)?,
     ];
-    assert_same(&rt, events.as_slice(), told.as_slice());
+    assert_told(&rt, &events, &told);
     Ok(())
 }
 
@@ -64,7 +64,7 @@ fn both_switch_with_no_draw(rt: HostRuntime) -> Result<(), Fail> {
     let mut sweep = Sweep::new(9);
     let events = play(&mut battle, switch(2)?, switch(2)?, &mut sweep);
     let told = [gengar_out(USER)?, gengar_out(FOE)?, turn(2)?];
-    assert_same(&rt, events.as_slice(), told.as_slice());
+    assert_told(&rt, &events, &told);
     assert_same(&rt, (battle.place(USER), battle.place(FOE)), (2, 2));
     assert_same(&rt, sweep.draw(), 9);
     Ok(())
@@ -102,7 +102,7 @@ fn who_comes_out_suffers_before_the_other_acts(rt: HostRuntime) -> Result<(), Fa
         splash[1],
         turn(2)?,
     ];
-    assert_same(&rt, events.as_slice(), told.as_slice());
+    assert_told(&rt, &events, &told);
     let mut battle = poisoned_behind(323)?;
     let events = play(&mut battle, switch(2)?, switch(2)?, &mut Sweep::new(0));
     let told = [
@@ -111,7 +111,7 @@ fn who_comes_out_suffers_before_the_other_acts(rt: HostRuntime) -> Result<(), Fa
         gengar_out(FOE)?,
         turn(2)?,
     ];
-    assert_same(&rt, events.as_slice(), told.as_slice());
+    assert_told(&rt, &events, &told);
     Ok(())
 }
 
@@ -126,7 +126,7 @@ fn where_who_comes_out_falls_nobody_else_acts(rt: HostRuntime) -> Result<(), Fai
     for choice in [slot(1)?, switch(2)?] {
         let mut battle = poisoned_behind(20)?;
         let events = play(&mut battle, switch(2)?, choice, &mut Sweep::new(0));
-        assert_same(&rt, events.as_slice(), told.as_slice());
+        assert_told(&rt, &events, &told);
         assert_same(&rt, battle.place(FOE), 1);
         assert_same(
             &rt,
@@ -150,7 +150,7 @@ fn who_fells_its_foe_is_spared_its_residual(rt: HostRuntime) -> Result<(), Fail>
         hurt(two, 0, 523)?,
         Event::Faint(two),
     ];
-    assert_same(&rt, events.as_slice(), told.as_slice());
+    assert_told(&rt, &events, &told);
     assert_same(&rt, (battle.hp(USER), battle.turn()), (353, 1));
     assert_same(&rt, requests_of(&battle), (Request::Pass, Request::Switch));
     Ok(())
@@ -175,7 +175,7 @@ fn each_suffers_after_its_own_action(rt: HostRuntime) -> Result<(), Fail> {
         poisoned(two, 491, 523)?,
         turn(2)?,
     ];
-    assert_same(&rt, events.as_slice(), told.as_slice());
+    assert_told(&rt, &events, &told);
     Ok(())
 }
 
@@ -193,7 +193,7 @@ fn a_fall_by_poison_ends_the_turn(rt: HostRuntime) -> Result<(), Fail> {
         poisoned(one, 0, 353)?,
         Event::Faint(one),
     ];
-    assert_same(&rt, events.as_slice(), told.as_slice());
+    assert_told(&rt, &events, &told);
     assert_same(&rt, requests_of(&battle), (Request::Switch, Request::Pass));
     Ok(())
 }
@@ -210,7 +210,7 @@ fn the_foe_of_the_last_actor_faints_first(rt: HostRuntime) -> Result<(), Fail> {
         Event::Faint(two),
         Event::Faint(one),
     ];
-    assert_same(&rt, events.as_slice(), told.as_slice());
+    assert_told(&rt, &events, &told);
     assert_same(
         &rt,
         requests_of(&battle),
@@ -228,7 +228,7 @@ fn the_foe_of_the_last_actor_faints_first(rt: HostRuntime) -> Result<(), Fail> {
         Event::Faint(one),
         Event::Faint(two),
     ];
-    assert_same(&rt, events.as_slice(), told.as_slice());
+    assert_told(&rt, &events, &told);
     Ok(())
 }
 
@@ -277,7 +277,7 @@ fn trapping_ends_with_a_whole_turn(rt: HostRuntime) -> Result<(), Fail> {
             Event::Cant(two, CantReason::PartiallyTrapped),
             turn(2)?,
         ];
-        assert_same(&rt, events.as_slice(), told.as_slice());
+        assert_told(&rt, &events, &told);
         assert_same(&rt, (battle.trapping(USER), sweep.draw()), (left, 0));
     }
     Ok(())
@@ -294,7 +294,7 @@ fn trapping_stays_where_the_turn_was_cut(rt: HostRuntime) -> Result<(), Fail> {
         hurt(two, 0, 523)?,
         Event::Faint(two),
     ];
-    assert_same(&rt, events.as_slice(), told.as_slice());
+    assert_told(&rt, &events, &told);
     assert_same(&rt, battle.trapping(USER), Some(0));
     Ok(())
 }
@@ -335,7 +335,7 @@ fn a_flinch_is_cleared_as_a_turn_begins(rt: HostRuntime) -> Result<(), Fail> {
     let first = splash(one, two)?;
     let second = splash(two, one)?;
     let told = [first[0], first[1], second[0], second[1], turn(2)?];
-    assert_same(&rt, events.as_slice(), told.as_slice());
+    assert_told(&rt, &events, &told);
     assert_same(
         &rt,
         (
@@ -366,7 +366,7 @@ fn a_sleeper_that_haze_met_is_skipped(rt: HostRuntime) -> Result<(), Fail> {
         Event::Cure(two, Kind::Sleep),
         turn(2)?,
     ];
-    assert_same(&rt, events.as_slice(), told.as_slice());
+    assert_told(&rt, &events, &told);
     Ok(())
 }
 
@@ -382,7 +382,7 @@ fn the_stored_run_is_told_as_it_was_printed(rt: HostRuntime) -> Result<(), Fail>
         tauros_out(FOE, 353, None)?,
         turn(1)?,
     ];
-    assert_same(&rt, events.as_slice(), first.as_slice());
+    assert_told(&rt, &events, &first);
     let (one, two) = both("Tauros", "Tauros")?;
     let events = play(&mut battle, slot(1)?, slot(1)?, &mut link);
     let second = [
@@ -393,7 +393,7 @@ fn the_stored_run_is_told_as_it_was_printed(rt: HostRuntime) -> Result<(), Fail>
         hurt(one, 263, 353)?,
         turn(2)?,
     ];
-    assert_same(&rt, events.as_slice(), second.as_slice());
+    assert_told(&rt, &events, &second);
     let events = play(&mut battle, slot(1)?, slot(1)?, &mut link);
     let third = [
         uses(one, "Strength", two)?,
@@ -402,7 +402,7 @@ fn the_stored_run_is_told_as_it_was_printed(rt: HostRuntime) -> Result<(), Fail>
         Event::Faint(two),
         Event::Win(USER),
     ];
-    assert_same(&rt, events.as_slice(), third.as_slice());
+    assert_told(&rt, &events, &third);
     assert_same(&rt, battle.outcome(), Outcome::WinOne);
     Ok(())
 }

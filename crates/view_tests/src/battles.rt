@@ -1,4 +1,5 @@
 //! Whole battles: after each update the view that followed the logs shows what the bytes of the battle do.
+use crate::comparing::assert_same;
 use crate::teams::{SEED, lead_and_chansey, tauros};
 use gen1_engine::Battle;
 use gen1_events::{LogBuf, LogReader};
@@ -130,9 +131,13 @@ fn watch(one: &Team, two: &Team, wishes: &[(u8, u8)]) -> Result<View, Fail> {
 #[test]
 fn the_stored_battle(rt: HostRuntime) -> Result<(), Fail> {
     let view = watch(&tauros()?, &tauros()?, &[(0x11, 0x11), (0x11, 0x11)])?;
-    assert!(rt; view.place(Side::One) == 1 && view.place(Side::Two) == 1);
-    assert!(rt; view.hp(Side::One, 1) == 263 && view.hp(Side::Two, 1) == 0);
-    assert!(rt; view.turn() == 2 && view.outcome() == Outcome::WinOne);
+    assert_same(&rt, (view.place(Side::One), view.place(Side::Two)), (1, 1));
+    assert_same(
+        &rt,
+        (view.hp(Side::One, 1), view.hp(Side::Two, 1)),
+        (263, 0),
+    );
+    assert_same(&rt, (view.turn(), view.outcome()), (2, Outcome::WinOne));
     Ok(())
 }
 
@@ -141,12 +146,12 @@ fn a_battle_with_haze(rt: HostRuntime) -> Result<(), Fail> {
     let one = lead_and_chansey(&["Swords Dance", "Reflect", "Haze", "Light Screen"])?;
     let two = lead_and_chansey(&["Amnesia", "Light Screen", "Barrier", "Strength"])?;
     let raised = watch(&one, &two, &[(0x11, 0x11), (0x12, 0x12)])?;
-    assert_eq!(rt; raised.stage(Side::One, Stat::Attack), 2);
-    assert_eq!(rt; raised.stage(Side::Two, Stat::Special), 2);
-    assert_eq!(rt; raised.screens(Side::Two), [true, false]);
+    assert_same(&rt, raised.stage(Side::One, Stat::Attack), 2);
+    assert_same(&rt, raised.stage(Side::Two, Stat::Special), 2);
+    assert_same(&rt, raised.screens(Side::Two), [true, false]);
     let cleared = watch(&one, &two, &[(0x11, 0x11), (0x12, 0x12), (0x13, 0x14)])?;
-    assert_eq!(rt; cleared.stage(Side::Two, Stat::Special), 0);
-    assert_eq!(rt; cleared.screens(Side::Two), [false, false]);
+    assert_same(&rt, cleared.stage(Side::Two, Stat::Special), 0);
+    assert_same(&rt, cleared.screens(Side::Two), [false, false]);
     Ok(())
 }
 
@@ -155,10 +160,14 @@ fn a_battle_with_a_substitute(rt: HostRuntime) -> Result<(), Fail> {
     let one = lead_and_chansey(&["Substitute", "Recover"])?;
     let two = lead_and_chansey(&["Strength", "Splash"])?;
     let view = watch(&one, &two, &[(0x11, 0x12)])?;
-    assert!(rt; view.substitute(Side::One) && view.hp(Side::One, 1) == 265);
+    assert_same(
+        &rt,
+        (view.substitute(Side::One), view.hp(Side::One, 1)),
+        (true, 265),
+    );
     let wishes = [(0x11, 0x12), (0x12, 0x11), (0x12, 0x11), (0x11, 0x11)];
     let later = watch(&one, &two, &wishes)?;
-    assert_eq!(rt; later.turn(), 5);
+    assert_same(&rt, later.turn(), 5);
     Ok(())
 }
 
@@ -167,8 +176,8 @@ fn a_battle_with_rest(rt: HostRuntime) -> Result<(), Fail> {
     let one = lead_and_chansey(&["Splash", "Rest"])?;
     let two = lead_and_chansey(&["Strength", "Splash"])?;
     let view = watch(&one, &two, &[(0x11, 0x11), (0x12, 0x12)])?;
-    assert_eq!(rt; view.status(Side::One, 1), Some(Kind::Sleep));
-    assert_eq!(rt; view.hp(Side::One, 1), 353);
+    assert_same(&rt, view.status(Side::One, 1), Some(Kind::Sleep));
+    assert_same(&rt, view.hp(Side::One, 1), 353);
     Ok(())
 }
 
@@ -178,7 +187,7 @@ fn a_battle_with_leech_seed(rt: HostRuntime) -> Result<(), Fail> {
     let two = lead_and_chansey(&["Strength", "Splash"])?;
     let wishes = [(0x11, 0x11), (0x11, 0x12), (0x12, 0x11), (0x12, 0x12)];
     let view = watch(&one, &two, &wishes)?;
-    assert!(rt; view.hp(Side::Two, 1) < 353);
+    assert_same(&rt, view.hp(Side::Two, 1) < 353, true);
     Ok(())
 }
 
@@ -188,9 +197,9 @@ fn a_battle_with_switches(rt: HostRuntime) -> Result<(), Fail> {
     let two = lead_and_chansey(&["Double Team", "Toxic"])?;
     let wishes = [(0x11, 0x11), (0x12, 0x12), (0x22, 0x22), (0x11, 0x21)];
     let view = watch(&one, &two, &wishes)?;
-    assert!(rt; view.place(Side::One) == 2 && view.place(Side::Two) == 1);
-    assert_eq!(rt; view.stage(Side::Two, Stat::Evasion), 0);
-    assert!(rt; !view.confused(Side::Two));
+    assert_same(&rt, (view.place(Side::One), view.place(Side::Two)), (2, 1));
+    assert_same(&rt, view.stage(Side::Two, Stat::Evasion), 0);
+    assert_same(&rt, view.confused(Side::Two), false);
     Ok(())
 }
 
@@ -199,8 +208,12 @@ fn a_battle_with_an_explosion(rt: HostRuntime) -> Result<(), Fail> {
     let one = lead_and_chansey(&["Explosion"])?;
     let two = lead_and_chansey(&["Splash", "Swords Dance"])?;
     let fallen = watch(&one, &two, &[(0x11, 0x12)])?;
-    assert!(rt; fallen.hp(Side::One, 1) == 0 && fallen.place(Side::One) == 1);
+    assert_same(
+        &rt,
+        (fallen.hp(Side::One, 1), fallen.place(Side::One)),
+        (0, 1),
+    );
     let replaced = watch(&one, &two, &[(0x11, 0x12), (0x22, 0x22), (0x11, 0x11)])?;
-    assert_eq!(rt; replaced.place(Side::One), 2);
+    assert_same(&rt, replaced.place(Side::One), 2);
     Ok(())
 }

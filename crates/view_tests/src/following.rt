@@ -1,4 +1,5 @@
 //! A view that follows log bytes (docs/MECHANICS.md, "Log bytes", "Spectator's view").
+use crate::comparing::assert_same;
 use crate::teams::tauros;
 use gen1_events::{LogFault, LogReader};
 use gen1_machine::{Outcome, Side};
@@ -33,9 +34,9 @@ fn shows_the_end(view: &View) -> bool {
 fn the_stored_battle_is_seen_to_its_end(rt: HostRuntime) -> Result<(), Fail> {
     let mut view = new_view()?;
     let mut reader = LogReader::new();
-    assert_eq!(rt; view.follow(&mut reader, &LOG), Ok(()));
-    assert!(rt; shows_the_end(&view));
-    assert_eq!(rt; reader.finish(), Ok(()));
+    assert_same(&rt, view.follow(&mut reader, &LOG), Ok(()));
+    assert_same(&rt, shows_the_end(&view), true);
+    assert_same(&rt, reader.finish(), Ok(()));
     Ok(())
 }
 
@@ -43,12 +44,12 @@ fn the_stored_battle_is_seen_to_its_end(rt: HostRuntime) -> Result<(), Fail> {
 fn each_update_is_seen_by_itself(rt: HostRuntime) -> Result<(), Fail> {
     let mut view = new_view()?;
     let mut reader = LogReader::new();
-    assert_eq!(rt; view.follow(&mut reader, &LOG[..23]), Ok(()));
-    assert!(rt; view.turn() == 1 && view.hp(Side::Two, 1) == 353);
-    assert_eq!(rt; view.follow(&mut reader, &LOG[23..59]), Ok(()));
-    assert!(rt; view.turn() == 2 && view.hp(Side::Two, 1) == 149);
-    assert_eq!(rt; view.follow(&mut reader, &LOG[59..]), Ok(()));
-    assert!(rt; shows_the_end(&view));
+    assert_same(&rt, view.follow(&mut reader, &LOG[..23]), Ok(()));
+    assert_same(&rt, (view.turn(), view.hp(Side::Two, 1)), (1, 353));
+    assert_same(&rt, view.follow(&mut reader, &LOG[23..59]), Ok(()));
+    assert_same(&rt, (view.turn(), view.hp(Side::Two, 1)), (2, 149));
+    assert_same(&rt, view.follow(&mut reader, &LOG[59..]), Ok(()));
+    assert_same(&rt, shows_the_end(&view), true);
     Ok(())
 }
 
@@ -57,9 +58,9 @@ fn a_log_is_followed_byte_by_byte(rt: HostRuntime) -> Result<(), Fail> {
     let mut view = new_view()?;
     let mut reader = LogReader::new();
     for byte in LOG {
-        assert_eq!(rt; view.follow(&mut reader, &[byte]), Ok(()));
+        assert_same(&rt, view.follow(&mut reader, &[byte]), Ok(()));
     }
-    assert!(rt; shows_the_end(&view));
+    assert_same(&rt, shows_the_end(&view), true);
     Ok(())
 }
 
@@ -68,9 +69,9 @@ fn a_log_is_followed_however_it_is_cut(rt: HostRuntime) -> Result<(), Fail> {
     for cut in 0..=LOG.len() {
         let mut view = new_view()?;
         let mut reader = LogReader::new();
-        assert_eq!(rt; view.follow(&mut reader, &LOG[..cut]), Ok(()));
-        assert_eq!(rt; view.follow(&mut reader, &LOG[cut..]), Ok(()));
-        assert!(rt; shows_the_end(&view), "cut at {cut}");
+        assert_same(&rt, view.follow(&mut reader, &LOG[..cut]), Ok(()));
+        assert_same(&rt, view.follow(&mut reader, &LOG[cut..]), Ok(()));
+        assert_same(&rt, (cut, shows_the_end(&view)), (cut, true));
     }
     Ok(())
 }
@@ -79,11 +80,11 @@ fn a_log_is_followed_however_it_is_cut(rt: HostRuntime) -> Result<(), Fail> {
 fn an_event_that_waits_is_taken_in_first(rt: HostRuntime) -> Result<(), Fail> {
     let mut view = new_view()?;
     let mut reader = LogReader::new();
-    assert_eq!(rt; reader.feed(&LOG), Ok(10));
-    assert_eq!(rt; view.follow(&mut reader, &[]), Ok(()));
-    assert!(rt; view.place(Side::One) == 1 && view.place(Side::Two) == 0);
-    assert_eq!(rt; view.follow(&mut reader, &LOG[10..]), Ok(()));
-    assert!(rt; shows_the_end(&view));
+    assert_same(&rt, reader.feed(&LOG), Ok(10));
+    assert_same(&rt, view.follow(&mut reader, &[]), Ok(()));
+    assert_same(&rt, (view.place(Side::One), view.place(Side::Two)), (1, 0));
+    assert_same(&rt, view.follow(&mut reader, &LOG[10..]), Ok(()));
+    assert_same(&rt, shows_the_end(&view), true);
     Ok(())
 }
 
@@ -91,17 +92,19 @@ fn an_event_that_waits_is_taken_in_first(rt: HostRuntime) -> Result<(), Fail> {
 fn what_comes_before_a_fault_is_taken_in(rt: HostRuntime) -> Result<(), Fail> {
     let mut view = new_view()?;
     let mut reader = LogReader::new();
-    assert_eq!(rt; view.follow(&mut reader, &LOG[..20]), Ok(()));
-    assert_eq!(rt;
+    assert_same(&rt, view.follow(&mut reader, &LOG[..20]), Ok(()));
+    assert_same(
+        &rt,
         view.follow(&mut reader, &[0x01, 7, 0, 0xFF]),
-        Err(LogFault::UnknownTag)
+        Err(LogFault::UnknownTag),
     );
-    assert_eq!(rt; view.turn(), 7);
-    assert_eq!(rt;
+    assert_same(&rt, view.turn(), 7);
+    assert_same(
+        &rt,
         view.follow(&mut reader, &LOG[20..]),
-        Err(LogFault::UnknownTag)
+        Err(LogFault::UnknownTag),
     );
-    assert_eq!(rt; view.turn(), 7);
+    assert_same(&rt, view.turn(), 7);
     Ok(())
 }
 

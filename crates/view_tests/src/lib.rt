@@ -5,6 +5,8 @@
 #[cfg(test)]
 mod battles;
 #[cfg(test)]
+mod comparing;
+#[cfg(test)]
 mod following;
 #[cfg(test)]
 mod rooms;

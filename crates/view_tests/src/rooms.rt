@@ -1,4 +1,5 @@
 //! Rooms, by the table and the example of docs/MECHANICS.md, "Rooms".
+use crate::comparing::assert_same;
 use crate::teams::{SEED, chansey, gengar, lead_and_chansey, tauros};
 use gen1_engine::Battle;
 use gen1_machine::{Outcome, Request, Side};
@@ -37,32 +38,40 @@ fn goes_on(reply: &Reply) -> bool {
 #[test]
 fn a_battle_is_started_with_its_room(rt: HostRuntime) -> Result<(), Fail> {
     let room = two_tauros()?;
-    assert_eq!(rt; room.number(), 0);
-    assert!(rt; room.log() == START.as_slice());
-    assert_eq!(rt; room.battle().result().request_one, Request::Move);
+    assert_same(&rt, room.number(), 0);
+    assert_same(&rt, room.log(), START.as_slice());
+    assert_same(&rt, room.battle().result().request_one, Request::Move);
     Ok(())
 }
 
 #[test]
 fn submissions_are_answered_in_the_order_of_the_reasons(rt: HostRuntime) -> Result<(), Fail> {
     let mut room = two_tauros()?;
-    assert_eq!(rt; room.submit(ONE, 0, 17), Ok(Submitted::Waiting));
-    assert_eq!(rt; room.submit(ONE, 0, 17), Err(RoomRefusal::AlreadyChosen));
-    assert_eq!(rt; room.submit(ONE, 0, 99), Err(RoomRefusal::AlreadyChosen));
-    assert_eq!(rt; room.submit(TWO, 1, 17), Err(RoomRefusal::Stale(0)));
-    assert!(rt; goes_on(&room.submit(TWO, 0, 17)));
-    assert_eq!(rt; room.submit(TWO, 0, 17), Err(RoomRefusal::Stale(1)));
-    assert_eq!(rt; room.submit(ONE, 1, 0x14), Err(RoomRefusal::NotOffered));
-    assert_eq!(rt; room.number(), 1);
+    assert_same(&rt, room.submit(ONE, 0, 17), Ok(Submitted::Waiting));
+    assert_same(
+        &rt,
+        room.submit(ONE, 0, 17),
+        Err(RoomRefusal::AlreadyChosen),
+    );
+    assert_same(
+        &rt,
+        room.submit(ONE, 0, 99),
+        Err(RoomRefusal::AlreadyChosen),
+    );
+    assert_same(&rt, room.submit(TWO, 1, 17), Err(RoomRefusal::Stale(0)));
+    assert_same(&rt, goes_on(&room.submit(TWO, 0, 17)), true);
+    assert_same(&rt, room.submit(TWO, 0, 17), Err(RoomRefusal::Stale(1)));
+    assert_same(&rt, room.submit(ONE, 1, 0x14), Err(RoomRefusal::NotOffered));
+    assert_same(&rt, room.number(), 1);
     Ok(())
 }
 
 #[test]
 fn refusals_have_numbers(rt: HostRuntime) -> Result<(), Fail> {
-    assert_eq!(rt; RoomRefusal::Over.number(), 1);
-    assert_eq!(rt; RoomRefusal::Stale(7).number(), 2);
-    assert_eq!(rt; RoomRefusal::AlreadyChosen.number(), 3);
-    assert_eq!(rt; RoomRefusal::NotOffered.number(), 4);
+    assert_same(&rt, RoomRefusal::Over.number(), 1);
+    assert_same(&rt, RoomRefusal::Stale(7).number(), 2);
+    assert_same(&rt, RoomRefusal::AlreadyChosen.number(), 3);
+    assert_same(&rt, RoomRefusal::NotOffered.number(), 4);
     Ok(())
 }
 
@@ -73,24 +82,24 @@ fn a_battle_that_is_over_takes_nothing(rt: HostRuntime) -> Result<(), Fail> {
         let _ = room.submit(ONE, pair, 17);
         let _ = room.submit(TWO, pair, 17);
     }
-    assert_eq!(rt; room.battle().result().outcome, Outcome::WinOne);
-    assert_eq!(rt; room.number(), 2);
-    assert_eq!(rt; room.submit(ONE, 2, 17), Err(RoomRefusal::Over));
-    assert_eq!(rt; room.submit(TWO, 0, 0), Err(RoomRefusal::Over));
-    assert_eq!(rt; room.log().last().copied(), Some(1));
+    assert_same(&rt, room.battle().result().outcome, Outcome::WinOne);
+    assert_same(&rt, room.number(), 2);
+    assert_same(&rt, room.submit(ONE, 2, 17), Err(RoomRefusal::Over));
+    assert_same(&rt, room.submit(TWO, 0, 0), Err(RoomRefusal::Over));
+    assert_same(&rt, room.log().last().copied(), Some(1));
     Ok(())
 }
 
 #[test]
 fn who_submits_first_changes_nothing(rt: HostRuntime) -> Result<(), Fail> {
     let mut first = two_tauros()?;
-    assert_eq!(rt; first.submit(ONE, 0, 17), Ok(Submitted::Waiting));
-    assert!(rt; goes_on(&first.submit(TWO, 0, 17)));
+    assert_same(&rt, first.submit(ONE, 0, 17), Ok(Submitted::Waiting));
+    assert_same(&rt, goes_on(&first.submit(TWO, 0, 17)), true);
     let mut second = two_tauros()?;
-    assert_eq!(rt; second.submit(TWO, 0, 17), Ok(Submitted::Waiting));
-    assert!(rt; goes_on(&second.submit(ONE, 0, 17)));
-    assert!(rt; first.battle().bytes() == second.battle().bytes());
-    assert!(rt; first.log() == second.log());
+    assert_same(&rt, second.submit(TWO, 0, 17), Ok(Submitted::Waiting));
+    assert_same(&rt, goes_on(&second.submit(ONE, 0, 17)), true);
+    assert_same(&rt, first.battle().bytes(), second.battle().bytes());
+    assert_same(&rt, first.log(), second.log());
     Ok(())
 }
 
@@ -112,15 +121,16 @@ fn interleaved(order: u8) -> Result<Room, Fail> {
 #[test]
 fn every_order_of_two_players_comes_to_the_same(rt: HostRuntime) -> Result<(), Fail> {
     let expected = interleaved(0b101010)?;
-    assert_eq!(rt; expected.number(), 3);
+    assert_same(&rt, expected.number(), 3);
     for order in 0..64 {
         let room = interleaved(order)?;
-        assert_eq!(rt; room.number(), 3);
-        assert!(rt;
-            room.battle().bytes() == expected.battle().bytes(),
-            "order {order}"
+        assert_same(&rt, room.number(), 3);
+        assert_same(
+            &rt,
+            (order, room.battle().bytes()),
+            (order, expected.battle().bytes()),
         );
-        assert!(rt; room.log() == expected.log(), "order {order}");
+        assert_same(&rt, (order, room.log()), (order, expected.log()));
     }
     Ok(())
 }
@@ -132,11 +142,11 @@ fn a_side_of_which_nothing_is_asked_passes_by_itself(rt: HostRuntime) -> Result<
     let mut room = Room::new(Battle::new(&one, &gengar()?, SEED));
     let _ = room.submit(ONE, 0, 17);
     let _ = room.submit(TWO, 0, 17);
-    assert_eq!(rt; room.battle().result().request_one, Request::Switch);
-    assert_eq!(rt; room.submit(TWO, 1, 0), Err(RoomRefusal::AlreadyChosen));
-    assert_eq!(rt; room.submit(ONE, 1, 17), Err(RoomRefusal::NotOffered));
-    assert!(rt; goes_on(&room.submit(ONE, 1, 0x22)));
-    assert_eq!(rt; room.number(), 2);
+    assert_same(&rt, room.battle().result().request_one, Request::Switch);
+    assert_same(&rt, room.submit(TWO, 1, 0), Err(RoomRefusal::AlreadyChosen));
+    assert_same(&rt, room.submit(ONE, 1, 17), Err(RoomRefusal::NotOffered));
+    assert_same(&rt, goes_on(&room.submit(ONE, 1, 0x22)), true);
+    assert_same(&rt, room.number(), 2);
     Ok(())
 }
 
@@ -152,12 +162,12 @@ fn a_run_is_submission_after_submission(rt: HostRuntime) -> Result<(), Fail> {
     ];
     let mut replies = [Ok(Submitted::Waiting); 5];
     let room = Room::run(Battle::new(&team, &team, SEED), &submissions, &mut replies);
-    assert_eq!(rt; room.number(), 1);
-    assert_eq!(rt; replies[0], Ok(Submitted::Waiting));
-    assert_eq!(rt; replies[1], Err(RoomRefusal::AlreadyChosen));
-    assert_eq!(rt; replies[2], Err(RoomRefusal::Stale(0)));
-    assert!(rt; goes_on(&replies[3]));
-    assert_eq!(rt; replies[4], Err(RoomRefusal::Stale(1)));
+    assert_same(&rt, room.number(), 1);
+    assert_same(&rt, replies[0], Ok(Submitted::Waiting));
+    assert_same(&rt, replies[1], Err(RoomRefusal::AlreadyChosen));
+    assert_same(&rt, replies[2], Err(RoomRefusal::Stale(0)));
+    assert_same(&rt, goes_on(&replies[3]), true);
+    assert_same(&rt, replies[4], Err(RoomRefusal::Stale(1)));
     Ok(())
 }
 

@@ -1,5 +1,6 @@
 //! What each event changes, by the table of docs/MECHANICS.md, "Spectator's view". Each side has a Tauros of 353 HP at place 1
 //! and a Chansey of 703 at place 2.
+use crate::comparing::assert_same;
 use crate::teams::lead_and_chansey;
 use gen1_machine::{
     DamageSource, Event, FaultCode, Health, Kind, Level, Outcome, Place, Side, StageCount,
@@ -67,14 +68,14 @@ fn begun() -> Result<View, Fail> {
 fn before_the_start_all_are_unhurt_and_nobody_is_out(rt: HostRuntime) -> Result<(), Fail> {
     let view = new_view()?;
     for side in [ONE, TWO] {
-        assert_eq!(rt; view.place(side), 0);
-        assert_eq!(rt; view.hp(side, 1), 353);
-        assert_eq!(rt; view.hp(side, 2), 703);
-        assert_eq!(rt; view.status(side, 2), None);
-        assert_eq!(rt; view.stage(side, Stat::Speed), 0);
-        assert_eq!(rt; view.screens(side), [false, false]);
+        assert_same(&rt, view.place(side), 0);
+        assert_same(&rt, view.hp(side, 1), 353);
+        assert_same(&rt, view.hp(side, 2), 703);
+        assert_same(&rt, view.status(side, 2), None);
+        assert_same(&rt, view.stage(side, Stat::Speed), 0);
+        assert_same(&rt, view.screens(side), [false, false]);
     }
-    assert!(rt; view.turn() == 0 && view.outcome() == Outcome::Ongoing);
+    assert_same(&rt, (view.turn(), view.outcome()), (0, Outcome::Ongoing));
     Ok(())
 }
 
@@ -82,8 +83,8 @@ fn before_the_start_all_are_unhurt_and_nobody_is_out(rt: HostRuntime) -> Result<
 fn there_is_nobody_at_place_0_and_past_the_last(rt: HostRuntime) -> Result<(), Fail> {
     let view = begun()?;
     for place in [0, 3, 6, 255] {
-        assert_eq!(rt; view.hp(ONE, place), 0);
-        assert_eq!(rt; view.status(ONE, place), None);
+        assert_same(&rt, view.hp(ONE, place), 0);
+        assert_same(&rt, view.status(ONE, place), None);
     }
     Ok(())
 }
@@ -94,9 +95,9 @@ fn nothing_but_a_switch_changes_a_side_with_nobody_out(rt: HostRuntime) -> Resul
     view.apply(&damage(ONE, 12)?);
     view.apply(&boost(ONE, Stat::Attack, 2)?);
     view.apply(&Event::Start(who(ONE)?, Volatile::Substitute));
-    assert_eq!(rt; view.hp(ONE, 1), 353);
-    assert_eq!(rt; view.stage(ONE, Stat::Attack), 0);
-    assert!(rt; !view.substitute(ONE));
+    assert_same(&rt, view.hp(ONE, 1), 353);
+    assert_same(&rt, view.stage(ONE, Stat::Attack), 0);
+    assert_same(&rt, view.substitute(ONE), false);
     Ok(())
 }
 
@@ -104,10 +105,10 @@ fn nothing_but_a_switch_changes_a_side_with_nobody_out(rt: HostRuntime) -> Resul
 fn a_switch_shows_who_comes_out(rt: HostRuntime) -> Result<(), Fail> {
     let mut view = begun()?;
     view.apply(&switch(ONE, 2, health(500, 703, Some(Kind::Paralysis))?)?);
-    assert!(rt; view.place(ONE) == 2 && view.place(TWO) == 1);
-    assert!(rt; view.hp(ONE, 1) == 353 && view.hp(ONE, 2) == 500);
-    assert_eq!(rt; view.status(ONE, 2), Some(Kind::Paralysis));
-    assert_eq!(rt; view.status(ONE, 1), None);
+    assert_same(&rt, (view.place(ONE), view.place(TWO)), (2, 1));
+    assert_same(&rt, (view.hp(ONE, 1), view.hp(ONE, 2)), (353, 500));
+    assert_same(&rt, view.status(ONE, 2), Some(Kind::Paralysis));
+    assert_same(&rt, view.status(ONE, 1), None);
     Ok(())
 }
 
@@ -119,9 +120,13 @@ fn a_switch_clears_what_was_up(rt: HostRuntime) -> Result<(), Fail> {
     view.apply(&Event::Start(who(ONE)?, Volatile::Confusion));
     view.apply(&Event::Start(who(ONE)?, Volatile::Reflect));
     view.apply(&switch(ONE, 2, health(703, 703, None)?)?);
-    assert_eq!(rt; view.stage(ONE, Stat::Attack), 0);
-    assert!(rt; !view.substitute(ONE) && !view.confused(ONE));
-    assert_eq!(rt; view.screens(ONE), [false, false]);
+    assert_same(&rt, view.stage(ONE, Stat::Attack), 0);
+    assert_same(
+        &rt,
+        (view.substitute(ONE), view.confused(ONE)),
+        (false, false),
+    );
+    assert_same(&rt, view.screens(ONE), [false, false]);
     Ok(())
 }
 
@@ -130,9 +135,9 @@ fn a_switch_to_a_place_without_a_member_changes_nothing(rt: HostRuntime) -> Resu
     let mut view = begun()?;
     view.apply(&boost(ONE, Stat::Attack, 1)?);
     view.apply(&switch(ONE, 3, health(11, 11, None)?)?);
-    assert_eq!(rt; view.place(ONE), 1);
-    assert!(rt; view.hp(ONE, 1) == 353 && view.hp(ONE, 3) == 0);
-    assert_eq!(rt; view.stage(ONE, Stat::Attack), 1);
+    assert_same(&rt, view.place(ONE), 1);
+    assert_same(&rt, (view.hp(ONE, 1), view.hp(ONE, 3)), (353, 0));
+    assert_same(&rt, view.stage(ONE, Stat::Attack), 1);
     Ok(())
 }
 
@@ -141,11 +146,11 @@ fn damage_and_heal_change_hp_alone(rt: HostRuntime) -> Result<(), Fail> {
     let mut view = begun()?;
     view.apply(&Event::Status(who(TWO)?, Kind::Burn));
     view.apply(&damage(TWO, 12)?);
-    assert!(rt; view.hp(TWO, 1) == 12 && view.hp(ONE, 1) == 353);
-    assert_eq!(rt; view.status(TWO, 1), Some(Kind::Burn));
+    assert_same(&rt, (view.hp(TWO, 1), view.hp(ONE, 1)), (12, 353));
+    assert_same(&rt, view.status(TWO, 1), Some(Kind::Burn));
     view.apply(&Event::Heal(who(TWO)?, health(188, 353, None)?));
-    assert_eq!(rt; view.hp(TWO, 1), 188);
-    assert_eq!(rt; view.status(TWO, 1), Some(Kind::Burn));
+    assert_same(&rt, view.hp(TWO, 1), 188);
+    assert_same(&rt, view.status(TWO, 1), Some(Kind::Burn));
     Ok(())
 }
 
@@ -153,10 +158,10 @@ fn damage_and_heal_change_hp_alone(rt: HostRuntime) -> Result<(), Fail> {
 fn a_status_comes_and_is_cured(rt: HostRuntime) -> Result<(), Fail> {
     let mut view = begun()?;
     view.apply(&Event::Status(who(ONE)?, Kind::Freeze));
-    assert_eq!(rt; view.status(ONE, 1), Some(Kind::Freeze));
-    assert_eq!(rt; view.status(TWO, 1), None);
+    assert_same(&rt, view.status(ONE, 1), Some(Kind::Freeze));
+    assert_same(&rt, view.status(TWO, 1), None);
     view.apply(&Event::Cure(who(ONE)?, Kind::Freeze));
-    assert_eq!(rt; view.status(ONE, 1), None);
+    assert_same(&rt, view.status(ONE, 1), None);
     Ok(())
 }
 
@@ -168,8 +173,8 @@ fn rest_is_sleep_at_full_hp(rt: HostRuntime) -> Result<(), Fail> {
     view.apply(&damage(ONE, 40)?);
     view.apply(&Event::Status(who(ONE)?, Kind::Sleep));
     view.apply(&Event::Heal(who(ONE)?, health(353, 353, Some(Kind::Sleep))?));
-    assert_eq!(rt; view.hp(ONE, 1), 353);
-    assert_eq!(rt; view.status(ONE, 1), Some(Kind::Sleep));
+    assert_same(&rt, view.hp(ONE, 1), 353);
+    assert_same(&rt, view.status(ONE, 1), Some(Kind::Sleep));
     Ok(())
 }
 
@@ -178,8 +183,8 @@ fn who_faints_has_no_hp_and_no_status(rt: HostRuntime) -> Result<(), Fail> {
     let mut view = begun()?;
     view.apply(&Event::Status(who(TWO)?, Kind::Paralysis));
     view.apply(&Event::Faint(who(TWO)?));
-    assert!(rt; view.place(TWO) == 1 && view.hp(TWO, 1) == 0);
-    assert_eq!(rt; view.status(TWO, 1), None);
+    assert_same(&rt, (view.place(TWO), view.hp(TWO, 1)), (1, 0));
+    assert_same(&rt, view.status(TWO, 1), None);
     Ok(())
 }
 
@@ -188,15 +193,15 @@ fn stages_are_cut_at_six(rt: HostRuntime) -> Result<(), Fail> {
     let mut view = begun()?;
     for stages in [2, 4, 6, 6] {
         view.apply(&boost(ONE, Stat::Evasion, 2)?);
-        assert_eq!(rt; view.stage(ONE, Stat::Evasion), stages);
+        assert_same(&rt, view.stage(ONE, Stat::Evasion), stages);
     }
     for stages in [-1, -2, -4, -6, -6] {
         let count = if stages > -3 { 1 } else { 2 };
         view.apply(&unboost(TWO, Stat::Special, count)?);
-        assert_eq!(rt; view.stage(TWO, Stat::Special), stages);
+        assert_same(&rt, view.stage(TWO, Stat::Special), stages);
     }
-    assert_eq!(rt; view.stage(ONE, Stat::Accuracy), 0);
-    assert_eq!(rt; view.stage(TWO, Stat::Evasion), 0);
+    assert_same(&rt, view.stage(ONE, Stat::Accuracy), 0);
+    assert_same(&rt, view.stage(TWO, Stat::Evasion), 0);
     Ok(())
 }
 
@@ -213,10 +218,14 @@ fn haze_clears_both_sides(rt: HostRuntime) -> Result<(), Fail> {
     }
     view.apply(&Event::ClearAll);
     for side in [ONE, TWO] {
-        assert!(rt; !view.confused(side) && view.substitute(side));
-        assert_eq!(rt; view.screens(side), [false, false]);
-        assert_eq!(rt; view.stage(side, Stat::Defense), 0);
-        assert_eq!(rt; view.status(side, 1), Some(Kind::Burn));
+        assert_same(
+            &rt,
+            (view.confused(side), view.substitute(side)),
+            (false, true),
+        );
+        assert_same(&rt, view.screens(side), [false, false]);
+        assert_same(&rt, view.stage(side, Stat::Defense), 0);
+        assert_same(&rt, view.status(side, 1), Some(Kind::Burn));
     }
     Ok(())
 }
@@ -226,12 +235,16 @@ fn a_substitute_starts_and_ends(rt: HostRuntime) -> Result<(), Fail> {
     let mut view = begun()?;
     view.apply(&Event::Start(who(ONE)?, Volatile::Substitute));
     view.apply(&damage(ONE, 265)?);
-    assert!(rt; view.substitute(ONE) && !view.substitute(TWO));
-    assert_eq!(rt; view.hp(ONE, 1), 265);
+    assert_same(
+        &rt,
+        (view.substitute(ONE), view.substitute(TWO)),
+        (true, false),
+    );
+    assert_same(&rt, view.hp(ONE, 1), 265);
     view.apply(&Event::Activate(who(ONE)?, Volatile::Substitute));
-    assert!(rt; view.substitute(ONE));
+    assert_same(&rt, view.substitute(ONE), true);
     view.apply(&Event::End(who(ONE)?, Volatile::Substitute));
-    assert!(rt; !view.substitute(ONE));
+    assert_same(&rt, view.substitute(ONE), false);
     Ok(())
 }
 
@@ -239,9 +252,9 @@ fn a_substitute_starts_and_ends(rt: HostRuntime) -> Result<(), Fail> {
 fn confusion_starts_and_ends(rt: HostRuntime) -> Result<(), Fail> {
     let mut view = begun()?;
     view.apply(&Event::Start(who(TWO)?, Volatile::Confusion));
-    assert!(rt; view.confused(TWO) && !view.confused(ONE));
+    assert_same(&rt, (view.confused(TWO), view.confused(ONE)), (true, false));
     view.apply(&Event::End(who(TWO)?, Volatile::Confusion));
-    assert!(rt; !view.confused(TWO));
+    assert_same(&rt, view.confused(TWO), false);
     Ok(())
 }
 
@@ -250,8 +263,8 @@ fn screens_are_told_apart(rt: HostRuntime) -> Result<(), Fail> {
     let mut view = begun()?;
     view.apply(&Event::Start(who(ONE)?, Volatile::LightScreen));
     view.apply(&Event::Start(who(TWO)?, Volatile::Reflect));
-    assert_eq!(rt; view.screens(ONE), [true, false]);
-    assert_eq!(rt; view.screens(TWO), [false, true]);
+    assert_same(&rt, view.screens(ONE), [true, false]);
+    assert_same(&rt, view.screens(TWO), [false, true]);
     Ok(())
 }
 
@@ -260,12 +273,16 @@ fn leech_seed_shows_in_hp_alone(rt: HostRuntime) -> Result<(), Fail> {
     let mut view = begun()?;
     view.apply(&damage(ONE, 300)?);
     view.apply(&Event::Start(who(TWO)?, Volatile::LeechSeed));
-    assert!(rt; !view.substitute(TWO) && !view.confused(TWO));
-    assert_eq!(rt; view.screens(TWO), [false, false]);
+    assert_same(
+        &rt,
+        (view.substitute(TWO), view.confused(TWO)),
+        (false, false),
+    );
+    assert_same(&rt, view.screens(TWO), [false, false]);
     let drained = health(331, 353, None)?;
     view.apply(&Event::Damage(who(TWO)?, drained, DamageSource::LeechSeed));
     view.apply(&Event::Heal(who(ONE)?, health(322, 353, None)?));
-    assert!(rt; view.hp(TWO, 1) == 331 && view.hp(ONE, 1) == 322);
+    assert_same(&rt, (view.hp(TWO, 1), view.hp(ONE, 1)), (331, 322));
     Ok(())
 }
 
@@ -273,7 +290,7 @@ fn leech_seed_shows_in_hp_alone(rt: HostRuntime) -> Result<(), Fail> {
 fn turns_and_ends_are_what_they_name(rt: HostRuntime) -> Result<(), Fail> {
     let mut view = begun()?;
     view.apply(&Event::Turn(TurnNumber::new(9999).ok_or("no such turn")?));
-    assert!(rt; view.turn() == 9999 && view.outcome() == Outcome::Ongoing);
+    assert_same(&rt, (view.turn(), view.outcome()), (9999, Outcome::Ongoing));
     let fault = FaultCode::new(2).ok_or("no such fault")?;
     for (event, outcome) in [
         (Event::Win(ONE), Outcome::WinOne),
@@ -282,7 +299,7 @@ fn turns_and_ends_are_what_they_name(rt: HostRuntime) -> Result<(), Fail> {
         (Event::Fault(fault), Outcome::Fault(2)),
     ] {
         view.apply(&event);
-        assert_eq!(rt; view.outcome(), outcome);
+        assert_same(&rt, view.outcome(), outcome);
     }
     Ok(())
 }

@@ -1,5 +1,6 @@
 //! Haze, which acts on both (docs/MECHANICS.md, "Early effects").
 use super::{BOTH, FOE, USER, bytes_with, named, play_from, tauros};
+use crate::battles::assert_same;
 use gen1_action::Known;
 use gen1_effects::{group_one_knowing, is_group_one};
 use gen1_layout::{Conditions, Packed};
@@ -37,10 +38,10 @@ fn haze(rt: HostRuntime) -> Result<(), Fail> {
         let mut battle = before_haze()?;
         let (events, draws) = play_from(&mut battle, ("Haze", 0, link))?;
         let cure = Event::Cure(battle.who(FOE), Kind::Freeze);
-        assert_eq!(rt; events.as_slice(), [Event::ClearAll, cure].as_slice());
-        assert_eq!(rt; draws, 0);
+        assert_same(&rt, events.as_slice(), [Event::ClearAll, cure].as_slice());
+        assert_same(&rt, draws, 0);
         let after = bytes_with(&tauros()?, &[(38, 16), (186, 2), (189, 88)]);
-        assert_eq!(rt; battle.as_bytes(), after.as_slice());
+        assert_same(&rt, battle.as_bytes(), after.as_slice());
     }
     Ok(())
 }
@@ -74,7 +75,7 @@ fn whom_haze_skips(rt: HostRuntime) -> Result<(), Fail> {
         (Status::Frozen, true),
         (Status::Paralysed, false),
     ] {
-        assert_eq!(rt; skips(status)?, skipped);
+        assert_same(&rt, skips(status)?, skipped);
     }
     Ok(())
 }

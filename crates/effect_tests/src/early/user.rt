@@ -1,5 +1,6 @@
 //! Moves that act on their user (docs/MECHANICS.md, "Early effects").
 use super::{BOTH, FOE, USER, chansey, fails, plays, tauros};
+use crate::battles::assert_same;
 use gen1_layout::{Conditions, Packed};
 use gen1_machine::{Event, EventList, Health, Kind, Volatile};
 use gen1_status::inflict;
@@ -140,7 +141,7 @@ fn rest(rt: HostRuntime) -> Result<(), Fail> {
             0,
             &changes,
         )?;
-        assert_eq!(rt; battle.current_stat(USER, Stat::Speed), 49);
+        assert_same(&rt, battle.current_stat(USER, Stat::Speed), 49);
     }
     Ok(())
 }

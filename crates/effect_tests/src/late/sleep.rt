@@ -3,6 +3,7 @@ use super::{
     Abort, BOTH, Conditions, Event, FOE, Fail, Ghost, Kind, LinkRandom, Packed, Stat, Status,
     Sweep, USER, compare, fails, misses, play, play_from, plays, send_out, tauros, tauros_under,
 };
+use crate::battles::assert_same;
 
 const fn asleep(turns: u8, marked: bool) -> Status {
     Status::Asleep { turns, marked }
@@ -72,7 +73,7 @@ fn sleep_moves_that_miss(rt: HostRuntime) -> Result<(), Fail> {
         battle.put_types(FOE, Ghost, Ghost);
         let (events, _) = play_from(&mut battle, ("Sing", 140, link))?;
         let immune = [Event::Immune(battle.who(FOE))];
-        assert_eq!(rt; events.as_slice(), immune.as_slice());
+        assert_same(&rt, events.as_slice(), immune.as_slice());
     }
     Ok(())
 }
@@ -130,7 +131,7 @@ fn who_must_recharge_falls_asleep(rt: HostRuntime) -> Result<(), Fail> {
         want.put_speed(FOE, 6, 79);
         let status = asleep(5, true);
         sleeps(&rt, &mut battle, ("Sing", 253, link), status, 1, &mut want)?;
-        assert_eq!(rt; battle.current_stat(FOE, Stat::Speed), 79);
+        assert_same(&rt, battle.current_stat(FOE, Stat::Speed), 79);
     }
     Ok(())
 }
@@ -153,7 +154,7 @@ fn ten_draws(rt: HostRuntime) -> Result<(), Fail> {
         want.put_status(FOE, asleep(1, marked));
         let told = [Event::Status(want.who(FOE), Kind::Sleep)];
         compare(&rt, &battle, &events, &told, &want);
-        assert_eq!(rt; random, after);
+        assert_same(&rt, random, after);
         marks(&rt, &battle, marked);
     }
     Ok(())
@@ -161,8 +162,8 @@ fn ten_draws(rt: HostRuntime) -> Result<(), Fail> {
 
 // The foe's first member sleeps for a turn, and has the mark or not.
 fn marks(rt: &impl Abort, battle: &Packed, marked: bool) {
-    assert_eq!(rt; battle.member(FOE, 1)[14], 1);
-    assert_eq!(rt; battle.mark(FOE, 1), marked);
+    assert_same(rt, battle.member(FOE, 1)[14], 1);
+    assert_same(rt, battle.mark(FOE, 1), marked);
 }
 
 // A living teammate has the mark: the move fails after the hit test, and with no draw where the foe must recharge.
@@ -190,7 +191,7 @@ fn the_active_has_the_mark(rt: HostRuntime) -> Result<(), Fail> {
     let mut random = Sweep::new(1);
     let events = play(&mut battle, "Spore", &mut random)?;
     compare(&rt, &battle, &events, &told, &want);
-    assert_eq!(rt; random, Sweep::new(1));
+    assert_same(&rt, random, Sweep::new(1));
     Ok(())
 }
 
@@ -203,7 +204,7 @@ fn the_clause_counts_no_fallen(rt: HostRuntime) -> Result<(), Fail> {
         battle.put_fallen(FOE);
         send_out(&mut battle, FOE, 1);
         play_from(&mut battle, ("Spore", 1, link))?;
-        assert_eq!(rt; battle.status(FOE), asleep(turns, true));
+        assert_same(&rt, battle.status(FOE), asleep(turns, true));
     }
     Ok(())
 }
@@ -215,7 +216,7 @@ fn the_clause_counts_no_sleeper_of_the_users(rt: HostRuntime) -> Result<(), Fail
         let mut battle = tauros_under(1)?;
         battle.put_status(USER, asleep(3, true));
         play_from(&mut battle, ("Spore", 1, link))?;
-        assert_eq!(rt; battle.status(FOE), asleep(turns, true));
+        assert_same(&rt, battle.status(FOE), asleep(turns, true));
     }
     Ok(())
 }

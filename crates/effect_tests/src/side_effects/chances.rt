@@ -1,5 +1,6 @@
 //! Flinching, confusion, stages that fall, recharging, and what has no side effect (docs/MECHANICS.md, "Side effects").
 use super::{Abort, BOTH, FOE, Packed, USER, does_nothing, plays, tauros};
+use crate::battles::assert_same;
 use gen1_layout::Conditions;
 use gen1_machine::{Event, StageCount, Volatile};
 use gen1_stats::Status;
@@ -25,12 +26,13 @@ fn flinching(rt: HostRuntime) -> Result<(), Fail> {
         for link in BOTH {
             let mut battle = recharging_foe()?;
             plays(&rt, &mut battle, (name, last, link), &[], 1)?;
-            assert_eq!(rt;
+            assert_same(
+                &rt,
                 (
                     battle.is_on(FOE, Conditions::FLINCH),
-                    battle.is_on(FOE, Conditions::RECHARGE)
+                    battle.is_on(FOE, Conditions::RECHARGE),
                 ),
-                (true, false)
+                (true, false),
             );
         }
         does_nothing(&rt, &mut recharging_foe()?, name, next, 1)?;
@@ -47,7 +49,7 @@ fn confusion(rt: HostRuntime) -> Result<(), Fail> {
             let mut battle = foe_with_a_substitute()?;
             let told = [Event::Start(battle.who(FOE), Volatile::Confusion)];
             plays(&rt, &mut battle, (name, 24, link), &told, 2)?;
-            assert_eq!(rt; battle.confused(FOE), Some(turns));
+            assert_same(&rt, battle.confused(FOE), Some(turns));
         }
         does_nothing(&rt, &mut tauros()?, name, 25, 1)?;
         let mut battle = tauros()?;
@@ -83,8 +85,8 @@ fn stages(rt: HostRuntime) -> Result<(), Fail> {
 }
 
 fn has_stage(rt: &impl Abort, battle: &Packed, stat: Stat, stage: u8, value: u16) {
-    assert_eq!(rt; battle.stage(FOE, stat), stage);
-    assert_eq!(rt; battle.current_stat(FOE, stat), value);
+    assert_same(rt, battle.stage(FOE, stat), stage);
+    assert_same(rt, battle.current_stat(FOE, stat), value);
 }
 
 // At -6 the draw is taken, and no failure is told.
@@ -101,12 +103,13 @@ fn recharging(rt: HostRuntime) -> Result<(), Fail> {
         let mut battle = foe_with_a_substitute()?;
         let told = [Event::MustRecharge(battle.who(USER))];
         plays(&rt, &mut battle, ("Hyper Beam", 0, link), &told, 0)?;
-        assert_eq!(rt;
+        assert_same(
+            &rt,
             (
                 battle.is_on(USER, Conditions::RECHARGE),
-                battle.is_on(FOE, Conditions::RECHARGE)
+                battle.is_on(FOE, Conditions::RECHARGE),
             ),
-            (true, false)
+            (true, false),
         );
     }
     Ok(())

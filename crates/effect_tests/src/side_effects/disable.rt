@@ -1,5 +1,6 @@
 //! Disable, with its draws (docs/MECHANICS.md, "Side effects"). Its accuracy of 55 percent is the byte 140.
 use super::{Abort, BOTH, FOE, Fail, USER, named, plays, tauros, tauros_with, tells};
+use crate::battles::assert_same;
 use gen1_action::Known;
 use gen1_effects::side_effect_knowing;
 use gen1_layout::Packed;
@@ -19,7 +20,7 @@ fn disable<R: Rolls>(
 }
 
 fn bars(rt: &impl Abort, battle: &Packed, disabled: Option<DisabledSlot>) {
-    assert_eq!(rt; battle.disabled(FOE), disabled);
+    assert_same(rt, battle.disabled(FOE), disabled);
 }
 
 const fn barred(slot: u8, turns: u8) -> Option<DisabledSlot> {
@@ -33,10 +34,11 @@ fn ten_ones(rt: HostRuntime) -> Result<(), Fail> {
     let mut random = LinkRandom::new([1; 10]);
     let told = [Event::Start(battle.who(FOE), Volatile::Disable)];
     let (stopped, events, known) = disable(&mut battle, &mut random)?;
-    assert_eq!(rt; (stopped, known.missed), (false, false));
-    assert_eq!(rt;
+    assert_same(&rt, (stopped, known.missed), (false, false));
+    assert_same(
+        &rt,
         (random.index(), random.numbers()),
-        (2, [156, 156, 156, 156, 156, 156, 156, 156, 156, 1])
+        (2, [156, 156, 156, 156, 156, 156, 156, 156, 156, 1]),
     );
     bars(&rt, &battle, barred(1, 5));
     tells(&rt, &events, &told);
@@ -51,8 +53,8 @@ fn a_sweep(rt: HostRuntime) -> Result<(), Fail> {
     let told = [Event::Start(battle.who(FOE), Volatile::Disable)];
     let mut random = Sweep::new(1);
     let (stopped, events, known) = disable(&mut battle, &mut random)?;
-    assert_eq!(rt; (stopped, known.accuracy_tested), (false, Some(140)));
-    assert_eq!(rt; random, Sweep::new(6));
+    assert_same(&rt, (stopped, known.accuracy_tested), (false, Some(140)));
+    assert_same(&rt, random, Sweep::new(6));
     bars(&rt, &battle, barred(1, 6));
     tells(&rt, &events, &told);
     Ok(())
@@ -65,7 +67,7 @@ fn the_drawn_slot(rt: HostRuntime) -> Result<(), Fail> {
         let mut battle = tauros_with("Dig")?;
         battle.put_pp(FOE, 1, pp);
         let (stopped, _, _) = disable(&mut battle, &mut Sweep::new(from))?;
-        assert_eq!(rt; stopped, false);
+        assert_same(&rt, stopped, false);
         bars(&rt, &battle, barred(slot, turns));
     }
     Ok(())
@@ -80,7 +82,7 @@ fn a_miss(rt: HostRuntime) -> Result<(), Fail> {
         bars(&rt, &battle, None);
     }
     let (stopped, _, known) = disable(&mut tauros()?, &mut Sweep::new(140))?;
-    assert_eq!(rt; (stopped, known.missed), (true, true));
+    assert_same(&rt, (stopped, known.missed), (true, true));
     Ok(())
 }
 

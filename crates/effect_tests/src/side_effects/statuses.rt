@@ -1,6 +1,7 @@
 //! Poison, burns, freezes and paralysis, and the thaw (docs/MECHANICS.md, "Side effects", "Rules (sleep clause, freeze
 //! clause)").
 use super::{Abort, BOTH, FOE, does_nothing, play_from, plays, send_out, tauros, tauros_under};
+use crate::battles::assert_same;
 use gen1_layout::{Conditions, Packed};
 use gen1_machine::{Event, Kind};
 use gen1_stats::Status;
@@ -20,7 +21,7 @@ fn of_rock() -> Result<Packed, Fail> {
 }
 
 fn has(rt: &impl Abort, battle: &Packed, status: Status) {
-    assert_eq!(rt; battle.status(FOE), status);
+    assert_same(rt, battle.status(FOE), status);
 }
 
 // Each with the highest draw at which it comes, and the next.
@@ -59,7 +60,7 @@ fn penalties(rt: HostRuntime) -> Result<(), Fail> {
         ] {
             let mut battle = of_rock()?;
             play_from(&mut battle, (name, 0, link))?;
-            assert_eq!(rt; battle.current_stat(FOE, stat), value);
+            assert_same(&rt, battle.current_stat(FOE, stat), value);
         }
     }
     Ok(())
@@ -136,7 +137,7 @@ fn without_the_freeze_clause(rt: HostRuntime) -> Result<(), Fail> {
             let told = [Event::Status(battle.who(FOE), Kind::Freeze)];
             plays(&rt, &mut battle, ("Ice Beam", 25, link), &told, 1)?;
             has(&rt, &battle, Status::Frozen);
-            assert_eq!(rt; battle.is_on(FOE, Conditions::RECHARGE), false);
+            assert_same(&rt, battle.is_on(FOE, Conditions::RECHARGE), false);
         }
     }
     Ok(())

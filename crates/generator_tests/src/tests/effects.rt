@@ -1,6 +1,7 @@
 //! Effects of moves with a countdown (docs/MECHANICS.md, "Early effects", "Late effects", "Side effects").
 use super::{USER, two_tauros};
 use crate::Countdown;
+use crate::tests::assert_same;
 use gen1_effects::{group_one, group_two, is_group_one, is_group_two, side_effect};
 use gen1_machine::{DisabledSlot, Event, EventList, Kind, Side, Volatile};
 use gen1_stats::Status;
@@ -23,12 +24,13 @@ fn an_early_effect(rt: HostRuntime) -> Result<(), Fail> {
     if is_group_one(id.effect()) {
         group_one(&mut battle, USER, id, &mut random, &mut events);
     }
-    assert_eq!(rt;
+    assert_same(
+        &rt,
         (battle.status(FOE), random),
-        (Status::Paralysed, Countdown::new(253))
+        (Status::Paralysed, Countdown::new(253)),
     );
     let told = [Event::Status(battle.who(FOE), Kind::Paralysis)];
-    assert_eq!(rt; events.as_slice(), told.as_slice());
+    assert_same(&rt, events.as_slice(), told.as_slice());
     Ok(())
 }
 
@@ -46,9 +48,13 @@ fn a_late_effect(rt: HostRuntime) -> Result<(), Fail> {
         turns: 7,
         marked: false,
     };
-    assert_eq!(rt; (battle.status(FOE), random), (asleep, Countdown::new(150)));
+    assert_same(
+        &rt,
+        (battle.status(FOE), random),
+        (asleep, Countdown::new(150)),
+    );
     let told = [Event::Status(battle.who(FOE), Kind::Sleep)];
-    assert_eq!(rt; events.as_slice(), told.as_slice());
+    assert_same(&rt, events.as_slice(), told.as_slice());
     Ok(())
 }
 
@@ -60,18 +66,20 @@ fn a_side_effect(rt: HostRuntime) -> Result<(), Fail> {
     let mut random = Countdown::new(26);
     let id = named("Ice Beam")?;
     side_effect(&mut battle, USER, id, &mut random, &mut events);
-    assert_eq!(rt;
+    assert_same(
+        &rt,
         (battle.status(FOE), random),
-        (Status::Healthy, Countdown::new(25))
+        (Status::Healthy, Countdown::new(25)),
     );
-    assert_eq!(rt; events.as_slice().is_empty(), true);
+    assert_same(&rt, events.as_slice().is_empty(), true);
     side_effect(&mut battle, USER, id, &mut random, &mut events);
-    assert_eq!(rt;
+    assert_same(
+        &rt,
         (battle.status(FOE), random),
-        (Status::Frozen, Countdown::new(24))
+        (Status::Frozen, Countdown::new(24)),
     );
     let told = [Event::Status(battle.who(FOE), Kind::Freeze)];
-    assert_eq!(rt; events.as_slice(), told.as_slice());
+    assert_same(&rt, events.as_slice(), told.as_slice());
     Ok(())
 }
 
@@ -84,11 +92,12 @@ fn a_slot_that_is_drawn(rt: HostRuntime) -> Result<(), Fail> {
     let id = named("Disable")?;
     side_effect(&mut battle, USER, id, &mut random, &mut events);
     let disabled = DisabledSlot { slot: 1, turns: 8 };
-    assert_eq!(rt;
+    assert_same(
+        &rt,
         (battle.disabled(FOE), random),
-        (Some(disabled), Countdown::new(134))
+        (Some(disabled), Countdown::new(134)),
     );
     let told = [Event::Start(battle.who(FOE), Volatile::Disable)];
-    assert_eq!(rt; events.as_slice(), told.as_slice());
+    assert_same(&rt, events.as_slice(), told.as_slice());
     Ok(())
 }

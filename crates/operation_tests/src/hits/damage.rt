@@ -1,5 +1,5 @@
 //! Values worked out by hand (docs/MECHANICS.md, "Damage", "Types", "Factor").
-use crate::battles::{named, two_tauros};
+use crate::battles::{assert_same, named, two_tauros};
 use gen1_hits::{
     Numbers, damage, damage_list, factor, has_usual_damage, numbers, own_numbers, type_steps,
 };
@@ -25,20 +25,20 @@ fn body_slam(rt: HostRuntime) -> Result<(), Fail> {
         foe: [Element::Normal; 2],
         halved: false,
     };
-    assert_eq!(rt; plain, expected);
-    assert_eq!(rt; damage(&plain), Some(75));
-    assert_eq!(rt; type_steps(75, &plain), 112);
+    assert_same(&rt, plain, expected);
+    assert_same(&rt, damage(&plain), Some(75));
+    assert_same(&rt, type_steps(75, &plain), 112);
     let list = damage_list(&plain).ok_or("no damage")?;
     let worked = [
         95, 95, 96, 96, 97, 97, 97, 98, 98, 99, 99, 100, 100, 101, 101, 101, 102, 102, 103, 103,
         104, 104, 104, 105, 105, 106, 106, 107, 107, 108, 108, 108, 109, 109, 110, 110, 111, 111,
         112,
     ];
-    assert_eq!(rt; list, worked);
+    assert_same(&rt, list, worked);
     let critical = numbers(&battle, Side::Two, slam, true);
-    assert_eq!(rt; critical.level, 200);
+    assert_same(&rt, critical.level, 200);
     let list = damage_list(&critical).ok_or("no damage")?;
-    assert_eq!(rt; (list[0], list[38]), (184, 217));
+    assert_same(&rt, (list[0], list[38]), (184, 217));
     Ok(())
 }
 
@@ -55,12 +55,12 @@ fn ice_on_gyarados(rt: HostRuntime) {
         foe: [Element::Water, Element::Flying],
         halved: false,
     };
-    assert_eq!(rt; type_steps(75, &ice), 74);
+    assert_same(&rt, type_steps(75, &ice), 74);
     let water = Numbers {
         foe: [Element::Water; 2],
         ..ice
     };
-    assert_eq!(rt; type_steps(75, &water), 37);
+    assert_same(&rt, type_steps(75, &water), 37);
 }
 
 #[test]
@@ -69,12 +69,12 @@ fn a_divisor_of_0(rt: HostRuntime) -> Result<(), Fail> {
     battle.put_defense(Side::Two, 10, 512);
     battle.put_flag(Side::Two, Conditions::REFLECT, true);
     let strength = numbers(&battle, Side::One, named("Strength")?, false);
-    assert_eq!(rt; damage(&strength), None);
-    assert_eq!(rt; damage_list(&strength), None);
+    assert_same(&rt, damage(&strength), None);
+    assert_same(&rt, damage_list(&strength), None);
     let explosion = numbers(&battle, Side::One, named("Explosion")?, false);
-    assert_eq!(rt; damage(&explosion), Some(999));
+    assert_same(&rt, damage(&explosion), Some(999));
     let critical = numbers(&battle, Side::One, named("Strength")?, true);
-    assert_eq!(rt; critical.defense, 72);
+    assert_same(&rt, critical.defense, 72);
     Ok(())
 }
 
@@ -82,11 +82,11 @@ fn a_divisor_of_0(rt: HostRuntime) -> Result<(), Fail> {
 #[test]
 fn a_hit_on_itself(rt: HostRuntime) -> Result<(), Fail> {
     let mut battle = two_tauros()?;
-    assert_eq!(rt; damage(&own_numbers(&battle, Side::One)), Some(36));
+    assert_same(&rt, damage(&own_numbers(&battle, Side::One)), Some(36));
     battle.put_flag(Side::One, Conditions::REFLECT, true);
-    assert_eq!(rt; damage(&own_numbers(&battle, Side::One)), Some(36));
+    assert_same(&rt, damage(&own_numbers(&battle, Side::One)), Some(36));
     battle.put_flag(Side::Two, Conditions::REFLECT, true);
-    assert_eq!(rt; damage(&own_numbers(&battle, Side::One)), Some(19));
+    assert_same(&rt, damage(&own_numbers(&battle, Side::One)), Some(19));
     Ok(())
 }
 
@@ -94,19 +94,19 @@ fn a_hit_on_itself(rt: HostRuntime) -> Result<(), Fail> {
 #[test]
 fn factors_are_drawn(rt: HostRuntime) {
     let mut sweep = Sweep::new(0);
-    assert_eq!(rt; factor(255, &mut sweep), 217);
-    assert_eq!(rt; sweep, Sweep::new(180));
+    assert_same(&rt, factor(255, &mut sweep), 217);
+    assert_same(&rt, sweep, Sweep::new(180));
     let mut late = Sweep::new(254);
-    assert_eq!(rt; factor(255, &mut late), 255);
-    assert_eq!(rt; late, Sweep::new(0));
-    assert_eq!(rt; (factor(0, &mut late), factor(1, &mut late)), (0, 1));
-    assert_eq!(rt; late, Sweep::new(0));
+    assert_same(&rt, factor(255, &mut late), 255);
+    assert_same(&rt, late, Sweep::new(0));
+    assert_same(&rt, (factor(0, &mut late), factor(1, &mut late)), (0, 1));
+    assert_same(&rt, late, Sweep::new(0));
     let seed = [1, 255, 0, 0, 0, 0, 0, 0, 0, 0];
     let mut random = LinkRandom::new(seed);
-    assert_eq!(rt; factor(1, &mut random), 1);
-    assert_eq!(rt; random.index(), 0);
-    assert_eq!(rt; factor(999, &mut random), 999);
-    assert_eq!(rt; random.index(), 2);
+    assert_same(&rt, factor(1, &mut random), 1);
+    assert_same(&rt, random.index(), 0);
+    assert_same(&rt, factor(999, &mut random), 999);
+    assert_same(&rt, random.index(), 2);
 }
 
 // Power alone does not make it (docs/MECHANICS.md, "Fixed damage and one-hit moves", "Counter").
@@ -120,6 +120,6 @@ fn moves_with_the_usual_damage(rt: HostRuntime) -> Result<(), Fail> {
         has_usual_damage(named("Super Fang")?),
         has_usual_damage(named("Guillotine")?),
     ];
-    assert_eq!(rt; usual, [true, false, false, false, false, false]);
+    assert_same(&rt, usual, [true, false, false, false, false, false]);
     Ok(())
 }

@@ -1,5 +1,5 @@
 //! HP, landings, critical draws and hit tests: side 1's Persian against side 2's Tauros, which has 353 HP.
-use crate::battles::{FOE, USER, named, persian_and_tauros, species, tells};
+use crate::battles::{FOE, USER, assert_same, named, persian_and_tauros, species, tells};
 use gen1_hits::{
     Hit, Landed, critical, critical_bound, gain_hp, hit_test, land, land_on_hp, land_on_substitute,
     lose_hp, scaled_accuracy,
@@ -25,11 +25,11 @@ fn hp_is_lost_and_gained(rt: HostRuntime) -> Result<(), Fail> {
     let tauros = battle.who(side);
     gain_hp(&mut battle, side, 1, &mut events);
     lose_hp(&mut battle, side, DamageSource::Recoil, 0, &mut events);
-    assert_eq!(rt; events.len(), 0);
+    assert_same(&rt, events.len(), 0);
     lose_hp(&mut battle, side, DamageSource::Recoil, 53, &mut events);
-    assert_eq!(rt; battle.hp(side), 300);
+    assert_same(&rt, battle.hp(side), 300);
     gain_hp(&mut battle, side, 54, &mut events);
-    assert_eq!(rt; battle.hp(side), 353);
+    assert_same(&rt, battle.hp(side), 353);
     lose_hp(&mut battle, side, DamageSource::Burn, 65535, &mut events);
     lose_hp(&mut battle, side, DamageSource::Burn, 1, &mut events);
     tells(
@@ -48,13 +48,17 @@ fn hp_is_lost_and_gained(rt: HostRuntime) -> Result<(), Fail> {
 fn lands(rt: &impl Abort, battle: &mut Packed, damage: u16, landed: Landed, told: &[Event]) {
     let mut events = EventList::new();
     let answer = land(battle, USER, damage, &mut events);
-    assert_eq!(rt; answer, landed);
+    assert_same(rt, answer, landed);
     tells(rt, &events, told);
 }
 
 // The last damage, and the foe's HP.
 fn has(rt: &impl Abort, battle: &Packed, last_damage: u16, hp: u16) {
-    assert_eq!(rt; (battle.last_damage(), battle.hp(FOE)), (last_damage, hp));
+    assert_same(
+        rt,
+        (battle.last_damage(), battle.hp(FOE)),
+        (last_damage, hp),
+    );
 }
 
 // Landings (docs/MECHANICS.md, "Landing").
@@ -77,7 +81,7 @@ fn damage_lands_on_hp(rt: HostRuntime) -> Result<(), Fail> {
 }
 
 fn has_substitute(rt: &impl Abort, battle: &Packed, hp: Option<u8>) {
-    assert_eq!(rt; battle.substitute(FOE), hp);
+    assert_same(rt, battle.substitute(FOE), hp);
 }
 
 // Landings (docs/MECHANICS.md, "Landing").
@@ -97,7 +101,7 @@ fn damage_lands_on_a_substitute(rt: HostRuntime) -> Result<(), Fail> {
     battle.put_substitute(FOE, Some(249));
     let mut events = EventList::new();
     let broke = land_on_substitute(&mut battle, FOE, 256, 249, &mut events);
-    assert_eq!(rt; broke, true);
+    assert_same(&rt, broke, true);
     tells(&rt, &events, &breaks);
     has(&rt, &battle, 9, 353);
     Ok(())
@@ -109,10 +113,11 @@ fn draws_critical(rt: &impl Abort, battle: &Packed, id: MoveId, byte: u8, is: bo
     let mut link = LinkRandom::new([byte; 10]);
     let by_sweep = critical(battle, USER, id, &mut sweep);
     let by_link = critical(battle, USER, id, &mut link);
-    assert_eq!(rt; [by_sweep, by_link], [is; 2]);
-    assert_eq!(rt;
+    assert_same(rt, [by_sweep, by_link], [is; 2]);
+    assert_same(
+        rt,
         (sweep, link.index()),
-        (Sweep::new(byte.wrapping_add(1)), 1)
+        (Sweep::new(byte.wrapping_add(1)), 1),
     );
 }
 
@@ -122,10 +127,10 @@ fn critical_hits(rt: HostRuntime) -> Result<(), Fail> {
     let persian = species("Persian")?;
     let slash = named("Slash")?;
     let strength = named("Strength")?;
-    assert_eq!(rt; critical_bound(persian, false, slash), 255);
-    assert_eq!(rt; critical_bound(persian, false, strength), 57);
-    assert_eq!(rt; critical_bound(persian, true, slash), 112);
-    assert_eq!(rt; critical_bound(persian, true, strength), 14);
+    assert_same(&rt, critical_bound(persian, false, slash), 255);
+    assert_same(&rt, critical_bound(persian, false, strength), 57);
+    assert_same(&rt, critical_bound(persian, true, slash), 112);
+    assert_same(&rt, critical_bound(persian, true, strength), 14);
     let mut battle = persian_and_tauros()?;
     // Rotated left by 3, the byte 7 is 56, 39 is 57, 254 is 247, and 255 stays.
     draws_critical(&rt, &battle, strength, 7, true);
@@ -144,16 +149,16 @@ fn critical_hits(rt: HostRuntime) -> Result<(), Fail> {
 fn accuracy_between_stages(rt: HostRuntime) -> Result<(), Fail> {
     let mut battle = persian_and_tauros()?;
     let guillotine = named("Guillotine")?.accuracy_byte();
-    assert_eq!(rt; scaled_accuracy(&battle, USER, guillotine), 76);
+    assert_same(&rt, scaled_accuracy(&battle, USER, guillotine), 76);
     battle.put_accuracy(USER, 0);
-    assert_eq!(rt; scaled_accuracy(&battle, USER, guillotine), 19);
+    assert_same(&rt, scaled_accuracy(&battle, USER, guillotine), 19);
     battle.put_evasion(FOE, 12);
-    assert_eq!(rt; scaled_accuracy(&battle, USER, guillotine), 4);
+    assert_same(&rt, scaled_accuracy(&battle, USER, guillotine), 4);
     battle.put_accuracy(USER, 12);
-    assert_eq!(rt; scaled_accuracy(&battle, USER, 255), 255);
+    assert_same(&rt, scaled_accuracy(&battle, USER, 255), 255);
     battle.put_accuracy(USER, 0);
     battle.put_evasion(FOE, 0);
-    assert_eq!(rt; scaled_accuracy(&battle, USER, 255), 252);
+    assert_same(&rt, scaled_accuracy(&battle, USER, 255), 252);
     Ok(())
 }
 
@@ -164,15 +169,16 @@ fn hits(rt: &impl Abort, battle: &mut Packed, id: MoveId, byte: u8, hit: Hit, dr
     let mut link = LinkRandom::new([byte; 10]);
     let by_sweep = hit_test(battle, USER, id, base, &mut sweep);
     let by_link = hit_test(battle, USER, id, base, &mut link);
-    assert_eq!(rt; [by_sweep, by_link], [hit; 2]);
-    assert_eq!(rt;
+    assert_same(rt, [by_sweep, by_link], [hit; 2]);
+    assert_same(
+        rt,
         (sweep, link.index()),
-        (Sweep::new(byte.wrapping_add(draws)), draws)
+        (Sweep::new(byte.wrapping_add(draws)), draws),
     );
 }
 
 fn has_last_damage(rt: &impl Abort, battle: &Packed, damage: u16) {
-    assert_eq!(rt; battle.last_damage(), damage);
+    assert_same(rt, battle.last_damage(), damage);
 }
 
 const HIT: Hit = Hit {
@@ -194,10 +200,10 @@ fn no_draw_is_sure_to_hit(rt: HostRuntime) -> Result<(), Fail> {
     battle.put_trapping(USER, 3);
     hits(&rt, &mut battle, strength, 254, HIT, 1);
     has_last_damage(&rt, &battle, 75);
-    assert_eq!(rt; battle.trapping(USER), Some(3));
+    assert_same(&rt, battle.trapping(USER), Some(3));
     hits(&rt, &mut battle, strength, 255, MISSED, 1);
     has_last_damage(&rt, &battle, 0);
-    assert_eq!(rt; battle.trapping(USER), None);
+    assert_same(&rt, battle.trapping(USER), None);
     Ok(())
 }
 

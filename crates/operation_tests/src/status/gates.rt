@@ -1,5 +1,5 @@
 //! Picks and the gate, with the numbers of docs/MECHANICS.md, "Picks", "Gate" and "Hit on itself".
-use crate::battles::{FOE, USER, tells, two_tauros};
+use crate::battles::{FOE, USER, assert_same, tells, two_tauros};
 use gen1_layout::{Conditions, Packed};
 use gen1_machine::{
     CantReason, Choice, DamageSource, DisabledSlot, Event, EventList, Health, Kind, MoveSlot,
@@ -32,17 +32,17 @@ fn gates<R: Rolls>(
     told: &[Event],
 ) {
     let mut events = EventList::new();
-    assert_eq!(rt; gate(battle, USER, pick, random, &mut events), answer);
+    assert_same(rt, gate(battle, USER, pick, random, &mut events), answer);
     tells(rt, &events, told);
 }
 
 // Whether the user has a condition.
 fn is_on(rt: &impl Abort, battle: &Packed, which: Conditions, on: bool) {
-    assert_eq!(rt; battle.is_on(USER, which), on);
+    assert_same(rt, battle.is_on(USER, which), on);
 }
 
 fn has(rt: &impl Abort, battle: &Packed, status: Status) {
-    assert_eq!(rt; battle.status(USER), status);
+    assert_same(rt, battle.status(USER), status);
 }
 
 const fn asleep(turns: u8, marked: bool) -> Status {
@@ -52,7 +52,7 @@ const fn asleep(turns: u8, marked: bool) -> Status {
 // What the choice of a slot from 0 to 4 comes to.
 fn picks(rt: &impl Abort, battle: &Packed, side: Side, slot: u8, picked: Pick) -> Result<(), Fail> {
     let slot = MoveSlot::new(slot).ok_or("no such slot")?;
-    assert_eq!(rt; pick(battle, side, Choice::Move(slot)), picked);
+    assert_same(rt, pick(battle, side, Choice::Move(slot)), picked);
     Ok(())
 }
 
@@ -109,7 +109,7 @@ fn digging_while_paralysed(rt: HostRuntime) -> Result<(), Fail> {
     battle.put_flag(USER, Conditions::INVULNERABLE, true);
     let mut random = LinkRandom::new([63, 62, 0, 0, 0, 0, 0, 0, 0, 0]);
     gates(&rt, &mut battle, Pick::Continue, &mut random, Gate::Go, &[]);
-    assert_eq!(rt; random.index(), 1);
+    assert_same(&rt, random.index(), 1);
     is_on(&rt, &battle, Conditions::CHARGING, true);
     let cannot = [cannot(&battle, CantReason::Paralysed)];
     gates(
@@ -120,7 +120,7 @@ fn digging_while_paralysed(rt: HostRuntime) -> Result<(), Fail> {
         Gate::Stop,
         &cannot,
     );
-    assert_eq!(rt; random.index(), 2);
+    assert_same(&rt, random.index(), 2);
     is_on(&rt, &battle, Conditions::CHARGING, false);
     is_on(&rt, &battle, Conditions::INVULNERABLE, true);
     Ok(())
@@ -140,7 +140,7 @@ fn sleeping(rt: HostRuntime) -> Result<(), Fail> {
     let wakes = [Event::Cure(battle.who(USER), Kind::Sleep)];
     gates(&rt, &mut battle, STRENGTH, &mut random, Gate::Stop, &wakes);
     has(&rt, &battle, Status::Healthy);
-    assert_eq!(rt; random, Sweep::new(0));
+    assert_same(&rt, random, Sweep::new(0));
     Ok(())
 }
 
@@ -163,7 +163,7 @@ fn frozen_or_held(rt: HostRuntime) -> Result<(), Fail> {
     battle.put_status(USER, Status::Healthy);
     let held = [cannot(&battle, CantReason::PartiallyTrapped)];
     gates(&rt, &mut battle, STRENGTH, &mut random, Gate::Stop, &held);
-    assert_eq!(rt; battle.trapping(FOE), Some(0));
+    assert_same(&rt, battle.trapping(FOE), Some(0));
     Ok(())
 }
 
@@ -183,7 +183,7 @@ fn flinching_and_recharging(rt: HostRuntime) -> Result<(), Fail> {
         Gate::Stop,
         &flinches,
     );
-    assert_eq!(rt; battle.conditions(USER), Conditions::RECHARGE);
+    assert_same(&rt, battle.conditions(USER), Conditions::RECHARGE);
     let recharges = [cannot(&battle, CantReason::Recharging)];
     gates(
         &rt,
@@ -199,14 +199,15 @@ fn flinching_and_recharging(rt: HostRuntime) -> Result<(), Fail> {
 
 #[test]
 fn answers_that_stop(rt: HostRuntime) {
-    assert_eq!(rt;
+    assert_same(
+        &rt,
         (Gate::Go.stops(), Gate::Stop.stops(), Gate::Fault.stops()),
-        (false, true, true)
+        (false, true, true),
     );
 }
 
 fn bars(rt: &impl Abort, battle: &Packed, disabled: Option<DisabledSlot>) {
-    assert_eq!(rt; battle.disabled(USER), disabled);
+    assert_same(rt, battle.disabled(USER), disabled);
 }
 
 // Its count, and its end (docs/MECHANICS.md, "Gate").
@@ -239,7 +240,7 @@ fn a_disabled_move(rt: HostRuntime) -> Result<(), Fail> {
 }
 
 fn is_confused(rt: &impl Abort, battle: &Packed, turns: Option<u8>) {
-    assert_eq!(rt; battle.confused(USER), turns);
+    assert_same(rt, battle.confused(USER), turns);
 }
 
 // 42 * 40 * 74 / 72 / 50 + 2: a Tauros takes 36 from itself (docs/MECHANICS.md, "Hit on itself", "Gate").
@@ -263,18 +264,18 @@ fn confused(rt: HostRuntime) -> Result<(), Fail> {
         Gate::Stop,
         &hits_itself,
     );
-    assert_eq!(rt; (battle.hp(USER), battle.last_damage()), (317, 36));
-    assert_eq!(rt; battle.conditions(USER), Conditions::CONFUSED);
+    assert_same(&rt, (battle.hp(USER), battle.last_damage()), (317, 36));
+    assert_same(&rt, battle.conditions(USER), Conditions::CONFUSED);
     let ends = [Event::End(battle.who(USER), Volatile::Confusion)];
     gates(&rt, &mut battle, STRENGTH, &mut random, Gate::Go, &ends);
     is_confused(&rt, &battle, None);
-    assert_eq!(rt; random.index(), 2);
+    assert_same(&rt, random.index(), 2);
     Ok(())
 }
 
 // The foe's substitute.
 fn has_substitute(rt: &impl Abort, battle: &Packed, hp: Option<u8>) {
-    assert_eq!(rt; battle.substitute(FOE), hp);
+    assert_same(rt, battle.substitute(FOE), hp);
 }
 
 // Own and foe's substitute (docs/MECHANICS.md, "Hit on itself").
@@ -286,7 +287,7 @@ fn confused_behind_a_substitute(rt: HostRuntime) -> Result<(), Fail> {
     battle.put_substitute(USER, Some(1));
     let spares = [shows(&battle)];
     gates(&rt, &mut battle, STRENGTH, &mut random, Gate::Stop, &spares);
-    assert_eq!(rt; battle.last_damage(), 36);
+    assert_same(&rt, battle.last_damage(), 36);
     battle.put_substitute(FOE, Some(36));
     let holds = Event::Activate(battle.who(FOE), Volatile::Substitute);
     let holds = [shows(&battle), holds];
@@ -296,8 +297,8 @@ fn confused_behind_a_substitute(rt: HostRuntime) -> Result<(), Fail> {
     let breaks = [shows(&battle), breaks];
     gates(&rt, &mut battle, STRENGTH, &mut random, Gate::Stop, &breaks);
     has_substitute(&rt, &battle, None);
-    assert_eq!(rt; battle.substitute(USER), Some(1));
-    assert_eq!(rt; (battle.hp(USER), battle.hp(FOE)), (353, 353));
+    assert_same(&rt, battle.substitute(USER), Some(1));
+    assert_same(&rt, (battle.hp(USER), battle.hp(FOE)), (353, 353));
     Ok(())
 }
 
@@ -312,10 +313,11 @@ fn a_divisor_of_0(rt: HostRuntime) -> Result<(), Fail> {
     battle.put_last_damage(7);
     let shows = [shows(&battle)];
     gates(&rt, &mut battle, STRENGTH, &mut random, Gate::Fault, &shows);
-    assert_eq!(rt;
+    assert_same(
+        &rt,
         (battle.outcome(), battle.last_damage()),
-        (Outcome::Fault(1), 7)
+        (Outcome::Fault(1), 7),
     );
-    assert_eq!(rt; battle.hp(USER), 353);
+    assert_same(&rt, battle.hp(USER), 353);
     Ok(())
 }

@@ -1,5 +1,5 @@
 //! Statuses, stages and what poison, a burn and Leech Seed take.
-use crate::battles::{FOE, USER, tells, two_electrode, two_magikarp, two_tauros};
+use crate::battles::{FOE, USER, assert_same, tells, two_electrode, two_magikarp, two_tauros};
 use gen1_layout::{Conditions, Packed};
 use gen1_machine::{DamageSource, Event, EventList, Health, Kind, Side, StageCount, Who};
 use gen1_stats::Status;
@@ -15,15 +15,15 @@ fn count(stages: u8) -> Result<StageCount, Fail> {
 }
 
 fn has(rt: &impl Abort, battle: &Packed, side: Side, status: Status) {
-    assert_eq!(rt; battle.status(side), status);
+    assert_same(rt, battle.status(side), status);
 }
 
 fn has_stat(rt: &impl Abort, battle: &Packed, side: Side, stat: Stat, value: u16) {
-    assert_eq!(rt; battle.current_stat(side, stat), value);
+    assert_same(rt, battle.current_stat(side, stat), value);
 }
 
 fn has_stage(rt: &impl Abort, battle: &Packed, side: Side, stat: Stat, stage: u8) {
-    assert_eq!(rt; battle.stage(side, stat), stage);
+    assert_same(rt, battle.stage(side, stat), stage);
 }
 
 // Speed and Attack (docs/MECHANICS.md, "Penalties").
@@ -77,7 +77,7 @@ fn shifts(
 ) {
     let mut events = EventList::new();
     let shifted = shift_stage(battle, USER, target, stat, by, &mut events);
-    assert_eq!(rt; shifted, succeeds);
+    assert_same(rt, shifted, succeeds);
     has_stage(rt, battle, target, stat, stage);
     has_stat(rt, battle, target, stat, value);
     tells(rt, &events, told);
@@ -109,12 +109,12 @@ fn ends_of_the_stages(rt: HostRuntime) -> Result<(), Fail> {
     battle.put_accuracy(FOE, 0);
     let double_team = raise_stage(&mut battle, USER, USER, Stat::Evasion, 1, &mut events);
     let sand = lower_stage(&mut battle, USER, FOE, Stat::Accuracy, 1, &mut events);
-    assert_eq!(rt; (double_team, sand), (false, false));
+    assert_same(&rt, (double_team, sand), (false, false));
     tells(&rt, &events, &[]);
     // From +5 by 2 to +6, by one stage.
     battle.put_evasion(USER, 11);
     let double_team = raise_stage(&mut battle, USER, USER, Stat::Evasion, 2, &mut events);
-    assert_eq!(rt; double_team, true);
+    assert_same(&rt, double_team, true);
     has_stage(&rt, &battle, USER, Stat::Evasion, 12);
     let rises = Event::Boost(battle.who(USER), Stat::Evasion, count(1)?);
     tells(&rt, &events, &[rises]);
@@ -171,7 +171,7 @@ fn hurt(who: Who, hp: u16, source: DamageSource) -> Result<Event, Fail> {
 }
 
 fn hp_are(rt: &impl Abort, battle: &Packed, user: u16, foe: u16) {
-    assert_eq!(rt; (battle.hp(USER), battle.hp(FOE)), (user, foe));
+    assert_same(rt, (battle.hp(USER), battle.hp(FOE)), (user, foe));
 }
 
 // 22 and 44 of 353 (docs/MECHANICS.md, "Residual").
@@ -183,7 +183,7 @@ fn bad_poison_and_a_seed(rt: HostRuntime) -> Result<(), Fail> {
     let foe = battle.who(FOE);
     residual(&mut battle, USER, &mut events);
     hp_are(&rt, &battle, 287, 344);
-    assert_eq!(rt; battle.bad_poison(USER), Some(2));
+    assert_same(&rt, battle.bad_poison(USER), Some(2));
     let told = [
         hurt(user, 331, DamageSource::Poison)?,
         hurt(user, 287, DamageSource::LeechSeed)?,
@@ -200,9 +200,9 @@ fn a_seed_on_the_fallen(rt: HostRuntime) -> Result<(), Fail> {
     let mut events = EventList::new();
     residual(&mut battle, USER, &mut events);
     hp_are(&rt, &battle, 0, 344);
-    assert_eq!(rt; events.len(), 2);
+    assert_same(&rt, events.len(), 2);
     residual(&mut battle, USER, &mut events);
     hp_are(&rt, &battle, 0, 344);
-    assert_eq!(rt; events.len(), 2);
+    assert_same(&rt, events.len(), 2);
     Ok(())
 }

@@ -1,4 +1,4 @@
-use Rattle.std.proofs.Common.{◌-◌, ◌≡◌, ◌≤◌}
+use Rattle.std.proofs.Common.{◌-◌, ◌≤◌}
 use Rattle.gen1_layout.proofs.Words.{ap, arith, known_in, member_in, member_ok, put_on_member, refl, subst, sym, ℕ, ◌∙◌}
 use Rattle.gen1_stats.specs.Members.{nothing_known}
 use Rattle.gen1_machine.specs.declared.picks.UsedMove.TheVariants.{Slot}
