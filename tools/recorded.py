@@ -3,21 +3,22 @@
 
 usage: recorded.py [--check] [TRACES]
 
-TRACES has a recorded battle in each line; without it, it is ../shared/battles/traces.jsonl. Each battle of BATTLES becomes a
-module of crates/turn_tests/src/recorded: its teams, and for each update the pair of choices, the log and all 384 bytes that
-were recorded. crates/turn_tests/src/recorded.rt plays them. Run it at the top of the repository, then `rt fmt` in crates/turn_tests. With
---check it writes nothing, and fails where a file differs in more than its layout.
+TRACES has a recorded battle in each line, and may be packed; without it, it is traces.jsonl of tests/battles. Each battle
+of BATTLES becomes a module of crates/test_turn/src/recorded: its teams, and for each update the pair of choices, the log
+and all 384 bytes that were recorded. crates/test_turn/src/recorded.rt plays them. Run it at the top of the repository, then
+`rt fmt` in crates/test_turn. With --check it writes nothing, and fails where a file differs in more than its layout.
 """
-import json
 import os
 import re
 import sys
 
+sys.dont_write_bytecode = True
+from battles import Unreadable, recorded, traces
+
 # The number of the line, from 0, by the name of the module.
 BATTLES = {"raging": 17, "outnumbered": 28, "digging": 50}
 
-TRACES = os.path.join("..", "shared", "battles", "traces.jsonl")
-FOLDER = os.path.join("crates", "turn_tests", "src", "recorded")
+FOLDER = os.path.join("crates", "test_turn", "src", "recorded")
 
 SIDES = ("one", "two")
 PLACES = ("first", "second", "third", "fourth", "fifth", "sixth")
@@ -85,9 +86,9 @@ def called(names):
     return ", ".join("%s()?" % name for name in names)
 
 
-def update(recorded):
+def update(given):
     """The bytes in seven lines: the header, and three lines for each side."""
-    text = recorded["bytes"]
+    text = given["bytes"]
     lines = [text[:48]] + [text[at:at + 120] for at in range(48, 768, 120)]
     return (
         "    Update {\n"
@@ -95,11 +96,11 @@ def update(recorded):
         '        log: "%s",\n'
         "        bytes: [\n%s        ],\n"
         "    },\n"
-    ) % (*recorded["pair"], recorded["log"], "".join('            "%s",\n' % line for line in lines))
+    ) % (*given["pair"], given["log"], "".join('            "%s",\n' % line for line in lines))
 
 
-def module(recorded):
-    given, updates = recorded["object"], recorded["updates"]
+def module(battle):
+    given, updates = battle["object"], battle["updates"]
     teams = [" and ".join(member["species"] for member in given[side]) for side in SIDES]
     names = member_names(given)
     return HEAD.format(
@@ -122,14 +123,12 @@ def laid_out(text):
 def main():
     words = [word for word in sys.argv[1:] if word != "--check"]
     check = "--check" in sys.argv[1:]
-    traces = words[0] if words else TRACES
-    if check and not os.path.exists(traces):
-        print("note: %s is not there, so the recorded tests were not compared" % traces)
-        return
-    with open(traces, encoding="utf-8") as file:
-        lines = file.read().splitlines()
+    try:
+        battles = traces(words[0] if words else recorded("traces.jsonl"))
+    except Unreadable as fault:
+        sys.exit(str(fault))
     for name, line in BATTLES.items():
-        text = module(json.loads(lines[line]))
+        text = module(battles[line])
         path = os.path.join(FOLDER, name + ".rt")
         if not check:
             with open(path, "w", encoding="utf-8") as file:
