@@ -1,0 +1,117 @@
+"""The terms of antt: what reading.py makes of a text, each with the place where it stands."""
+
+from dataclasses import dataclass, field
+
+
+@dataclass
+class Term:
+    """A term between two offsets of its module's text."""
+
+    start: int = field(default=0, kw_only=True)
+    end: int = field(default=0, kw_only=True)
+
+
+@dataclass
+class Name(Term):
+    """A name, its fields behind it: `p.field.one` is `p` with `field` and `one`. An operator is named with its places."""
+
+    word: str
+    fields: list
+
+
+@dataclass
+class Number(Term):
+    value: int
+
+
+@dataclass
+class Text(Term):
+    value: str
+
+
+@dataclass
+class Apply(Term):
+    """A function and its arguments; an operator or `if` has a Name in front, and says that it was written between them."""
+
+    function: Term
+    arguments: list
+    infix: bool = False
+
+
+@dataclass
+class Lambda(Term):
+    parameters: list
+    body: Term
+
+
+@dataclass
+class Let(Term):
+    name: str
+    value: Term
+    body: Term
+
+
+@dataclass
+class Elim(Term):
+    """The cases of a value, each a pattern and a term."""
+
+    value: Term
+    cases: list
+
+
+@dataclass
+class Record(Term):
+    """A record of these fields, or a base with these fields changed."""
+
+    base: Term | None
+    fields: list
+
+
+@dataclass
+class Tuple(Term):
+    items: list
+
+
+@dataclass
+class Project(Term):
+    """Fields of a term in parentheses."""
+
+    value: Term
+    fields: list
+
+
+@dataclass
+class Arrow(Term):
+    """A function type; what it binds is left out."""
+
+    left: Term | None
+    right: Term
+
+
+def parts(term):
+    """The terms right inside a term."""
+    match term:
+        case Apply():
+            return [term.function, *term.arguments]
+        case Lambda():
+            return [term.body]
+        case Let():
+            return [term.value, term.body]
+        case Elim():
+            return [term.value, *(body for _, body in term.cases)]
+        case Record():
+            return ([term.base] if term.base else []) + [value for _, value in term.fields]
+        case Tuple():
+            return term.items
+        case Project():
+            return [term.value]
+        case Arrow():
+            return [part for part in (term.left, term.right) if part]
+    return []
+
+
+def all_parts(term):
+    """A term and all terms inside it, from the outside in."""
+    yield term
+    for part in parts(term):
+        yield from all_parts(part)
