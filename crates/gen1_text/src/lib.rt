@@ -1,0 +1,27 @@
+//! Teams out of text: the export text of Pokemon Showdown's team builder, and its packed lines (docs/TEAM_TEXT.md).
+//!
+//! - `cuts`: parts of a text
+//! - `fault`: why a text is no team
+//! - `ids`: species and moves by their names
+//! - `member`: a member by its lines
+//! - `numbers`: whole numbers in a text
+//! - `packed`: teams out of packed lines
+//! - `packed_field`: the fields of a member in a packed line
+//! - `spread`: EVs and IVs
+//! - `text`: teams out of the export text
+#![tactic(auto)]
+
+mod cuts;
+mod fault;
+mod ids;
+mod member;
+mod numbers;
+mod packed;
+mod packed_field;
+mod spread;
+mod text;
+
+pub use fault::{MemberFault, PackedFault, TextFault};
+pub use ids::{move_called, species_called};
+pub use packed::{members_in_packed, team_in_packed};
+pub use text::{members_in_text, team_in_text};

@@ -1,0 +1,138 @@
+//! The fields of a member in a packed line (docs/TEAM_TEXT.md, "Packed line").
+ghost use Rattle.std.specs.Prelude.{◌≡◌};
+ghost use Rattle.gen1_text.specs.PackedFields.{field, number_if_any, six_numbers, species_field, with_moves, with_packed_evs, with_packed_ivs, with_packed_level, without_item};
+ghost use Rattle.gen1_text.specs.Words.{pieces_of};
+
+use crate::cuts::{Pieces, piece_count};
+use crate::fault::MemberFault;
+use crate::member::{with_level, with_move};
+use crate::numbers::number_in;
+use crate::spread::{Spread, dvs_of_ivs, exp_of_evs, is_text};
+use gen1_stats::MemberSpec;
+
+// A field of a member, counted from 0; nothing behind the last.
+pub(crate) fn field(member: &[u8], number: usize) -> &[u8]
+    ensures { result.now ≡ field number member.now }
+{
+    let mut before = number;
+    for piece in Pieces::new(member, b'|') {
+        if before == 0 {
+            return piece;
+        }
+        before -= 1;
+    }
+    &[]
+}
+
+// The species, or the nickname where that is empty.
+#[tactic(auto, unfolding(crate::specs::PackedFields::species_field))]
+pub(crate) fn species_field(member: &[u8]) -> &[u8]
+    ensures { result.now ≡ species_field member.now }
+{
+    let species = field(member, 1);
+    if species.is_empty() {
+        field(member, 0)
+    } else {
+        species
+    }
+}
+
+#[tactic(auto, unfolding(crate::specs::PackedFields::without_item))]
+pub(crate) fn without_item(spec: MemberSpec, text: &[u8]) -> Result<MemberSpec, MemberFault>
+    ensures { result ≡ without_item text.now spec }
+{
+    if text.is_empty() {
+        Ok(spec)
+    } else {
+        Err(MemberFault::Item)
+    }
+}
+
+// The moves between commas; a place without one says nothing.
+pub(crate) fn with_moves(spec: MemberSpec, text: &[u8]) -> Result<MemberSpec, MemberFault>
+    ensures { result ≡ with_moves (pieces_of 44 text.now) spec }
+{
+    let mut spec = spec;
+    for name in Pieces::new(text, b',') {
+        if !name.is_empty() {
+            spec = with_move(spec, name)?;
+        }
+    }
+    Ok(spec)
+}
+
+// Six numbers between commas, each of at most so many; a place without one says nothing.
+fn six_numbers(text: &[u8], most: u8) -> Option<Spread>
+    ensures { result ≡ six_numbers most (pieces_of 44 text.now) }
+{
+    if piece_count(text, b',') != 6 {
+        return None;
+    }
+    let mut spread = [None; 6];
+    let mut place = 0;
+    for piece in Pieces::new(text, b',') {
+        spread[place] = number_if_any(piece, most)?;
+        place += 1;
+    }
+    Some(spread)
+}
+
+#[tactic(auto, unfolding(crate::specs::PackedFields::number_if_any))]
+fn number_if_any(text: &[u8], most: u8) -> Option<Option<u8>>
+    ensures { result ≡ number_if_any most text.now }
+{
+    if text.is_empty() {
+        return Some(None);
+    }
+    match number_in(text, most) {
+        Some(number) => Some(Some(number)),
+        None => None,
+    }
+}
+
+// The EVs of a field: all the most where it is empty, and none where it is a lone 0.
+#[tactic(auto, unfolding(crate::specs::PackedFields::with_packed_evs))]
+pub(crate) fn with_packed_evs(spec: MemberSpec, text: &[u8]) -> Result<MemberSpec, MemberFault>
+    ensures { result ≡ with_packed_evs text.now spec }
+{
+    if text.is_empty() {
+        return Ok(spec);
+    }
+    let mut spec = spec;
+    let evs = if is_text(text, b"0") {
+        Some([None; 6])
+    } else {
+        six_numbers(text, 255)
+    };
+    let Some(evs) = evs else {
+        return Err(MemberFault::Evs);
+    };
+    spec.exp = exp_of_evs(evs)?;
+    Ok(spec)
+}
+
+#[tactic(auto, unfolding(crate::specs::PackedFields::with_packed_ivs))]
+pub(crate) fn with_packed_ivs(spec: MemberSpec, text: &[u8]) -> Result<MemberSpec, MemberFault>
+    ensures { result ≡ with_packed_ivs text.now spec }
+{
+    if text.is_empty() {
+        return Ok(spec);
+    }
+    let mut spec = spec;
+    let Some(ivs) = six_numbers(text, 31) else {
+        return Err(MemberFault::Ivs);
+    };
+    spec.dvs = dvs_of_ivs(ivs)?;
+    Ok(spec)
+}
+
+#[tactic(auto, unfolding(crate::specs::PackedFields::with_packed_level))]
+pub(crate) fn with_packed_level(spec: MemberSpec, text: &[u8]) -> Result<MemberSpec, MemberFault>
+    ensures { result ≡ with_packed_level text.now spec }
+{
+    if text.is_empty() {
+        Ok(spec)
+    } else {
+        with_level(spec, text)
+    }
+}

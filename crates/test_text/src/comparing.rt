@@ -1,0 +1,46 @@
+//! What the tests compare.
+use arrayvec::ArrayVec;
+use gen1_stats::{Member, MemberSpec};
+use gen1_tables::{MoveId, Species};
+use std::fmt::Debug;
+use std::process::Abort;
+
+/// Asserts that these are the same. A test calls it, since an assertion in its own body costs the proof of the test seconds.
+pub(crate) fn assert_same<T: PartialEq + Debug + Drop>(rt: &impl Abort, found: T, expected: T) {
+    assert_eq!(rt; found, expected);
+}
+
+/// A member as it is asked for, each of whose moves has three PP ups.
+pub(crate) fn spec(
+    species: &str,
+    level: u8,
+    dvs: [u8; 4],
+    exp: [u16; 5],
+    moves: &[&str],
+) -> Result<MemberSpec, &'static str> {
+    let mut chosen = ArrayVec::new();
+    for name in moves {
+        let id = MoveId::from_name(*name).ok_or("no such move")?;
+        if chosen.try_push((id, 3)).is_err() {
+            return Err("too many moves");
+        }
+    }
+    Ok(MemberSpec {
+        species: Species::from_name(species).ok_or("no such species")?,
+        level,
+        dvs,
+        exp,
+        moves: chosen,
+    })
+}
+
+/// HP, Attack, Defense, Speed and Special.
+pub(crate) fn stats(member: &Member) -> [u16; 5] {
+    [
+        member.max_hp(),
+        member.attack(),
+        member.defense(),
+        member.speed(),
+        member.special(),
+    ]
+}
