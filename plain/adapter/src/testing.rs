@@ -1,0 +1,57 @@
+//! What the kit passes to a test, where Rust passes nothing.
+use crate::alloc::{AllocError, Allocator, Global};
+use crate::prelude::{String, Vec};
+use std::fmt;
+
+/// What may end the process: in Rust everything may.
+pub trait Abort {}
+
+/// What a test of the kit's is passed.
+#[derive(Clone, Copy, Debug)]
+pub struct HostRuntime;
+
+impl Abort for HostRuntime {}
+
+impl HostRuntime {
+    /// The allocator.
+    pub fn alloc(&self) -> Global {
+        Global
+    }
+}
+
+/// Why a test failed: whatever can be shown.
+pub struct Fail(std::string::String);
+
+impl fmt::Debug for Fail {
+    fn fmt(&self, f: &mut fmt::Formatter<'_>) -> fmt::Result {
+        f.write_str(&self.0)
+    }
+}
+
+impl<T: fmt::Display> From<T> for Fail {
+    fn from(why: T) -> Self {
+        Fail(why.to_string())
+    }
+}
+
+/// A text in memory of an allocator, or that there is none. Rust's `format!` ends the process then.
+///
+/// # Errors
+///
+/// Where there is no memory.
+pub fn format_in<A: Allocator>(
+    allocator: A,
+    arguments: fmt::Arguments<'_>,
+) -> Result<String<A>, AllocError> {
+    let mut bytes = Vec::new(allocator);
+    bytes.extend_from_slice(arguments.to_string().as_bytes())?;
+    String::from_utf8(bytes).map_err(|_| AllocError)
+}
+
+/// A text in memory of an allocator.
+#[macro_export]
+macro_rules! format_in {
+    ($allocator:expr; $($argument:tt)*) => {
+        $crate::testing::format_in($allocator, format_args!($($argument)*))
+    };
+}

@@ -1,0 +1,111 @@
+//! What plain Rust has beside the sources (docs/PLAIN.md, "What is added"): choices, sides and outcomes as text.
+use crate::{Choice, Kind, MoveSlot, Outcome, Place, Request, Side};
+use core::fmt;
+use core::str::FromStr;
+
+/// A text that is no choice, or no side.
+#[derive(Clone, Copy, Debug, PartialEq, Eq)]
+pub struct UnknownText(&'static str);
+
+impl fmt::Display for UnknownText {
+    fn fmt(&self, f: &mut fmt::Formatter<'_>) -> fmt::Result {
+        f.write_str(self.0)
+    }
+}
+
+impl core::error::Error for UnknownText {}
+
+/// `pass`, `move 1` (`move 0` where no slot can be chosen) or `switch 2`.
+impl fmt::Display for Choice {
+    fn fmt(&self, f: &mut fmt::Formatter<'_>) -> fmt::Result {
+        match self {
+            Choice::Pass => f.write_str("pass"),
+            Choice::Move(slot) => write!(f, "move {}", slot.number()),
+            Choice::Switch(place) => write!(f, "switch {}", place.number()),
+        }
+    }
+}
+
+impl FromStr for Choice {
+    type Err = UnknownText;
+
+    /// Reads what `Display` writes.
+    fn from_str(text: &str) -> Result<Self, UnknownText> {
+        let (word, number) = text.split_once(' ').unwrap_or((text, ""));
+        let number = number.parse::<u8>();
+        let choice = match (word, number) {
+            ("pass", Err(_)) if text == "pass" => Some(Choice::Pass),
+            ("move", Ok(slot)) => MoveSlot::new(slot).map(Choice::Move),
+            ("switch", Ok(place)) => Place::new(place).map(Choice::Switch),
+            _ => None,
+        };
+        choice.ok_or(UnknownText(
+            "no choice: pass, move 0 to 4, or switch 1 to 6",
+        ))
+    }
+}
+
+/// `1` or `2`.
+impl fmt::Display for Side {
+    fn fmt(&self, f: &mut fmt::Formatter<'_>) -> fmt::Result {
+        f.pad(match self {
+            Side::One => "1",
+            Side::Two => "2",
+        })
+    }
+}
+
+impl FromStr for Side {
+    type Err = UnknownText;
+
+    /// Reads `1` or `2`.
+    fn from_str(text: &str) -> Result<Self, UnknownText> {
+        match text {
+            "1" => Ok(Side::One),
+            "2" => Ok(Side::Two),
+            _ => Err(UnknownText("no side: 1 or 2")),
+        }
+    }
+}
+
+impl fmt::Display for Outcome {
+    fn fmt(&self, f: &mut fmt::Formatter<'_>) -> fmt::Result {
+        match self {
+            Outcome::Ongoing => f.write_str("the battle goes on"),
+            Outcome::WinOne => f.write_str("side 1 wins"),
+            Outcome::WinTwo => f.write_str("side 2 wins"),
+            Outcome::Tie => f.write_str("neither side wins"),
+            Outcome::Fault(code) => write!(f, "the battle could not go on, by fault {code}"),
+        }
+    }
+}
+
+impl fmt::Display for Request {
+    fn fmt(&self, f: &mut fmt::Formatter<'_>) -> fmt::Result {
+        f.pad(match self {
+            Request::Pass => "nothing",
+            Request::Move => "a move or a switch",
+            Request::Switch => "a replacement",
+        })
+    }
+}
+
+impl fmt::Display for Kind {
+    fn fmt(&self, f: &mut fmt::Formatter<'_>) -> fmt::Result {
+        f.pad(match self {
+            Kind::Sleep => "asleep",
+            Kind::Poison => "poisoned",
+            Kind::Burn => "burned",
+            Kind::Freeze => "frozen",
+            Kind::Paralysis => "paralysed",
+        })
+    }
+}
+
+#[cfg(feature = "serde")]
+gen1_adapter::serde_as_text!(Choice, Side);
+
+impl Side {
+    /// Side 1, and side 2.
+    pub const BOTH: [Side; 2] = [Side::One, Side::Two];
+}

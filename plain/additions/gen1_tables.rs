@@ -1,0 +1,82 @@
+//! What plain Rust has beside the sources (docs/PLAIN.md, "What is added"): names as text.
+use crate::{Element, MoveId, Species, Stat};
+use core::fmt;
+use core::str::FromStr;
+
+/// A text that names no species, or no move. Names are compared to the letter (docs/TABLES.md).
+#[derive(Clone, Copy, Debug, PartialEq, Eq)]
+pub struct UnknownName;
+
+impl fmt::Display for UnknownName {
+    fn fmt(&self, f: &mut fmt::Formatter<'_>) -> fmt::Result {
+        f.write_str("nothing has this name; names are compared to the letter, as \"Mr. Mime\" and \"Body Slam\"")
+    }
+}
+
+impl core::error::Error for UnknownName {}
+
+impl fmt::Display for Species {
+    fn fmt(&self, f: &mut fmt::Formatter<'_>) -> fmt::Result {
+        f.pad(self.name())
+    }
+}
+
+impl FromStr for Species {
+    type Err = UnknownName;
+
+    fn from_str(text: &str) -> Result<Self, UnknownName> {
+        Species::from_name(text).ok_or(UnknownName)
+    }
+}
+
+impl fmt::Display for MoveId {
+    fn fmt(&self, f: &mut fmt::Formatter<'_>) -> fmt::Result {
+        f.pad(self.name())
+    }
+}
+
+impl FromStr for MoveId {
+    type Err = UnknownName;
+
+    fn from_str(text: &str) -> Result<Self, UnknownName> {
+        MoveId::from_name(text).ok_or(UnknownName)
+    }
+}
+
+impl fmt::Display for Element {
+    fn fmt(&self, f: &mut fmt::Formatter<'_>) -> fmt::Result {
+        f.pad(match self {
+            Element::Normal => "Normal",
+            Element::Fighting => "Fighting",
+            Element::Flying => "Flying",
+            Element::Poison => "Poison",
+            Element::Ground => "Ground",
+            Element::Rock => "Rock",
+            Element::Bug => "Bug",
+            Element::Ghost => "Ghost",
+            Element::Fire => "Fire",
+            Element::Water => "Water",
+            Element::Grass => "Grass",
+            Element::Electric => "Electric",
+            Element::Psychic => "Psychic",
+            Element::Ice => "Ice",
+            Element::Dragon => "Dragon",
+        })
+    }
+}
+
+impl fmt::Display for Stat {
+    fn fmt(&self, f: &mut fmt::Formatter<'_>) -> fmt::Result {
+        f.pad(match self {
+            Stat::Attack => "Attack",
+            Stat::Defense => "Defense",
+            Stat::Speed => "Speed",
+            Stat::Special => "Special",
+            Stat::Accuracy => "Accuracy",
+            Stat::Evasion => "Evasion",
+        })
+    }
+}
+
+#[cfg(feature = "serde")]
+gen1_adapter::serde_as_text!(Species, MoveId);

@@ -1,0 +1,101 @@
+//! First-generation Pokémon link battles: two teams, ten seed bytes and a list of choices give a battle that is exact to the last
+//! draw. A battle is 384 bytes that are changed in place; an update takes no memory and a quarter of a microsecond.
+//!
+//! The sources are those of a proved engine with their contracts taken off, built by your own compiler (docs/PLAIN.md of the
+//! repository says what was proved and how the two builds are compared).
+//!
+//! # A battle in ten lines
+//!
+//! ```
+//! use gen1::{Battle, Side, Team, member};
+//!
+//! # fn main() -> Result<(), Box<dyn std::error::Error>> {
+//! let one = Team::new(&[member("Tauros", &["Body Slam", "Hyper Beam", "Blizzard", "Earthquake"])?])?;
+//! let two = Team::new(&[member("Alakazam", &["Psychic", "Recover", "Thunder Wave", "Reflect"])?])?;
+//! let mut battle = Battle::new(&one, &two, [1, 36, 255, 7, 31, 100, 179, 254, 127, 10]);
+//! while !battle.is_over() {
+//!     let [first, second] = Side::BOTH.map(|side| battle.choices(side)[0]);
+//!     let update = battle.update(first, second)?;
+//!     for line in update.lines() {
+//!         println!("{line}");
+//!     }
+//! }
+//! println!("{}", battle.outcome());
+//! # Ok(())
+//! # }
+//! ```
+//!
+//! # Where things are
+//!
+//! | For | Look at |
+//! |---|---|
+//! | teams | [`member`], [`MemberSpec`], [`Team`], [`Species`], [`MoveId`] |
+//! | battles | [`Battle`], [`Choice`], [`Update`], [`Event`], [`Line`], [`State`] |
+//! | damage | [`Battle::damage`] |
+//! | logs | [`Update::log`], [`events_of`], [`Line::of`] |
+//! | what a watcher knows | [`Spectator`] |
+//! | two players who choose apart from each other | [`Room`] |
+//!
+//! # Features
+//!
+//! Without features the crate is `no_std` and needs no allocator. `std` adds sinks and sources over std's readers and writers;
+//! `serde` adds `Serialize` and `Deserialize` for teams, names, choices and battles.
+//!
+//! # Errors
+//!
+//! Bad input gets a named error that says what was wrong, and nothing has changed then.
+#![no_std]
+#![forbid(unsafe_code)]
+#![warn(missing_docs, missing_debug_implementations)]
+
+#[cfg(feature = "std")]
+extern crate std;
+
+mod battle;
+mod damage;
+mod lines;
+#[cfg(feature = "serde")]
+mod serde_impls;
+mod state;
+mod teams;
+
+pub use battle::{Battle, Update};
+pub use damage::DamageRefusal;
+#[doc(inline)]
+pub use gen1_engine::{BattleResult, Choices, LoadFault, Refusal, write_log};
+#[doc(inline)]
+pub use gen1_events::{LogBuf, LogFault, LogReader};
+#[doc(inline)]
+pub use gen1_machine::{
+    CantReason, Choice, DamageSource, Event, EventList, Health, Kind, MoveSlot, Outcome, Place,
+    Request, Rules, Side, TurnLimit, UnknownText, Volatile, Who,
+};
+#[doc(inline)]
+pub use gen1_room::{Reply, Room, RoomRefusal, Submitted};
+#[doc(inline)]
+pub use gen1_spectator::View as Spectator;
+#[doc(inline)]
+pub use gen1_stats::{KnownMove, Member, MemberSpec, Status, Team, TeamRefusal};
+#[doc(inline)]
+pub use gen1_tables::{Effect, Element, MoveId, Species, Stat, UnknownName};
+pub use lines::{Events, Line, Lines, events_of};
+pub use state::{MemberState, SideState, State};
+pub use teams::{MemberFault, member};
+
+/// Teams out of the text of a team builder: its export text, and packed lines (docs/TEAM_TEXT.md).
+///
+/// ```
+/// use gen1::{Battle, text::team_in_text};
+///
+/// let one = team_in_text(b"Tauros\n- Body Slam\n- Hyper Beam").unwrap();
+/// assert_eq!(one.members().len(), 1);
+/// let fault = team_in_text(b"Tauros\n- Body Slap").unwrap_err();
+/// assert_eq!(fault.to_string(), "line 2: expected the name of a move of the first generation");
+/// ```
+pub mod text {
+    #[doc(inline)]
+    pub use gen1_text::{
+        MemberFault, PackedFault, TextFault, members_in_packed, members_in_text, move_called,
+        species_called, team_in_packed, team_in_text,
+    };
+}

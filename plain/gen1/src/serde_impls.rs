@@ -1,0 +1,51 @@
+//! Battles as serde's data: their 384 bytes, which are loaded, and so tested, when they are read.
+use crate::{Battle, Line};
+use core::fmt;
+use serde::de::{Error, SeqAccess, Visitor};
+use serde::{Deserialize, Deserializer, Serialize, Serializer};
+
+impl Serialize for Battle {
+    fn serialize<S: Serializer>(&self, serializer: S) -> Result<S::Ok, S::Error> {
+        serializer.serialize_bytes(self.bytes())
+    }
+}
+
+impl<'de> Deserialize<'de> for Battle {
+    fn deserialize<D: Deserializer<'de>>(deserializer: D) -> Result<Self, D::Error> {
+        deserializer.deserialize_bytes(BattleBytes)
+    }
+}
+
+struct BattleBytes;
+
+impl<'de> Visitor<'de> for BattleBytes {
+    type Value = Battle;
+
+    fn expecting(&self, f: &mut fmt::Formatter<'_>) -> fmt::Result {
+        f.write_str("the 384 bytes of a battle")
+    }
+
+    fn visit_bytes<E: Error>(self, bytes: &[u8]) -> Result<Battle, E> {
+        Battle::load(bytes).map_err(E::custom)
+    }
+
+    fn visit_seq<A: SeqAccess<'de>>(self, mut items: A) -> Result<Battle, A::Error> {
+        let mut bytes = [0; 384];
+        for (place, byte) in bytes.iter_mut().enumerate() {
+            *byte = items
+                .next_element()?
+                .ok_or_else(|| A::Error::invalid_length(place, &self))?;
+        }
+        match items.next_element::<u8>()? {
+            None => self.visit_bytes(&bytes),
+            Some(_) => Err(A::Error::invalid_length(385, &self)),
+        }
+    }
+}
+
+/// A line is its text.
+impl Serialize for Line {
+    fn serialize<S: Serializer>(&self, serializer: S) -> Result<S::Ok, S::Error> {
+        serializer.serialize_str(self)
+    }
+}

@@ -1,0 +1,59 @@
+//! Members of teams, by their names.
+use crate::{MemberSpec, MoveId, Species};
+use arrayvec::ArrayVec;
+use core::fmt;
+
+/// Why there is no member of some names.
+#[derive(Clone, Copy, Debug, PartialEq, Eq)]
+pub enum MemberFault {
+    /// The species' name is not in docs/TABLES.md, to the letter.
+    NoSuchSpecies,
+    /// The name of the move at this place, from 1, is not there.
+    NoSuchMove(usize),
+    /// There are more than four moves.
+    TooManyMoves,
+}
+
+impl fmt::Display for MemberFault {
+    fn fmt(&self, f: &mut fmt::Formatter<'_>) -> fmt::Result {
+        match self {
+            MemberFault::NoSuchSpecies => f.write_str("no species has this name"),
+            MemberFault::NoSuchMove(place) => write!(f, "move {place}: no move has this name"),
+            MemberFault::TooManyMoves => f.write_str("there are more than four moves"),
+        }
+    }
+}
+
+impl core::error::Error for MemberFault {}
+
+/// A member at level 100 with full DVs, experience and PP, as most competitive rules have it. Its fields may be changed before it
+/// goes into a [`Team`](crate::Team), which tests them all.
+///
+/// ```
+/// use gen1::{MemberFault, member};
+///
+/// let mut tauros = member("Tauros", &["Body Slam", "Earthquake"]).unwrap();
+/// tauros.level = 50;
+/// assert_eq!(member("Missingno.", &[]), Err(MemberFault::NoSuchSpecies));
+/// ```
+///
+/// # Errors
+///
+/// A name that is unknown, or more than four moves.
+pub fn member(species: &str, moves: &[&str]) -> Result<MemberSpec, MemberFault> {
+    let species = Species::from_name(species).ok_or(MemberFault::NoSuchSpecies)?;
+    let mut chosen = ArrayVec::new();
+    for (place, name) in moves.iter().enumerate() {
+        let id = MoveId::from_name(name).ok_or(MemberFault::NoSuchMove(place + 1))?;
+        chosen
+            .try_push((id, 3))
+            .map_err(|_| MemberFault::TooManyMoves)?;
+    }
+    Ok(MemberSpec {
+        species,
+        level: 100,
+        dvs: [15; 4],
+        exp: [65535; 5],
+        moves: chosen,
+    })
+}

@@ -1,0 +1,78 @@
+//! First-generation link battles at the command line (docs/PROGRAM.md).
+#![forbid(unsafe_code)]
+
+mod bench;
+mod commands;
+mod fault;
+mod input;
+mod play;
+mod random;
+mod screen;
+
+use clap::{Args, Parser, Subcommand};
+use fault::Fault;
+use std::path::PathBuf;
+use std::process::ExitCode;
+
+const STATUSES: &str = "Status: 0 all was printed, 1 the input is refused, 2 the command line is refused, 3 a read or a write \
+                        failed. Standard error says why.";
+
+/// Runs link battles of the first generation
+#[derive(Parser)]
+#[command(name = "gen1", version, after_help = STATUSES)]
+struct Words {
+    #[command(subcommand)]
+    command: Command,
+}
+
+#[derive(Subcommand)]
+enum Command {
+    /// Runs a battle and prints its lines: {"seed":[..],"one":[..],"two":[..],"choices":[[byte,byte],..]}
+    Run(Input),
+    /// Prints the lines of a log's bytes
+    Print(Input),
+    /// Prints the damage of a move at each factor: {"attacker":member,"defender":member,"move":name,"critical":bool}
+    Calc(Input),
+    /// Runs a room of two players: the object of run, with "submissions":[[side,number,byte],..]
+    Room(Input),
+    /// Plays the choices of run's object, and shows the battle as it then stands
+    State(Look),
+    /// Plays against the computer
+    Play(play::Game),
+    /// Plays random battles, and tells how fast
+    Bench(bench::Measure),
+}
+
+#[derive(Args)]
+struct Input {
+    /// The input; without FILE it is standard input
+    file: Option<PathBuf>,
+}
+
+#[derive(Args)]
+struct Look {
+    #[command(flatten)]
+    input: Input,
+    /// Prints the 384 bytes as hexadecimal digits
+    #[arg(long)]
+    bytes: bool,
+}
+
+fn answer(command: Command) -> Result<(), Fault> {
+    match command {
+        Command::Run(input) => commands::run(&input::read(input.file)?),
+        Command::Print(input) => commands::print(&input::read(input.file)?),
+        Command::Calc(input) => commands::calc(&input::read(input.file)?),
+        Command::Room(input) => commands::room(&input::read(input.file)?),
+        Command::State(look) => commands::state(&input::read(look.input.file)?, look.bytes),
+        Command::Play(game) => play::play(&game),
+        Command::Bench(measure) => bench::bench(&measure),
+    }
+}
+
+fn main() -> ExitCode {
+    match answer(Words::parse().command) {
+        Ok(()) => ExitCode::SUCCESS,
+        Err(fault) => fault.tell(),
+    }
+}

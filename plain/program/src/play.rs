@@ -1,0 +1,144 @@
+//! A person against the computer, in the terminal.
+use crate::commands::{put, text_of};
+use crate::fault::Fault;
+use crate::input::{Sheet, read, value_of};
+use crate::random::Random;
+use crate::screen;
+use clap::{Args, ValueEnum};
+use gen1::{Battle, Choice, EventList, Outcome, Side};
+use std::io::BufRead;
+use std::path::PathBuf;
+
+/// What is played.
+#[derive(Args)]
+pub struct Game {
+    /// Teams and seed as the object of run (you are side 1); without FILE both teams are drawn
+    file: Option<PathBuf>,
+    /// Who plays side 2
+    #[arg(long, value_enum, default_value = "playouts")]
+    against: Foe,
+    /// How many members a drawn team has
+    #[arg(long, default_value_t = 3, value_parser = clap::value_parser!(u8).range(1..=6))]
+    members: u8,
+    /// Draws the same teams, seed and answers each time
+    #[arg(long)]
+    seed: Option<u64>,
+    /// Plays out each choice so many times, where side 2 plays by playouts
+    #[arg(long, default_value_t = 200, value_parser = clap::value_parser!(u32).range(1..=100_000))]
+    playouts: u32,
+}
+
+#[derive(Clone, Copy, ValueEnum)]
+enum Foe {
+    /// Any choice, each as likely
+    Random,
+    /// The choice whose random battles side 2 wins most often
+    Playouts,
+}
+
+/// Plays a battle.
+pub fn play(game: &Game) -> Result<(), Fault> {
+    let mut random = game.seed.map_or_else(Random::any, Random::new);
+    let mut battle = match &game.file {
+        Some(path) => Sheet::of(&value_of(&read(Some(path.clone()))?)?)
+            .ok_or(Fault::Json)?
+            .battle()?,
+        None => {
+            let members = usize::from(game.members);
+            let (one, two) = (random.team(members), random.team(members));
+            Battle::new(&one, &two, random.seed())
+        }
+    };
+    let mut events = EventList::new();
+    while !battle.is_over() {
+        let Some(one) = asked(&battle)? else {
+            return put("The battle is left.\n");
+        };
+        let Some(two) = answer(game, &battle, &mut random) else {
+            break;
+        };
+        if battle.update_events(one, two, &mut events).is_ok() {
+            put(&text_of(&events))?;
+        }
+    }
+    put(match battle.outcome() {
+        Outcome::WinOne => "You win.\n",
+        Outcome::WinTwo => "You lose.\n",
+        _ => "Nobody wins.\n",
+    })
+}
+
+/// What the person chooses; `None` where the input ends.
+fn asked(battle: &Battle) -> Result<Option<Choice>, Fault> {
+    let choices = battle.choices(Side::One);
+    if let [only @ Choice::Pass] = choices.as_slice() {
+        return Ok(Some(*only));
+    }
+    let mut text = screen::both(battle);
+    for (place, choice) in choices.iter().enumerate() {
+        text += &format!(
+            "  {}  {}\n",
+            place + 1,
+            screen::choice(battle, Side::One, *choice)
+        );
+    }
+    put(&text)?;
+    loop {
+        put(&format!("your choice, 1 to {} (q leaves): ", choices.len()))?;
+        let mut line = String::new();
+        let count = std::io::stdin()
+            .lock()
+            .read_line(&mut line)
+            .map_err(|_| Fault::Read)?;
+        if count == 0 || line.trim() == "q" {
+            return Ok(None);
+        }
+        if let Some(choice) = line
+            .trim()
+            .parse()
+            .ok()
+            .and_then(|number: usize| choices.get(number.checked_sub(1)?))
+        {
+            return Ok(Some(*choice));
+        }
+        put("That is none of them. ")?;
+    }
+}
+
+/// What the computer chooses.
+fn answer(game: &Game, battle: &Battle, random: &mut Random) -> Option<Choice> {
+    let choices = battle.choices(Side::Two);
+    match game.against {
+        _ if choices.len() < 2 => choices.first().copied(),
+        Foe::Random => random.pick(&choices).copied(),
+        Foe::Playouts => choices
+            .iter()
+            .copied()
+            .max_by_key(|choice| wins(game, battle, *choice, random)),
+    }
+}
+
+/// How many random battles side 2 wins that begin with a choice; a tie counts half.
+fn wins(game: &Game, battle: &Battle, choice: Choice, random: &mut Random) -> u32 {
+    (0..game.playouts)
+        .map(|_| won(battle, choice, random))
+        .sum()
+}
+
+/// 2 where side 2 wins a random battle that begins with a choice, 1 where nobody does.
+fn won(battle: &Battle, choice: Choice, random: &mut Random) -> u32 {
+    let mut copy = battle.clone();
+    let mut events = EventList::new();
+    let mut two = Some(choice);
+    while let (Some(one), Some(other)) = (random.pick(&copy.choices(Side::One)).copied(), two) {
+        if copy.update_events(one, other, &mut events).is_err() {
+            break;
+        }
+        two = random.pick(&copy.choices(Side::Two)).copied();
+    }
+    match copy.outcome() {
+        Outcome::WinTwo => 2,
+        Outcome::WinOne => 0,
+        _ => 1,
+    }
+}

@@ -1,0 +1,66 @@
+//! Random numbers for players and measures; a battle has its own.
+use gen1::{MemberSpec, MoveId, Species, Team};
+use std::hash::{BuildHasher, Hasher, RandomState};
+
+/// A generator of random numbers (xorshift), for which its seed settles all that it gives.
+#[derive(Clone)]
+pub struct Random(u64);
+
+impl Random {
+    /// The generator of a seed.
+    pub fn new(seed: u64) -> Self {
+        Random(seed.wrapping_mul(0x9e37_79b9_7f4a_7c15) | 1)
+    }
+
+    /// A generator that is another one each time.
+    pub fn any() -> Self {
+        Random::new(RandomState::new().build_hasher().finish())
+    }
+
+    /// A number below another.
+    pub fn below(&mut self, bound: usize) -> usize {
+        self.0 ^= self.0 << 13;
+        self.0 ^= self.0 >> 7;
+        self.0 ^= self.0 << 17;
+        ((self.0 >> 32) as usize) % bound.max(1)
+    }
+
+    /// One of some items; `None` where there is none.
+    pub fn pick<'a, T>(&mut self, items: &'a [T]) -> Option<&'a T> {
+        items.get(self.below(items.len()))
+    }
+
+    /// The ten numbers of a battle's seed.
+    pub fn seed(&mut self) -> [u8; 10] {
+        std::array::from_fn(|_| self.below(256) as u8)
+    }
+
+    /// A team of so many random members at level 100, each with four moves that a team may hold.
+    pub fn team(&mut self, members: usize) -> Team {
+        loop {
+            let specs: Vec<_> = (0..members).map(|_| self.member()).collect();
+            // A member with a move that no team may hold is refused, and drawn again.
+            if let Ok(team) = Team::new(&specs) {
+                return team;
+            }
+        }
+    }
+
+    fn member(&mut self) -> MemberSpec {
+        loop {
+            let mut spec = MemberSpec {
+                species: Species::new(self.below(151) as u8 + 1).unwrap_or_default(),
+                level: 100,
+                dvs: [15; 4],
+                exp: [65535; 5],
+                moves: Default::default(),
+            };
+            spec.moves = (0..4)
+                .filter_map(|_| Some((MoveId::new(self.below(164) as u8 + 1)?, 3)))
+                .collect();
+            if Team::new(std::slice::from_ref(&spec)).is_ok() {
+                return spec;
+            }
+        }
+    }
+}

@@ -1,0 +1,116 @@
+//! A battle as a person looks at it.
+use gen1::{Battle, Choice, KnownMove, MemberState, Side, SideState};
+
+/// How many characters an HP bar has.
+const BAR: u16 = 20;
+
+/// A bar as full as HP are of their maximum; a member with any HP has a mark.
+fn bar(hp: u16, max: u16) -> String {
+    let filled = u32::from(hp) * u32::from(BAR);
+    let marks = filled.div_ceil(u32::from(max.max(1))) as usize;
+    format!(
+        "[{}{}]",
+        "#".repeat(marks),
+        "-".repeat(usize::from(BAR) - marks)
+    )
+}
+
+/// A member in a line: its name, level, HP and status.
+fn member(it: &MemberState) -> String {
+    let status = it
+        .status
+        .filter(|_| it.hp > 0)
+        .map_or(String::new(), |kind| format!("  {kind}"));
+    format!(
+        "{:<12} L{:<3} {} {:>3}/{}{status}",
+        it.species,
+        it.level,
+        bar(it.hp, it.max_hp),
+        it.hp,
+        it.max_hp
+    )
+}
+
+/// The member of a side that is out.
+fn out(side: &SideState) -> Option<&MemberState> {
+    side.members.get(usize::from(side.active?.number()) - 1)
+}
+
+/// Who is out, on both sides.
+pub fn both(battle: &Battle) -> String {
+    let state = battle.state();
+    let mut text = format!("-- turn {} --\n", state.turn);
+    for (side, name) in state.sides.iter().rev().zip(["foe", "you"]) {
+        if let Some(it) = out(side) {
+            text += &format!("{name}  {}\n", member(it));
+        }
+    }
+    text
+}
+
+fn known(it: &KnownMove) -> String {
+    format!("{} ({} PP)", it.id, it.pp)
+}
+
+/// The whole battle, with what each side may choose.
+pub fn whole(battle: &Battle) -> String {
+    let state = battle.state();
+    let mut text = format!(
+        "turn {} of {}: {}\n",
+        state.turn,
+        battle.limit(),
+        state.outcome
+    );
+    for (side, it) in Side::BOTH.into_iter().zip(&state.sides) {
+        text += &format!("\nside {side}\n");
+        for (place, one) in it.members.iter().enumerate() {
+            let mark = if it
+                .active
+                .is_some_and(|active| usize::from(active.number()) == place + 1)
+            {
+                '*'
+            } else {
+                ' '
+            };
+            let moves: Vec<_> = one.moves.iter().map(known).collect();
+            text += &format!(
+                "{mark} {} {}\n      {}\n",
+                place + 1,
+                member(one),
+                moves.join(", ")
+            );
+        }
+        let choices: Vec<_> = battle.choices(side).iter().map(Choice::to_string).collect();
+        text += &format!(
+            "  may choose: {}\n",
+            if choices.is_empty() {
+                "nothing".into()
+            } else {
+                choices.join(", ")
+            }
+        );
+    }
+    text
+}
+
+/// A choice of a side in words: the move's name, or who comes out.
+pub fn choice(battle: &Battle, side: Side, it: Choice) -> String {
+    let state = battle.state();
+    let of_side = &state.sides[usize::from(side.number()) - 1];
+    match it {
+        Choice::Pass => "wait".into(),
+        Choice::Move(slot) if slot.number() == 0 => "go on".into(),
+        Choice::Move(slot) => {
+            let moves = out(of_side)
+                .map(|it| it.moves.as_slice())
+                .unwrap_or_default();
+            moves
+                .get(usize::from(slot.number()) - 1)
+                .map_or(it.to_string(), known)
+        }
+        Choice::Switch(place) => of_side
+            .members
+            .get(usize::from(place.number()) - 1)
+            .map_or(it.to_string(), |it| format!("switch to {}", member(it))),
+    }
+}

@@ -1,0 +1,53 @@
+"""What goes with a workspace that can be published."""
+import hashlib
+import shutil
+import subprocess
+
+from plain_workspace import OWN, ROOT
+
+DOCUMENTS = ("LAYOUT.md", "MECHANICS.md", "PLAIN.md", "PROGRAM.md", "TABLES.md")
+
+
+def sum_of(path):
+    return hashlib.sha256(path.read_bytes()).hexdigest()
+
+
+def said(*words):
+    """What a command prints in one line; None where it cannot be run."""
+    try:
+        return subprocess.run(words, cwd=ROOT, capture_output=True, text=True, check=True).stdout.strip()
+    except (OSError, subprocess.CalledProcessError):
+        return None
+
+
+def proved():
+    """The kit that proves the sources, their commit, and the SHA-256 of each of their files."""
+    lines = [f"kit {said('rt', 'version') or 'not at hand when this was made'}"]
+    lines.append(f"commit {said('git', 'rev-parse', 'HEAD') or 'not known'}")
+    if said("git", "status", "--porcelain", "crates"):
+        lines.append("changed since that commit")
+    for folder in ("src", "specs", "proofs"):
+        for path in sorted(ROOT.glob(f"crates/gen1_*/{folder}/**/*")):
+            if path.is_file():
+                lines.append(f"{sum_of(path)}  {path.relative_to(ROOT)}")
+    return "".join(f"{line}\n" for line in lines)
+
+
+def write_release(out, library):
+    """Adds to a workspace what a user wants beside it. `library` is the proved one for C, or None."""
+    for path in ("CHANGELOG.md", "LICENSE"):
+        shutil.copy(ROOT / path, out)
+    for folder in ("docs", "examples", "include"):
+        (out / folder).mkdir()
+    for name in DOCUMENTS:
+        shutil.copy(ROOT / "docs" / name, out / "docs")
+    shutil.copy(ROOT / "include" / "gen1.h", out / "include")
+    shutil.copy(OWN / "release" / "README.md", out)
+    shutil.copy(OWN / "release" / "tauros.json", out / "examples")
+    if library:
+        (out / "lib").mkdir()
+        shutil.copy(library, out / "lib" / "libgen1_c.a")
+    (out / "PROVED").write_text(proved())
+    files = sorted(path for path in out.rglob("*") if path.is_file() and "target" not in path.relative_to(out).parts)
+    sums = [f"{sum_of(path)}  {path.relative_to(out)}\n" for path in files if path.name not in ("Cargo.lock", "SHA256SUMS")]
+    (out / "SHA256SUMS").write_text("".join(sums))

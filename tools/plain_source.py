@@ -1,0 +1,514 @@
+"""A source of crates/ as plain Rust: contracts, ghost code, laws and marks off, line for line.
+
+Each pass takes a Source and changes its tokens in place. A form that no pass knows is an error with its file and line.
+"""
+import re
+
+from plain_tokens import Unknown, partners, tokens_of
+
+DERIVES = {"Clone", "Copy", "Debug", "Default", "PartialEq", "Eq", "PartialOrd", "Ord", "Hash"}
+ATTRIBUTES = {"inline", "repr", "test", "cfg", "unsafe", "default", "error", "must_use", "cold"}
+MACROS = {"assert", "assert_eq", "assert_ne", "debug_assert", "format_in", "macro_rules", "matches", "unreachable", "write"}
+PRELUDE = ("Vec", "String")
+
+# What stands for a path of the kit's std: the same in core, something of the adapter, or nothing (a trait for proofs alone).
+SAME_IN_CORE = ("array", "cell", "cmp", "convert", "error", "fmt", "hash", "iter", "mem", "num", "ops", "slice", "str")
+IN_ADAPTER = {
+    "std::alloc::AllocError": "gen1_adapter::alloc::AllocError",
+    "std::alloc::Allocator": "gen1_adapter::alloc::Allocator",
+    "std::alloc::Global": "gen1_adapter::alloc::Global",
+    "std::convert::AsStr": "gen1_adapter::text::AsStr",
+    "std::io::Read": "gen1_adapter::io::Read",
+    "std::io::Write": "gen1_adapter::io::Write",
+    "std::process::Abort": "gen1_adapter::testing::Abort",
+    "std::test::Fail": "gen1_adapter::testing::Fail",
+}
+PROOFS_ALONE = {"std::marker::Model", "thiserror::Error"}
+
+
+class Source:
+    """A source on its way: its tokens, and what the crate knows of itself."""
+
+    def __init__(self, path, text, crate):
+        self.path, self.crate = path, crate
+        self.tokens = tokens_of(text, path)
+        self.exports, self.after = [], []
+        self.refresh()
+
+    def refresh(self):
+        """Lists the tokens that are code anew, after some were dropped."""
+        for place, token in enumerate(self.tokens):
+            token.place = place
+        self.code = [token for token in self.tokens if token.kind not in ("space", "comment", "off")]
+        self.ends = partners(self.code, self.path)
+
+    def fail(self, token, what):
+        raise Unknown(f"{self.path}:{token.line}: {what}")
+
+    def drop(self, first, last):
+        """Drops the code from one place to another, and what stands between."""
+        for token in self.tokens[self.code[first].place : self.code[last].place + 1]:
+            token.drop()
+
+    def drop_word(self, first, last):
+        """Drops some code and the blank behind it."""
+        self.drop(first, last)
+        after = self.tokens[self.code[last].place + 1]
+        if after.kind == "space":
+            after.drop()
+
+    def put(self, first, last, text):
+        """Puts a text of one line in the place of some code."""
+        self.drop(first, last)
+        self.code[first].text = text + self.code[first].text
+        self.code[first].kind = "made"
+
+    def is_at(self, place, words):
+        """Whether the code at a place begins with these words, parted by blanks."""
+        words = words.split()
+        return [token.text for token in self.code[place : place + len(words)]] == words
+
+    def find(self, words):
+        """The places where the code has these words."""
+        return [place for place in range(len(self.code)) if self.is_at(place, words)]
+
+    def next_at(self, place, text):
+        while self.code[place].text != text:
+            place += 1
+        return place
+
+    def drop_with_docs(self, first, last):
+        """Drops an item with the comments and attributes before it."""
+        begin = self.code[first].place
+        while begin > 0 and self.tokens[begin - 1].kind in ("space", "comment", "off"):
+            begin -= 1
+            if self.tokens[begin].kind == "space" and self.tokens[begin].text.count("\n") > 1:
+                break
+        for token in self.tokens[begin : self.code[last].place + 1]:
+            token.drop()
+
+    def text(self):
+        whole = "".join(token.text for token in self.tokens)
+        return "\n".join(line.rstrip() for line in whole.split("\n")) + "".join(self.after)
+
+
+def begin_of_item(source, place):
+    """The place where an item begins whose keyword stands at a place: its visibility and attributes belong to it."""
+    code = source.code
+    while place > 0:
+        if code[place - 1].text in ("pub", "const", "unsafe"):
+            place -= 1
+        elif code[place - 1].text == ")" and source.is_at(place - 4, "pub (") and code[place - 2].text in ("crate", "super"):
+            place -= 4
+        elif code[place - 1].text == "]":
+            opening = next(begin for begin, end in source.ends.items() if end == place - 1)
+            if code[opening - 1].text != "#":
+                return place
+            place = opening - 1
+        else:
+            return place
+    return place
+
+
+def is_law(source, name):
+    """Whether the function whose name stands at a place does nothing but state its contract."""
+    opening = source.next_at(name, "(")
+    body = source.ends[opening] + 1
+    has_clause = body < len(source.code) and any(
+        token.kind == "off" and token.was_clause
+        for token in source.tokens[source.code[body - 1].place : source.code[body].place]
+    )
+    return has_clause and source.is_at(body, "{ }")
+
+
+def laws_of(source):
+    """The names of the laws that a source holds: functions of no type, with a contract and no body."""
+    depth, found = 0, []
+    for place, token in enumerate(source.code):
+        if token.text == "fn" and depth == 0 and is_law(source, place + 1):
+            found.append(source.code[place + 1].text)
+        depth += {"{": 1, "}": -1}.get(token.text, 0) if token.kind == "mark" else 0
+    return found
+
+
+def take_laws(source):
+    """Laws are not code."""
+    for name in laws_of(source):
+        place = source.find(f"fn {name}")[0]
+        opening = source.next_at(place, "{")
+        source.drop_with_docs(begin_of_item(source, place), source.ends[opening])
+        source.refresh()
+
+
+def take_citations(source):
+    """A law that is called says what holds, and does nothing."""
+    laws = {name for crate in source.crate.depends | {"crate"} for name in source.crate.laws_by(crate)}
+    for place in source.find("( ) ;"):
+        if source.code[place - 1].text in laws and source.code[place - 2].text in (";", "{", "}", ""):
+            source.drop(place - 1, place + 2)
+    source.refresh()
+
+
+def take_empty_modules(source):
+    """A module that held nothing but laws is declared no more."""
+    for place in reversed(source.find("mod")):
+        if source.is_at(place + 2, ";") and source.code[place + 1].text in source.crate.law_names:
+            source.drop_with_docs(begin_of_item(source, place), place + 2)
+    source.refresh()
+
+
+def take_attributes(source):
+    """Marks for the prover are off; `Drop` and `Error` are derived in other ways."""
+    for place in source.find("#"):
+        if source.code[place].kind == "off":
+            continue
+        opening = place + (2 if source.is_at(place + 1, "!") else 1)
+        closing, name = source.ends[opening], source.code[opening + 1].text
+        if name == "tactic":
+            source.drop(place, closing)
+        elif name == "derive":
+            take_derives(source, place, opening, closing)
+        elif name not in ATTRIBUTES:
+            source.fail(source.code[place], f"an unknown attribute, {name}")
+    source.refresh()
+
+
+def take_derives(source, place, opening, closing):
+    names = [token.text for token in source.code[opening + 3 : closing - 1] if token.text != ","]
+    kept = [name for name in names if name not in ("Drop", "Error")]
+    for name in set(kept) - DERIVES:
+        source.fail(source.code[place], f"an unknown derive, {name}")
+    if "Error" in names:
+        source.after.append(error_impls(source, closing + 1))
+    if not kept:
+        source.drop(place, closing)
+    elif kept != names:
+        source.put(place, closing, f"#[derive({', '.join(kept)})]")
+
+
+ERROR = """
+impl core::fmt::Display for {name} {{
+    fn fmt(&self, f: &mut core::fmt::Formatter<'_>) -> core::fmt::Result {{
+        match self {{
+{arms}        }}
+    }}
+}}
+
+impl core::error::Error for {name} {{}}
+"""
+
+
+def error_impls(source, place):
+    """What thiserror's derive writes for the enum at a place."""
+    place += source.is_at(place, "pub")
+    if not source.is_at(place, "enum"):
+        source.fail(source.code[place], "an error that is no enum")
+    name, at, arms = source.code[place + 1].text, place + 3, ""
+    while at < source.ends[place + 2]:
+        arm, at = error_arm(source, at)
+        arms += f"            {name}::{arm},\n"
+    return ERROR.format(name=name, arms=arms)
+
+
+def error_arm(source, at):
+    """How the variant at a place is shown, and the place of the next."""
+    if not source.is_at(at, "# [ error (") or source.code[at + 4].kind != "string":
+        source.fail(source.code[at], "a variant of an error with no text of its own")
+    text, pattern = source.code[at + 4].text, source.code[at + 7].text
+    source.drop(at, at + 6)
+    at += 8
+    if source.is_at(at, "("):
+        count = 1 + sum(token.text == "," for token in source.code[at : source.ends[at] - 1])
+        fields = (f"field_{n}" if f"{{{n}" in text else "_" for n in range(count))
+        pattern += f"({', '.join(fields)})"
+        at = source.ends[at] + 1
+    elif source.is_at(at, "{"):
+        pattern += f" {{ {''.join(f'{name}, ' for name in re.findall(r'{([a-z_]+)', text))}.. }}"
+        at = source.ends[at] + 1
+    if not source.is_at(at, ",") and not source.is_at(at, "}"):
+        source.fail(source.code[at], "a variant of an error of an unknown form")
+    return f"{pattern} => write!(f, {re.sub(r'{(?=[0-9])', '{field_', text)})", at + source.is_at(at, ",")
+
+
+def take_models(source):
+    """How a contract sees a type is no code."""
+    for place in source.find("Model for"):
+        opening = source.next_at(place, "{")
+        if source.ends[opening] != opening + 1:
+            source.fail(source.code[place], "an impl of Model with code in it")
+        begin = place
+        while source.code[begin].text != "impl":
+            begin -= 1
+        source.drop_with_docs(begin, opening + 1)
+    source.refresh()
+
+
+def take_clones(source):
+    """A clone of the kit's answers an error where memory is wanting; Rust's has an answer always."""
+    for place in source.find("impl Clone for"):
+        opening = source.next_at(place, "{")
+        method = source.next_at(opening, "fn")
+        arrow = method + 6
+        body = source.next_at(arrow, "{")
+        answer = body + 1
+        if (
+            not source.is_at(method, "fn clone ( & self ) -> Result <")
+            or not source.is_at(body - 3, ", AllocError >")
+            or not source.is_at(answer, "Ok (")
+            or source.ends[answer + 1] + 1 != source.ends[body]
+        ):
+            source.fail(source.code[place], "a clone of an unknown form")
+        source.drop(source.ends[answer + 1], source.ends[answer + 1])
+        source.drop(answer, answer + 1)
+        source.drop(body - 3, body - 1)
+        source.drop(arrow + 1, arrow + 2)
+        source.code[arrow].text = "-> "
+    for place in source.find(". clone ( ) ?"):
+        source.drop(place + 4, place + 4)
+    source.refresh()
+
+
+def take_formatters(source):
+    """`Display` is generic in its writer in the kit."""
+    for place in source.find("fn fmt < W : fmt :: Write > ( & self , f : & mut fmt :: Formatter < W > )"):
+        source.put(place + 21, place + 21, "'_")
+        source.drop(place + 2, place + 8)
+    source.refresh()
+
+
+def take_proved(source):
+    """What is proved is asserted in a debug build."""
+    for place in source.find("prove !"):
+        is_constant = source.is_at(place - 6, "const _ : ( ) =")
+        source.code[place].text = "assert" if is_constant else "debug_assert"
+
+
+def take_labels(source):
+    """A label that only a proof names is off."""
+    used = {source.code[place + 1].text for word in ("break", "continue") for place in source.find(word)}
+    for place, token in enumerate(source.code):
+        if token.kind == "label" and source.is_at(place + 1, ":") and token.text not in used:
+            if source.code[place + 2].text in ("for", "while", "loop"):
+                source.drop_word(place, place + 1)
+    source.refresh()
+
+
+def take_drop_bounds(source):
+    """In the kit a bound says that a value may be let go; in Rust every value may."""
+    for place in source.find("Drop"):
+        before, after = source.code[place - 1].text, source.code[place + 1].text
+        if before == "+":
+            source.drop(place - 1, place)
+        elif before == ":" and after == "+":
+            source.drop(place, place + 1)
+        elif before == ":":
+            source.drop(place - 1, place)
+        elif before == "impl":
+            source.fail(source.code[place], "an impl of Drop")
+    source.refresh()
+
+
+def take_runtime(source):
+    """Tests of the kit are passed what may end the process and what has memory; the adapter has both."""
+    for place in source.find("( rt : HostRuntime )"):
+        source.drop(place + 1, place + 3)
+        body = source.next_at(place, "{")
+        gap = source.tokens[source.code[body].place + 1]
+        gap.text = " let rt = gen1_adapter::testing::HostRuntime;" + gap.text
+    for place in source.find("( rt ;"):
+        source.drop_word(place + 1, place + 2)
+    for place in source.find(". expect (  rt ,") + source.find(". expect ( & rt ,"):
+        source.drop_word(place + 3, source.next_at(place, ","))
+    for place in source.find("format ! ( in"):
+        source.code[place].text = "gen1_adapter::format_in"
+        source.drop(place + 3, place + 3)
+    source.refresh()
+
+
+def parts_of(source, first, last):
+    """The leaves of a tree of `use`, each as its path and its other name, or ''."""
+    leaves, begin, depth = [], first, 0
+    for place in range(first, last + 1):
+        token = source.code[place].text
+        depth += {"{": 1, "}": -1}.get(token, 0)
+        if place == last or token == "," and depth == 0:
+            end = place if token == "," else place + 1
+            if end > begin:
+                leaves += leaves_of(source, begin, end)
+            begin = place + 1
+    return leaves
+
+
+def leaves_of(source, begin, end):
+    words = [token.text for token in source.code[begin:end]]
+    if "{" in words:
+        opening = begin + words.index("{")
+        head = "".join(token.text for token in source.code[begin:opening])
+        return [(head + path, name) for path, name in parts_of(source, opening + 1, source.ends[opening] - 1)]
+    if "as" in words:
+        return [("".join(words[: words.index("as")]), words[-1])]
+    return [("".join(words), "")]
+
+
+def in_plain(source, token, path):
+    """What stands for a path that may be the kit's; None for nothing."""
+    if path in PROOFS_ALONE or path.split("::")[-1] in source.crate.laws_by(path.split("::")[0]):
+        return None
+    if path.startswith("bitflags::"):
+        return "gen1_adapter::" + path
+    if not path.startswith("std::"):
+        return path
+    if path in IN_ADAPTER:
+        return IN_ADAPTER[path]
+    if path.split("::")[1] in SAME_IN_CORE:
+        return "core" + path[3:]
+    source.fail(token, f"{path}, of which it is not known what stands for it in plain Rust")
+
+
+def take_uses(source):
+    """Paths of the kit's become those of core or of the adapter; names that no code has go."""
+    for place in reversed(source.find("use")):
+        end = source.next_at(place, ";")
+        leaves = parts_of(source, place + 1, end - 1)
+        check_root(source, source.code[place + 1])
+        wanted = [(in_plain(source, source.code[place], path), path, name) for path, name in leaves]
+        is_kits = any(new != path for new, path, _ in wanted)
+        kept = [f"{new} as {name}" if name else new for new, path, name in wanted if new]
+        if not kept:
+            source.drop(begin_of_item(source, place), end)
+        elif is_kits:
+            shown = "".join(token.text + " " * (token.text == "pub") for token in source.code[begin_of_item(source, place) : place])
+            place = begin_of_item(source, place)
+            source.put(place, end, " ".join(f"{shown}use {path};" for path in sorted(kept)))
+    source.refresh()
+
+
+def check_root(source, token):
+    known = {"crate", "self", "super", "std", "core", "thiserror", "bitflags"} | source.crate.depends
+    if token.text not in known | source.crate.modules and not token.text[0].isupper():
+        source.fail(token, f"a use of {token.text}, which is no module and none of the crates in crates.txt")
+
+
+def take_paths(source):
+    """Paths of the kit's std in code."""
+    for place in source.find("std ::"):
+        end = place
+        while source.is_at(end + 1, "::") and source.code[end + 2].kind == "word":
+            end += 2
+        path = "".join(token.text for token in source.code[place : end + 1])
+        found = in_plain(source, source.code[place], path)
+        if not found:
+            source.fail(source.code[place], f"{path} in code")
+        source.put(place, end, found)
+    source.refresh()
+
+
+def take_prelude(source):
+    """Names that each source of the kit has, and no_std has not."""
+    used = {token.text for token in source.code}
+    names = [name for name in PRELUDE if name in used]
+    if names:
+        places = [token for token in source.tokens if token.was_use or token.text.startswith("use")]
+        if not places:
+            source.fail(source.code[0], f"{names[0]} in a source with no line to bring it in")
+        gap = " " if places[0].text.startswith("use") else ""
+        places[0].text = f"use gen1_adapter::prelude::{{{', '.join(names)}}};{gap}{places[0].text}"
+        places[0].kind = "made"
+
+
+def check_macros(source):
+    """A macro that is not known may mean something else in the kit."""
+    own = source.crate.macros
+    for place in source.find("!"):
+        word = source.code[place - 1]
+        is_call = word.kind in ("word", "made") and word.place + 1 == source.code[place].place
+        if not is_call or source.code[place + 1].text not in ("(", "{", "["):
+            continue
+        name = word.text.split("::")[-1]
+        if name not in MACROS | own | {"bitflag_items"}:
+            source.fail(word, f"an unknown macro, {name}!")
+        opening, depth = place + 1, 0
+        for token in source.code[opening : source.ends[opening]]:
+            depth += {"(": 1, "[": 1, "{": 1, ")": -1, "]": -1, "}": -1}.get(token.text, 0)
+            if depth == 1 and token.text == ";" and name not in ("macro_rules", "format_in", "bitflag_items"):
+                source.fail(token, f"a call of {name}! of the kit's form")
+
+
+def c_parameter(source, name, kind):
+    """A parameter as C passes it, and as the function takes it."""
+    slice_of = re.fullmatch(r"&(mut )?\[([A-Za-z_0-9]+)\]", kind)
+    if slice_of:
+        pointer = "*mut" if slice_of[1] else "*const"
+        lent = "slice_mut" if slice_of[1] else "slice"
+        return f"{name}: {pointer} {slice_of[2]}, {name}_len: usize", f"unsafe {{ {lent}({name}, {name}_len) }}"
+    if not re.fullmatch(r"&(mut )?(\[[A-Za-z_0-9]+; ?[0-9]+\]|[A-Z]\w*|usize)|[ui](8|16|32|64)|usize|bool", kind):
+        raise Unknown(f"{source.path}: an argument for C of an unknown kind, {name}: {kind}")
+    return f"{name}: {kind}", name
+
+
+def take_exports(source):
+    """A function for C takes a slice as a pointer and a length: the function stays as it is, and a second one calls it."""
+    shims = []
+    for place in source.find('extern "C" fn'):
+        name, opening = source.code[place + 3].text, place + 4
+        closing = source.ends[opening]
+        body = source.next_at(closing, "{")
+        passed = [c_parameter(source, *pair) for pair in parameters(source, opening + 1, closing)]
+        answer = " ".join(token.text for token in source.code[closing + 1 : body])
+        shims.append(
+            f'    #[unsafe(export_name = "{name}")]\n'
+            f"    unsafe extern \"C\" fn {name}({', '.join(taken for taken, _ in passed)}) {answer} {{\n"
+            f"        super::{name}({', '.join(given for _, given in passed)})\n    }}\n"
+        )
+        source.drop_word(place, place + 1)
+        before = place - 1 if source.is_at(place - 1, "pub") else place
+        if not source.is_at(before - 7, "# [ unsafe ( no_mangle ) ]"):
+            source.fail(source.code[place], "a function for C that no_mangle does not name")
+        source.drop(before - 7, before - 1)
+    if shims:
+        source.after.append(
+            "\n// What C calls.\nmod for_c {\n    #![allow(unused_imports)]\n    use super::*;\n"
+            "    use gen1_adapter::c::{slice, slice_mut};\n\n" + "\n".join(shims) + "}\n"
+        )
+    source.refresh()
+
+
+def parameters(source, first, end):
+    """The parameters of a function, each as its name and its type."""
+    found, begin, depth = [], first, 0
+    for place in range(first, end + 1):
+        text = source.code[place].text
+        if place == end or text == "," and depth == 0:
+            if place > begin:
+                kind = "".join(token.text for token in source.code[begin + 2 : place])
+                found.append((source.code[begin].text, kind.replace("&mut", "&mut ").replace(";", "; ")))
+            begin = place + 1
+        depth += {"[": 1, "(": 1, "]": -1, ")": -1}.get(text, 0)
+    return found
+
+
+PASSES = (
+    take_laws,
+    take_citations,
+    take_empty_modules,
+    take_models,
+    take_attributes,
+    take_exports,
+    take_clones,
+    take_formatters,
+    take_proved,
+    take_labels,
+    take_drop_bounds,
+    take_runtime,
+    take_uses,
+    take_paths,
+    take_prelude,
+    check_macros,
+)
+
+
+def in_plain_rust(source):
+    """The text of a source in plain Rust."""
+    for one_pass in PASSES:
+        one_pass(source)
+    return source.text()
