@@ -3,9 +3,9 @@
 
     bench/teams.py FILE > bench/teams.h
 
-FILE has a recorded battle on each line: a JSON object whose `input` is what the program `battle_tool` reads. A team is taken
-where it has six members with four moves each, and once where several battles have it. The numbers of species and moves are
-those of docs/TABLES.md.
+FILE has recorded cases of `battle_tool run`, and may be packed; bench/teams.h is made of tests/battles/battles.jsonl.xz. A
+team is taken where it has six members with four moves each, and once where several battles have it. The numbers of species
+and moves are those of docs/TABLES.md.
 """
 
 import json
@@ -14,6 +14,10 @@ import sys
 from pathlib import Path
 
 ROOT = Path(__file__).resolve().parent.parent
+
+sys.path.insert(0, str(ROOT / "tools"))
+sys.dont_write_bytecode = True
+from battles import Unreadable, cases  # noqa: E402
 
 
 def numbers(heading):
@@ -27,13 +31,12 @@ def numbers(heading):
 def full_teams(path):
     """Each team of six members with four moves each, in the order of the file."""
     teams = []
-    with open(path, encoding="utf-8") as file:
-        for line in file:
-            battle = json.loads(json.loads(line)["input"])
-            for team in (battle["one"], battle["two"]):
-                full = len(team) == 6 and all(len(member["moves"]) == 4 for member in team)
-                if full and team not in teams:
-                    teams.append(team)
+    for case in cases(path):
+        battle = json.loads(case["input"])
+        for team in (battle["one"], battle["two"]):
+            full = len(team) == 6 and all(len(member["moves"]) == 4 for member in team)
+            if full and team not in teams:
+                teams.append(team)
     return teams
 
 
@@ -52,9 +55,13 @@ def main():
     if len(sys.argv) != 2:
         sys.exit(__doc__)
     species, moves = numbers("Species"), numbers("Moves")
+    try:
+        teams = full_teams(sys.argv[1])
+    except Unreadable as fault:
+        sys.exit(str(fault))
     print("/* The full teams of recorded battles. Made by bench/teams.py. */")
     print("static const gen1_team TEAMS[] = {")
-    for team in full_teams(sys.argv[1]):
+    for team in teams:
         print("    {{")
         for member in team:
             print(f"        {member_text(member, species, moves)},")

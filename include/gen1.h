@@ -1,20 +1,20 @@
 /*
- * gen1.h - first-generation link battles, for C and what calls C.
+ * gen1.h - first-generation link battles, for C and languages that call C.
  *
  * The library is crates/gen1_c/out/libgen1_c.a. It needs nothing but memcpy, memmove and memset of the C library.
  * The rules of battle are docs/MECHANICS.md, the numbers of species, moves and types docs/TABLES.md, the 384 bytes
  * docs/LAYOUT.md. crates/gen1_c/CALLING.md says what to call when, and which clause of a proved contract promises what.
  *
- *   - No call allocates, opens, prints, waits or keeps anything: all there is of a battle is its 384 bytes, which are yours.
- *     Copy them to keep a battle or to try a choice; write them to a file; send them.
+ *   - No call allocates, opens, prints, waits or keeps anything. A battle is nothing but its 384 bytes, which are yours: copy
+ *     them to keep a battle or to try a choice, write them to a file, send them.
  *   - No global state: calls on different battles may run at the same time in any threads. Calls on one battle may not, unless
  *     all of them take it as const.
- *   - Every number that you may pass is answered. One that is out of its range gets a code; and where a call answers a code,
- *     nothing behind its pointers has changed.
- *   - What nothing can check is yours to keep: a pointer points to as much memory as its type says, or as the size beside it
- *     says, and is not NULL (a NULL with size 0 is allowed); no two of the pointers of a call overlap.
- *   - A battle that gen1_new or gen1_load made, and that only gen1_update has changed, stands for a valid state. For other
- *     bytes every call still answers, and stays within your memory, but what it answers means nothing.
+ *   - Any number may be passed. One that is out of its range gets a code, and if a call answers a code, nothing that its
+ *     pointers point to has changed.
+ *   - What the library cannot check is up to you: a pointer points to as much memory as its type says, or as the size beside
+ *     it says, and is not NULL (a NULL with size 0 is allowed); no two pointers of a call overlap.
+ *   - A battle that gen1_new or gen1_load made, and that only gen1_update has changed, stands for a valid state. With other
+ *     bytes every call still returns, and stays within your memory, but what it answers means nothing.
  */
 #ifndef GEN1_H
 #define GEN1_H
@@ -32,26 +32,26 @@ typedef struct gen1_battle {
     uint8_t bytes[384];
 } gen1_battle;
 
-/* A member as it is asked for (docs/MECHANICS.md, "Teams"). */
+/* A member as the caller describes it (docs/MECHANICS.md, "Teams"). */
 typedef struct gen1_member {
     uint8_t species;    /* 1 to 151 */
     uint8_t level;      /* 1 to 100 */
     uint8_t dvs[4];     /* 0 to 15: Attack, Defense, Speed, Special */
-    uint8_t moves[4];   /* 1 to 165, one at least and no two the same; a 0 is passed over, so the others are slot 1 and on */
-    uint8_t pp_ups[4];  /* 0 to 3, of the move at the same place; at a 0 they are not looked at */
+    uint8_t moves[4];   /* 1 to 165, at least one and no two the same; a 0 is skipped, so the others get slots from 1 on */
+    uint8_t pp_ups[4];  /* 0 to 3, of the move at the same place; ignored where the move is 0 */
     uint16_t exp[5];    /* HP, Attack, Defense, Speed, Special */
 } gen1_member;
 
-/* A team: the first `count` of the members, from 1 to 6. The others are not looked at. */
+/* A team: the first `count` of the members, from 1 to 6. The others are ignored. */
 typedef struct gen1_team {
     gen1_member members[6];
     uint8_t count;
 } gen1_team;
 
-/* The room that the log of any update has in, whatever the bytes of its battle are. */
+/* Room for the log of any update, whatever the bytes of its battle are. */
 #define GEN1_LOG_ROOM 512
 
-/* The room that any line has in. */
+/* Room for any line. */
 #define GEN1_LINE_ROOM 96
 
 /* Sides. */
@@ -71,19 +71,19 @@ enum { GEN1_SLEEP_CLAUSE = 1, GEN1_FREEZE_CLAUSE = 2 };
 /* ---- beginning ---- */
 
 /*
- * A battle of two teams before its first update, in place of whatever `battle` held. Ten bytes of seed, rules from 0 to 3,
- * and the last turn, from 1 to 9,999.
+ * Makes a battle of two teams before its first update; what `battle` held is overwritten. Ten bytes of seed, rules from 0 to
+ * 3, and the last turn, from 1 to 9,999.
  *
- * Answers 0, or why there is no battle: take it apart by the three macros below. What is tested, in this order: the rules, the
- * limit, team one, team two; of a team first that it has at most six members, then species and moves of each member, and then
- * the rules of teams (docs/MECHANICS.md, "Teams").
+ * Answers 0, or why there is no battle: take the answer apart with the three macros below. Tested in this order: the rules,
+ * the limit, team one, team two; of a team first that it has at most six members, then species and moves of each member, and
+ * then the rules of teams (docs/MECHANICS.md, "Teams").
  */
 uint32_t gen1_new(gen1_battle *battle, const gen1_team *one, const gen1_team *two, const uint8_t seed[10], uint8_t rules,
                   uint16_t limit);
 
 #define GEN1_CODE(answer) ((answer) & 0xff)       /* one of those below */
-#define GEN1_PLACE(answer) ((answer) >> 8 & 0xff) /* the member at fault, from 1; 0 where no one member is */
-#define GEN1_SIDE(answer) ((answer) >> 16)        /* the team at fault, 1 or 2; 0 where neither is */
+#define GEN1_PLACE(answer) ((answer) >> 8 & 0xff) /* the member at fault, from 1; 0 if it is no single member */
+#define GEN1_SIDE(answer) ((answer) >> 16)        /* the team at fault, 1 or 2; 0 if it is neither */
 
 enum {
     GEN1_EMPTY = 1,          /* the team has no member */
@@ -93,7 +93,7 @@ enum {
     GEN1_NO_MOVE = 5,        /* there is no move */
     GEN1_MOVE_LEFT_OUT = 6,  /* a move is one of the four that the engine leaves out */
     GEN1_STRUGGLE = 7,       /* Struggle was chosen */
-    GEN1_REPEATED_MOVE = 8,  /* a move stands twice */
+    GEN1_REPEATED_MOVE = 8,  /* a move is there twice */
     GEN1_PP_UPS = 9,         /* a move has more than three PP ups */
     GEN1_NO_SUCH_SPECIES = 10, /* the species is not 1 to 151 */
     GEN1_NO_SUCH_MOVE = 11,  /* a move is above 165 */
@@ -102,8 +102,8 @@ enum {
 };
 
 /*
- * The battle that `count` bytes stand for, of any of the three versions (docs/LAYOUT.md, "Loading"). Answers 0, or the number
- * of the first test that they fail, from 1 to 7. To test a battle where it lies, load it into another one.
+ * Loads the battle that `count` bytes stand for, of any of the three versions (docs/LAYOUT.md, "Loading"). Answers 0, or the
+ * number of the first test that they fail, from 1 to 7. To test a battle in place, load it into another one.
  */
 uint8_t gen1_load(gen1_battle *battle, const uint8_t *bytes, size_t count);
 
@@ -120,22 +120,24 @@ enum {
 /* ---- playing ---- */
 
 /*
- * What a side may choose: writes the bytes of the choices, by rising bytes, to the front of `choices`, and answers how many,
- * from 0 (the battle is over) to 9. The bytes behind them stay. For a side that is neither 1 nor 2 it is GEN1_NO_SIDE.
+ * What a side may choose: writes the bytes of the choices, in rising order, to the front of `choices`, and answers how many,
+ * from 0 (the battle is over) to 9. The rest of `choices` is left alone. For a side that is neither 1 nor 2 it answers
+ * GEN1_NO_SIDE.
  */
 uint8_t gen1_choices(const gen1_battle *battle, uint8_t side, uint8_t choices[9]);
 
 #define GEN1_NO_SIDE 255
 
 /*
- * An update by a choice of each side. The first update of a battle is by GEN1_PASS and GEN1_PASS, and sends out both first
+ * An update by a choice of each side. The first update of a battle is GEN1_PASS and GEN1_PASS, and sends out both first
  * members.
  *
- * With `room` 0 (and then `log` may be NULL) there is no log. Else `room` is at least GEN1_LOG_ROOM; the log bytes of the
- * update are written to the front of `log`, and their number to `*length`; the bytes behind them stay. Without a log
+ * With `room` 0 (then `log` may be NULL) there is no log. Otherwise `room` is at least GEN1_LOG_ROOM; the log bytes of the
+ * update are written to the front of `log`, and their number to `*length`; the rest of `log` is left alone. Without a log
  * `*length` becomes 0.
  *
- * Answers 0, or the first of the codes 1 to 4 that applies; nothing has changed then, whatever the bytes of `battle` are.
+ * Answers 0, or the first of the codes below that applies (GEN1_SMALL_LOG is tested first); then nothing has changed, whatever
+ * the bytes of `battle` are.
  */
 uint8_t gen1_update(gen1_battle *battle, uint8_t one, uint8_t two, uint8_t *log, size_t room, size_t *length);
 
@@ -143,10 +145,10 @@ enum {
     GEN1_OVER = 1,            /* the battle is over */
     GEN1_NOT_OFFERED_ONE = 2, /* side 1's choice was not offered (nor perhaps side 2's) */
     GEN1_NOT_OFFERED_TWO = 3, /* side 2's was not */
-    GEN1_SMALL_LOG = 4        /* there is room for a log, but less than GEN1_LOG_ROOM; tested before the other three */
+    GEN1_SMALL_LOG = 4        /* `room` is not 0, but less than GEN1_LOG_ROOM; tested before the other three */
 };
 
-/* How a battle stands, and what is asked of each side for the next update: one byte, to be taken apart by these. */
+/* The outcome so far, and what each side is asked for the next update: one byte; take it apart with these macros. */
 uint8_t gen1_result(const gen1_battle *battle);
 
 #define GEN1_OUTCOME(result) ((result) & 7)
@@ -159,8 +161,8 @@ enum { GEN1_ASKED_NOTHING, GEN1_ASKED_MOVE, GEN1_ASKED_SWITCH };
 /* ---- telling ---- */
 
 /*
- * An event of a log (docs/MECHANICS.md, "Events"). Each number is the one that stands in the log bytes; a field that the event
- * has not is 0.
+ * An event of a log (docs/MECHANICS.md, "Events"). Each number is the one in the log bytes; a field that the event does not
+ * have is 0.
  */
 typedef struct gen1_event {
     uint8_t tag;            /* which event, 1 to 28 */
@@ -171,7 +173,7 @@ typedef struct gen1_event {
     uint8_t target_species;
     uint8_t place;          /* Switch: 1 to 6 */
     uint8_t level;          /* Switch: 1 to 100 */
-    uint8_t status;         /* of the health, and of Status and Cure: the kind, 1 to 5 */
+    uint8_t status;         /* of the health, and of Status and Cure: the kind of status, 1 to 5 */
     uint8_t detail;         /* the reason of Cant, the source of Damage, the volatile of Start, End and Activate, the stat of
                                Boost and Unboost, the code of Fault */
     uint8_t amount;         /* the stages of Boost and Unboost, the hits of HitCount */
@@ -187,14 +189,14 @@ enum {
 };
 
 /*
- * The event of a log that begins at `*at`, which is moved behind it. Begin with 0; the log may be of any number of updates, one
- * after the other. Answers 0, or a code; nothing has changed then.
+ * Reads the event of a log that begins at `*at`, and moves `*at` to the next. Begin with 0. The log may be that of several
+ * updates, one after the other. Answers 0; or a code, and then nothing has changed.
  */
 uint8_t gen1_next_event(const uint8_t *log, size_t count, size_t *at, gen1_event *event);
 
 /*
  * The same as a line of text (docs/MECHANICS.md, "Lines"), as `battle_tool` prints it, with its line feed. It is written to the
- * front of `text`, with no zero behind it, and the number of its bytes to `*length`; the bytes behind it stay.
+ * front of `text`, without a zero at its end, and the number of its bytes to `*length`; the rest of `text` is left alone.
  */
 uint8_t gen1_next_line(const uint8_t *log, size_t count, size_t *at, char *text, size_t room, size_t *length);
 
@@ -209,18 +211,18 @@ enum {
 /* ---- calculating ---- */
 
 /*
- * The damage of a hit by a move of `side` on the foe that is out, as both stand now, at each of the factors from 217 to 255, in
- * this order (docs/MECHANICS.md, "Damage numbers" to "Factor"): 39 times the same where that is 0 or 1. The member need not
- * know the move. Answers 0 or a code.
+ * The damage of a hit by a move of `side` on the foe that is out, in the present state of both, at each of the factors from 217
+ * to 255, in this order (docs/MECHANICS.md, "Damage numbers" to "Factors"). If the damage before the factor is 0 or 1, it is 39
+ * times that. The member need not know the move. Answers 0 or a code.
  */
 uint8_t gen1_damage(const gen1_battle *battle, uint8_t side, uint8_t move, bool critical, uint16_t damages[39]);
 
 enum {
     GEN1_DAMAGE_SIDE = 1,    /* the side is neither 1 nor 2 */
     GEN1_DAMAGE_MOVE = 2,    /* the move is not 1 to 165 */
-    GEN1_DAMAGE_UNUSUAL = 3, /* it has not the usual damage: no power, or damage of its own rule */
+    GEN1_DAMAGE_UNUSUAL = 3, /* it does not have the usual damage: no power, or a damage rule of its own */
     GEN1_DAMAGE_NOBODY = 4,  /* nobody is out: the battle is before its first update */
-    GEN1_DAMAGE_DIVISOR = 5  /* the defense is 0 as it counts in this hit, and would be divided by */
+    GEN1_DAMAGE_DIVISOR = 5  /* the defense that counts in this hit is 0, and the damage would be divided by it */
 };
 
 #ifdef __cplusplus

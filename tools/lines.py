@@ -1,10 +1,10 @@
 #!/usr/bin/env python3
-"""Prints the lines of each crate, as the rows of the table "Each crate" of docs/PROOFS.md.
+"""Prints the lines of each crate, as rows of a table.
 
     tools/lines.py [CRATE ..]     of these crates, or of all
 
-Code and tests are the lines of src/ (tests are what stands behind `#[cfg(test)]`), specifications those of specs/, proofs
-those of proofs/, all with their comments and empty lines. Edits are those that every gate tries, and behind a plus the
+Code and tests are the lines of src/ (tests are what comes after `#[cfg(test)]`), specifications those of specs/, proofs
+those of proofs/, all with their comments and empty lines. Edits are those that every gate tries, and after a plus sign the
 planted ones.
 """
 

@@ -1,192 +1,115 @@
 #!/usr/bin/env python3
-"""Writes docs/MAP.md: where each section of docs/MECHANICS.md is defined, done, worked out, broken on purpose and tested.
+"""Writes docs/MAP.md: where each rule is defined, done, worked out, broken on purpose and tested.
 
     tools/map.py           writes docs/MAP.md
     tools/map.py --check   writes nothing; fails where docs/MAP.md is not what it would write
 
-A function, a type, a lemma or a test belongs to the sections that its comment cites, as in (docs/MECHANICS.md, "Hit test"). One
-that cites none belongs to those of the type that it is a method of, or of the functions of its file that call it, or else to
-those that the head of its file cites, or the head of the module around it. `"Damage numbers" to "Factor"` cites each section
-between. An edit belongs to what it changes: the function, the table or the definition that its first `old:` text stands in.
+It reads what the comments in the files cite (tools/citations.py). An edit belongs to what it changes: the function, the table
+or the definition that its first `old:` text stands in. Either way it fails, and lists them, where a file of code with a
+function is reached from no section, where a section has none of a kind that its document owes (PARTS), where a file does not
+begin with what it is, and where the head of a lib.rt does not name each of its modules.
 """
 
 import argparse
+import os
 import re
 import sys
 from pathlib import Path
 
 sys.dont_write_bytecode = True
+from citations import COMMENT, DOCUMENTS, FUNCTION, Section, Source, sections
 from repository import ROOT, crates, edited, edits
 
-DOCUMENT = ROOT / "docs" / "MECHANICS.md"
 MAP = ROOT / "docs" / "MAP.md"
-# They explain words, or tell in short what the others rule.
-WITHOUT_RULES = ("What is modelled", "Words", "A battle in ten sentences")
-CITED = re.compile(r'docs/MECHANICS\.md((?:(?:,| and| to|, and)? ?"[^"]+")+)')
-COMMENT = re.compile(r"\s*(?://[/!]?|--)\s?(.*)")
+KINDS = ("Definition", "Operation", "Laws", "Worked example", "Edits", "Tests")
+OF_RULES = ("Definition", "Operation", "Worked example", "Edits", "Tests")
+OF_OTHERS = ("Definition", "Operation", "Edits", "Tests")
+# The parts of the map: what each document's is called, and the kinds that each of its sections has to have.
+PARTS = dict(zip(DOCUMENTS, (
+    ("Rules", OF_RULES), ("Tables", OF_OTHERS), ("The 384 bytes", OF_OTHERS), ("Teams as text", OF_OTHERS),
+    ("The program", OF_OTHERS), ("The C library", OF_OTHERS))))
+# What a section need not have, and why.
+WITHOUT = {Section("docs/PROGRAM.md", "The program battle_tool"): {
+    "Definition": "none; clap reads the words, and the contract of `tool` says which statuses there are"}}
+# Twelve walks: a rule, the section that it stands in, and the files below crates/ of its definition, its code and its test.
+WALKS = (
+    ("Link numbers", "Link numbers", "gen1_rolls/specs/Streams.antt", "gen1_rolls/src/link.rt", "gen1_rolls/src/tests.rt"),
+    ("Stats", "Stats", "gen1_stats/specs/Stats.antt", "gen1_stats/src/stats.rt", "gen1_stats/src/tests.rt"),
+    ("Stage shift", "Stage shift", "gen1_machine/specs/StageShift.antt", "gen1_status/src/stage_shift.rt",
+     "test_operations/src/status/statuses.rt"),
+    ("Critical hits", "Critical hits", "gen1_machine/specs/CriticalHits.antt", "gen1_hits/src/critical_hits.rt",
+     "test_operations/src/hits/landing.rt"),
+    ("Damage formula", "Damage formula", "gen1_machine/specs/Damage.antt", "gen1_hits/src/damage_formula.rt",
+     "test_operations/src/hits/damage.rt"),
+    ("Type chart", "Types", "gen1_machine/specs/Damage.antt", "gen1_hits/src/types.rt", "test_operations/src/hits/damage.rt"),
+    ("Accuracy", "Hit test", "gen1_machine/specs/HitTest.antt", "gen1_hits/src/hit_tests.rt", "test_operations/src/hits/landing.rt"),
+    ("Substitute", "Early effects", "gen1_machine/specs/EarlyEffects.antt", "gen1_multiturn/src/moves/substitute.rt",
+     "test_multiturn/src/lasting_moves.rt"),
+    ("Bide", "Going on", "gen1_machine/specs/GoingOn.antt", "gen1_multiturn/src/moves/bide.rt", "test_multiturn/src/lasting_moves.rt"),
+    ("Disable", "Side effects", "gen1_machine/specs/SideEffects.antt", "gen1_effects/src/side_effects/disable.rt",
+     "test_effects/src/side_effects/disable.rt"),
+    ("Switching in", "Switching in", "gen1_machine/specs/SwitchingIn.antt", "gen1_requests/src/switching_in.rt",
+     "test_turn/src/switching_in.rt"),
+    ("Turn limit", "Turn limit", "gen1_machine/specs/Falls.antt", "gen1_requests/src/falls.rt", "test_turn/src/falls.rt"),
+)
 # What a comment stands above, in code and in antt.
-PUBLIC = re.compile(r"\s*pub (?:const )?(fn|struct|enum|trait|type) (\w+)")
-FIELD = re.compile(r"    pub (\w+): ")
-FUNCTION = re.compile(r"\s*(?:pub(?:\([a-z]+\))? )?(?:const )?fn (\w+)")
+OPERATION = re.compile(r"\s*pub(?:\((?:crate|super)\))? (?:const |extern \"C\" )?(?:fn|struct|enum|trait|type) (\w+)|fn (main)\(")
+FIELD = re.compile(r"    pub(?:\((?:crate|super)\))? (\w+): ")
 LEMMA = re.compile(r"([A-Za-z_][\w-]*) : ")
+FOR_TESTS = re.compile(r"#\[cfg\(test\)\]\s*(?:pub(?:\([a-z]+\))? )?mod (\w+);")
+MODULE = re.compile(r"(?m)^(?:pub )?mod (\w+);")
+DECLARED = re.compile(r"(?m)^\w+ (gen1_\w+)\(")
 
 HEAD = """# Where each rule stands
 
 Made by `tools/map.py` of what the files themselves cite; `.ci/run` refuses a map that is not up to date. For each section of
-[MECHANICS.md](MECHANICS.md) that has rules: the definition that contracts rest on, the public functions and types that do it,
-the worked examples (lemmas by computing), the edits that must be refused ("planted" are those that `tools/planted` tries),
-and the tests.
+[MECHANICS.md](MECHANICS.md) that has rules: the definition that contracts rest on, the functions and types that do it, the laws
+that speak of it, the worked examples (lemmas by computing), the edits that must be refused ("planted" are those that
+`tools/planted` tries), and the tests. Behind the rules come likewise the tables, the 384 bytes of a battle, teams as text, the program
+and the C library, whose tests are the examples of other languages (`tools/examples` runs them on recorded battles). Every file of code
+of the engine and of the program that has a function stands somewhere below.
+
+Twelve walks, each from a rule to three files:
+
+| Rule | Definition | Code | Test |
+|------|------------|------|------|
 """
 
-BESIDE = """Edits of what other documents fix: the rows of [TABLES.md](TABLES.md), the bytes of [LAYOUT.md](LAYOUT.md), the program of
-[PROGRAM.md](PROGRAM.md), and the devices that bytes go through.
-"""
-
-
-def sections():
-    """The sections with rules, in their order, each with its depth."""
-    found = re.findall(r"(?m)^(##+) (.*)$", DOCUMENT.read_text())
-    return {name: len(marks) for marks, name in found if name not in WITHOUT_RULES}
-
-
-def cited(comment, order):
-    """The sections that a comment cites."""
-    found = []
-    for citation in CITED.findall(comment):
-        for link, name in re.findall(r'( to)? ?"([^"]+)"', citation):
-            if name not in order and name not in WITHOUT_RULES:
-                sys.exit(f'a comment cites docs/MECHANICS.md, "{name}", which is no section of it')
-            if link and found:
-                found += order[order.index(found[-1]) + 1:order.index(name)]
-            found.append(name)
-    return [name for name in found if name in order]
-
-
-class Source:
-    """A file with the sections that each of its lines belongs to, by the comments."""
-
-    def __init__(self, file, order):
-        self.file, self.order = file, order
-        self.lines = file.read_text().splitlines()
-        self.head = self.sections_of(self.comment_at(0)) or self.head_around()
-
-    def head_around(self):
-        """What the head of the module cites whose folder the file stands in."""
-        around = self.file.parent.with_suffix(".rt")
-        return Source(around, self.order).head if around.is_file() else []
-
-    def sections_of(self, comment):
-        return cited(" ".join(comment), self.order)
-
-    def comment_at(self, at):
-        """The comment whose first line this is."""
-        lines = []
-        while at < len(self.lines) and (found := COMMENT.fullmatch(self.lines[at])):
-            lines.append(found[1])
-            at += 1
-        return lines
-
-    def comment_above(self, at):
-        """The comment right above a line, over attributes."""
-        while at and re.match(r"\s*#\[", self.lines[at - 1]):
-            at -= 1
-        end = at
-        while at and COMMENT.fullmatch(self.lines[at - 1]):
-            at -= 1
-        return [COMMENT.fullmatch(line)[1] for line in self.lines[at:end]] if at else []
-
-    def own(self, at):
-        """The sections of an item."""
-        return self.cited_at(at) or self.callers_of(at) or self.head
-
-    def cited_at(self, at):
-        """The sections that the comment of an item cites, or that of the type whose method it is."""
-        return self.sections_of(self.comment_above(at)) or self.type_around(at)
-
-    def callers_of(self, at):
-        """The sections that the functions of the file cite which call this one, or whose helpers do."""
-        bodies, places, found = {}, {}, []
-        for place, line in enumerate(self.lines):
-            if name := FUNCTION.match(line):
-                current = name[1]
-                places[current], bodies[current] = place, set()
-            elif bodies and not COMMENT.fullmatch(line) and not line.lstrip().startswith(("ensures", "requires")):
-                bodies[current].update(re.findall(r"\w+", line))
-        named = FUNCTION.match(self.lines[at]) or re.match(r"(?:static|const) (\w+)", self.lines[at])
-        left, seen = [named[1]] if named else [], set()
-        while left:
-            name = left.pop()
-            seen.add(name)
-            callers = [caller for caller, words in bodies.items() if name in words and caller not in seen]
-            for caller in callers:
-                sections = self.cited_at(places[caller])
-                found += sections
-                left += [] if sections else [caller]
-        return found
-
-    def type_around(self, at):
-        """The sections of the type whose `impl` is around an item of the code."""
-        if not self.lines[at].startswith(" "):
-            return []
-        above = next((line for line in reversed(self.lines[:at]) if line.startswith("impl")), "")
-        name = re.search(r"(\w+)(?:<[^{]*>)?(?: \{)?$", above)
-        places = [at for at, line in enumerate(self.lines) if name and re.match(rf"pub (?:struct|enum) {name[1]}\b", line)]
-        return self.sections_of(self.comment_above(places[0])) if places else []
-
-    def block(self, at):
-        """The sections of a line of antt: those of the last comment above it that cites any, or of the head."""
-        while at > 0:
-            at -= 1
-            if COMMENT.fullmatch(self.lines[at]) and not (at and COMMENT.fullmatch(self.lines[at - 1])):
-                if found := self.sections_of(self.comment_at(at)):
-                    return found
-        return self.head
-
-    def place_of(self, text):
-        """The line on which a text begins that stands once in the file."""
-        return "\n".join(self.lines).split(text)[0].count("\n")
-
-    def item_around(self, at):
-        """The line of the function, table or type around a line of code."""
-        for above in range(at, -1, -1):
-            if FUNCTION.match(self.lines[above]) or re.match(r"(?:pub )?(?:static|const|enum|struct|impl)\b", self.lines[above]):
-                return above
-        return 0
+BESIDE = "Edits of what stands in no section: the proofs, the examples for callers, and the crates of tests.\n"
 
 
 class Map:
     """What was found for each section, by kind."""
 
-    KINDS = ("Definition", "Operation", "Worked example", "Edits", "Tests")
-
     def __init__(self):
-        self.order = [*sections()]
-        self.found = {name: {kind: {} for kind in self.KINDS} for name in self.order}
+        self.found = {section: {kind: {} for kind in KINDS} for document in PARTS for section in sections(document)}
+        self.reached = set()
 
     def add(self, names, kind, file, what=""):
         for name in dict.fromkeys(names):
             self.found[name][kind].setdefault(file, []).append(what)
+            self.reached.update([file] if kind in ("Operation", "Laws") else [])
 
     def definitions(self, crate):
         for file in sorted((crate / "specs").glob("*.antt")):
-            source = Source(file, self.order)
+            source = Source(file)
             cited_in = list(source.head)
             for at in range(len(source.lines)):
                 cited_in += source.block(at) if COMMENT.fullmatch(source.lines[at]) else []
             self.add(cited_in, "Definition", file)
 
     def operations(self, crate):
-        for file in sorted((crate / "src").rglob("*.rt")):
-            source = Source(file, self.order)
+        for file in of_code(crate):
+            source, kind = Source(file), "Laws" if file.stem == "laws" else "Operation"
             for at, line in enumerate(source.lines):
-                if found := PUBLIC.match(line):
-                    self.add(source.own(at), "Operation", file, found[2])
+                if found := OPERATION.match(line):
+                    self.add(source.own(at), kind, file, found[1] or found[2])
                 elif found := FIELD.match(line):
-                    self.add(source.sections_of(source.comment_above(at)), "Operation", file, found[1])
+                    self.add(source.sections_of(source.comment_above(at)), kind, file, found[1])
 
     def tests(self, crate):
         for file in sorted((crate / "src").rglob("*.rt")):
-            source = Source(file, self.order)
+            source = Source(file)
             for at, line in enumerate(source.lines):
                 if line.strip() == "#[test]":
                     name = FUNCTION.match(source.lines[at + 1])
@@ -194,7 +117,7 @@ class Map:
 
     def examples(self):
         for file in [*sorted((ROOT / "crates").glob("*/proofs/Worked*.antt")), ROOT / "crates/gen1_machine/proofs/Rows.antt"]:
-            source = Source(file, self.order)
+            source = Source(file)
             for at, line in enumerate(source.lines):
                 if found := LEMMA.match(line):
                     self.add(source.block(at), "Worked example", file, found[1])
@@ -206,19 +129,79 @@ class Map:
                     sys.exit(f"{edit.relative_to(ROOT)} cannot be applied: its file is not there, or a text not once in it")
                 file = re.search(r"(?m)^file: (.*)$", edit.read_text())[1]
                 text = re.search(r"(?m)^old: (.*)$", edit.read_text())[1]
-                source = Source(ROOT / "crates" / name / file, self.order)
+                source = Source(ROOT / "crates" / name / file)
                 at = source.place_of(text)
                 names = source.block(at) if file.endswith(".antt") else source.own(source.item_around(at))
                 self.add(names, "Edits", edit, folder)
 
+    def calls(self):
+        """The examples of other languages, which test the calls of the C library that they name."""
+        _, *parts = re.split(r"(?m)^/\* ---- (.*) ---- \*/$", (ROOT / "include/gen1.h").read_text())
+        for name, text in zip(parts[::2], parts[1::2]):
+            for file in sorted((ROOT / "examples").glob("*/*.*")):
+                for call in DECLARED.findall(text):
+                    if call in file.read_text():
+                        self.add([Section("include/gen1.h", name)], "Tests", file, call)
+
+
+def of_code(crate):
+    """The files of a crate that are not compiled for tests alone."""
+    files = sorted((crate / "src").rglob("*.rt"))
+    for_tests = [
+        (file.parent if file.stem in ("lib", "main") else file.with_suffix("")) / name
+        for file in files for name in FOR_TESTS.findall(file.read_text())]
+    return [file for file in files if not any(file.with_suffix("").is_relative_to(it) for it in for_tests)]
+
+
+def mapped():
+    """The crates whose files have to be reached: the engine and the program."""
+    return [ROOT / "crates" / name for name in crates() if name.startswith(("gen1_", "battle_"))]
+
+
+def collected():
+    made = Map()
+    for name in crates():
+        made.edits(name)
+        made.tests(ROOT / "crates" / name)
+    for crate in mapped():
+        made.definitions(crate)
+        made.operations(crate)
+    made.examples()
+    made.calls()
+    return made
+
+
+def holes(made):
+    """What the map lacks: files that it does not reach, and kinds that a section has none of."""
+    for crate in mapped():
+        for file in of_code(crate):
+            if file not in made.reached and any(map(FUNCTION.match, file.read_text().splitlines())):
+                yield f"{file.relative_to(ROOT)}: reached from no section: neither its head nor the comment of a public item cites one"
+    for section, kinds in made.found.items():
+        for kind in PARTS[section.document][1]:
+            if not kinds[kind] and kind not in WITHOUT.get(section, {}):
+                yield f'{section.document}, "{section.name}": no {kind.lower()}'
+
+
+def without_a_line():
+    """The files that do not begin with what they are, and the roots that do not name each of their modules."""
+    for file in sorted(it for glob in ("src/**/*.rt", "specs/*.antt", "proofs/*.antt") for it in (ROOT / "crates").glob(f"*/{glob}")):
+        text = file.read_text()
+        if not text.startswith("//! " if file.suffix == ".rt" else "-- "):
+            yield f"{file.relative_to(ROOT)}: its first line does not say what it is"
+        for name in MODULE.findall(text) if file.name == "lib.rt" else ():
+            if f"//! - `{name}`: " not in text:
+                yield f"{file.relative_to(ROOT)}: its head does not say what `{name}` is for"
+
 
 def link(file, text):
-    return f"[{text}]({'../' + str(file.relative_to(ROOT))})"
+    return f"[{text}]({os.path.relpath(file, MAP.parent)})"
 
 
 def named(file):
     """A file by its crate and name."""
-    return f"{file.relative_to(ROOT).parts[1]}, {file.name}"
+    parts = file.relative_to(ROOT).parts
+    return f"{parts[1] if parts[0] == 'crates' else parts[0]}, {file.name}"
 
 
 def crate_of(folder):
@@ -229,8 +212,6 @@ def crate_of(folder):
 
 def shown(kind, files):
     """A line of what was found of a kind."""
-    if not files:
-        return "not yet"
     if kind == "Definition":
         return ", ".join(link(file, named(file)) for file in files)
     if kind == "Edits":
@@ -247,26 +228,34 @@ def beside(made):
     mapped = {edit for kinds in made.found.values() for edit in kinds["Edits"]}
     for name in crates():
         counts = [sum(edit not in mapped for edit in edits(name, folder)) for folder in ("must-fail", "planted")]
-        if any(counts):
-            yield f"- `{name}`: {counts[0]} of [must-fail](../crates/{name}/must-fail)" + (
-                f", {counts[1]} of [planted](../planted/{name})" if counts[1] else "")
+        folders = (f"[must-fail](../crates/{name}/must-fail)", f"[planted](../planted/{name})")
+        if listed := [f"{count} of {folder}" for count, folder in zip(counts, folders) if count]:
+            yield f"- `{name}`: {', '.join(listed)}"
 
 
-def written():
+def walks(made):
+    """The rows of the walks, whose files the map has to have at their section."""
+    for rule, name, *files in WALKS:
+        kinds, row = made.found[Section("docs/MECHANICS.md", name)], [f"{rule} ({name})" if rule != name else rule]
+        for kind, path in zip(("Definition", "Operation", "Tests"), files):
+            file = ROOT / "crates" / path
+            if file not in kinds[kind]:
+                sys.exit(f'the walk to {rule}: the map has no {kind.lower()} {path} at "{name}"')
+            row.append(link(file, named(file)))
+        yield f"| {' | '.join(row)} |"
+
+
+def written(made):
     """The text of docs/MAP.md."""
-    made, depths, lines = Map(), sections(), [HEAD]
-    for name in crates():
-        crate = ROOT / "crates" / name
-        made.edits(name)
-        made.tests(crate)
-        if name.startswith("gen1_"):
-            made.definitions(crate)
-            made.operations(crate)
-    made.examples()
-    for name, kinds in made.found.items():
-        lines.append(f"{'#' * depths[name]} {name}\n")
-        lines += [f"- {kind}: {shown(kind, kinds[kind])}" for kind in Map.KINDS]
-        lines.append("")
+    lines = [HEAD + "\n".join(walks(made)) + "\n"]
+    for document, (title, _) in PARTS.items():
+        lines.append(f"## {title}\n\nBy {link(ROOT / document, Path(document).name)}.\n")
+        above = 2
+        for section, depth in sections(document).items():
+            kinds, above = made.found[section], min(depth, above) + 1
+            lines.append(f"{'#' * above} {section.name}\n")
+            said = {kind: shown(kind, kinds[kind]) for kind in KINDS if kinds[kind]} | WITHOUT.get(section, {})
+            lines += [f"- {kind}: {said[kind]}" for kind in KINDS if kind in said] + [""]
     lines += ["## Beside the rules\n", BESIDE, *beside(made), ""]
     return "\n".join(lines)
 
@@ -274,7 +263,10 @@ def written():
 def main():
     parser = argparse.ArgumentParser(description=__doc__, formatter_class=argparse.RawDescriptionHelpFormatter)
     parser.add_argument("--check", action="store_true", help="write nothing; fail where docs/MAP.md differs")
-    check, text = parser.parse_args().check, written()
+    check, made = parser.parse_args().check, collected()
+    if faults := [*without_a_line(), *holes(made)]:
+        sys.exit("\n".join(faults))
+    text = written(made)
     if MAP.is_file() and MAP.read_text() == text:
         return
     if check:

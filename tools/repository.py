@@ -5,6 +5,7 @@ import re
 import shutil
 import subprocess
 import tempfile
+from argparse import ArgumentTypeError
 from pathlib import Path
 
 ROOT = Path(__file__).resolve().parent.parent
@@ -63,6 +64,13 @@ def edits(name, folder="must-fail"):
 
 def processors():
     return len(os.sched_getaffinity(0))
+
+
+def program(path):
+    """The whole path of a program that a command line names, for argparse."""
+    if not (os.path.isfile(path) and os.access(path, os.X_OK)):
+        raise ArgumentTypeError(f"{path} is no program")
+    return Path(path).resolve()
 
 
 def run(words, folder):

@@ -37,6 +37,21 @@ def applied(effect):
     return f"({re.sub('[(),]+ *', ' ', effect).strip()})" if "(" in effect else effect
 
 
+def element_names(document):
+    """The types by their numbers."""
+    cells = [cell for row in table(document, "Types") for cell in row if cell]
+    numbers = dict(cell.split() for cell in cells)
+    return [numbers[str(number)] for number in range(len(numbers))]
+
+
+def row_places(elements, types):
+    """For each type of a move the places of its rows against each type, with the number of all rows where there is none."""
+    places = {(attacker, defender): place for place, (attacker, defender, _) in enumerate(types)}
+    for attacker in elements:
+        row = [places.get((attacker, defender), len(types)) for defender in elements]
+        yield f"{', '.join(map(str, row))}, // {attacker}"
+
+
 def code_list(file, name, rows):
     """A static of the code: its file, a pattern of its first line, its last line, and its rows."""
     return CRATE / "src" / file, rf"static {name}: [^\n]* = \[", "];", rows
@@ -52,6 +67,7 @@ def all_lists(document):
     types = table(document, "Type rows")
     yield code_list("types.rt", "TYPE_ROWS", [f"({', '.join(row)})," for row in types])
     yield spec_list("Types.antt", "type_rows", [f"row {' '.join(row)} ∷" for row in types])
+    yield code_list("types.rt", "ROW_PLACES", list(row_places(element_names(document), types)))
 
     species = numbered(table(document, "Species"))
     yield code_list("species.rt", "SPECIES_ROWS", [

@@ -1,18 +1,29 @@
 #!/usr/bin/env python3
-"""Holds trace_tool against recorded battles.
+"""Holds trace_tool against recorded battles, update by update.
 
-    tools/traces.py PROGRAM TRACES     plays each battle of TRACES with PROGRAM, and compares every update
+    tools/traces.py PROGRAM [FILE ..]
 
-TRACES has a line of JSON for each battle: `object`, the input of `battle_tool run`, and `updates`, with the refusal, the
-result, the choices that are then offered, the draws, the log and all 384 bytes after each pair. The last line printed is
-'N updates as recorded, M not'. Exit status: 0 where all are, 1 where one is not, 2 where the program could not be run.
+PROGRAM plays each battle of each FILE, and every update is compared: refusal, result, the choices that are then offered,
+draws, log and all 384 bytes. A FILE may be packed (tests/battles/README.md says what it holds); without one, traces.jsonl and
+corners.jsonl of tests/battles are taken. Of each battle that differs the first difference is shown. The last line is 'N
+passed, M failed', of updates.
+
+Exit status: 0 where all are as recorded, 1 where one is not, 2 where the program or a file is not there or cannot be read.
 """
 
 import argparse
 import json
 import subprocess
 import sys
-from itertools import zip_longest
+from itertools import islice, zip_longest
+from pathlib import Path
+
+sys.dont_write_bytecode = True
+from battles import TRACES, Unreadable, recorded, traces
+from repository import program
+
+# The words of a line that the program prints for an update.
+WORDS = ("refusal", "result", "offered to side 1", "offered to side 2", "draws", "log", "bytes")
 
 
 def word(items):
@@ -20,35 +31,62 @@ def word(items):
     return ",".join(map(str, items)) or "-"
 
 
-def recorded(update):
+def told(update):
     """An update as the program prints it."""
     refused = "-" if update["refused"] is None else str(update["refused"])
     offered = [word(choices) for choices in update["offered"]]
-    return " ".join([refused, word(update["result"] or []), *offered, str(update["draws"]), update["log"] or "-", update["bytes"]])
+    return [refused, word(update["result"] or []), *offered, str(update["draws"]), update["log"] or "-", update["bytes"]]
+
+
+def difference(got, want):
+    """What differs first between an update as it was played and as it was recorded; nothing where they are the same."""
+    for name, one, other in zip_longest(WORDS, got, want, fillvalue="nothing"):
+        if one == other:
+            continue
+        if name != "bytes" or len(one) != len(other):
+            return f"{name} {one}, not {other}"
+        at = next(at for at in range(0, len(one), 2) if one[at:at + 2] != other[at:at + 2])
+        return f"byte {at // 2} is {one[at:at + 2]}, not {other[at:at + 2]}"
+    return ""
+
+
+def compared(tool, path):
+    """How many updates of a file passed and failed."""
+    battles = traces(path)
+    asked = "".join(json.dumps(battle["object"]) + "\n" for battle in battles)
+    ran = subprocess.run([tool], input=asked, capture_output=True, text=True)
+    printed = (line.split(" ") for line in ran.stdout.splitlines())
+    passed = failed = 0
+    for number, battle in enumerate(battles, 1):
+        wants = [told(update) for update in battle["updates"]]
+        both = zip_longest(islice(printed, len(wants)), wants, fillvalue=())
+        found = [(pair, difference(*it)) for pair, it in enumerate(both)]
+        wrong = [it for it in found if it[1]]
+        passed, failed = passed + len(wants) - len(wrong), failed + len(wrong)
+        if wrong:
+            name = f" ({battle['corner']})" if "corner" in battle else ""
+            more = f" (and {len(wrong) - 1} more of its updates)" if len(wrong) > 1 else ""
+            print(f"{path.name}, line {number}{name}, pair {wrong[0][0]}: {wrong[0][1]}{more}")
+    behind = len(list(printed))
+    if behind or ran.returncode:
+        print(f"{path.name}: {behind} lines too many, status {ran.returncode}: {ran.stderr.strip()}")
+        failed += 1
+    return passed, failed
 
 
 def main():
     parser = argparse.ArgumentParser(description=__doc__, formatter_class=argparse.RawDescriptionHelpFormatter)
-    parser.add_argument("program")
-    parser.add_argument("traces")
+    parser.add_argument("program", type=program)
+    parser.add_argument("file", nargs="*", type=Path, help="recorded battles (default: those of tests/battles)")
     given = parser.parse_args()
-    with open(given.traces) as lines:
-        battles = [json.loads(line) for line in lines]
-    asked = "".join(json.dumps(battle["object"]) + "\n" for battle in battles)
-    ran = subprocess.run([given.program], input=asked, capture_output=True, text=True)
-    if ran.returncode:
-        print(f"{given.program} ended with {ran.returncode}: {ran.stderr.strip()}")
-        return 2
-    updates = [(battle, number, recorded(update)) for battle, each in enumerate(battles) for number, update in enumerate(each["updates"])]
-    wrong = 0
-    for at, got in zip_longest(updates, ran.stdout.splitlines()):
-        if at is None or got != at[2]:
-            wrong += 1
-            if wrong <= 3:
-                where = f"battle {at[0]}, pair {at[1]}" if at else "behind the last battle"
-                print(f"{where}:\n  recorded {at[2] if at else 'nothing'}\n  played   {got}")
-    print(f"{len(updates) - min(wrong, len(updates))} updates as recorded, {wrong} not")
-    return int(wrong > 0)
+    try:
+        files = given.file or [recorded(f"{name}.jsonl") for name in TRACES]
+        counts = [compared(given.program, file) for file in files]
+    except Unreadable as fault:
+        parser.error(str(fault))
+    passed, failed = map(sum, zip(*counts))
+    print(f"{passed} passed, {failed} failed")
+    return int(failed > 0)
 
 
 if __name__ == "__main__":

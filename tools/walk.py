@@ -1,5 +1,5 @@
 #!/usr/bin/env python3
-"""Writes a walk over the phases of the battle machine (docs/PROOFS.md, "Walks").
+"""Writes a walk over the phases of the battle machine (docs/LAWS.md, "Walks").
 
 For each phase of the specifications that a walk names it writes one lemma, which says that the phase keeps a fact if its
 parts do. The lemma is proved by `search` over the rules for the combinators, the rules for the changes, and the lemmas of
@@ -153,7 +153,7 @@ def walk(files, fact, rules, left_out, by_hand, extra={}, depth=14):
     return result, needed, places, aliases
 
 
-FILES = '''Progress CriticalHits Damage HitTest Landing HitOnItself Gate Residual StageShift Ruling EarlyEffects LateEffects
+FILES = '''Progress CriticalHits Damage HitTest Landing HitOnItself Gate ResidualDamage StageShift Ruling EarlyEffects LateEffects
 SideEffects GoingOn Charging FixedDamage Counter HitEffects ManyHits Action'''.split()
 
 COMBINATORS = '''stay unless_stopped choose given stop draw draw_until on_field note told on_active on_conditions on_member

@@ -1,5 +1,5 @@
 /*
- * Plays the battle that standard input asks for, and prints its lines as `battle_tool run` does.
+ * Plays the battle that standard input describes, and prints its lines as `battle_tool run` does.
  *
  *     cc -O2 -I include examples/c/play.c crates/gen1_c/out/libgen1_c.a -o play
  *     ./play < examples/tauros.txt

@@ -1,5 +1,5 @@
 #!/usr/bin/env python3
-"""Plays the battle that standard input asks for, and prints its lines as `battle_tool run` does.
+"""Plays the battle that standard input describes, and prints its lines as `battle_tool run` does.
 
     cc -shared -o libgen1.so -Wl,--whole-archive crates/gen1_c/out/libgen1_c.a -Wl,--no-whole-archive
     python3 examples/python/play.py ./libgen1.so < examples/tauros.txt

@@ -9,7 +9,7 @@ pub struct Battle {
     pub bytes: [u8; 384],
 }
 
-/// A member as it is asked for.
+/// A member as the caller describes it.
 #[repr(C)]
 #[derive(Clone, Copy, Default)]
 pub struct Member {

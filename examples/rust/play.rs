@@ -1,4 +1,4 @@
-//! Plays the battle that standard input asks for, and prints its lines as `battle_tool run` does.
+//! Plays the battle that standard input describes, and prints its lines as `battle_tool run` does.
 //!
 //!     rustc --edition 2024 -O -L crates/gen1_c/out examples/rust/play.rs -o play
 //!     ./play < examples/tauros.txt

@@ -6,8 +6,8 @@ use Rattle.std.proofs.Math.Seq.{drop-cons}
 use Rattle.gen1_machine.specs.declared.side.Side.{Side}
 use Rattle.gen1_machine.specs.declared.event.Event.{Event}
 use Rattle.gen1_machine.specs.Room.{Course, Reply, after as follows, reply_to}
-use Rattle.gen1_machine.specs.Sending.{AppendsFront}
-use Rattle.gen1_machine.proofs.SendingLemmas.{appends_front_after}
+use Rattle.gen1_machine.specs.Output.{AppendsFront}
+use Rattle.gen1_machine.proofs.OutputLemmas.{appends_front_after}
 use Rattle.gen1_room.specs.Rooms.{Holds, submission_at}
 use Rattle.gen1_room.specs.declared.held.Held.{Held}
 use Rattle.battle_commands.specs.Answers.{Answers}
@@ -15,6 +15,7 @@ use Rattle.battle_commands.specs.Due.{Due, after, only}
 use Rattle.battle_commands.specs.Rooms.{replies_due, text_of_reply}
 use Rattle.battle_commands.specs.declared.fault.ToolFault.{ToolFault}
 use Rattle.battle_commands.specs.declared.fault.ToolFault.TheVariants.{Calc, Json, Log, Memory, Pair, Read, Team, TooLong, Write}
+use Rattle.battle_commands.proofs.Standing.{after_after}
 
 -- what one submission is answered
 abbrev pub told : Course → Side × ℕ × ℕ → List ℕ
@@ -44,9 +45,6 @@ due_here c xs number d inside =
     ap (λ (l : List (Side × ℕ × ℕ)). replies_due c l) (drop-cons xs number d inside)
     ∙ ap (λ (n : ℕ). after (told c (get_or xs number d)) (replies_due (follows c (submission_at (get_or xs number d))) (drop n xs)))
     (let e : suc number ≡ number + 1 = omega arith in e)
-
-after_after : (said more : List ℕ) (due : Due) → after said (after more due) ≡ after (said ++ more) due
-after_after said more due = ap (λ (l : List ℕ). record { text = l; fault = due.fault }) (sym (append_assoc said more due.text))
 
 due_then : {c : Course} (xs : List (Side × ℕ × ℕ)) (number : ℕ) {room : Held} {a b : Option (List ℕ)} (h : Heard c xs number room a b) (d : Side × ℕ × ℕ) → number < length xs
     → replies_due c xs ≡ after h.said (after (told h.course (get_or xs number d)) (replies_due (follows h.course (submission_at (get_or xs number d))) (drop (number + 1) xs)))

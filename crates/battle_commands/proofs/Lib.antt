@@ -1,3 +1,4 @@
+-- What the loops of the subcommands keep, and what is answered where nothing is printed.
 pub mod Standing
 pub mod Outcomes
 pub mod Duels

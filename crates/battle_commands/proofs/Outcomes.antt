@@ -12,7 +12,7 @@ use Rattle.gen1_layout.specs.Within.{Stands}
 use Rattle.battle_input.specs.Sheets.{BattleData, json_of, sheet_of}
 use Rattle.battle_commands.specs.Asked.{Asked, asked_of, begins, input_limit}
 use Rattle.battle_commands.specs.Due.{Due, due_if}
-use Rattle.battle_commands.specs.Opening.{IsAskedFault}
+use Rattle.battle_commands.specs.AskedBattle.{IsAskedFault}
 use Rattle.battle_commands.specs.declared.fault.ToolFault.{ToolFault}
 use Rattle.battle_commands.specs.declared.fault.ToolFault.TheVariants.{Json, TooLong, Team, Pair, Log, Calc, Read, Write, Memory}
 

@@ -6,14 +6,14 @@ use Rattle.std.proofs.KnownBytes.{Appends-nil, Appends-trans}
 use Rattle.std.proofs.Math.Seq.{drop-cons}
 use Rattle.gen1_machine.specs.declared.event.Event.{Event}
 use Rattle.gen1_machine.specs.Lines.{lines}
-use Rattle.gen1_machine.specs.Sending.{AppendsFront}
+use Rattle.gen1_machine.specs.Output.{AppendsFront}
 use Rattle.gen1_machine.specs.State.{State}
 use Rattle.gen1_machine.specs.Step.{Accepted, Answer, Refused, Refusal}
-use Rattle.gen1_machine.proofs.SendingLemmas.{appends_front_after}
+use Rattle.gen1_machine.proofs.OutputLemmas.{appends_front_after}
 use Rattle.gen1_layout.specs.Parts.{Parts}
 use Rattle.gen1_layout.specs.Within.{Stands}
-use Rattle.gen1_engine.specs.Replaying.{step_by_bytes}
-use Rattle.gen1_engine.specs.Updating.{AnswersAs, TellsAs, refusal_number, refusal_of}
+use Rattle.gen1_engine.specs.Replay.{step_by_bytes}
+use Rattle.gen1_engine.specs.Update.{AnswersAs, TellsAs, refusal_number, refusal_of}
 use Rattle.gen1_engine.specs.declared.result.BattleResult.{BattleResult}
 use Rattle.gen1_engine.specs.declared.result.Refusal.{Refusal as Why}
 use Rattle.battle_commands.specs.Answers.{Answers}
@@ -53,7 +53,7 @@ due_here number t pairs inside =
     ∙ ap (λ (n : ℕ). due_by number (step_by_bytes t (get_or pairs number (0, 0))).answer
     (due_from (number + 1) (step_by_bytes t (get_or pairs number (0, 0))).state (drop n pairs))) (let e : suc number ≡ number + 1 = omega arith in e)
 
-after_after : (said more : List ℕ) (due : Due) → after said (after more due) ≡ after (said ++ more) due
+pub after_after : (said more : List ℕ) (due : Due) → after said (after more due) ≡ after (said ++ more) due
 after_after said more due = ap (λ (l : List ℕ). record { text = l; fault = due.fault }) (sym (append_assoc said more due.text))
 
 -- by what the machine answers to the next pair

@@ -1,7 +1,7 @@
--- What a run has written and answers, beside what was due.
+-- What a run has written and answers, beside what was due (docs/PROGRAM.md, "Faults and statuses").
 use Rattle.std.specs.Prelude.{◌≡◌, ◌<◌, ℕ, List, length, Bool, true, false, Option, Some, None, IfSome, Result, Ok, Err}
 use Rattle.std.specs.Io.KnownBytes.{Appends}
-use Rattle.gen1_machine.specs.Sending.{AppendsFront, Sends}
+use Rattle.gen1_machine.specs.Output.{AppendsFront, Sends}
 use Rattle.gen1_machine.specs.declared.io.DeviceFault.{DeviceFault}
 use Rattle.battle_commands.specs.Asked.{input_limit}
 use Rattle.battle_commands.specs.Due.{Due}

@@ -1,4 +1,5 @@
--- What an input asks for: a battle and what is done in it, or the fault that is answered instead.
+-- What an input asks for: a battle and what is done in it, or the fault that is answered instead (docs/PROGRAM.md, "What is
+-- tested, in this order").
 use Rattle.std.specs.Prelude.{ℕ, List, length, nat_lt, if◌then◌else◌, codes, Option, Some, None, option_and_then, Result, Ok, Err}
 use Rattle.serde_json.specs.Data.{Data}
 use Rattle.gen1_stats.specs.Refusals.{number_of, place_of}

@@ -1,10 +1,10 @@
--- What is due from `calc` for an input, and what it has written and answers.
+-- What is due from `calc` for an input, and what it has written and answers (docs/PROGRAM.md, "calc").
 use Rattle.std.specs.Prelude.{Err, List, None, Ok, Option, Result, Some, [], if◌then◌else◌, length, nat_lt, ok_or, option_and_then, ℕ, ◌∷◌, ◌≡◌}
 use Rattle.std.specs.Io.KnownBytes.{Appends}
 use Rattle.gen1_stats.specs.Teams.{member_of as begun_of, team_refusal}
 use Rattle.gen1_machine.specs.Damage.{numbers_in}
 use Rattle.gen1_machine.specs.Moves.{move_at}
-use Rattle.gen1_machine.specs.Sending.{AppendsFront}
+use Rattle.gen1_machine.specs.Output.{AppendsFront}
 use Rattle.gen1_machine.specs.declared.side.Side.TheVariants.{One}
 use Rattle.gen1_hits.specs.Factors.{damages}
 use Rattle.gen1_hits.specs.UsualDamage.{has_usual_damage}

@@ -1,10 +1,10 @@
--- What is due for an input: the text to print, and the fault to answer after it.
+-- What is due for an input: the text to print, and the fault to answer after it (docs/PROGRAM.md, "run", "Output").
 use Rattle.std.specs.Prelude.{ℕ, ◌+◌, List, [], ◌∷◌, ◌++◌, Option, Some, None, Result, Ok, Err}
 use Rattle.gen1_machine.specs.Lines.{lines}
 use Rattle.gen1_machine.specs.State.{State}
 use Rattle.gen1_machine.specs.Step.{Answer, Accepted, Refused}
-use Rattle.gen1_engine.specs.Replaying.{step_by_bytes}
-use Rattle.gen1_engine.specs.Updating.{refusal_number, refusal_of}
+use Rattle.gen1_engine.specs.Replay.{step_by_bytes}
+use Rattle.gen1_engine.specs.Update.{refusal_number, refusal_of}
 use Rattle.battle_commands.specs.Asked.{Asked, asked_to_run}
 use Rattle.battle_commands.specs.declared.fault.ToolFault.{ToolFault}
 use Rattle.battle_commands.specs.declared.fault.ToolFault.TheVariants.{Pair}

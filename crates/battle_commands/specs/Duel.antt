@@ -1,4 +1,4 @@
--- Two members as `calc` has them: each the only one of its team, just sent out.
+-- Two members as `calc` has them: each the only one of its team, just sent out (docs/PROGRAM.md, "calc").
 use Rattle.std.specs.Prelude.{[], ◌∷◌}
 use Rattle.gen1_stats.specs.Members.{Member}
 use Rattle.gen1_machine.specs.State.{Field, Party}

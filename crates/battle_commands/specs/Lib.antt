@@ -1,10 +1,11 @@
+-- What each subcommand has to print and to answer.
 pub mod Duel
 pub mod NumberLine
 pub mod Calc
 pub mod Asked
 pub mod Due
 pub mod Answers
-pub mod Opening
+pub mod AskedBattle
 pub mod Faults
 pub mod Logs
 pub mod Rooms

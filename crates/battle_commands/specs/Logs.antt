@@ -1,8 +1,8 @@
--- What `print` has written and answers for the bytes of a log.
+-- What `print` has written and answers for the bytes of a log (docs/PROGRAM.md, "print").
 use Rattle.std.specs.Prelude.{◌≡◌, ℕ, ◌<◌, ◌≤◌, List, [], length, Option, Result, Ok, Err}
 use Rattle.std.specs.Io.KnownBytes.{Appends}
 use Rattle.gen1_machine.specs.Lines.{lines}
-use Rattle.gen1_machine.specs.Sending.{AppendsFront}
+use Rattle.gen1_machine.specs.Output.{AppendsFront}
 use Rattle.gen1_machine.specs.declared.event.Event.{Event}
 use Rattle.gen1_events.specs.Faults.{number_of}
 use Rattle.gen1_events.specs.Splits.{IsReading}

@@ -1,4 +1,4 @@
--- Numbers in one line.
+-- Numbers in one line (docs/PROGRAM.md, "calc").
 use Rattle.std.specs.Prelude.{List, [], codes, decimal, ℕ, ◌++◌, ◌∷◌}
 use Rattle.std.specs.List.{flat_map}
 

@@ -1,4 +1,4 @@
--- What is due for an input of `room`: the lines of the start, and what each submission is answered.
+-- What is due for an input of `room`: the lines of the start, and what each submission is answered (docs/PROGRAM.md, "room").
 use Rattle.std.specs.Prelude.{ℕ, List, [], ◌∷◌, ◌++◌, codes, decimal}
 use Rattle.gen1_machine.specs.declared.side.Side.{Side}
 use Rattle.gen1_machine.specs.declared.event.Event.{Event}

@@ -1,13 +1,13 @@
-//! The damage numbers that an input asks for.
+//! The damage numbers that an input asks for (docs/PROGRAM.md, "calc").
 ghost use Rattle.std.specs.Prelude.{◌≡◌, ◌≤◌, ◌||◌, length, IfSome, option_and_then};
 ghost use Rattle.battle_commands.specs.Answers.{is_read_fault, is_write_fault};
 ghost use Rattle.battle_input.specs.Sheets.{json_of};
 ghost use Rattle.battle_commands.specs.Calc.{PrintsDamages, damages_due};
 ghost use Rattle.battle_input.specs.CalcSheets.{calc_sheet_of};
-ghost use Rattle.battle_commands.specs.Opening.{Finds};
+ghost use Rattle.battle_commands.specs.AskedBattle.{Finds};
 ghost use Rattle.battle_input.specs.SheetViews.{Gives};
 
-use crate::damages::damages;
+use crate::damage::damages;
 use crate::fault::ToolFault;
 use crate::input::{INPUT_LIMIT, read_input};
 use crate::number_line::number_line;
@@ -17,7 +17,7 @@ use gen1_machine::{Sink, Source, send};
 use gen1_stats::Team;
 use std::alloc::Global;
 
-/// Reads what `calc` is asked for, and writes the damage numbers in one line (docs/PROGRAM.md).
+/// Reads what `calc` is asked for, and writes the damage numbers in one line (docs/PROGRAM.md, "calc").
 ///
 /// The input is read whole, then its sheet, then the attacker's team is tested, then the
 /// defender's, and then the move. The line is sent in one call, and with any fault but that of this
@@ -29,7 +29,8 @@ pub fn play_calc<A: AllocGlobal, R: Source, W: Sink>(
 ) -> Result<(), ToolFault>
     // Where the source tells its bytes, what is due for them is written and answered.
     ensures answers { IfSome (R.remaining reader.old)
-        (λ input. PrintsDamages (damages_due input) (W.contents writer.old) (W.contents writer.new) result) }
+        (λ input. PrintsDamages (damages_due input) (W.contents writer.old) (W.contents writer.new)
+        result) }
 
     // A fault of a device is answered exactly where that device has failed in this call.
     ensures read { R.has_failed reader.new ≡ (R.has_failed reader.old || is_read_fault result) }

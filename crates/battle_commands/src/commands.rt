@@ -1,4 +1,4 @@
-//! The command line.
+//! The command line (docs/PROGRAM.md, "The program battle_tool").
 ghost use Rattle.std.specs.Prelude.{◌≡◌, ◌≤◌, ◌||◌, IfSome, None, codes};
 ghost use Rattle.clap.specs.Matches.{first_value, found_of};
 ghost use Rattle.battle_commands.specs.Answers.{Answers, Tells, is_read_fault, is_write_fault};
@@ -8,10 +8,10 @@ ghost use Rattle.battle_commands.specs.Faults.{error_line, status_of};
 ghost use Rattle.battle_commands.specs.Logs.{PrintsLog};
 ghost use Rattle.battle_commands.specs.Rooms.{room_due};
 
+use crate::battles::play;
 use crate::calc::play_calc;
 use crate::fault::ToolFault;
 use crate::logs::play_print;
-use crate::playing::play;
 use crate::rooms::play_room;
 use clap::error::ErrorKind;
 use clap::{Arg, ArgAction, ArgMatches, Command, Error};
@@ -81,11 +81,12 @@ fn command<'a>(alloc: Global) -> Result<Command<'a>, AllocError> {
 }
 
 /// Tells a fault on standard error, and answers its status, from 1 to 4. A fault of that stream changes nothing. No memory is
-/// taken.
+/// taken (docs/PROGRAM.md, "Faults and statuses").
 pub fn report<E: Sink>(fault: ToolFault, err: &mut E) -> u8
     ensures status { result ≡ status_of fault }
     ensures most { result ≤ 4 }
-    ensures told { Tells (E.contents err.old) (E.contents err.new) (E.has_failed err.old) (E.has_failed err.new) (error_line fault) }
+    ensures told { Tells (E.contents err.old) (E.contents err.new) (E.has_failed err.old)
+        (E.has_failed err.new) (error_line fault) }
 {
     let _ = send(err, fault.line().as_str().as_bytes());
     fault.status()
@@ -120,13 +121,18 @@ fn run_named<A: AllocGlobal, I: Source, O: Sink>(
     out: &mut O,
 ) -> Result<(), ToolFault>
     ensures print { name.now ≡ codes "print"
-        → IfSome (I.remaining input.old) (λ log. PrintsLog log (O.contents out.old) (O.contents out.new) result) }
+        → IfSome (I.remaining input.old)
+        (λ log. PrintsLog log (O.contents out.old) (O.contents out.new) result) }
     ensures calc { name.now ≡ codes "calc"
-        → IfSome (I.remaining input.old) (λ asked. PrintsDamages (damages_due asked) (O.contents out.old) (O.contents out.new) result) }
+        → IfSome (I.remaining input.old)
+        (λ asked. PrintsDamages (damages_due asked) (O.contents out.old) (O.contents out.new)
+        result) }
     ensures room { name.now ≡ codes "room"
-        → IfSome (I.remaining input.old) (λ asked. Answers (room_due asked) (O.contents out.old) (O.contents out.new) result) }
+        → IfSome (I.remaining input.old)
+        (λ asked. Answers (room_due asked) (O.contents out.old) (O.contents out.new) result) }
     ensures run { name.now ≡ codes "run"
-        → IfSome (I.remaining input.old) (λ asked. Answers (run_due asked) (O.contents out.old) (O.contents out.new) result) }
+        → IfSome (I.remaining input.old)
+        (λ asked. Answers (run_due asked) (O.contents out.old) (O.contents out.new) result) }
     ensures read { I.has_failed input.new ≡ (I.has_failed input.old || is_read_fault result) }
     ensures write { O.has_failed out.new ≡ (O.has_failed out.old || is_write_fault result) }
 {
@@ -146,14 +152,22 @@ fn run<A: AllocGlobal + Files, I: Read + Drop, O: Sink>(
     input: I,
     out: &mut O,
 ) -> Result<(), ToolFault>
-    ensures print { first_value (found_of matches.now) (codes "FILE") ≡ None → name.now ≡ codes "print"
-        → IfSome (I.remaining input) (λ log. PrintsLog log (O.contents out.old) (O.contents out.new) result) }
-    ensures calc { first_value (found_of matches.now) (codes "FILE") ≡ None → name.now ≡ codes "calc"
-        → IfSome (I.remaining input) (λ asked. PrintsDamages (damages_due asked) (O.contents out.old) (O.contents out.new) result) }
-    ensures room { first_value (found_of matches.now) (codes "FILE") ≡ None → name.now ≡ codes "room"
-        → IfSome (I.remaining input) (λ asked. Answers (room_due asked) (O.contents out.old) (O.contents out.new) result) }
+    ensures print { first_value (found_of matches.now) (codes "FILE") ≡ None
+        → name.now ≡ codes "print"
+        → IfSome (I.remaining input)
+        (λ log. PrintsLog log (O.contents out.old) (O.contents out.new) result) }
+    ensures calc { first_value (found_of matches.now) (codes "FILE") ≡ None
+        → name.now ≡ codes "calc"
+        → IfSome (I.remaining input)
+        (λ asked. PrintsDamages (damages_due asked) (O.contents out.old) (O.contents out.new)
+        result) }
+    ensures room { first_value (found_of matches.now) (codes "FILE") ≡ None
+        → name.now ≡ codes "room"
+        → IfSome (I.remaining input)
+        (λ asked. Answers (room_due asked) (O.contents out.old) (O.contents out.new) result) }
     ensures run { first_value (found_of matches.now) (codes "FILE") ≡ None → name.now ≡ codes "run"
-        → IfSome (I.remaining input) (λ asked. Answers (run_due asked) (O.contents out.old) (O.contents out.new) result) }
+        → IfSome (I.remaining input)
+        (λ asked. Answers (run_due asked) (O.contents out.old) (O.contents out.new) result) }
     ensures write { O.has_failed out.new ≡ (O.has_failed out.old || is_write_fault result) }
 {
     match matches.get_str("FILE") {
@@ -166,7 +180,7 @@ fn run<A: AllocGlobal + Files, I: Read + Drop, O: Sink>(
 }
 
 /// Runs the words of a command line, the program's name first, and answers the exit status, from 0 to 4
-/// (docs/PROGRAM.md). It reads `input` where no FILE is named, prints to `out`, and tells what is
+/// (docs/PROGRAM.md, "The program battle_tool"). It reads `input` where no FILE is named, prints to `out`, and tells what is
 /// wrong on `err`.
 pub fn tool<A, S, I, O, E>(rt: &A, words: &[S], input: I, out: O, err: E) -> u8
 where

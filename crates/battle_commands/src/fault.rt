@@ -1,4 +1,4 @@
-//! Why the program did not do all that it was asked.
+//! Why the program did not do all that it was asked (docs/PROGRAM.md, "Faults and statuses").
 ghost use Rattle.std.specs.Prelude.{◌≡◌, ◌≤◌, Some};
 ghost use Rattle.gen1_machine.specs.Lines.{joined};
 ghost use Rattle.battle_commands.specs.Faults.{error_line, pieces_of};
@@ -16,7 +16,7 @@ const WORDS_LENGTH: usize = 37;
 const LINE_LENGTH: usize = 45;
 
 /// Why the program did not do all that it was asked. Each is shown as standard error tells it,
-/// after `error: ` (docs/PROGRAM.md).
+/// after `error: ` (docs/PROGRAM.md, "Faults and statuses").
 #[derive(Clone, Copy, Debug, PartialEq, Eq)]
 pub enum ToolFault {
     /// The input is no JSON, or not of the shape that is asked for.
@@ -74,7 +74,7 @@ impl ToolFault {
         }
     }
 
-    /// The line that standard error has of it (docs/PROGRAM.md).
+    /// The line that standard error has of it (docs/PROGRAM.md, "Faults and statuses").
     pub fn line(self) -> ArrayString<LINE_LENGTH>
         ensures { result.bytes ≡ error_line self }
     {

@@ -1,4 +1,4 @@
-//! The input of a subcommand.
+//! The input of a subcommand (docs/PROGRAM.md, "What is tested, in this order").
 ghost use Rattle.std.specs.Prelude.{◌≡◌, ◌≤◌, ◌||◌, IfErr, IfOk, IfSome, vec_len};
 ghost use Rattle.battle_commands.specs.Answers.{IsInputFault, is_read_fault};
 

@@ -1,22 +1,34 @@
 //! The subcommands of `battle_tool` (docs/PROGRAM.md): each reads an input, prints what is due for it, and answers its fault.
+//!
+//! - `commands`: the command line: which subcommand runs on what, and the exit status
+//! - `input`: an input, read whole
+//! - `asked_battle`: the battle that an input asks for
+//! - `battles`: `run`
+//! - `rooms`: `room`
+//! - `logs`: `print`
+//! - `calc`: `calc`
+//! - `duel`: two members, just sent out, for `calc`
+//! - `damage`: the damage between two members, for `calc`
+//! - `number_line`: the 39 numbers that `calc` prints
+//! - `fault`: the faults, with their statuses and lines
 #![tactic(auto)]
 
+mod asked_battle;
+mod battles;
 mod calc;
 mod commands;
-mod damages;
+mod damage;
 mod duel;
 mod fault;
 mod input;
 mod logs;
 mod number_line;
-mod opening;
-mod playing;
 mod rooms;
 
+pub use battles::{play, text_of};
 pub use calc::play_calc;
 pub use commands::{COMMAND_LINE_REFUSED, report, tool};
 pub use fault::ToolFault;
 pub use input::INPUT_LIMIT;
 pub use logs::play_print;
-pub use playing::{play, text_of};
 pub use rooms::play_room;

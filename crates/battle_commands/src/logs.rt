@@ -1,4 +1,4 @@
-//! The lines of a log.
+//! The lines of a log (docs/PROGRAM.md, "print").
 ghost use Rattle.std.specs.Prelude.{◌≡◌, ◌||◌, IfSome};
 ghost use Rattle.battle_commands.specs.Answers.{is_read_fault, is_write_fault};
 ghost use Rattle.battle_commands.specs.Logs.{PrintsLog};
@@ -8,7 +8,7 @@ use crate::input::read_input;
 use gen1_machine::{Sink, Source, send};
 use gen1_printer::{PrintFault, print_log};
 
-/// Reads the bytes of a log, and writes the lines of its events (docs/PROGRAM.md).
+/// Reads the bytes of a log, and writes the lines of its events (docs/PROGRAM.md, "print").
 ///
 /// The input is read whole before anything is written, and of bytes that are no log nothing is.
 pub fn play_print<A: AllocGlobal, R: Source, W: Sink>(

@@ -1,3 +1,4 @@
+//! The 39 damage numbers in one line (docs/PROGRAM.md, "calc").
 ghost use Rattle.std.specs.Prelude.{◌≡◌};
 ghost use Rattle.battle_commands.specs.NumberLine.{number_line};
 

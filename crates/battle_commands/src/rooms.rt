@@ -1,4 +1,4 @@
-//! Two players' submissions to a room, and what each is answered.
+//! Two players' submissions to a room, and what each is answered (docs/PROGRAM.md, "room").
 ghost use Rattle.std.specs.Prelude.{List, [], ◌++◌, ◌∷◌, ◌≡◌, ◌||◌, IfSome, codes, false};
 ghost use Rattle.gen1_machine.specs.Lines.{joined, lines};
 ghost use Rattle.gen1_machine.specs.Room.{Course, after as follows, reply_to};
@@ -9,9 +9,9 @@ ghost use Rattle.battle_commands.specs.Answers.{Answers, is_read_fault, is_write
 ghost use Rattle.battle_commands.specs.Due.{only};
 ghost use Rattle.battle_commands.specs.Rooms.{pieces_of_refusal, replies_due, room_due, text_of_reply};
 
+use crate::asked_battle::open_bout;
 use crate::fault::ToolFault;
 use crate::input::read_input;
-use crate::opening::open_bout;
 use arrayvec::ArrayString;
 use gen1_machine::{Side, Sink, Source, send, send_all};
 use gen1_printer::print_log;
@@ -23,7 +23,7 @@ use std::alloc::Global;
 const REFUSAL_LENGTH: usize = 27;
 
 /// Reads what `room` is asked for, and writes the lines of the start and what each submission is
-/// answered (docs/PROGRAM.md).
+/// answered (docs/PROGRAM.md, "room").
 ///
 /// The input is read whole, then its sheet, then side 1's team, then side 2's, and then the
 /// submissions are handed in.
@@ -63,7 +63,9 @@ fn hand_in_all<W: Sink>(
     submissions: &[(Side, u32, u8)],
     sink: &mut W,
 ) -> Result<(), ToolFault>
-    ensures answers { (c : Course) → Holds room.old c → Answers (replies_due c submissions.now) (W.contents sink.old) (W.contents sink.new) result }
+    ensures answers { (c : Course) → Holds room.old c
+        → Answers (replies_due c submissions.now) (W.contents sink.old) (W.contents sink.new)
+        result }
     ensures write { W.has_failed sink.new ≡ (W.has_failed sink.old || is_write_fault result) }
     ensures read { is_read_fault result ≡ false }
 {
@@ -83,9 +85,13 @@ fn hand_in<W: Sink>(
     submission: (Side, u32, u8),
     sink: &mut W,
 ) -> Result<(), ToolFault>
-    ensures holds { (c : Course) → Holds room.old c → Holds room.new (follows c (submission_at submission)) }
+    ensures holds { (c : Course) → Holds room.old c
+        → Holds room.new (follows c (submission_at submission)) }
     ensures answers { (c : Course) → Holds room.old c
-        → Answers (only (text_of_reply (reply_to c (submission_at submission)) (follows c (submission_at submission)).events)) (W.contents sink.old) (W.contents sink.new) result }
+        → Answers (only
+        (text_of_reply (reply_to c (submission_at submission))
+        (follows c (submission_at submission)).events)) (W.contents sink.old) (W.contents sink.new)
+        result }
     ensures write { W.has_failed sink.new ≡ (W.has_failed sink.old || is_write_fault result) }
     ensures read { is_read_fault result ≡ false }
 {
@@ -99,7 +105,8 @@ fn hand_in<W: Sink>(
 /// Sends a text, and the lines of a log behind it.
 fn send_lines<W: Sink>(alloc: Global, text: &str, log: &[u8], sink: &mut W) -> Result<(), ToolFault>
     ensures answers { (events : List Told) → IsReading log.now events
-        → Answers (only (text.now ++ lines events)) (W.contents sink.old) (W.contents sink.new) result }
+        → Answers (only (text.now ++ lines events)) (W.contents sink.old) (W.contents sink.new)
+        result }
     ensures write { W.has_failed sink.new ≡ (W.has_failed sink.old || is_write_fault result) }
     ensures read { is_read_fault result ≡ false }
 {
@@ -125,7 +132,8 @@ fn send_text<W: Sink>(sink: &mut W, text: &str) -> Result<(), ToolFault>
 }
 
 fn refusal_line(refusal: RoomRefusal) -> ArrayString<REFUSAL_LENGTH>
-    ensures { result.bytes ≡ joined (codes "|room|refused|" ∷ pieces_of_refusal (why_of refusal) ++ codes "\n" ∷ []) }
+    ensures { result.bytes ≡ joined
+        (codes "|room|refused|" ∷ pieces_of_refusal (why_of refusal) ++ codes "\n" ∷ []) }
 {
     let mut line = ArrayString::new();
     line.push_str("|room|refused|");

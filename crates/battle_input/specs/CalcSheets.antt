@@ -1,4 +1,5 @@
--- What a JSON value asks `calc` for: two members, a move, and whether the hit is critical.
+-- What a JSON value asks `calc` for: two members, a move, and whether the hit is critical (docs/PROGRAM.md, "calc", "JSON, to
+-- the letter").
 use Rattle.std.specs.Prelude.{codes, Option, option_and_then, option_map}
 use Rattle.serde_json.specs.Data.{Data}
 use Rattle.serde_json.specs.Find.{as_bool, as_str}

@@ -1,4 +1,4 @@
--- What was asked for, as the code holds it.
+-- What was asked for, as the code holds it (docs/PROGRAM.md, "Input").
 use Rattle.std.specs.Prelude.{◌≡◌, List, Option, Some, None, Result, Ok, Err}
 use Rattle.battle_input.specs.Sheets.{BattleData}
 use Rattle.battle_input.specs.declared.sheet.BattleSheet.{BattleSheet}

@@ -1,5 +1,5 @@
 -- What a JSON value asks for: a battle (a seed, two lists of members, rules and a turn limit), and what is done in it (pairs of
--- choices, or submissions to a room).
+-- choices, or submissions to a room) (docs/PROGRAM.md, "Input", "JSON, to the letter").
 use Rattle.std.specs.Prelude.{ℕ, ◌+◌, ◌==◌, ◌&&◌, List, [], ◌∷◌, nat_lt, nat_le, if◌then◌else◌, codes, Option, Some, None, option_map, option_and_then}
 use Rattle.std.specs.Str.{is_utf8}
 use Rattle.serde_json.specs.Data.{Data, Items, no_items, item}

@@ -1,3 +1,4 @@
+//! What an input asks `calc` for, as JSON (docs/PROGRAM.md, "calc", "JSON, to the letter").
 ghost use Rattle.std.specs.Prelude.{◌≡◌};
 ghost use Rattle.serde_json.specs.View.{view};
 ghost use Rattle.battle_input.specs.CalcSheets.{calc_sheet_of};
@@ -7,7 +8,7 @@ use gen1_stats::MemberSpec;
 use gen1_tables::MoveId;
 use serde_json::Value;
 
-/// What the input asks `calc` for (docs/PROGRAM.md), before any test of the members and the move.
+/// What the input asks `calc` for (docs/PROGRAM.md, "calc"), before any test of the members and the move.
 #[derive(Debug, Drop)]
 pub struct CalcSheet {
     pub attacker: MemberSpec,

@@ -1,4 +1,4 @@
-//! What an input asks for, as JSON (docs/PROGRAM.md).
+//! The battle that an input asks for, and what is done in it, as JSON (docs/PROGRAM.md, "Input", "JSON, to the letter").
 ghost use Rattle.std.specs.Prelude.{Option, ◌≡◌, codes, option_and_then, option_map};
 ghost use Rattle.serde_json.specs.Data.{Data};
 ghost use Rattle.serde_json.specs.View.{view};
@@ -315,7 +315,8 @@ pub fn read_sheet<T: Item + Drop>(
     input: &[u8],
     key: &str,
 ) -> Result<Sheet<T>, SheetFault>
-    ensures { Gives sheet_view result (option_and_then (sheet_of key.now T.meaning) (json_of input.now)) }
+    ensures { Gives sheet_view result
+        (option_and_then (sheet_of key.now T.meaning) (json_of input.now)) }
 {
     let value = value_in(alloc, input)?;
     let battle = read_battle(alloc, &value)?;

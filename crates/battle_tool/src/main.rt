@@ -1,5 +1,4 @@
-//! Runs link battles of the first generation: reads a battle as JSON and prints its lines
-//! (docs/PROGRAM.md).
+//! The program: hands its words and its streams to the command line (docs/PROGRAM.md, "The program battle_tool").
 #![tactic(auto)]
 
 use battle_commands::{COMMAND_LINE_REFUSED, ToolFault, report, tool};

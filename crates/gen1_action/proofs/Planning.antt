@@ -15,7 +15,8 @@ use Rattle.gen1_machine.specs.declared.picks.UsedMove.{UsedMove}
 use Rattle.gen1_machine.specs.declared.picks.UsedMove.TheVariants.{Nothing, Slot, Struggle}
 use Rattle.gen1_machine.specs.declared.side.Side.{Side}
 use Rattle.gen1_machine.specs.State.{active_in, changed_active, member_in, underway_in, with_current_move, Field, Terms}
-use Rattle.gen1_machine.specs.Moves.{bides, thrashes, traps, Move}
+use Rattle.gen1_tables.specs.Effects.{bides, thrashes, traps}
+use Rattle.gen1_machine.specs.Moves.{Move}
 use Rattle.gen1_machine.specs.Picks.{number_in, used_by}
 use Rattle.gen1_machine.specs.Progress.{choose, given, on_active, on_field, only, stay, stop, unless, Action, Phase, Progress, ◌▸◌}
 use Rattle.gen1_machine.specs.Gate.{cant, gate, gate_of_move}
@@ -231,7 +232,7 @@ not-both _ h = refl
 
 -- what a trapping move finds underway
 
-nothing-there : {A : Type 0} (o : Option A) → (is_some o ≡ true → false ≡ true) → o ≡ None
+pub nothing-there : {A : Type 0} (o : Option A) → (is_some o ≡ true → false ≡ true) → o ≡ None
 nothing-there None k = refl
 nothing-there (Some b) k = absurd (false≢true (k refl))
 

@@ -5,8 +5,6 @@ pub mod Planned
 -- What a call shows that stands for itself.
 pub mod Alone
 -- How often a move hits or holds.
-pub mod Counting
--- Which types a move has no effect on.
-pub mod Immunity
+pub mod Counts
 -- What the clauses of the rules count.
-pub mod Living
+pub mod Clauses

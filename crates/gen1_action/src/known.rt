@@ -1,4 +1,4 @@
-//! What is known of the action that is being taken, beside the bytes of the battle.
+//! What is known of the action that is being taken, beside the bytes of the battle (docs/MECHANICS.md, "Action").
 ghost use Rattle.std.specs.Prelude.{◌≡◌};
 ghost use Rattle.gen1_action.specs.Knowing.{begun, nothing_yet};
 

@@ -1,19 +1,27 @@
-//! What is known of the action that is being taken, and the hit test that it makes (docs/MECHANICS.md, "Action"). The
-//! effects of moves, the moves that last, and a turn stand on this.
+//! What is known of the action that is being taken, and the hit test that it makes (docs/MECHANICS.md, "Action"). The effects
+//! of moves, the moves that last, and a turn stand on this.
+//!
+//! - `known`: what is known
+//! - `action_hit_test`: the hit test, and how a miss is told
+//! - `clauses`: what the sleep clause and the freeze clause count
+//! - `confusion`: confusion that begins
+//! - `counts`: how often a move hits or holds
+//! - `failure`: a move that fails
+//! - `immunity`: which types a move has no effect on
 #![tactic(auto)]
 
-mod confusing;
-mod counting;
-mod failing;
+mod action_hit_test;
+mod clauses;
+mod confusion;
+mod counts;
+mod failure;
 mod immunity;
 mod known;
-mod living;
-mod misses;
 
-pub use confusing::confuse;
-pub use counting::draw_count;
-pub use failing::fail;
+pub use action_hit_test::{hit_or_miss, must_hit, note_miss};
+pub use clauses::{has_frozen_member, has_marked_sleeper};
+pub use confusion::confuse;
+pub use counts::draw_count;
+pub use failure::fail;
 pub use immunity::is_immune;
 pub use known::Known;
-pub use living::{has_frozen_member, has_marked_sleeper};
-pub use misses::{hit_or_miss, must_hit, note_miss};

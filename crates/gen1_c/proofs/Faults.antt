@@ -1,4 +1,4 @@
--- The first member of a team that is at fault, as a loop over the members finds it.
+-- What a team of the C library is made of, and where it is at fault.
 use Rattle.std.proofs.Common.{List, None, Some, [], ap, arith, drop, drop_of_length-le, false, get_or, length, map, nat_lt, refl, take, sym, true, ℕ, ◌*◌, ◌+◌, ◌<◌, ◌==◌, ◌≡◌, ◌≤◌, ◌∙◌, ◌∷◌}
 use Rattle.std.proofs.lemmas.Bool.Decides.{nat_tests}
 use Rattle.std.proofs.lemmas.List.{drop_more, take-map}
@@ -8,22 +8,6 @@ use Rattle.gen1_stats.specs.declared.refusal.TeamRefusal.{TeamRefusal}
 use Rattle.gen1_c.specs.Teams.{fault_of, first_fault, given, member_fault, sheet_of, sheets_of, team_fault}
 use Rattle.gen1_c.specs.declared.teams.MemberForm.{MemberForm}
 use Rattle.gen1_c.specs.declared.teams.TeamForm.{TeamForm}
-
-at-front : (members : List MemberForm) (i : ℕ) (m : MemberForm) → i < length members → m ≡ get_or members i m
-    → first_fault (i + 1) (drop i members) ≡ first_fault (i + 1) (m ∷ drop (i + 1) members)
-at-front members i m low is = ap (first_fault (i + 1)) (drop_more members i m low ∙ ap (λ first. first ∷ drop (i + 1) members) (sym is))
-
--- a member with no fault is passed over
-pub fault-later : (members : List MemberForm) (i : ℕ) (m : MemberForm) → i < length members → m ≡ get_or members i m → (member_fault m == 0) ≡ true
-    → first_fault (i + 1) (drop i members) ≡ first_fault (i + 1 + 1) (drop (i + 1) members)
-fault-later members i m low is none = at-front members i m low is ∙ rw none refl
-
-pub fault-here : (members : List MemberForm) (i : ℕ) (m : MemberForm) → i < length members → m ≡ get_or members i m → (member_fault m == 0) ≡ false
-    → first_fault (i + 1) (drop i members) ≡ 256 * (i + 1) + member_fault m
-fault-here members i m low is some = at-front members i m low is ∙ rw some refl
-
-pub fault-nowhere : (members : List MemberForm) (i : ℕ) → length members ≤ i → first_fault (i + 1) (drop i members) ≡ 0
-fault-nowhere members i end = ap (first_fault (i + 1)) (drop_of_length-le members end)
 
 -- six members that were made of six
 pub six : {A B : Type 0} (f : A → B) (xs : List A) (d : A) → length xs ≡ 6

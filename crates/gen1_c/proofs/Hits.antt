@@ -13,7 +13,7 @@ use Rattle.gen1_hits.specs.UsualDamage.{has_usual_damage}
 use Rattle.gen1_layout.specs.Parts.{Parts}
 use Rattle.gen1_layout.specs.Within.{Stands, Within, setting_of}
 use Rattle.gen1_layout.proofs.Storing.{within_of}
-use Rattle.gen1_c.specs.Damages.{TellsDamages, damages_due}
+use Rattle.gen1_c.specs.Damage.{TellsDamages, damages_due}
 
 pub same_side : (a b : Side) → side_number a ≡ side_number b → a ≡ b
 same_side One One e = refl

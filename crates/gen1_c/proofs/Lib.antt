@@ -1,4 +1,4 @@
--- The first member of a team that is at fault.
+-- What a team is made of, and where it is at fault.
 pub mod Faults
 -- How a battle begins.
 pub mod Begun

@@ -1,4 +1,4 @@
--- What is written to the front of a caller's memory.
+-- What is written to the front of a caller's memory (include/gen1.h, "playing", "telling").
 use Rattle.std.specs.Prelude.{List, drop, length, ◌++◌}
 
 -- these at the front, and behind them what stood there

@@ -3,12 +3,12 @@ pub mod Fronts
 -- Teams as plain structs.
 pub mod Teams
 -- How a battle begins.
-pub mod Beginning
+pub mod Battle
 -- What updates answer, and what is offered.
-pub mod Playing
+pub mod Update
 -- Events as plain structs.
 pub mod Events
 -- Events and lines of a log.
 pub mod Logs
 -- The damage of a hit.
-pub mod Damages
+pub mod Damage

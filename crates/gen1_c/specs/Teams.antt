@@ -1,4 +1,4 @@
--- The team that a plain struct asks for, and why it is none.
+-- The team that a plain struct asks for, and why it is none (include/gen1.h, "beginning").
 use Rattle.std.specs.Prelude.{List, None, Option, Some, [], if◌then◌else◌, map, nat_le, nat_lt, slice_index, take, ℕ, ◌&&◌, ◌*◌, ◌++◌, ◌+◌, ◌==◌, ◌∷◌}
 use Rattle.std.specs.List.{list_any}
 use Rattle.gen1_stats.specs.Refusals.{number_of, place_of}

@@ -1,4 +1,4 @@
-//! What is written to a caller's memory: the front of it.
+//! What is written to a caller's memory: the front of it (include/gen1.h, "playing", "telling").
 ghost use Rattle.std.specs.Prelude.{length, ◌≡◌, ◌≤◌};
 ghost use Rattle.gen1_c.specs.Fronts.{over_front};
 

@@ -1,8 +1,8 @@
-//! Teams as plain structs (docs/MECHANICS.md, "Teams").
+//! Teams as plain structs (include/gen1.h, "beginning"; docs/MECHANICS.md, "Teams").
 ghost use Rattle.std.specs.Prelude.{IfErr, IfOk, OnOk, length, ◌+◌, ◌++◌, ◌<◌, ◌≡◌, ◌≢◌, ◌≤◌};
 ghost use Rattle.arrayvec.specs.ArrayVec.{array_vec_len};
 ghost use Rattle.gen1_stats.specs.Teams.{team_of};
-ghost use Rattle.gen1_c.specs.Teams.{chosen, fault_of, first_fault, given, member_fault, sheet_of, sheets_of, species_of, team_fault};
+ghost use Rattle.gen1_c.specs.Teams.{chosen, fault_of, first_fault, member_fault, sheet_of, sheets_of, species_of, team_fault};
 
 use arrayvec::ArrayVec;
 use gen1_stats::{MemberSpec, Team, TeamRefusal};
@@ -42,7 +42,8 @@ const NO_SUCH_MOVE: u32 = 11;
 pub(crate) fn team_of(form: &TeamForm) -> Result<Team, u32>
     ensures made { IfOk result (λ team. team ≡ team_of (sheets_of form.now)) }
     ensures allowed { OnOk result (team_fault form.now ≡ 0) }
-    ensures refused { IfErr result (λ fault. (fault ≡ team_fault form.now) × (fault ≢ 0) × (fault < 65536)) }
+    ensures refused { IfErr result (λ fault. (fault ≡ team_fault form.now) × (fault ≢ 0)
+        × (fault < 65536)) }
 {
     if form.count > 6 {
         return Err(fault_of(TeamRefusal::TooMany));
@@ -69,7 +70,7 @@ pub(crate) fn team_of(form: &TeamForm) -> Result<Team, u32>
 
 // The first member with a number that is no species' or no move's; 0 where there is none.
 fn first_fault(members: &[MemberForm]) -> u32
-    requires { length members.now ≤ 6 }
+    requires few { length members.now ≤ 6 }
     ensures value { result ≡ first_fault 1 members.now }
     ensures small { result < 65536 }
 {
@@ -123,7 +124,7 @@ fn spec_of(member: &MemberForm) -> MemberSpec
 
 // Appends a move with its PP ups, where the number is a move's.
 fn add_move(number: u8, ups: u8, moves: &mut ArrayVec<(MoveId, u8), 4>)
-    requires { array_vec_len moves.old < 4 }
+    requires few { array_vec_len moves.old < 4 }
     ensures items { moves.new.items ≡ moves.old.items ++ chosen number ups }
     ensures few { array_vec_len moves.new ≤ array_vec_len moves.old + 1 }
 {

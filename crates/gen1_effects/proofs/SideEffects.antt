@@ -12,8 +12,7 @@ use Rattle.gen1_machine.specs.Ruling.{freeze_freely, freeze_only_one, freezes_un
 use Rattle.gen1_machine.specs.Sides.{other}
 use Rattle.gen1_machine.specs.SideEffects.{disable, kept_away_effect, may_confuse, must_recharge, side_effect}
 use Rattle.gen1_layout.specs.Flags.{SameNumbers}
-use Rattle.gen1_status.specs.Inflicted.{status_of_kind}
-use Rattle.gen1_status.specs.Shifting.{ShowsShifted}
+use Rattle.gen1_status.specs.Infliction.{status_of_kind}
 use Rattle.gen1_effects.specs.declared.side_effects.Way.{Way}
 use Rattle.gen1_effects.specs.declared.side_effects.Way.TheVariants as ways
 use Rattle.gen1_effects.specs.SideEffects.{afflict, harm_of, harms, harms_unless_away, is_freeze, way_of}
@@ -59,12 +58,6 @@ frozen r s kinds.Sleep e = cc
 frozen r s kinds.Poison e = cc
 frozen r s kinds.Burn e = cc
 frozen r s kinds.Paralysis e = cc
-
--- a shift that is let fail
-pub shifted : (g : Frame) (parts : Parts) (events : List Event) (b : Bool) (shift : Phase → Phase) (p : Progress) → ShowsShifted g parts events b shift stay p → Shows g parts events false (shift stay p)
-unfolding stay
-shifted g parts events true shift p h = h
-shifted g parts events false shift p h = rw h.2 h.1
 
 pub flinching-same : (c : ActiveConditions) → SameNumbers (with_flinch c) c
 unfolding with_flinch

@@ -1,6 +1,6 @@
 -- Which effects come in place of damage.
-pub mod Late
+pub mod LateEffects
 -- Which effects are early.
-pub mod GroupOne
+pub mod EarlyEffects
 -- What a move may do besides its damage.
 pub mod SideEffects

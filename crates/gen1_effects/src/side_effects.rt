@@ -8,24 +8,24 @@ ghost use Rattle.gen1_action.specs.Planned.{DoesUnder};
 ghost use Rattle.gen1_effects.specs.SideEffects.{DoesByRules, harm_of, harms, harms_unless_away, way_of};
 
 mod chance;
-mod confusing;
-mod disabling;
-mod flinching;
-mod inflicting;
-mod recharging;
+mod confusion_chance;
+mod disable;
+mod flinch_chance;
+mod recharge;
 mod stat_drops;
+mod status_chance;
 
-use confusing::may_confuse;
-use disabling::disable;
-use flinching::may_flinch;
+use confusion_chance::may_confuse;
+use disable::disable;
+use flinch_chance::may_flinch;
 use gen1_action::Known;
 use gen1_layout::{Conditions, Packed};
 use gen1_machine::{EventList, Kind, Side};
 use gen1_rolls::Rolls;
 use gen1_tables::{Effect, MoveId, Stat};
-use inflicting::{may_inflict, may_poison};
-use recharging::must_recharge;
+use recharge::must_recharge;
 use stat_drops::may_lower;
+use status_chance::{may_inflict, may_poison};
 
 // What a move may do besides its damage. The numbers are the bounds of draws.
 #[derive(Clone, Copy)]
@@ -57,8 +57,10 @@ pub fn side_effect<R: Rolls>(
     random: &mut R,
     events: &mut EventList,
 )
-    requires { HasRoom 1 events.old }
-    ensures shown { DoesAlone R.byte R.next R.SPAN side battle.old events.old.items random.old battle.new events.new.items random.new (λ r. side_effect r side (move_at id) (move_at id).effect) }
+    requires room { HasRoom 1 events.old }
+    ensures shown { DoesAlone R.byte R.next R.SPAN side battle.old events.old.items random.old
+        battle.new events.new.items random.new
+        (λ r. side_effect r side (move_at id) (move_at id).effect) }
     ensures room { AddsAtMost 1 events.old events.new }
 {
     let mut known = Known::new().begun(side);
@@ -75,8 +77,10 @@ pub fn side_effect_knowing<R: Rolls>(
     random: &mut R,
     events: &mut EventList,
 ) -> bool
-    requires { HasRoom 1 events.old }
-    ensures shown { DoesUnder R.byte R.next R.SPAN battle.old events.old.items random.old known.old battle.new events.new.items random.new known.new result (λ r. side_effect r side (move_at id) (move_at id).effect) }
+    requires room { HasRoom 1 events.old }
+    ensures shown { DoesUnder R.byte R.next R.SPAN battle.old events.old.items random.old known.old
+        battle.new events.new.items random.new known.new result
+        (λ r. side_effect r side (move_at id) (move_at id).effect) }
     ensures counts { IsUncounted known.old → IsUncounted known.new }
     ensures room { AddsAtMost 1 events.old events.new }
 {
@@ -106,8 +110,9 @@ fn harm_unless_away<R: Rolls>(
     random: &mut R,
     events: &mut EventList,
 )
-    requires { HasRoom 1 events.old }
-    ensures shown { DoesByRules R.byte R.next R.SPAN battle.old events.old.items random.old battle.new events.new.items random.new (λ r. harms_unless_away r side (move_at id) harm) }
+    requires room { HasRoom 1 events.old }
+    ensures shown { DoesByRules R.byte R.next R.SPAN battle.old events.old.items random.old
+        battle.new events.new.items random.new (λ r. harms_unless_away r side (move_at id) harm) }
     ensures room { AddsAtMost 1 events.old events.new }
 {
     if battle.is_on(side.other(), Conditions::SUBSTITUTE) {
@@ -124,8 +129,9 @@ fn do_harm<R: Rolls>(
     random: &mut R,
     events: &mut EventList,
 )
-    requires { HasRoom 1 events.old }
-    ensures shown { DoesByRules R.byte R.next R.SPAN battle.old events.old.items random.old battle.new events.new.items random.new (λ r. harms r side (move_at id) harm) }
+    requires room { HasRoom 1 events.old }
+    ensures shown { DoesByRules R.byte R.next R.SPAN battle.old events.old.items random.old
+        battle.new events.new.items random.new (λ r. harms r side (move_at id) harm) }
     ensures room { AddsAtMost 1 events.old events.new }
 {
     match harm {

@@ -11,7 +11,7 @@ use Rattle.gen1_layout.specs.Within.{Stands}
 use Rattle.gen1_requests.specs.Updates.{Steps}
 use Rattle.gen1_engine.specs.declared.result.BattleResult.{BattleResult}
 use Rattle.gen1_engine.specs.declared.result.Refusal.{Refusal}
-use Rattle.gen1_engine.specs.Updating.{Answers, AnswersAs, LogsAs, Tells, TellsAs, refusal_of, result_of}
+use Rattle.gen1_engine.specs.Update.{Answers, AnswersAs, LogsAs, Tells, TellsAs, refusal_of, result_of}
 
 -- a refused pair
 

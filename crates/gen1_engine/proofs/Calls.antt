@@ -14,8 +14,8 @@ use Rattle.gen1_layout.specs.Within.{Stands}
 use Rattle.gen1_requests.proofs.Stepped.{step_accepts}
 use Rattle.gen1_engine.specs.declared.result.BattleResult.{BattleResult}
 use Rattle.gen1_engine.specs.declared.result.Refusal.{Refusal}
-use Rattle.gen1_engine.specs.Updating.{Answers, AnswersAs}
-use Rattle.gen1_engine.specs.Calling.{CallsAreTheRun, CallsEnd, OfferedIsAccepted, UpdatesAll}
+use Rattle.gen1_engine.specs.Update.{Answers, AnswersAs}
+use Rattle.gen1_engine.specs.Calls.{CallsAreTheRun, CallsEnd, OfferedIsAccepted, UpdatesAll}
 use Rattle.gen1_engine.proofs.Making.{goes_on}
 
 -- one call

@@ -1,5 +1,5 @@
 -- Which update a pair of offered choices is, what the machine makes of it, and what was refused.
-use Rattle.std.proofs.Common.{Bool, List, ap, arith, [], false, inl, inr, refl, subst, sym, true, ◌∙◌, ◌∷◌, ◌≡◌, ◌≤◌, ◌⊎◌}
+use Rattle.std.proofs.Common.{Bool, List, ap, arith, false, inl, inr, refl, subst, sym, true, ◌∙◌, ◌≡◌, ◌≤◌, ◌⊎◌}
 use Rattle.gen1_machine.specs.declared.side.Side.{Side}
 use Rattle.gen1_machine.specs.declared.side.Side.TheVariants.{One, Two}
 use Rattle.gen1_machine.specs.declared.terms.Outcome.{Outcome}
@@ -13,15 +13,14 @@ use Rattle.gen1_machine.specs.Progress.{Progress}
 use Rattle.gen1_machine.specs.Ruling.{ruling_of}
 use Rattle.gen1_machine.specs.Turn.{turn}
 use Rattle.gen1_machine.specs.OfferedChoices.{offered}
-use Rattle.gen1_machine.specs.Step.{Accepted, Answer, NotOffered, Over, Refused, Stepped, accepted, answered, close_update, offers, opened, refused, run_by, step, step_by, update, update_for}
+use Rattle.gen1_machine.specs.Step.{Accepted, Answer, NotOffered, Over, Refused, Stepped, accepted, answered, close_update, offers, opened, refused, step, step_by, update, update_for}
 use Rattle.gen1_machine.specs.Valid.{IsAsked, IsStarted, IsState, IsUnstarted, StandsAs}
 use Rattle.gen1_machine.proofs.Bounds.{step_is_bounded}
-use Rattle.gen1_machine.proofs.ValidStates.{states_stay_valid}
 use Rattle.gen1_layout.specs.Parts.{Parts}
 use Rattle.gen1_layout.specs.Within.{Stands, Within, setting_of}
 use Rattle.gen1_requests.specs.Updates.{Plays, Starts, Steps}
-use Rattle.gen1_requests.proofs.Stepped.{step_accepts}
-use Rattle.gen1_engine.specs.Updating.{AreOffered, IsBounded, IsBoundedAs}
+use Rattle.gen1_requests.proofs.Stepped.{step_accepts, valid-after}
+use Rattle.gen1_engine.specs.Update.{AreOffered, IsBounded, IsBoundedAs}
 
 -- where something is offered the battle goes on
 pub goes_on : (s : State) (side : Side) (c : Choice) → offers s side c ≡ true → s.field.outcome ≡ outcomes.Ongoing
@@ -76,7 +75,7 @@ both_move s valid e asked = by valid.field
 
 -- which update it is, by what is asked of side 1 and by the turn
 
-unstarted_at : (s : State) → IsState s → s.field.turn ≡ 0 → IsUnstarted s.terms s.field
+pub unstarted_at : (s : State) → IsState s → s.field.turn ≡ 0 → IsUnstarted s.terms s.field
 unstarted_at s valid e = by valid.field
   where
     by : IsUnstarted s.terms s.field ⊎ IsStarted s.terms s.field → IsUnstarted s.terms s.field
@@ -130,10 +129,6 @@ starts_so {s = s} {one = one} {two = two} {parts = parts} {events = events} o st
     subst (λ (c : Choice). Steps s c two parts events) (sym first) (subst (λ (c : Choice). Steps s choices.Pass c parts events) (sym second) h)
 
 -- a turn
-
-valid-after : (s : State) (one two : Choice) → IsState s → IsState (step s one two).state
-unfolding run_by
-valid-after s one two valid = states_stay_valid s ((one, two) ∷ []) valid
 
 turns-as : (s : State) (one two : Choice) → Plays s requests.Move one two → s.field.request_one ≡ requests.Move → s.field.request_two ≡ requests.Move
     → step s one two ≡ accepted s (close_update (ruling_of s.terms) (turn (ruling_of s.terms) one two (opened s)))

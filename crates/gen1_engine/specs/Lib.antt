@@ -1,6 +1,6 @@
 -- What an update answers and leaves.
-pub mod Updating
+pub mod Update
 -- Many updates, one after the other.
-pub mod Replaying
+pub mod Replay
 -- What any calls come to.
-pub mod Calling
+pub mod Calls

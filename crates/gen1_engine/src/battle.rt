@@ -1,28 +1,26 @@
-//! A battle that stands for a valid state whenever nobody is inside it.
+//! A battle that stands for a valid state whenever nobody is inside it (docs/LAYOUT.md, "The 384 bytes of a battle").
 ghost use Rattle.std.specs.Prelude.{IfOk, IsOk, length, ◌↔◌, ◌≡◌, ◌≤◌, ◌||◌};
-ghost use Rattle.gen1_machine.specs.Code.{codes_of};
+ghost use Rattle.gen1_machine.specs.LogBytes.{codes_of};
 ghost use Rattle.gen1_machine.specs.Layout.{bytes_of};
 ghost use Rattle.gen1_machine.specs.OfferedChoices.{offered};
 ghost use Rattle.gen1_machine.specs.State.{State, first_state, usual_terms};
-ghost use Rattle.gen1_layout.specs.Reading.{IsLoadedAs};
-ghost use Rattle.gen1_layout.specs.ReadingMeaning.{IsBattle, StandsForSome};
+ghost use Rattle.gen1_layout.specs.Loading.{IsLoadedAs};
+ghost use Rattle.gen1_layout.specs.LoadingMeaning.{IsBattle, StandsForSome};
 ghost use Rattle.gen1_layout.specs.Within.{Stands};
-ghost use Rattle.gen1_engine.specs.Replaying.{AnswersBytes, LogsBytes, Replays, TellsBytes, is_write_fault};
-ghost use Rattle.gen1_engine.specs.Updating.{Answers, IsBounded, Logs, Tells, result_of};
+ghost use Rattle.gen1_engine.specs.Replay.{AnswersBytes, LogsBytes, Replays, TellsBytes, is_write_fault};
+ghost use Rattle.gen1_engine.specs.Update.{Answers, IsBounded, Logs, Tells, result_of};
 
-use crate::replaying::{ReplayFault, replay, update_by_bytes, update_events_by_bytes};
+use crate::choice_bytes::{update_by_bytes, update_events_by_bytes};
+use crate::replay::{ReplayFault, replay};
 use crate::result::{BattleResult, Refusal};
-use crate::updating::{result, update, update_events};
+use crate::update::{result, update, update_events};
 use gen1_events::LogBuf;
-use gen1_layout::{Packed, ReadFault};
+use gen1_layout::{LoadFault, Packed};
 use gen1_machine::{Choice, EventList, Rules, Side, Sink, TurnLimit};
 use gen1_requests::{Choices, offered};
 use gen1_stats::Team;
 use std::alloc::AllocError;
 use std::marker::Model;
-
-/// Why bytes are no battle, with its number from 1 to 7 (docs/LAYOUT.md, "Loading").
-pub type LoadFault = ReadFault;
 
 /// A battle between two updates (docs/LAYOUT.md): its 384 bytes are those of a valid state.
 #[derive(Drop)]
@@ -32,7 +30,7 @@ pub struct Battle {
 
 impl Model for Battle {
     ghost use Rattle.gen1_layout.specs.Parts.{Parts};
-    ghost use Rattle.gen1_layout.specs.ReadingMeaning.{StandsForSome};
+    ghost use Rattle.gen1_layout.specs.LoadingMeaning.{StandsForSome};
 
     ghost Value = { Parts };
 
@@ -69,7 +67,8 @@ impl Battle {
 
     /// The same under rules (docs/MECHANICS.md, "Rules (sleep clause, freeze clause)").
     pub fn with_rules(one: &Team, two: &Team, seed: [u8; 10], rules: Rules) -> Battle
-        ensures { Stands result (first_state (record { rules = rules; limit = 1000 }) one.now two.now seed) }
+        ensures { Stands result
+            (first_state (record { rules = rules; limit = 1000 }) one.now two.now seed) }
     {
         Battle {
             packed: Packed::with_rules(one, two, seed, rules),
@@ -84,7 +83,8 @@ impl Battle {
         rules: Rules,
         limit: TurnLimit,
     ) -> Battle
-        ensures { Stands result (first_state (record { rules = rules; limit = limit }) one.now two.now seed) }
+        ensures { Stands result
+            (first_state (record { rules = rules; limit = limit }) one.now two.now seed) }
     {
         Battle {
             packed: Packed::with_limit(one, two, seed, rules, limit),
@@ -101,7 +101,7 @@ impl Battle {
         ensures battle { IsOk result ↔ IsBattle bytes.now }
         ensures stands { IfOk result (λ loaded. StandsForSome loaded) }
     {
-        match Packed::read(bytes) {
+        match Packed::load(bytes) {
             Ok(packed) => Ok(Battle { packed }),
             Err(fault) => Err(fault),
         }
@@ -158,7 +158,8 @@ impl Battle {
         two: Choice,
         log: &mut LogBuf,
     ) -> Result<BattleResult, Refusal>
-        ensures answers { (s : State) → Stands self.old s → Answers s one two self.old self.new result }
+        ensures answers { (s : State) → Stands self.old s
+            → Answers s one two self.old self.new result }
         ensures logs { (s : State) → Stands self.old s → Logs s one two log.old log.new }
         ensures bounded { (s : State) → Stands self.old s → IsBounded s one two }
     {
@@ -177,7 +178,8 @@ impl Battle {
         two: u8,
         log: &mut LogBuf,
     ) -> Result<BattleResult, Refusal>
-        ensures answers { (s : State) → Stands self.old s → AnswersBytes s (one, two) self.old self.new result }
+        ensures answers { (s : State) → Stands self.old s
+            → AnswersBytes s (one, two) self.old self.new result }
         ensures logs { (s : State) → Stands self.old s → LogsBytes s (one, two) log.old log.new }
     {
         let mut events = EventList::new();
@@ -196,7 +198,8 @@ impl Battle {
         two: Choice,
         events: &mut EventList,
     ) -> Result<BattleResult, Refusal>
-        ensures answers { (s : State) → Stands self.old s → Answers s one two self.old self.new result }
+        ensures answers { (s : State) → Stands self.old s
+            → Answers s one two self.old self.new result }
         ensures tells { (s : State) → Stands self.old s → Tells s one two events.old events.new }
         ensures bounded { (s : State) → Stands self.old s → IsBounded s one two }
         // There is room for their bytes in a buffer.
@@ -216,8 +219,10 @@ impl Battle {
         two: u8,
         events: &mut EventList,
     ) -> Result<BattleResult, Refusal>
-        ensures answers { (s : State) → Stands self.old s → AnswersBytes s (one, two) self.old self.new result }
-        ensures tells { (s : State) → Stands self.old s → TellsBytes s (one, two) events.old events.new }
+        ensures answers { (s : State) → Stands self.old s
+            → AnswersBytes s (one, two) self.old self.new result }
+        ensures tells { (s : State) → Stands self.old s
+            → TellsBytes s (one, two) events.old events.new }
         // There is room for their bytes in a buffer.
         ensures short { IsOk result → length (codes_of events.new.items) ≤ 512 }
     {
@@ -235,7 +240,8 @@ impl Battle {
         pairs: &[(u8, u8)],
         sink: &mut W,
     ) -> Result<BattleResult, ReplayFault>
-        ensures replays { (s : State) → Stands self.old s → Replays s pairs.now self.new (W.contents sink.old) (W.contents sink.new) result }
+        ensures replays { (s : State) → Stands self.old s
+            → Replays s pairs.now self.new (W.contents sink.old) (W.contents sink.new) result }
         ensures fault { W.has_failed sink.new ≡ (W.has_failed sink.old || is_write_fault result) }
     {
         replay(&mut self.packed, pairs, sink)

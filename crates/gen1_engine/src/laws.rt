@@ -1,6 +1,6 @@
-//! Laws of any calls of `Battle::update`, one after the other, from a battle of two teams or a loaded one. Each function does
-//! nothing: its contract is the law.
-ghost use Rattle.gen1_engine.specs.Calling.{CallsAreTheRun, CallsEnd, OfferedIsAccepted};
+//! Laws of any calls of `Battle::update`, one after the other, from a battle of two teams or a loaded one (docs/MECHANICS.md,
+//! "Offered choices", "Turn limit"). Each function does nothing: its contract is the law.
+ghost use Rattle.gen1_engine.specs.Calls.{CallsAreTheRun, CallsEnd, OfferedIsAccepted};
 
 /// A pair of choices that are both offered is never refused.
 pub fn offered_is_accepted()

@@ -1,17 +1,28 @@
 //! A battle that is played update by update: the choices of both sides, its log, and its 384 bytes (docs/MECHANICS.md,
 //! docs/LAYOUT.md).
+//!
+//! - `battle`: [`Battle`], valid whenever nobody is inside it
+//! - `packed`: updates of a `Packed` that a caller keeps
+//! - `update`: an update, by what is asked of the sides
+//! - `choice_bytes`: the same by the bytes of choices
+//! - `replay`: many updates, one after the other
+//! - `result`: what a battle answers to an update
+//! - `log`: the log bytes of an update
+//! - `laws`: what holds of all calls
 #![tactic(auto)]
 
 mod battle;
+mod choice_bytes;
 pub mod laws;
-mod logging;
+mod log;
 pub mod packed;
-mod replaying;
+mod replay;
 mod result;
-mod updating;
+mod update;
 
-pub use battle::{Battle, LoadFault};
+pub use battle::Battle;
+pub use gen1_layout::LoadFault;
 pub use gen1_requests::Choices;
-pub use logging::write_log;
-pub use replaying::ReplayFault;
+pub use log::write_log;
+pub use replay::ReplayFault;
 pub use result::{BattleResult, Refusal};

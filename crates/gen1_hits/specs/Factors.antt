@@ -1,4 +1,4 @@
--- What the code's factors are of the machine's: a draw of one, and the list of all.
+-- What the code's factors are of the machine's (docs/MECHANICS.md, "Factors"): a draw of one, and the list of all.
 use Rattle.std.specs.Prelude.{List, Option, if◌then◌else◌, map, nat_le, option_map, ℕ, ◌≡◌}
 use Rattle.std.specs.List.{range_with_len}
 use Rattle.gen1_rolls.specs.Draws.{StandsAt}

@@ -1,4 +1,4 @@
--- Which moves have the usual damage.
+-- Which moves have the usual damage (docs/MECHANICS.md, "Fixed damage and one-hit moves", "Counter").
 use Rattle.std.specs.Prelude.{Bool, false, nat_lt, not, true, ◌&&◌}
 use Rattle.gen1_tables.specs.declared.effect.Effect.{Effect}
 use Rattle.gen1_tables.specs.declared.effect.Effect.TheVariants.{Counter, FixedDamage, OneHitKnockOut, SuperFang}

@@ -24,7 +24,9 @@ const SLASH: u8 = 163;
 pub fn critical<R: Rolls>(battle: &Packed, side: Side, id: MoveId, random: &mut R) -> bool
     ensures shown { (origin : R) (g : Frame) (events : List Event) (p : Progress)
         → ShowsDrawn R.byte R.next R.SPAN origin g battle.now events random.old false p
-        → ShowsDrawn R.byte R.next R.SPAN origin (record g { action = record g.action { critical = result } }) battle.now events random.new false (roll_critical side (move_at id) p) }
+        → ShowsDrawn R.byte R.next R.SPAN origin
+        (record g { action = record g.action { critical = result } }) battle.now events random.new
+        false (roll_critical side (move_at id) p) }
 {
     let rotated = rotated_left_3(random.draw());
     let focused = battle.is_on(side, Conditions::FOCUS_ENERGY);

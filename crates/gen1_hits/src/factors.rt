@@ -1,14 +1,14 @@
-//! The factor of a hit's damage (docs/MECHANICS.md, "Factor"): one that is drawn, and all of them.
+//! The factor of a hit's damage (docs/MECHANICS.md, "Factors"): one that is drawn, and all of them.
 ghost use Rattle.std.specs.Prelude.{map, ◌≡◌, ◌≤◌};
 ghost use Rattle.std.specs.List.{range_with_len};
 ghost use Rattle.gen1_machine.specs.Damage.{is_factor, rotated_right_1, times_factor};
 ghost use Rattle.gen1_hits.specs.Factors.{Varies, damages, varied};
 
-use crate::formula::{Numbers, damage};
-use crate::type_rows::type_steps;
+use crate::damage_formula::{Numbers, damage};
+use crate::types::type_steps;
 use gen1_rolls::{Rolls, until};
 
-/// Damage times a factor that is drawn, in 255ths (docs/MECHANICS.md, "Factor"). Damage 0 and 1 are kept, without a draw.
+/// Damage times a factor that is drawn, in 255ths (docs/MECHANICS.md, "Factors"). Damage 0 and 1 are kept, without a draw.
 pub fn factor<R: Rolls>(damage: u16, random: &mut R) -> u16
     ensures varies { Varies R.byte R.next R.SPAN damage random.old result random.new }
     ensures most { result ≤ damage }
@@ -22,7 +22,7 @@ pub fn factor<R: Rolls>(damage: u16, random: &mut R) -> u16
     }
 }
 
-/// The damage of a hit at each factor from 217 to 255, in this order (docs/MECHANICS.md, "Factor"): 39 times the same
+/// The damage of a hit at each factor from 217 to 255, in this order (docs/MECHANICS.md, "Factors"): 39 times the same
 /// where it is 0 or 1. `None` where the divisor is 0.
 pub fn damage_list(numbers: &Numbers) -> Option<[u16; 39]>
     ensures { result ≡ damages numbers.now }
@@ -57,7 +57,8 @@ fn times_factor(factor: u8, damage: u16) -> u16
     (u32::from(damage) * u32::from(factor) / 255) as u16
 }
 
-fn is_factor(byte: u8) -> bool
+/// Whether a byte that is drawn, rotated right by 1 bit, is a factor: at least 217 (docs/MECHANICS.md, "Factors").
+pub fn is_factor(byte: u8) -> bool
     ensures { result ≡ is_factor byte }
 {
     rotated(byte) >= 217

@@ -8,7 +8,7 @@ use gen1_machine::{DamageSource, Event, EventList, Side};
 
 /// Takes HP from the member of `side` that is out: `amount`, or as many as there are. `Damage` with the health after it and
 /// the source is written where that takes any, and one place in `events` is to be free for it (docs/MECHANICS.md, "Landing",
-/// "Residual"). Nothing else changes.
+/// "Residual damage"). Nothing else changes.
 #[inline(always)] // docs/SPEED.md, "Hints on inlining"
 pub fn lose_hp(
     battle: &mut Packed,
@@ -17,8 +17,9 @@ pub fn lose_hp(
     amount: u16,
     events: &mut EventList,
 )
-    requires { HasRoom 1 events.old }
-    ensures shown { Does battle.old events.old.items battle.new events.new.items false (lose_hp side source amount) }
+    requires room { HasRoom 1 events.old }
+    ensures shown { Does battle.old events.old.items battle.new events.new.items false
+        (lose_hp side source amount) }
     ensures room { AddsAtMost 1 events.old events.new }
 {
     if !loses(battle, side, amount) {
@@ -32,7 +33,8 @@ pub fn lose_hp(
 
 // Whether taking so many HP takes any.
 fn loses(battle: &Packed, side: Side, amount: u16) -> bool
-    ensures stands { Reads battle.now result λ f. (nat_lt 0 amount && is_living (member_in side f)) }
+    ensures stands { Reads battle.now result λ f.
+        (nat_lt 0 amount && is_living (member_in side f)) }
 {
     0 < amount && 0 < battle.hp(side)
 }
@@ -46,10 +48,11 @@ fn hurt(battle: &mut Packed, side: Side, amount: u16)
 
 /// Gives HP to the member of `side` that is out: `amount`, or as many as it lacks. `Heal` with the health after it is
 /// written where that gives any, and one place in `events` is to be free for it (docs/MECHANICS.md, "Recoil, drain and
-/// explosion", "Residual"). Nothing else changes.
+/// explosion", "Residual damage"). Nothing else changes.
 pub fn gain_hp(battle: &mut Packed, side: Side, amount: u16, events: &mut EventList)
-    requires { HasRoom 1 events.old }
-    ensures shown { Does battle.old events.old.items battle.new events.new.items false (gain_hp side amount) }
+    requires room { HasRoom 1 events.old }
+    ensures shown { Does battle.old events.old.items battle.new events.new.items false
+        (gain_hp side amount) }
     ensures room { AddsAtMost 1 events.old events.new }
 {
     if !gains(battle, side, amount) {
@@ -63,7 +66,8 @@ pub fn gain_hp(battle: &mut Packed, side: Side, amount: u16, events: &mut EventL
 
 // Whether giving so many HP gives any.
 fn gains(battle: &Packed, side: Side, amount: u16) -> bool
-    ensures stands { Reads battle.now result λ f. (nat_lt 0 amount && nat_lt (member_in side f).hp (member_in side f).max) }
+    ensures stands { Reads battle.now result λ f.
+        (nat_lt 0 amount && nat_lt (member_in side f).hp (member_in side f).max) }
 {
     0 < amount && battle.hp(side) < battle.max_hp(side)
 }

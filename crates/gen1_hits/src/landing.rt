@@ -3,7 +3,7 @@ ghost use Rattle.std.specs.Prelude.{◌≡◌};
 ghost use Rattle.gen1_layout.specs.Words.{AddsAtMost, Does, Frame, HasRoom, Progress, Reads, Shows, Some, conditions_in, false, nat_lt, other};
 ghost use Rattle.gen1_machine.specs.Progress.{only};
 ghost use Rattle.gen1_machine.specs.Landing.{breaks, land_damage, land_on_hp, land_on_substitute};
-ghost use Rattle.gen1_hits.specs.Landed.{has_broken, landed_on, with_break};
+ghost use Rattle.gen1_hits.specs.Landing.{has_broken, landed_on, with_break};
 
 use gen1_layout::Packed;
 use gen1_machine::{DamageSource, Event, EventList, Side, Volatile};
@@ -23,10 +23,12 @@ pub enum Landed {
 /// what was there. Damage 0 changes nothing. At most one event is written, and one place in `events` is to be free for it
 /// (docs/MECHANICS.md, "Landing").
 pub fn land(battle: &mut Packed, user: Side, damage: u16, events: &mut EventList) -> Landed
-    requires { HasRoom 1 events.old }
+    requires room { HasRoom 1 events.old }
     ensures shown { (g : Frame) (p : Progress) → Shows g battle.old events.old.items false p
-        → Shows (with_break (has_broken result) g) battle.new events.new.items false (only (nat_lt 0 damage) (land_damage (other user) damage) p) }
-    ensures landed { Reads battle.old result λ f. landed_on damage (conditions_in (other user) f).substitute }
+        → Shows (with_break (has_broken result) g) battle.new events.new.items false
+        (only (nat_lt 0 damage) (land_damage (other user) damage) p) }
+    ensures landed { Reads battle.old result λ f. landed_on damage
+        (conditions_in (other user) f).substitute }
     ensures room { AddsAtMost 1 events.old events.new }
 {
     if damage == 0 {
@@ -58,10 +60,11 @@ pub fn land_on_substitute(
     hp: u8,
     events: &mut EventList,
 ) -> bool
-    requires { HasRoom 1 events.old }
+    requires room { HasRoom 1 events.old }
     ensures shown { (g : Frame) (p : Progress) → Shows g battle.old events.old.items false p
         → (conditions_in target p.field).substitute ≡ Some hp
-        → Shows (with_break result g) battle.new events.new.items false (land_on_substitute target damage hp p) }
+        → Shows (with_break result g) battle.new events.new.items false
+        (land_on_substitute target damage hp p) }
     ensures broken { result ≡ breaks damage hp }
     ensures room { AddsAtMost 1 events.old events.new }
 {
@@ -92,8 +95,9 @@ pub fn land_on_hp(
     damage: u16,
     events: &mut EventList,
 )
-    requires { HasRoom 1 events.old }
-    ensures shown { Does battle.old events.old.items battle.new events.new.items false (land_on_hp target source damage) }
+    requires room { HasRoom 1 events.old }
+    ensures shown { Does battle.old events.old.items battle.new events.new.items false
+        (land_on_hp target source damage) }
     ensures room { AddsAtMost 1 events.old events.new }
 {
     let taken = damage.min(battle.hp(target));

@@ -1,23 +1,33 @@
 //! What a hit comes to, over the bytes of a battle (docs/MECHANICS.md, "Critical hits" to "Landing"): whether it is critical,
 //! its damage, whether it hits, and where it lands.
+//!
+//! - `critical_hits`: whether a hit is critical
+//! - `damage_numbers`: the numbers of a hit, out of the battle
+//! - `damage_formula`: the damage that these numbers give
+//! - `types`: what the types make of the damage
+//! - `factors`: the factor of the damage that is drawn
+//! - `usual_damage`: which moves have damage of this kind
+//! - `hit_tests`: whether the move hits
+//! - `landing`: where the damage lands
+//! - `hp`: HP that are lost and gained
 #![tactic(auto)]
 
-mod accuracy;
 mod critical_hits;
+mod damage_formula;
+mod damage_numbers;
 mod factors;
-mod formula;
+mod hit_tests;
 mod hp;
 mod landing;
-mod strength;
-mod type_rows;
+mod types;
 mod usual_damage;
 
-pub use accuracy::{Hit, hit_test, scaled_accuracy};
 pub use critical_hits::{critical, critical_bound};
-pub use factors::{damage_list, factor};
-pub use formula::{Numbers, damage};
+pub use damage_formula::{Numbers, damage};
+pub use damage_numbers::{numbers, own_numbers};
+pub use factors::{damage_list, factor, is_factor};
+pub use hit_tests::{Hit, hit_test, scaled_accuracy};
 pub use hp::{gain_hp, lose_hp};
 pub use landing::{Landed, land, land_on_hp, land_on_substitute};
-pub use strength::{numbers, own_numbers};
-pub use type_rows::type_steps;
+pub use types::type_steps;
 pub use usual_damage::has_usual_damage;

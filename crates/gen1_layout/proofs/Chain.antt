@@ -9,9 +9,9 @@ use Rattle.gen1_machine.specs.declared.side.Side.{Side}
 use Rattle.gen1_machine.specs.declared.event.Event.{Event}
 use Rattle.gen1_machine.specs.Conditions.{ActiveConditions}
 use Rattle.gen1_machine.specs.State.{changed_active, changed_conditions, changed_member, with_last_damage, Active, Field}
-use Rattle.gen1_machine.specs.Progress.{Action, Phase, Progress, choose, draw, given, new_action, note, on_action, on_active, on_conditions, on_field, on_member, set_last_damage, stay, stop, told, unless_stopped, when, ◌▸◌}
+use Rattle.gen1_machine.specs.Progress.{Action, Phase, Progress, choose, draw, given, note, on_action, on_active, on_conditions, on_field, on_member, set_last_damage, stay, stop, told, unless_stopped, when, ◌▸◌}
 use Rattle.gen1_layout.specs.Parts.{Parts}
-use Rattle.gen1_layout.specs.Within.{Setting, Within}
+use Rattle.gen1_layout.specs.Within.{Within}
 use Rattle.gen1_layout.specs.Shows.{Frame, Shows, ShowsDrawn}
 
 -- phases, by what they come to
@@ -174,16 +174,3 @@ module _ {A : Type 0} {byte : A → ℕ} {next : A → A} {width : ℕ} {origin 
   drawn_acted {g = g} f h = still {g' = record g { action = f g.action }} h (acted f h.shows) refl
 
 -- how what is shown begins: no draws, no events, and nothing known of the action
-
-abbrev pub begun_in : Field → Stream → Side → Progress
-begun_in f s side = record { field = f; stream = s; drawn = 0; events = []; stopped = false; skips = false; action = new_action side }
-
-abbrev pub frame_in : Setting → Stream → Side → Frame
-frame_in g s side = record { setting = g; stream = s; drawn = 0; skips = false; action = new_action side }
-
-pub begun-shown : {A : Type 0} {byte : A → ℕ} {next : A → A} {width : ℕ} {origin now : A} {s : Stream} {g : Setting} {parts : Parts} {f : Field} (side : Side)
-    → StandsAt byte next width origin s 0 now → Within g parts f → ShowsDrawn byte next width origin (frame_in g s side) parts [] now false (begun_in f s side)
-begun-shown side a w = record {
-  shows = record { within = w; written = refl; ends = refl; stream = refl; drawn = refl; skips = refl; action = refl };
-  stands = a;
-}

@@ -1,5 +1,5 @@
 -- The conditions in an active block: the bits as a number, and the numbers beside them.
-use Rattle.std.proofs.Common.{Bool, List, None, Option, Some, ap, arith, drop, false, is_some, refl, set, sym, take, true, unwrap_or, ℕ, ◌++◌, ◌+◌, ◌-◌, ◌<◌, ◌≡◌, ◌≤◌, ◌∙◌}
+use Rattle.std.proofs.Common.{List, None, Option, Some, ap, arith, drop, false, is_some, refl, set, sym, take, true, unwrap_or, ℕ, ◌++◌, ◌+◌, ◌-◌, ◌<◌, ◌≡◌, ◌≤◌, ◌∙◌}
 use Rattle.std.proofs.lemmas.List.{set-append_left, set-append_right}
 use Rattle.gen1_stats.specs.Members.{Member}
 use Rattle.std.specs.Prelude.{if◌then◌else◌}
@@ -100,10 +100,6 @@ energy_fits None h = omega arith
 energy_fits (Some x) h = omega (arith, h.1)
 
 -- what stays storable
-
-pub bits-bound : (b : Bool) → bit_of b ≤ 1
-bits-bound true = omega arith
-bits-bound false = omega arith
 
 pub less_alone : (u : Underway) → IsStorableUnderway u → Alone None u.thrash u.trapping × Alone u.bide None u.trapping × Alone u.bide u.thrash None
 less_alone u h = (omega (arith, h.alone), omega (arith, h.alone), omega (arith, h.alone))

@@ -18,15 +18,15 @@ pub mod Numbers
 pub mod Slots
 -- Loading.
 mod Loaded
-mod ReadingActives
-mod ReadingAnswers
-mod ReadingBits
-mod ReadingBlocks
-mod ReadingForms
-mod ReadingHeaders
-mod ReadingMembers
-mod ReadingParts
-mod ReadingPlaces
-mod ReadingRequestLaws
-mod ReadingStatLaws
-pub mod ReadingTests
+mod LoadingActives
+mod LoadingAnswers
+mod LoadingBits
+mod LoadingBlocks
+mod LoadingForms
+mod LoadingHeaders
+mod LoadingMembers
+mod LoadingParts
+mod LoadingPlaces
+mod LoadingRequestLaws
+mod LoadingStatLaws
+pub mod LoadingTests

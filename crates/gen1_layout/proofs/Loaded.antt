@@ -3,8 +3,8 @@ use Rattle.std.proofs.Common.{List, ap, inl, inr, length, ℕ, ◌∙◌, ◌≡
 use Rattle.gen1_machine.specs.State.{Field, Terms}
 use Rattle.gen1_machine.specs.Valid.{IsStarted, IsUnstarted}
 use Rattle.gen1_layout.specs.Parts.{parts_of, Parts}
-use Rattle.gen1_layout.specs.ReadingHeader.{version_three}
-use Rattle.gen1_layout.specs.ReadingMeaning.{IsBattle, StandsForSome}
+use Rattle.gen1_layout.specs.LoadingHeader.{version_three}
+use Rattle.gen1_layout.specs.LoadingMeaning.{IsBattle, StandsForSome}
 use Rattle.gen1_layout.proofs.Packing.{parts-bytes_of}
 
 few_one : (terms : Terms) (f : Field) → IsUnstarted terms f ⊎ IsStarted terms f → length f.one.members ≤ 6

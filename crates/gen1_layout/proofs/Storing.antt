@@ -1,12 +1,12 @@
 -- A field of a battle is storable, and a packed battle that stands for a started state is within an update of it.
 use Rattle.std.proofs.Common.{◌+◌, ◌≤◌}
-use Rattle.gen1_layout.proofs.Words.{Bool, DisabledSlot, Field, List, Member, None, Option, Parts, Some, Within, arith, false, inl, inr, is_some, lit≤, refl, subst, sym, true, ℕ}
+use Rattle.gen1_layout.proofs.Words.{Bool, DisabledSlot, Field, None, Option, Parts, Some, Within, arith, false, is_some, lit≤, refl, subst, sym, true, ℕ}
 use Rattle.gen1_tables.specs.declared.effect.Effect.{Effect}
 use Rattle.gen1_tables.specs.declared.effect.Effect.TheVariants.{Bide, Thrash, Trapping}
 use Rattle.gen1_machine.specs.Rules.{bit_of, Rules}
 use Rattle.gen1_machine.specs.Conditions.{Storing, Underway}
-use Rattle.gen1_machine.specs.Moves.{bides, thrashes, traps}
-use Rattle.gen1_machine.specs.State.{first_state, Party, State, Terms}
+use Rattle.gen1_tables.specs.Effects.{bides, thrashes, traps}
+use Rattle.gen1_machine.specs.State.{Party, State, Terms}
 use Rattle.gen1_machine.specs.Valid.{IsCount, IsDisabled, IsField, IsOutcome, IsParty, IsStoring, IsUnderway, IsUnstarted, OnlyWith}
 use Rattle.gen1_layout.specs.Storable.{IsStorable, IsStorableBide, IsStorableDisabled, IsStorableParty, IsStorableUnderway}
 use Rattle.gen1_layout.specs.Within.{Packs, setting_of, Stands}
@@ -88,9 +88,3 @@ packed_at p s h field = record {
   turn = omega (arith, field.turn);
   outcome = subst IsOutcome (sym field.outcome) tt;
 }
-
--- as a battle of two teams is
-pub packed_first : (p : Parts) (terms : Terms) (one two : List Member) (seed : List ℕ) → Stands p (first_state terms one two seed)
-    → Packs (setting_of (first_state terms one two seed)) p (first_state terms one two seed).field
-packed_first p terms one two seed h =
-    elim h.valid.field [ inl unstarted ↦ packed_at p (first_state terms one two seed) h unstarted | inr started ↦ absurd (omega (arith, started.turn)) ]

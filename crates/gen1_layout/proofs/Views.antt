@@ -106,15 +106,6 @@ two-lent at n w xs long low high =
 
 -- a part of either side
 
-pub part_of-lent : (s : Side) (at n : ℕ) (w xs : List ℕ) → length xs ≡ 384 → side_at s ≤ at → at + n ≤ side_at s + 180
-    → parts_of (rewritten at n w xs) ≡ with_side s (side_parts (side_at s) (rewritten at n w xs)) (parts_of xs)
-part_of-lent One at n w xs long low high = one-lent at n w xs long low high
-part_of-lent Two at n w xs long low high = two-lent at n w xs long low high
-
-pub side_of-parts : (s : Side) (xs : List ℕ) → side_of s (parts_of xs) ≡ side_parts (side_at s) xs
-side_of-parts One xs = refl
-side_of-parts Two xs = refl
-
 pub side-joined : (s : Side) (xs : List ℕ) → bytes_of_side (side_of s (parts_of xs)) ≡ part (side_at s) 180 xs
 side-joined One xs = side_one-joined xs
 side-joined Two xs = side_two-joined xs

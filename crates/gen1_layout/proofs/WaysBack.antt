@@ -95,15 +95,6 @@ rules_back r = both r.sleep_clause r.freeze_clause
     both false true = refl
     both false false = refl
 
-pub bits_small : (r : Rules) → bits_of_rules r ≤ 3
-bits_small r = both r.sleep_clause r.freeze_clause
-  where
-    both : (a b : Bool) → bit_of a + 2 * bit_of b ≤ 3
-    both true true = omega arith
-    both true false = omega arith
-    both false true = omega arith
-    both false false = omega arith
-
 pub bit_back : (b : Bool) → (bit_of b == 1) ≡ b
 bit_back true = refl
 bit_back false = refl

@@ -1,4 +1,4 @@
--- What a byte of a field says, where it says anything.
+-- What a byte of a field says, where it says anything (docs/LAYOUT.md, "Header", "Member", "Active block").
 use Rattle.std.specs.Prelude.{None, Option, Some, if◌then◌else◌, ℕ, ◌==◌}
 use Rattle.gen1_tables.specs.declared.element.Element.{Element}
 use Rattle.gen1_tables.specs.declared.element.Element.TheVariants.{Normal, Fighting, Flying, Poison, Ground, Rock, Bug, Ghost, Fire, Water, Grass, Electric, Psychic, Ice, Dragon}

@@ -1,4 +1,5 @@
--- Condition bits: several at once by their places, what stands beside them, and what a change of one bit leaves alone.
+-- Condition bits (docs/LAYOUT.md, "Condition bits"): several at once by their places, what stands beside them, and what a
+-- change of one bit leaves alone.
 use Rattle.std.specs.Prelude.{Bool, List, [], bit_or, false, slice_index_or, unwrap_or, ℕ, ◌^◌, ◌||◌, ◌≡◌, ◌∷◌}
 use Rattle.gen1_machine.specs.Conditions.{ActiveConditions}
 use Rattle.gen1_machine.specs.Layout.{disabled_slot, disabled_turns, energy_of, high_byte, low_byte, turns_of}

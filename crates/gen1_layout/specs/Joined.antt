@@ -1,4 +1,5 @@
--- 384 bytes that were taken apart are, joined, the bytes again: so a battle's parts say what its bytes are.
+-- 384 bytes that were taken apart are, joined, the bytes again (docs/LAYOUT.md, "The 384 bytes of a battle"): so a battle's
+-- parts say what its bytes are.
 use Rattle.std.proofs.Common.{List, ap, append_assoc, arith, drop, length, refl, sym, take, take-append-drop, ℕ, ◌++◌, ◌+◌, ◌≡◌, ◌∙◌}
 use Rattle.std.proofs.lemmas.List.{drop-drop, drop-take, take-take, take_all}
 use Rattle.gen1_layout.specs.Parts.{bytes_of_side, joined, part, parts_of, side_parts}

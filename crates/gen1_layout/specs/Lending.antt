@@ -1,4 +1,5 @@
--- What a lent part leaves when its loan is over: that part written anew, and every other part as it was.
+-- What a lent part leaves when its loan is over (docs/LAYOUT.md, "The 384 bytes of a battle"): that part written anew, and
+-- every other part as it was.
 use Rattle.std.specs.Prelude.{List, ℕ, ◌+◌, ◌-◌}
 use Rattle.std.specs.Borrow.{Array, Fml, Lends, LendsBoth, MutBor, u8}
 use Rattle.std.specs.List.{refill}

@@ -13,12 +13,12 @@ pub mod Shows
 -- What contracts say and speak of, in a word each.
 pub mod Words
 -- Loading: the tests of the bytes, and what they mean.
-pub mod ReadingBytes
-pub mod ReadingHeader
-pub mod ReadingMember
-pub mod ReadingActive
-pub mod ReadingStats
-pub mod ReadingRequests
-pub mod Reading
-pub mod ReadingMeaning
-pub mod ReadingLaws
+pub mod LoadingBytes
+pub mod LoadingHeader
+pub mod LoadingMember
+pub mod LoadingActive
+pub mod LoadingStats
+pub mod LoadingRequests
+pub mod Loading
+pub mod LoadingMeaning
+pub mod LoadingLaws

@@ -1,5 +1,5 @@
--- The 384 bytes as their parts (docs/LAYOUT.md): a header of 24, and for each side six members of 24 and an active block
--- of 36.
+-- The 384 bytes as their parts (docs/LAYOUT.md, "The 384 bytes of a battle"): a header of 24, and for each side six members of
+-- 24 and an active block of 36.
 use Rattle.std.specs.Prelude.{List, [], drop, flat_map, slice_index, slice_index_or, slice_set, take, ℕ, ◌%◌, ◌*◌, ◌++◌, ◌+◌, ◌-◌, ◌∷◌}
 use Rattle.std.specs.List.{refill}
 use Rattle.gen1_machine.specs.declared.side.Side.{Side}

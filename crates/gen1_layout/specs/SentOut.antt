@@ -1,4 +1,4 @@
--- A member that is sent out, before anything happens to it.
+-- A member that is sent out, before anything happens to it (docs/MECHANICS.md, "Switching in").
 use Rattle.std.specs.Prelude.{List, [], ℕ, ◌∷◌}
 use Rattle.gen1_tables.specs.declared.element.Element.{Element}
 use Rattle.gen1_tables.specs.declared.effect.Stat.TheVariants.{Attack, Defense, Special, Speed}

@@ -1,5 +1,5 @@
--- What the parts of a packed battle stand for: a state between two updates (`Stands`), and a field inside an update
--- (`Within`). Both are said by the machine's own packing, block by block.
+-- What the parts of a packed battle stand for (docs/LAYOUT.md, "The 384 bytes of a battle"): a state between two updates
+-- (`Stands`), and a field inside an update (`Within`). Both are said by the machine's own packing, block by block.
 use Rattle.std.specs.Prelude.{List, ℕ, ◌≡◌, ◌≤◌}
 use Rattle.gen1_rolls.specs.Streams.{IsStream, Link}
 use Rattle.gen1_machine.specs.State.{Field, Party, State, Terms}

@@ -7,8 +7,8 @@ ghost use Rattle.gen1_machine.specs.Layout.{active_block};
 ghost use Rattle.gen1_layout.specs.SentOut.{sent_as, stats_of};
 
 use crate::Packed;
-use crate::beginning::{high, low};
 use crate::codes::{byte_of_used, element_from, used_from};
+use crate::first_state::{high, low};
 use byteorder::{ByteOrder, LittleEndian};
 use gen1_machine::{Side, UsedMove};
 use gen1_tables::{Element, Stat};
@@ -45,7 +45,8 @@ impl Packed {
     /// A stat as it stands, at its stage and after its penalties, from 1 to 999; accuracy and evasion have no number and
     /// give 1.
     pub fn current_stat(&self, side: Side, stat: Stat) -> u16
-        ensures stands { (g : Setting) (f : Field) → Within g self.now f → has_number stat ≡ true → result ≡ now_in stat side f }
+        ensures stands { (g : Setting) (f : Field) → Within g self.now f → has_number stat ≡ true
+            → result ≡ now_in stat side f }
         ensures without_number { has_number stat ≡ false → result ≡ 1 }
     {
         match stat {
@@ -81,7 +82,8 @@ impl Packed {
 
     /// Writes both types.
     pub fn put_types(&mut self, side: Side, first: Element, second: Element)
-        ensures stands { WritesActive side self.old self.new λ a. record a { first_type = first; second_type = second } }
+        ensures stands { WritesActive side self.old self.new λ a. record a
+            { first_type = first; second_type = second } }
     {
         let first = first.number();
         let second = second.number();
@@ -92,7 +94,9 @@ impl Packed {
 
     /// Writes the move that was used last: none, Struggle, or a slot that holds a move.
     pub fn put_current_move(&mut self, side: Side, used: UsedMove)
-        ensures stands { WritesActiveIf side self.old self.new (λ a. record a { current_move = used }) λ g f. IsUsedMove (length (member_in side f).moves) used }
+        ensures stands { WritesActiveIf side self.old self.new
+            (λ a. record a { current_move = used }) λ g f. IsUsedMove
+            (length (member_in side f).moves) used }
     {
         let byte = byte_of_used(used);
         self.active_mut(side)[29] = byte;
@@ -100,7 +104,9 @@ impl Packed {
 
     /// Writes the move that was picked last: none, Struggle, or a slot that holds a move.
     pub fn put_picked_move(&mut self, side: Side, used: UsedMove)
-        ensures stands { WritesActiveIf side self.old self.new (λ a. record a { picked_move = used }) λ g f. IsUsedMove (length (member_in side f).moves) used }
+        ensures stands { WritesActiveIf side self.old self.new
+            (λ a. record a { picked_move = used }) λ g f. IsUsedMove
+            (length (member_in side f).moves) used }
     {
         let byte = byte_of_used(used);
         self.active_mut(side)[30] = byte;
@@ -108,29 +114,37 @@ impl Packed {
 
     /// Writes the accuracy byte that is kept.
     pub fn put_kept_accuracy(&mut self, side: Side, byte: u8)
-        ensures stands { WritesActive side self.old self.new λ a. record a { kept_accuracy = byte } }
+        ensures stands { WritesActive side self.old self.new λ a. record a
+            { kept_accuracy = byte } }
     {
         self.active_mut(side)[31] = byte;
     }
 
     /// Writes the stage of accuracy, from 0 to 12. There is no number beside it.
     pub fn put_accuracy(&mut self, side: Side, stage: u8)
-        ensures stands { WritesActiveIf side self.old self.new (λ a. record a { stages = record a.stages { accuracy = stage } }) λ g f. stage ≤ 12 }
+        ensures stands { WritesActiveIf side self.old self.new
+            (λ a. record a { stages = record a.stages { accuracy = stage } }) λ g f. stage ≤ 12 }
     {
         self.active_mut(side)[7] = stage;
     }
 
     /// Writes the stage of evasion, from 0 to 12.
     pub fn put_evasion(&mut self, side: Side, stage: u8)
-        ensures stands { WritesActiveIf side self.old self.new (λ a. record a { stages = record a.stages { evasion = stage } }) λ g f. stage ≤ 12 }
+        ensures stands { WritesActiveIf side self.old self.new
+            (λ a. record a { stages = record a.stages { evasion = stage } }) λ g f. stage ≤ 12 }
     {
         self.active_mut(side)[8] = stage;
     }
 
     /// Writes the stage of Attack, and the Attack that it gives, after any number of halvings.
     pub fn put_attack(&mut self, side: Side, stage: u8, value: u16)
-        ensures stands { (g : Setting) (f : Field) (change : Active → Active) (penalties : ℕ) → Within g self.old f
-            → change (active_in side f) ≡ record (active_in side f) { stages = record (active_in side f).stages { attack = stage }; attack_penalties = penalties }
+        ensures stands { (g : Setting) (f : Field) (change : Active → Active) (penalties : ℕ)
+            → Within g self.old f
+            → change (active_in side f) ≡ record (active_in side f) {
+              stages = record (active_in side f).stages { attack = stage };
+              attack_penalties
+                  = penalties;
+            }
             → value ≡ now Attack (member_in side f) (change (active_in side f)) → stage ≤ 12
             → Within g self.new (changed_active side change f) }
     {
@@ -141,8 +155,13 @@ impl Packed {
 
     /// Writes the stage of Speed, and the Speed that it gives, after any number of quarterings.
     pub fn put_speed(&mut self, side: Side, stage: u8, value: u16)
-        ensures stands { (g : Setting) (f : Field) (change : Active → Active) (penalties : ℕ) → Within g self.old f
-            → change (active_in side f) ≡ record (active_in side f) { stages = record (active_in side f).stages { speed = stage }; speed_penalties = penalties }
+        ensures stands { (g : Setting) (f : Field) (change : Active → Active) (penalties : ℕ)
+            → Within g self.old f
+            → change (active_in side f) ≡ record (active_in side f) {
+              stages = record (active_in side f).stages { speed = stage };
+              speed_penalties
+                  = penalties;
+            }
             → value ≡ now Speed (member_in side f) (change (active_in side f)) → stage ≤ 12
             → Within g self.new (changed_active side change f) }
     {
@@ -154,7 +173,8 @@ impl Packed {
     /// Writes the stage of Defense, and the Defense that it gives.
     pub fn put_defense(&mut self, side: Side, stage: u8, value: u16)
         ensures stands { (g : Setting) (f : Field) (change : Active → Active) → Within g self.old f
-            → change (active_in side f) ≡ record (active_in side f) { stages = record (active_in side f).stages { defense = stage } }
+            → change (active_in side f) ≡ record (active_in side f)
+            { stages = record (active_in side f).stages { defense = stage } }
             → value ≡ now Defense (member_in side f) (change (active_in side f)) → stage ≤ 12
             → Within g self.new (changed_active side change f) }
     {
@@ -166,7 +186,8 @@ impl Packed {
     /// Writes the stage of Special, and the Special that it gives.
     pub fn put_special(&mut self, side: Side, stage: u8, value: u16)
         ensures stands { (g : Setting) (f : Field) (change : Active → Active) → Within g self.old f
-            → change (active_in side f) ≡ record (active_in side f) { stages = record (active_in side f).stages { special = stage } }
+            → change (active_in side f) ≡ record (active_in side f)
+            { stages = record (active_in side f).stages { special = stage } }
             → value ≡ now Special (member_in side f) (change (active_in side f)) → stage ≤ 12
             → Within g self.new (changed_active side change f) }
     {
@@ -185,14 +206,18 @@ impl Packed {
         second: Element,
         stats: [u16; 4],
     )
-        ensures stands { (g : Setting) (f : Field) (change : Active → Active) (halved quartered : ℕ) → Within g self.old f
+        ensures stands { (g : Setting) (f : Field) (change : Active → Active) (halved quartered : ℕ)
+            → Within g self.old f
             → change (active_in side f) ≡ sent_as place first second halved quartered
             → 1 ≤ place → place ≤ length (party side f).members
-            → stats ≡ stats_of (member_at place (party side f)) (sent_as place first second halved quartered)
+            → stats ≡ stats_of (member_at place (party side f))
+            (sent_as place first second halved quartered)
             → Within g self.new (changed_active side change f) }
-        ensures begins { (g : Setting) (f : Field) (change : Active → Active) (halved quartered : ℕ) → Packs g self.old f
+        ensures begins { (g : Setting) (f : Field) (change : Active → Active) (halved quartered : ℕ)
+            → Packs g self.old f
             → change (active_in side f) ≡ sent_as place first second halved quartered → 1 ≤ place
-            → stats ≡ stats_of (member_at place (party side f)) (sent_as place first second halved quartered)
+            → stats ≡ stats_of (member_at place (party side f))
+            (sent_as place first second halved quartered)
             → Packs g self.new (changed_active side change f) }
     {
         self.active_mut(side)
@@ -201,7 +226,8 @@ impl Packed {
 }
 
 fn sent_block(place: u8, first: Element, second: Element, stats: [u16; 4]) -> [u8; 36]
-    ensures { (m : Member) (halved quartered : ℕ) → stats ≡ stats_of m (sent_as place first second halved quartered)
+    ensures { (m : Member) (halved quartered : ℕ)
+        → stats ≡ stats_of m (sent_as place first second halved quartered)
         → result ≡ active_block m (sent_as place first second halved quartered) }
 {
     // Behind place, types, stages and stats all is 0: no condition, no count, no move.

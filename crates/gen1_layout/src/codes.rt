@@ -1,4 +1,4 @@
-//! The bytes that stand for a status, a type, a move in use and the like (docs/LAYOUT.md).
+//! The bytes that stand for a status, a type, a move in use and the like (docs/LAYOUT.md, "Header", "Member", "Active block").
 ghost use Rattle.std.specs.Prelude.{unwrap_or, ℕ, ◌≡◌, ◌≤◌};
 ghost use Rattle.gen1_stats.specs.Members.{is_marked};
 ghost use Rattle.gen1_machine.specs.Rules.{bit_of};
@@ -24,7 +24,8 @@ pub(crate) fn outcome_from(byte: u8) -> Outcome
 
 /// The byte that stands for an outcome (docs/LAYOUT.md, "Header"), from 0 to 5.
 pub fn byte_of_outcome(outcome: Outcome) -> u8
-    ensures value { ((code : ℕ) → outcome ≡ Outcome.Fault code → code ≤ 2) → result ≡ outcome_byte outcome }
+    ensures value { ((code : ℕ) → outcome ≡ Outcome.Fault code → code ≤ 2)
+        → result ≡ outcome_byte outcome }
     ensures small { result ≤ 5 }
 {
     match outcome {

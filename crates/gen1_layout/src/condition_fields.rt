@@ -25,7 +25,9 @@ impl Packed {
 
     /// Whether it has a condition.
     pub fn is_on(&self, side: Side, which: Conditions) -> bool
-        ensures stands { (k : ℕ) → which.0 ≡ 2 ^ k → Reads self.now result λ f. slice_index_or (condition_bits (conditions_in side f)) k false }
+        ensures stands { (k : ℕ) → which.0 ≡ 2 ^ k
+            → Reads self.now result λ f. slice_index_or (condition_bits (conditions_in side f)) k
+            false }
     {
         self.conditions(side).has(which)
     }
@@ -33,7 +35,8 @@ impl Packed {
     /// Whether it has one at least of several conditions, by the places of their bits. Of two it is
     /// `has_any(side, Conditions::MIST.union(Conditions::RAGE))`.
     pub fn has_any(&self, side: Side, which: Conditions) -> bool
-        ensures stands { (places : List ℕ) → which.0 ≡ set_at places → Reads self.now result λ f. any_at places (condition_bits (conditions_in side f)) }
+        ensures stands { (places : List ℕ) → which.0 ≡ set_at places
+            → Reads self.now result λ f. any_at places (condition_bits (conditions_in side f)) }
     {
         self.conditions(side).has_any(which)
     }
@@ -41,7 +44,10 @@ impl Packed {
     // The byte of the active block that belongs to a condition, where it is on.
     fn count_of(&self, side: Side, which: Conditions, at: usize) -> Option<u8>
         requires { at < 36 }
-        ensures stands { (k : ℕ) → which.0 ≡ 2 ^ k → Reads self.now result λ f. (if slice_index_or (condition_bits (conditions_in side f)) k false then Some (slice_index (active_block (member_in side f) (active_in side f)) at) else None) }
+        ensures stands { (k : ℕ) → which.0 ≡ 2 ^ k
+            → Reads self.now result λ f.
+            (if slice_index_or (condition_bits (conditions_in side f)) k false then Some
+            (slice_index (active_block (member_in side f) (active_in side f)) at) else None) }
     {
         if self.is_on(side, which) {
             Some(self.active(side)[at])
@@ -132,8 +138,11 @@ impl Packed {
 
     /// Sets or clears a condition that has no number. The place of its bit is k.
     pub fn put_flag(&mut self, side: Side, which: Conditions, on: bool)
-        ensures stands { (k : ℕ) → which.0 ≡ 2 ^ k → k < 17 → (g : Setting) (f : Field) (change : ActiveConditions → ActiveConditions) → Within g self.old f
-            → condition_bits (change (conditions_in side f)) ≡ slice_set (condition_bits (conditions_in side f)) k on
+        ensures stands { (k : ℕ) → which.0 ≡ 2 ^ k → k < 17
+            → (g : Setting) (f : Field) (change : ActiveConditions → ActiveConditions)
+            → Within g self.old f
+            → condition_bits (change (conditions_in side f)) ≡ slice_set
+            (condition_bits (conditions_in side f)) k on
             → SameNumbers (change (conditions_in side f)) (conditions_in side f)
             → Within g self.new (changed_conditions side change f) }
     {
@@ -145,7 +154,9 @@ impl Packed {
     fn put_count(&mut self, side: Side, which: Conditions, on: bool, at: usize, byte: u8)
         requires first { 21 ≤ at }
         requires last { at < 29 }
-        ensures stands { (k : ℕ) → which.0 ≡ 2 ^ k → k < 17 → (g : Setting) (f : Field) (change : ActiveConditions → ActiveConditions) (new : ActiveConditions) → Within g self.old f
+        ensures stands { (k : ℕ) → which.0 ≡ 2 ^ k → k < 17
+            → (g : Setting) (f : Field) (change : ActiveConditions → ActiveConditions)
+            (new : ActiveConditions) → Within g self.old f
             → change (conditions_in side f) ≡ new
             → condition_bits new ≡ slice_set (condition_bits (conditions_in side f)) k on
             → count_bytes new ≡ slice_set (count_bytes (conditions_in side f)) (at - 21) byte
@@ -160,7 +171,8 @@ impl Packed {
 
     /// Writes the HP of a Substitute, at most 249, or that there is none.
     pub fn put_substitute(&mut self, side: Side, hp: Option<u8>)
-        ensures stands { WritesConditionsIf side self.old self.new (λ c. record c { substitute = hp }) λ g f. IsCount 0 249 hp }
+        ensures stands { WritesConditionsIf side self.old self.new
+            (λ c. record c { substitute = hp }) λ g f. IsCount 0 249 hp }
     {
         let byte = byte_of_count(hp);
         self.put_count(side, Conditions::SUBSTITUTE, hp.is_some(), 21, byte);
@@ -168,7 +180,8 @@ impl Packed {
 
     /// Writes for how many turns more it is confused, at most 5, or that it is not.
     pub fn put_confused(&mut self, side: Side, turns: Option<u8>)
-        ensures stands { WritesConditionsIf side self.old self.new (λ c. record c { confused = turns }) λ g f. IsCount 0 5 turns }
+        ensures stands { WritesConditionsIf side self.old self.new
+            (λ c. record c { confused = turns }) λ g f. IsCount 0 5 turns }
     {
         let byte = byte_of_count(turns);
         self.put_count(side, Conditions::CONFUSED, turns.is_some(), 22, byte);
@@ -176,7 +189,8 @@ impl Packed {
 
     /// Writes the counter that Toxic begins, at most 64, or that it is not badly poisoned.
     pub fn put_bad_poison(&mut self, side: Side, count: Option<u8>)
-        ensures stands { WritesConditionsIf side self.old self.new (λ c. record c { bad_poison = count }) λ g f. IsCount 0 64 count }
+        ensures stands { WritesConditionsIf side self.old self.new
+            (λ c. record c { bad_poison = count }) λ g f. IsCount 0 64 count }
     {
         let byte = byte_of_count(count);
         self.put_count(side, Conditions::BAD_POISON, count.is_some(), 25, byte);
@@ -184,7 +198,9 @@ impl Packed {
 
     /// Writes what Disable bars, a slot that holds a move for at most 8 turns more, or that it bars none.
     pub fn put_disabled(&mut self, side: Side, disabled: Option<DisabledSlot>)
-        ensures stands { WritesConditionsIf side self.old self.new (λ c. record c { disabled = disabled }) λ g f. IsStorableDisabled (length (member_in side f).moves) disabled }
+        ensures stands { WritesConditionsIf side self.old self.new
+            (λ c. record c { disabled = disabled }) λ g f. IsStorableDisabled
+            (length (member_in side f).moves) disabled }
     {
         let on = disabled.is_some();
         let slot = byte_of_disabled_slot(disabled);
@@ -198,8 +214,12 @@ impl Packed {
 
     /// Writes that Bide stores, for so many turns more, at most 3, and with so much energy. Neither thrashing nor trapping is on.
     pub fn put_bide(&mut self, side: Side, turns: u8, energy: u16)
-        ensures stands { (g : Setting) (f : Field) (change : ActiveConditions → ActiveConditions) → Within g self.old f
-            → change (conditions_in side f) ≡ record (conditions_in side f) { underway = record (underway_in side f) { bide = Some (record { turns = turns; energy = energy }) } }
+        ensures stands { (g : Setting) (f : Field) (change : ActiveConditions → ActiveConditions)
+            → Within g self.old f
+            → change (conditions_in side f) ≡ record (conditions_in side f) {
+              underway = record (underway_in side f)
+                  { bide = Some (record { turns = turns; energy = energy }) };
+            }
             → turns ≤ 3 → (underway_in side f).thrash ≡ None → (underway_in side f).trapping ≡ None
             → Within g self.new (changed_conditions side change f) }
     {
@@ -212,7 +232,8 @@ impl Packed {
 
     /// Writes that Bide is off.
     pub fn end_bide(&mut self, side: Side)
-        ensures stands { WritesConditions side self.old self.new λ c. record c { underway = record c.underway { bide = None } } }
+        ensures stands { WritesConditions side self.old self.new λ c. record c
+            { underway = record c.underway { bide = None } } }
     {
         let turns = self.turns_without(side, Conditions::BIDE);
         let now = self.conditions(side).with(Conditions::BIDE, false);
@@ -224,8 +245,10 @@ impl Packed {
 
     /// Writes that it thrashes for so many turns more, at most 3. Neither Bide nor trapping is on.
     pub fn put_thrash(&mut self, side: Side, turns: u8)
-        ensures stands { (g : Setting) (f : Field) (change : ActiveConditions → ActiveConditions) → Within g self.old f
-            → change (conditions_in side f) ≡ record (conditions_in side f) { underway = record (underway_in side f) { thrash = Some turns } }
+        ensures stands { (g : Setting) (f : Field) (change : ActiveConditions → ActiveConditions)
+            → Within g self.old f
+            → change (conditions_in side f) ≡ record (conditions_in side f)
+            { underway = record (underway_in side f) { thrash = Some turns } }
             → turns ≤ 3 → (underway_in side f).bide ≡ None → (underway_in side f).trapping ≡ None
             → Within g self.new (changed_conditions side change f) }
     {
@@ -234,7 +257,8 @@ impl Packed {
 
     /// Writes that thrashing is off.
     pub fn end_thrash(&mut self, side: Side)
-        ensures stands { WritesConditions side self.old self.new λ c. record c { underway = record c.underway { thrash = None } } }
+        ensures stands { WritesConditions side self.old self.new λ c. record c
+            { underway = record c.underway { thrash = None } } }
     {
         let turns = self.turns_without(side, Conditions::THRASH);
         self.put_count(side, Conditions::THRASH, false, 26, turns);
@@ -242,8 +266,10 @@ impl Packed {
 
     /// Writes that it traps the foe for so many turns more, at most 4. Neither Bide nor thrashing is on.
     pub fn put_trapping(&mut self, side: Side, turns: u8)
-        ensures stands { (g : Setting) (f : Field) (change : ActiveConditions → ActiveConditions) → Within g self.old f
-            → change (conditions_in side f) ≡ record (conditions_in side f) { underway = record (underway_in side f) { trapping = Some turns } }
+        ensures stands { (g : Setting) (f : Field) (change : ActiveConditions → ActiveConditions)
+            → Within g self.old f
+            → change (conditions_in side f) ≡ record (conditions_in side f)
+            { underway = record (underway_in side f) { trapping = Some turns } }
             → turns ≤ 4 → (underway_in side f).bide ≡ None → (underway_in side f).thrash ≡ None
             → Within g self.new (changed_conditions side change f) }
     {
@@ -252,7 +278,8 @@ impl Packed {
 
     /// Writes that trapping is off.
     pub fn end_trapping(&mut self, side: Side)
-        ensures stands { WritesConditions side self.old self.new λ c. record c { underway = record c.underway { trapping = None } } }
+        ensures stands { WritesConditions side self.old self.new λ c. record c
+            { underway = record c.underway { trapping = None } } }
     {
         let turns = self.turns_without(side, Conditions::TRAPPING);
         self.put_count(side, Conditions::TRAPPING, false, 26, turns);

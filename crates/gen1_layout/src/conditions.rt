@@ -1,4 +1,4 @@
-//! The conditions of a member that is out, as bits.
+//! The conditions of a member that is out, as bits (docs/LAYOUT.md, "Condition bits").
 ghost use Rattle.std.specs.Prelude.{Bool, List, [], codes, false, slice_index_or, slice_set, ℕ, ◌<◌, ◌^◌, ◌≡◌, ◌∷◌, ⊤, length};
 ghost use Rattle.gen1_machine.specs.Layout.{number_of_bits};
 ghost use Rattle.gen1_layout.specs.Flags.{any_at, set_at};
@@ -66,7 +66,8 @@ impl Conditions {
 
     /// These conditions with one of them set or cleared.
     pub fn with(self, which: Conditions, on: bool) -> Conditions
-        ensures { (k : ℕ) → which.0 ≡ 2 ^ k → (bits : List Bool) → k < length bits → length bits ≡ 17
+        ensures { (k : ℕ) → which.0 ≡ 2 ^ k → (bits : List Bool) → k < length bits
+            → length bits ≡ 17
             → self.0 ≡ number_of_bits bits → result.0 ≡ number_of_bits (slice_set bits k on) }
     {
         let mut now = self;

@@ -91,8 +91,10 @@ impl Packed {
 
     /// Writes how the battle stands.
     pub fn put_outcome(&mut self, outcome: Outcome)
-        ensures stands { (g : Setting) (f : Field) → Within g self.old f → IsOutcome outcome → Within g self.new (with_outcome outcome f) }
-        ensures packs { (g : Setting) (f : Field) → Packs g self.old f → IsOutcome outcome → Packs g self.new (with_outcome outcome f) }
+        ensures stands { (g : Setting) (f : Field) → Within g self.old f → IsOutcome outcome
+            → Within g self.new (with_outcome outcome f) }
+        ensures packs { (g : Setting) (f : Field) → Packs g self.old f → IsOutcome outcome
+            → Packs g self.new (with_outcome outcome f) }
     {
         let byte = byte_of_outcome(outcome);
         self.header_mut()[16] = byte;
@@ -112,8 +114,10 @@ impl Packed {
 
     /// Goes on to the next turn, which is the limit at most.
     pub fn put_next_turn(&mut self)
-        ensures stands { (g : Setting) (f : Field) → Within g self.old f → f.turn < g.terms.limit → Within g self.new (with_next_turn f) }
-        ensures packs { (g : Setting) (f : Field) → Packs g self.old f → f.turn < g.terms.limit → Packs g self.new (with_next_turn f) }
+        ensures stands { (g : Setting) (f : Field) → Within g self.old f → f.turn < g.terms.limit
+            → Within g self.new (with_next_turn f) }
+        ensures packs { (g : Setting) (f : Field) → Packs g self.old f → f.turn < g.terms.limit
+            → Packs g self.new (with_next_turn f) }
     {
         let next = self.turn().wrapping_add(1);
         put_word!(self.header_mut(), 1..3, next);
@@ -137,9 +141,11 @@ impl Packed {
 
     /// Writes where the generator stands after any number of draws.
     pub fn put_generator(&mut self, generator: &LinkRandom)
-        ensures stands { (g : Setting) (f : Field) (drawn : ℕ) → Within g self.old f → generator.now ≡ ring_at g.seed drawn
+        ensures stands { (g : Setting) (f : Field) (drawn : ℕ) → Within g self.old f
+            → generator.now ≡ ring_at g.seed drawn
             → Within (record g { drawn = drawn }) self.new f }
-        ensures packs { (g : Setting) (f : Field) (drawn : ℕ) → Packs g self.old f → generator.now ≡ ring_at g.seed drawn
+        ensures packs { (g : Setting) (f : Field) (drawn : ℕ) → Packs g self.old f
+            → generator.now ≡ ring_at g.seed drawn
             → Packs (record g { drawn = drawn }) self.new f }
     {
         let index = generator.index();

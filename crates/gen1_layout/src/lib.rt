@@ -1,4 +1,15 @@
 //! The 384 bytes of a battle (docs/LAYOUT.md), changed in place.
+//!
+//! - `packed`: [`Packed`], the bytes, and the parts of it that are lent
+//! - `header`: the fields of the header
+//! - `member`: the fields of a member
+//! - `active`: the fields of an active block, but for its conditions
+//! - `condition_fields`: its conditions, with their numbers
+//! - `conditions`: the conditions as a set of bits
+//! - `codes`: bytes that stand for an outcome, a status, a type and the like
+//! - `event_fields`: what events tell of the bytes
+//! - `first_state`: a battle before its first update
+//! - `loading`: reading a battle from bytes
 #![tactic(auto)]
 
 // A number of 16 bits in a part, and one of 32.
@@ -27,17 +38,17 @@ macro_rules! put_long {
 }
 
 mod active;
-mod beginning;
 mod codes;
 mod condition_fields;
 mod conditions;
+mod event_fields;
+mod first_state;
 mod header;
+mod loading;
 mod member;
 mod packed;
-mod reading;
-mod telling;
 
 pub use codes::{byte_of_outcome, byte_of_request};
 pub use conditions::Conditions;
+pub use loading::{LoadFault, laws};
 pub use packed::{Packed, in_two};
-pub use reading::{ReadFault, laws};

@@ -4,6 +4,7 @@ ghost use Rattle.gen1_layout.specs.Words.{Field, Member, Reads, ReadsPacked, Set
 ghost use Rattle.gen1_tables.specs.Types.{any};
 ghost use Rattle.gen1_stats.specs.Members.{is_marked};
 ghost use Rattle.gen1_stats.specs.declared.status.Status.TheVariants.{Healthy};
+ghost use Rattle.gen1_machine.specs.State.{has_fallen_in};
 ghost use Rattle.gen1_machine.specs.Valid.{IsStatus};
 ghost use Rattle.gen1_layout.specs.SentOut.{own_stats_of};
 
@@ -43,6 +44,13 @@ impl Packed {
         ensures stands { Reads self.now result λ f. (member_in side f).hp }
     {
         word!(self.member_out(side), 4..6)
+    }
+
+    /// Whether it has no HP left.
+    pub fn has_fallen(&self, side: Side) -> bool
+        ensures stands { Reads self.now result (has_fallen_in side) }
+    {
+        self.hp(side) == 0
     }
 
     /// Its own Attack, Defense, Speed or Special before stages, from 5 to 999; accuracy and evasion have no number of
@@ -139,7 +147,8 @@ impl Packed {
     pub fn own_stats_at(&self, side: Side, place: u8) -> [u16; 4]
         requires low { 1 ≤ place }
         requires high { place ≤ 6 }
-        ensures packs { ReadsPacked self.now result λ f. own_stats_of (member_at place (party side f)) }
+        ensures packs { ReadsPacked self.now result λ f. own_stats_of
+            (member_at place (party side f)) }
     {
         let member = self.member(side, place);
         [
@@ -157,7 +166,8 @@ impl Packed {
         requires high { place ≤ 6 }
         requires low_slot { 1 ≤ slot }
         requires high_slot { slot ≤ 4 }
-        ensures packs { ReadsPacked self.now result λ f. (known_in slot (member_at place (party side f)).moves).id }
+        ensures packs { ReadsPacked self.now result λ f.
+            (known_in slot (member_at place (party side f)).moves).id }
     {
         self.member(side, place)[slot as usize + 14]
     }
@@ -168,7 +178,8 @@ impl Packed {
         requires high { place ≤ 6 }
         requires low_slot { 1 ≤ slot }
         requires high_slot { slot ≤ 4 }
-        ensures packs { ReadsPacked self.now result λ f. (known_in slot (member_at place (party side f)).moves).pp }
+        ensures packs { ReadsPacked self.now result λ f.
+            (known_in slot (member_at place (party side f)).moves).pp }
     {
         self.member(side, place)[slot as usize + 18]
     }
@@ -177,7 +188,8 @@ impl Packed {
     pub fn mark(&self, side: Side, place: u8) -> bool
         requires low { 1 ≤ place }
         requires high { place ≤ 6 }
-        ensures packs { ReadsPacked self.now result λ f. is_marked (member_at place (party side f)).status }
+        ensures packs { ReadsPacked self.now result λ f. is_marked
+            (member_at place (party side f)).status }
     {
         self.member(side, place)[23] == 1
     }
@@ -198,21 +210,24 @@ impl Packed {
     fn lives_at(&self, side: Side, place: u8) -> bool
         requires low { 1 ≤ place }
         requires high { place ≤ 6 }
-        ensures packs { ReadsPacked self.now result λ f. is_living (member_at place (party side f)) }
+        ensures packs { ReadsPacked self.now result λ f. is_living
+            (member_at place (party side f)) }
     {
         0 < self.hp_at(side, place)
     }
 
     /// Writes the HP of the member that is out, at most its maximum.
     pub fn put_hp(&mut self, side: Side, hp: u16)
-        ensures stands { WritesMemberIf side self.old self.new (λ m. record m { hp = hp }) λ g f. hp ≤ (member_in side f).max }
+        ensures stands { WritesMemberIf side self.old self.new (λ m. record m { hp = hp }) λ g f. hp
+            ≤ (member_in side f).max }
     {
         put_word!(self.member_out_mut(side), 4..6, hp);
     }
 
     /// Writes the status of the member that is out.
     pub fn put_status(&mut self, side: Side, status: Status)
-        ensures stands { WritesMemberIf side self.old self.new (λ m. record m { status = status }) λ g f. IsStatus g.terms.rules status }
+        ensures stands { WritesMemberIf side self.old self.new (λ m. record m { status = status })
+            λ g f. IsStatus g.terms.rules status }
     {
         let byte = byte_of_status(status);
         let mark = mark_of_status(status);
@@ -223,7 +238,8 @@ impl Packed {
 
     /// Writes that the member that is out has fallen: it has no HP, and is healthy.
     pub fn put_fallen(&mut self, side: Side)
-        ensures stands { WritesMember side self.old self.new λ m. record m { hp = 0; status = Healthy } }
+        ensures stands { WritesMember side self.old self.new λ m. record m
+            { hp = 0; status = Healthy } }
     {
         let member = self.member_out_mut(side);
         member[4] = 0;
@@ -237,8 +253,12 @@ impl Packed {
         requires low { 1 ≤ slot }
         requires high { slot ≤ 4 }
         ensures stands { (g : Setting) (f : Field) (change : Member → Member) → Within g self.old f
-            → change (member_in side f) ≡ record (member_in side f) { moves = slice_set (member_in side f).moves (slot - 1) (record (known_in slot (member_in side f).moves) { pp = pp }) }
-            → slot ≤ length (member_in side f).moves → pp ≤ 63 → Within g self.new (changed_member side change f) }
+            → change (member_in side f) ≡ record (member_in side f) {
+              moves = slice_set (member_in side f).moves (slot - 1)
+                  (record (known_in slot (member_in side f).moves) { pp = pp });
+            }
+            → slot ≤ length (member_in side f).moves → pp ≤ 63
+            → Within g self.new (changed_member side change f) }
     {
         self.member_out_mut(side)[slot as usize + 18] = pp;
     }

@@ -1,4 +1,4 @@
-//! A packed battle, and the parts of it that are lent and read.
+//! A packed battle, and the parts of it that are lent and read (docs/LAYOUT.md, "The 384 bytes of a battle").
 ghost use Rattle.std.specs.Prelude.{◌+◌, ◌-◌, ◌≡◌, ◌≤◌};
 ghost use Rattle.gen1_layout.specs.Words.{Field, Packs, Reads, ReadsPacked, Setting, active_in, length, member_at, member_in, other, party};
 ghost use Rattle.std.specs.Borrow.{sem};
@@ -94,7 +94,8 @@ impl Packed {
         ensures* writes_back { sem 𝓛 (LendsSides self.entry result) }
         ensures value { result.now ≡ bytes_of_sides self.old }
         ensures len { length result.now ≡ 360 }
-        ensures each { (length (bytes_of_side self.old.one) ≡ 180) × (length (bytes_of_side self.old.two) ≡ 180) }
+        ensures each { (length (bytes_of_side self.old.one) ≡ 180)
+            × (length (bytes_of_side self.old.two) ≡ 180) }
     {
         self.part_mut(24, 384)
     }
@@ -143,7 +144,8 @@ impl Packed {
     /// The 24 bytes of the header.
     pub fn header(&self) -> &[u8]
         ensures value { result.now ≡ self.now.header }
-        ensures packs { (g : Setting) (f : Field) → Packs g self.now f → result.now ≡ header_block (state_in g f) }
+        ensures packs { (g : Setting) (f : Field) → Packs g self.now f
+            → result.now ≡ header_block (state_in g f) }
         ensures len { length result.now ≡ 24 }
     {
         &self.0[..24]
@@ -161,7 +163,8 @@ impl Packed {
     /// The 36 bytes of a side's active block.
     pub fn active(&self, side: Side) -> &[u8]
         ensures value { result.now ≡ active_of side self.now }
-        ensures stands { Reads self.now result.now λ f. active_block (member_in side f) (active_in side f) }
+        ensures stands { Reads self.now result.now λ f. active_block (member_in side f)
+            (active_in side f) }
         ensures len { length result.now ≡ 36 }
     {
         let from = start_of_side(side) + 144;
@@ -173,7 +176,8 @@ impl Packed {
         requires low { 1 ≤ place }
         requires high { place ≤ 6 }
         ensures value { result.now ≡ member_of side place self.now }
-        ensures packs { ReadsPacked self.now result.now λ f. member_block (member_at place (party side f)) }
+        ensures packs { ReadsPacked self.now result.now λ f. member_block
+            (member_at place (party side f)) }
         ensures len { length result.now ≡ 24 }
     {
         let from = start_of_member(side, place);
@@ -204,7 +208,8 @@ impl Packed {
         ensures* writes_back { sem 𝓛 (LendsOut side self.entry result) }
         ensures stands { Reads self.old result.now λ f. member_block (member_in side f) }
         ensures len { length result.now ≡ 24 }
-        ensures packed { (length (joined self.old) ≡ 384) × (parts_of (joined self.old) ≡ self.old) }
+        ensures packed { (length (joined self.old) ≡ 384)
+            × (parts_of (joined self.old) ≡ self.old) }
     {
         let at = self.start_of_out(side);
         self.part_mut(at, at + 24)
@@ -213,7 +218,7 @@ impl Packed {
 
 /// The bytes of both sides ([`Packed::sides_mut`]) in two: the 180 bytes of a side, and those of the side that it battles.
 pub fn in_two(sides: &mut [u8], side: Side) -> (&mut [u8], &mut [u8])
-    requires { length sides.old ≡ 360 }
+    requires sides { length sides.old ≡ 360 }
     ensures* writes_back { sem 𝓛 (LendsInTwo side sides.entry result) }
     ensures value { sides.old ≡ in_order side result.0.now result.1.now }
     ensures len { (length result.0.now ≡ 180) × (length result.1.now ≡ 180) }

@@ -10,7 +10,8 @@ use Rattle.gen1_machine.specs.declared.picks.Pick.TheVariants.{Use, Continue, Id
 use Rattle.gen1_rolls.specs.Streams.{low_bits, span}
 use Rattle.gen1_machine.specs.Sides.{other}
 use Rattle.gen1_machine.specs.Conditions.{Storing}
-use Rattle.gen1_machine.specs.Moves.{knocks_out, hits_more, Move}
+use Rattle.gen1_tables.specs.Effects.{knocks_out, hits_more}
+use Rattle.gen1_machine.specs.Moves.{Move}
 use Rattle.gen1_machine.specs.Progress.{Phase, ◌▸◌, unless, only, given, note, broke_substitute, active, member, has_fallen, on_field, on_active, on_action, Progress}
 use Rattle.gen1_machine.specs.CriticalHits.{set_critical, critical_by, roll_critical}
 use Rattle.gen1_machine.specs.Damage.{before_types, is_factor, type_steps, varied_by, vary, set_through_types, damage_from, roll_damage, DamageNumbers}

@@ -14,7 +14,8 @@ use Rattle.gen1_machine.specs.declared.side.Side.TheVariants.{One, Two}
 use Rattle.gen1_machine.specs.Rules.{Rules}
 use Rattle.gen1_machine.specs.Conditions.{with_charging, with_invulnerability, Storing}
 use Rattle.gen1_machine.specs.State.{active_in, changed_active, conditions_in, member_in, underway_in, with_current_move, with_less_pp, with_pp_spent, Field, Terms}
-use Rattle.gen1_machine.specs.Moves.{charges, hides, move_at, Move}
+use Rattle.gen1_tables.specs.Effects.{charges, hides}
+use Rattle.gen1_machine.specs.Moves.{move_at, Move}
 use Rattle.gen1_machine.specs.Picks.{number_in, used_by}
 use Rattle.gen1_machine.specs.Progress.{choose, given, last_damage, on_action, on_active, on_conditions, on_field, stay, stop, unless_stopped, ◌▸◌, Action, Phase, Progress}
 use Rattle.gen1_machine.specs.Ruling.{ruling_of}

@@ -5,7 +5,7 @@ use Rattle.gen1_machine.specs.declared.choice.Choice.{Choice}
 use Rattle.gen1_machine.specs.declared.side.Side.TheVariants.{One, Two}
 use Rattle.gen1_machine.specs.State.{is_over, State}
 use Rattle.gen1_machine.specs.Progress.{Progress}
-use Rattle.gen1_machine.specs.Residual.{residual}
+use Rattle.gen1_machine.specs.ResidualDamage.{residual}
 use Rattle.gen1_machine.specs.Ruling.{ruling_of}
 use Rattle.gen1_machine.specs.SwitchingIn.{send_out}
 use Rattle.gen1_machine.specs.Turn.{turn}

@@ -6,7 +6,7 @@ use Rattle.gen1_rolls.proofs.First.{first-finds, first-within}
 use Rattle.gen1_stats.specs.Members.{Member}
 use Rattle.gen1_machine.specs.declared.side.Side.{Side}
 use Rattle.gen1_machine.specs.declared.event.Event.{Event}
-use Rattle.gen1_machine.specs.Code.{code, codes_of}
+use Rattle.gen1_machine.specs.LogBytes.{code, codes_of}
 use Rattle.gen1_machine.specs.Conditions.{ActiveConditions}
 use Rattle.gen1_machine.specs.State.{Active, Field}
 use Rattle.gen1_machine.specs.Progress.{Action, Phase, stay, unless_stopped, ◌▸◌, choose, given, draw, draw_until, stop, fault, note, told, on_field, on_action, set_last_damage, on_active, on_conditions, on_member, Progress}

@@ -8,7 +8,8 @@ use Rattle.gen1_stats.specs.Members.{IsBetween}
 use Rattle.gen1_machine.specs.Sides.{other}
 use Rattle.gen1_machine.specs.Conditions.{one_less, stored, with_bide, with_bide_storing, with_charging, with_rage, with_recharge, with_thrash, with_thrash_one_less, with_trapping, ActiveConditions, Storing}
 use Rattle.gen1_machine.specs.State.{conditions_in, underway_in, Terms}
-use Rattle.gen1_machine.specs.Moves.{accuracy_byte, bides, charges, thrashes, traps, Move}
+use Rattle.gen1_tables.specs.Effects.{bides, charges, rages, recharges, thrashes, traps}
+use Rattle.gen1_machine.specs.Moves.{accuracy_byte, Move}
 use Rattle.gen1_machine.specs.Progress.{given, lasts, only, starts, stop, unless, ◌▸◌}
 use Rattle.gen1_machine.specs.Ruling.{Ruling}
 use Rattle.gen1_machine.specs.LateEffects.{bide_for, is_late, late_effect, start_bide}
@@ -17,7 +18,7 @@ use Rattle.gen1_machine.specs.GoingOn.{bide_goes_on, bide_on, let_energy_go, set
 use Rattle.gen1_machine.specs.HitEffects.{hit_effect, start_rage}
 use Rattle.gen1_machine.specs.ManyHits.{hit_again, hit_once, hits, other_hits}
 use Rattle.gen1_machine.specs.Action.{damage_of, lands_at_once, lets_energy_go, prelude, strike}
-use Rattle.gen1_machine.specs.Valid.{rages, recharges, IsConditions, IsCount, IsStoring, OnlyWith}
+use Rattle.gen1_machine.specs.Valid.{IsConditions, IsCount, IsStoring, OnlyWith}
 use Rattle.gen1_machine.specs.Plans.{Doing, IsPlanned, Plan}
 use Rattle.gen1_machine.proofs.Keeps.{choose-keeps, draw-keeps, ends-keeps, given-keeps, note-keeps, on_action-keeps, on_active-keeps, on_conditions-keeps, told-keeps, set_last_damage-keeps, set_missed-keeps, stay-keeps, stop-keeps, then-keeps, Keeps, KeepsRuling}
 use Rattle.gen1_machine.proofs.Leads.{keeps-leads, stay-leads, then-leads, Leads}

@@ -4,7 +4,7 @@ use Rattle.std.proofs.lemmas.Bool.{false≢true}
 use Rattle.std.proofs.lemmas.Bool.Decides.{eqb_tells}
 use Rattle.gen1_tables.specs.declared.effect.Effect.TheVariants as effects
 use Rattle.gen1_stats.specs.declared.known_move.KnownMove.{KnownMove}
-use Rattle.gen1_stats.specs.Members.{is_living, nobody, IsBetween, Member}
+use Rattle.gen1_stats.specs.Members.{IsBetween, Member, is_living, nobody, sleeps_or_freezes}
 use Rattle.gen1_machine.specs.declared.choice.Choice.{Choice}
 use Rattle.gen1_machine.specs.declared.choice.Choice.TheVariants as choices
 use Rattle.gen1_machine.specs.declared.picks.DisabledSlot.{DisabledSlot}
@@ -12,7 +12,7 @@ use Rattle.gen1_machine.specs.declared.side.Side.{Side}
 use Rattle.gen1_machine.specs.declared.terms.Request.TheVariants as requests
 use Rattle.gen1_machine.specs.Sides.{other}
 use Rattle.gen1_machine.specs.State.{active_in, conditions_in, member_in, party, status_in, underway_in, Field, Terms}
-use Rattle.gen1_machine.specs.Picks.{must_continue, sleeps_or_freezes}
+use Rattle.gen1_machine.specs.Picks.{must_continue}
 use Rattle.gen1_machine.specs.OfferedChoices.{bars_slot, has_no_slot_in, is_committed, moves_offered, offered_for, or_struggle, switches_offered, usable_from}
 use Rattle.gen1_machine.specs.Step.{is_among}
 use Rattle.gen1_machine.specs.Valid.{IsField, IsUnderway, OnlyWith}

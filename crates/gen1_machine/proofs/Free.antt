@@ -19,7 +19,7 @@ use Rattle.gen1_machine.specs.LateEffects.{bide_for, late_effect, lower_foes_sta
 use Rattle.gen1_machine.specs.ManyHits.{build_rage, count_hit, crash, hit_again, hit_once, hits, missed_move, note_critical, note_effectiveness, note_first_hit, note_hit_count, other_hits}
 use Rattle.gen1_machine.specs.Moves.{Move}
 use Rattle.gen1_machine.specs.Progress.{cure, fail, fails_if, fault, gain_hp, inflict, lose_hp, Action, Phase, Progress}
-use Rattle.gen1_machine.specs.Residual.{drained_by, residual, suffer, suffer_seed, suffer_status, worsen}
+use Rattle.gen1_machine.specs.ResidualDamage.{drained_by, residual, suffer, suffer_seed, suffer_status, worsen}
 use Rattle.gen1_machine.specs.Ruling.{fall_asleep, freeze_freely, freeze_only_one, freezes_under, ruling_of, sleep_for, sleep_freely, sleep_only_one, sleeps_under, Ruling}
 use Rattle.gen1_machine.specs.SideEffects.{by_chance, disable, disable_for, disable_slot, flinch, happens_below, kept_away_effect, may_confuse, may_inflict, may_poison, must_recharge, side_effect, thaw}
 use Rattle.gen1_machine.specs.StageShift.{lower_from, lower_stage, note_boost, note_unboost, raise_from, raise_stage, shift_to, take_penalty_again}

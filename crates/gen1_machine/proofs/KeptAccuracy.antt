@@ -14,9 +14,10 @@ use Rattle.gen1_machine.specs.declared.terms.Outcome.TheVariants as outcomes
 use Rattle.gen1_machine.specs.Sides.{other}
 use Rattle.gen1_machine.specs.Conditions.{broken_off, with_thrash_one_less, without_thrash, one_less, ActiveConditions}
 use Rattle.gen1_machine.specs.State.{active_in, changed_active, changed_conditions, changed_member, with_kept_accuracy, with_last_damage, with_outcome, Active, Field}
-use Rattle.gen1_machine.specs.Moves.{accuracy_byte, move_at, thrashes}
+use Rattle.gen1_tables.specs.Effects.{rages, thrashes}
+use Rattle.gen1_machine.specs.Moves.{accuracy_byte, move_at}
 use Rattle.gen1_machine.specs.Progress.{choose, draw, given, unless_stopped, ◌▸◌, Action, Phase, Progress}
-use Rattle.gen1_machine.specs.Valid.{keeps_accuracy, rages, IsKept, KeepsAccuracy}
+use Rattle.gen1_machine.specs.Valid.{keeps_accuracy, IsKept, KeepsAccuracy}
 use Rattle.gen1_machine.proofs.Keeps.{Spares}
 use Rattle.gen1_machine.proofs.Leads.{Leads}
 use Rattle.gen1_machine.proofs.Acts.{either, After, IfStopped, Passes}
@@ -171,10 +172,6 @@ weaker-or : (a b : Bool) → (a || false) ≡ true → (a || b) ≡ true
 weaker-or true b e = refl
 weaker-or false b e = absurd (false≢true e)
 
-off-or : (a b : Bool) → (a || b) ≡ false → (a || false) ≡ false
-off-or true b e = absurd (false≢true (sym e))
-off-or false b e = refl
-
 pub broken-quenches : (c : ActiveConditions) → keeps_accuracy (broken_off c).underway ≡ true → keeps_accuracy c.underway ≡ true
 unfolding broken_off
 broken-quenches c e = weaker-or c.underway.rage (is_some c.underway.thrash) e
@@ -193,10 +190,6 @@ less-leaves = record { left = λ c. by c.underway.rage c.underway.thrash }
 
 pub fresh-breaks : (s u : Side) → Breaks (At Fresh s) u
 fresh-breaks s u = record { broken = quench s u _ broken-quenches }
-
-pub off-breaks : (s u : Side) → Breaks (At Off s) u
-unfolding broken_off
-off-breaks s u = record { broken = conditions-at off-alone s u _ (λ a x h. off-or a.conditions.underway.rage (is_some a.conditions.underway.thrash) h) }
 
 -- moves that thrash or rage have some power, and an accuracy
 

@@ -10,7 +10,8 @@ use Rattle.gen1_machine.specs.declared.side.Side.TheVariants.{One, Two}
 use Rattle.gen1_machine.specs.Sides.{other}
 use Rattle.gen1_machine.specs.Conditions.{with_thrash}
 use Rattle.gen1_machine.specs.State.{active_in, changed_active, changed_conditions, underway_in, with_kept_accuracy, Field, Terms}
-use Rattle.gen1_machine.specs.Moves.{accuracy_byte, bides, charges, thrashes, traps, Move}
+use Rattle.gen1_tables.specs.Effects.{bides, charges, rages, thrashes, traps}
+use Rattle.gen1_machine.specs.Moves.{accuracy_byte, Move}
 use Rattle.gen1_machine.specs.Progress.{choose, given, last_damage, on_action, on_active, on_conditions, on_field, stay, Action, Phase, Progress}
 use Rattle.gen1_machine.specs.Ruling.{ruling_of}
 use Rattle.gen1_machine.specs.HitTest.{base_of, hit_or_miss, hit_test, scaled_in, set_tested, settled_hit_in, test_by}
@@ -21,7 +22,6 @@ use Rattle.gen1_machine.specs.GoingOn.{bide_goes_on, bide_on, thrash_about, thra
 use Rattle.gen1_machine.specs.HitEffects.{hit_effect}
 use Rattle.gen1_machine.specs.ManyHits.{hit_again, hit_once, hits, other_hits}
 use Rattle.gen1_machine.specs.Action.{carry_out, damage_of, lands_at_once, lead_up, prelude, strike, usual_damage}
-use Rattle.gen1_machine.specs.Valid.{rages}
 use Rattle.gen1_machine.proofs.Keeps.{choose-keeps, draw-keeps, given-keeps, note-keeps, on_conditions-keeps, set_last_damage-keeps, stay-keeps, stop-keeps, then-keeps, Keeps}
 use Rattle.gen1_machine.proofs.Leads.{choose-false, keeps-leads, then-goes, then-leads, Leads}
 use Rattle.gen1_machine.proofs.Sound.{choose-sees}

@@ -12,14 +12,15 @@ use Rattle.gen1_machine.specs.declared.side.Side.TheVariants.{One, Two}
 use Rattle.gen1_machine.specs.Sides.{other}
 use Rattle.gen1_machine.specs.Conditions.{Underway}
 use Rattle.gen1_machine.specs.State.{active_in, changed_active, member_in, underway_in, with_kept_accuracy, Field, Terms}
-use Rattle.gen1_machine.specs.Moves.{bides, move_at, thrashes, traps}
+use Rattle.gen1_tables.specs.Effects.{bides, rages, thrashes, traps}
+use Rattle.gen1_machine.specs.Moves.{move_at}
 use Rattle.gen1_machine.specs.Picks.{is_use, number_in, used_by}
 use Rattle.gen1_machine.specs.Progress.{given, on_action, on_active, on_field, Action, Phase, Progress}
 use Rattle.gen1_machine.specs.Ruling.{ruling_of}
 use Rattle.gen1_machine.specs.Action.{accuracy_after, act, action_parts, begin, carry_out, gate_or_held, keep_accuracy, keeps_going, move_taken_in, resume, see_if_going_on, set_going_on}
 use Rattle.gen1_machine.specs.SwitchingIn.{send_out, sent_out, with_sent_out}
 use Rattle.gen1_machine.specs.Turn.{do_part, end_spent_trapping, set_picked, Acts, Sends, Suffers}
-use Rattle.gen1_machine.specs.Valid.{rages, IsUnderway, KeepsAccuracy}
+use Rattle.gen1_machine.specs.Valid.{IsUnderway, KeepsAccuracy}
 use Rattle.gen1_machine.specs.Plans.{FitsPick, IsPlanned, Plan}
 use Rattle.gen1_machine.proofs.Keeps.{choose-keeps, given-keeps, note-keeps, on_active-keeps, on_conditions-keeps, stay-keeps, then-keeps, Keeps, Spares}
 use Rattle.gen1_machine.proofs.Leads.{choose-leads, keeps-leads, stay-leads, then-leads, Leads}

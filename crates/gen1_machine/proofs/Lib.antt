@@ -1,4 +1,5 @@
-pub mod SendingLemmas
+-- The laws of the battle machine, from draws up to valid states, and worked examples.
+pub mod OutputLemmas
 mod Rows
 -- The laws of steps, runs and draws.
 pub mod Draws

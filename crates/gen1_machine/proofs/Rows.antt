@@ -10,7 +10,7 @@ use Rattle.gen1_machine.specs.declared.event.Event.{Event}
 use Rattle.gen1_machine.specs.declared.event.Event.TheVariants as events
 use Rattle.gen1_machine.specs.declared.event.DamageSource.TheVariants.{Direct}
 use Rattle.gen1_machine.specs.Health.{Health}
-use Rattle.gen1_machine.specs.Code.{codes_of}
+use Rattle.gen1_machine.specs.LogBytes.{codes_of}
 use Rattle.gen1_machine.specs.Lines.{lines}
 
 abbrev tauros_one : Who

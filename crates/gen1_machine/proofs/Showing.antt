@@ -26,10 +26,6 @@ pub record BothOut (f : Field) : Type 0 where
   pub one : IsOut f.one
   pub two : IsOut f.two
 
-pub out : (s : Side) (f : Field) → BothOut f → IsOut (party s f)
-out One f o = o.one
-out Two f o = o.two
-
 -- a battle that goes on, with somebody out on both sides
 pub record AllOut (f : Field) : Type 0 where
   pub both : BothOut f

@@ -20,7 +20,7 @@ use Rattle.gen1_machine.specs.State.{active_in, changed_conditions, member_in, F
 use Rattle.gen1_machine.specs.CurrentStats.{stage_of}
 use Rattle.gen1_machine.specs.Moves.{accuracy_byte, move_at, Move}
 use Rattle.gen1_machine.specs.Progress.{draw, draw_until, fail, fails_if, on_conditions, on_field, Action, Phase, Progress}
-use Rattle.gen1_machine.specs.Damage.{applies, before_types, by_rows, divided, is_own_type, rotated_right_1, times_factor, type_steps, DamageNumbers}
+use Rattle.gen1_machine.specs.Damage.{before_types, by_rows, divided, is_own_type, rotated_right_1, times_factor, type_steps, DamageNumbers}
 use Rattle.gen1_machine.specs.HitTest.{base_of}
 use Rattle.gen1_machine.specs.SideEffects.{names_slot}
 use Rattle.gen1_machine.specs.Valid.{IsConditions, IsCount, IsDisabled, IsField, IsMemberUnder, IsStages}
@@ -107,6 +107,9 @@ all_modest (row ∷ rows) = nat_le row.tenths 20 && all_modest rows
 one-row : (d e tenths : ℕ) (b : Bool) → d ≤ e → tenths ≤ 20 → nat_le tenths 10 ≡ b → d * tenths / 10 ≤ cond (not b) (2 * e) e
 one-row d e tenths true l m h = omega (arith, times-most d tenths 10 (leb-true tenths 10 h), l)
 one-row d e tenths false l m h = omega (arith, times-most d tenths 20 m, l)
+
+abbrev applies : DamageNumbers → TypeRow → Bool
+applies n row = same_type row.attacker n.kind && (same_type row.defender n.foe_first || same_type row.defender n.foe_second)
 
 grows : (n : DamageNumbers) (rows : List TypeRow) (d e : ℕ) → all_modest rows ≡ true → d ≤ e → by_rows (filter (applies n) rows) d ≤ grown n.kind rows e
 unfolding all_modest grown doubles

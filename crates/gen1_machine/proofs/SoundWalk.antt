@@ -18,7 +18,7 @@ use Rattle.gen1_machine.specs.LateEffects.{lower_foes_stat, put_to_sleep, ready_
 use Rattle.gen1_machine.specs.ManyHits.{build_rage, count_hit, crash, hits, missed_move, note_critical, note_effectiveness, note_first_hit, note_hit_count}
 use Rattle.gen1_machine.specs.Moves.{Move}
 use Rattle.gen1_machine.specs.Progress.{cure, fail, fails_if, fault, gain_hp, given, inflict, lasts, lose_hp, starts, Action, Phase, Progress}
-use Rattle.gen1_machine.specs.Residual.{drained_by, residual, suffer, suffer_seed, suffer_status, worsen}
+use Rattle.gen1_machine.specs.ResidualDamage.{drained_by, residual, suffer, suffer_seed, suffer_status, worsen}
 use Rattle.gen1_machine.specs.Ruling.{fall_asleep, freeze_freely, freeze_only_one, freezes_under, is_sleep_count, ruling_of, sleep_for, sleep_freely, sleep_only_one, sleeps_under, Ruling}
 use Rattle.gen1_machine.specs.SideEffects.{by_chance, disable, disable_for, disable_slot, flinch, happens_below, kept_away_effect, may_confuse, may_inflict, may_poison, names_slot, thaw}
 use Rattle.gen1_machine.specs.Sides.{other}

@@ -16,9 +16,9 @@ use Rattle.gen1_machine.specs.declared.picks.Pick.{Pick}
 use Rattle.gen1_machine.specs.declared.choice.Choice.{Choice}
 use Rattle.gen1_machine.specs.declared.choice.Choice.TheVariants as choices
 use Rattle.gen1_machine.specs.Sides.{other}
-use Rattle.gen1_machine.specs.Code.{code}
+use Rattle.gen1_machine.specs.LogBytes.{code}
 use Rattle.gen1_machine.specs.Progress.{Phase, choose, given, draw, Progress}
-use Rattle.gen1_machine.specs.Residual.{worsen, suffer, drained_by, suffer_seed, suffer_status, residual}
+use Rattle.gen1_machine.specs.ResidualDamage.{worsen, suffer, drained_by, suffer_seed, suffer_status, residual}
 use Rattle.gen1_machine.specs.Ruling.{Ruling}
 use Rattle.gen1_machine.specs.Action.{begin, act}
 use Rattle.gen1_machine.specs.SwitchingIn.{send_out, send_if_chosen, replace, start}

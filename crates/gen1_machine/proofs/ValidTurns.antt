@@ -5,7 +5,7 @@ use Rattle.gen1_tables.specs.declared.effect.Effect.{Effect}
 use Rattle.gen1_tables.specs.declared.effect.Effect.TheVariants as effects
 use Rattle.gen1_rolls.specs.Streams.{Stream}
 use Rattle.gen1_stats.specs.declared.known_move.KnownMove.{KnownMove}
-use Rattle.gen1_stats.specs.Members.{IsBetween, Member}
+use Rattle.gen1_stats.specs.Members.{IsBetween, Member, sleeps_or_freezes}
 use Rattle.gen1_machine.specs.declared.choice.Choice.{Choice}
 use Rattle.gen1_machine.specs.declared.choice.Choice.TheVariants as choices
 use Rattle.gen1_machine.specs.declared.picks.Pick.{Pick}
@@ -17,7 +17,7 @@ use Rattle.gen1_machine.specs.declared.side.Side.TheVariants.{One, Two}
 use Rattle.gen1_machine.specs.Sides.{other}
 use Rattle.gen1_machine.specs.Conditions.{no_conditions, without_flinch, Underway}
 use Rattle.gen1_machine.specs.State.{active_in, changed_active, changed_conditions, member_in, party, status_in, underway_in, with_party, with_picked_move, Active, Field, Party, Terms}
-use Rattle.gen1_machine.specs.Picks.{must_continue, pick_in, picked_after, sleeps_or_freezes}
+use Rattle.gen1_machine.specs.Picks.{must_continue, pick_in, picked_after}
 use Rattle.gen1_machine.specs.Progress.{given, on_action, on_active, on_conditions, on_field, Action, Phase, Progress}
 use Rattle.gen1_machine.specs.Ruling.{ruling_of}
 use Rattle.gen1_machine.specs.Action.{act, begin}
@@ -187,9 +187,6 @@ Roomy terms plan one two turn f a w = IsPlanned terms plan f a w × Between (Roo
 
 pub both-keep : {P Q : Field → Action → Stream → Type 0} {f : Phase} → Keeps P f → Keeps Q f → Keeps (λ x a w. P x a w × Q x a w) f
 both-keep k l = record { kept = λ p h. (k.kept p h.0, l.kept p h.1) }
-
-pub both-lead : {P Q R S : Field → Action → Stream → Type 0} {f : Phase} → Leads P Q f → Leads R S f → Leads (λ x a w. P x a w × R x a w) (λ x a w. Q x a w × S x a w) f
-both-lead k l = record { led = λ p h. (k.led p h.0, l.led p h.1) }
 
 pub send_out-leads : (terms : Terms) (plan : Side → Plan) (s : Side) (place : ℕ) → plan s ≡ Any
     → Leads (λ f a w. IsPlanned terms plan f a w × IsBetween 1 (length (party s f).members) place) (IsPlanned terms plan) (send_out s place)

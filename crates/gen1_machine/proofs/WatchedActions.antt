@@ -12,7 +12,8 @@ use Rattle.gen1_machine.specs.declared.picks.Pick.TheVariants.{Use, Continue, Id
 use Rattle.gen1_machine.specs.Sides.{other}
 use Rattle.gen1_machine.specs.Conditions.{without_seed, Storing}
 use Rattle.gen1_machine.specs.State.{changed_active, changed_conditions, changed_member, fallen, with_kept_accuracy, is_over, Field}
-use Rattle.gen1_machine.specs.Moves.{explodes, hits_more, Move}
+use Rattle.gen1_tables.specs.Effects.{explodes, hits_more}
+use Rattle.gen1_machine.specs.Moves.{Move}
 use Rattle.gen1_machine.specs.Progress.{Phase, given, on_field, on_active, on_conditions, on_member, on_action, active, member, Progress}
 use Rattle.gen1_machine.specs.CriticalHits.{set_critical, critical_by, roll_critical}
 use Rattle.gen1_machine.specs.Damage.{before_types, is_factor, type_steps, varied_by, vary, set_through_types, damage_from, roll_damage, DamageNumbers}

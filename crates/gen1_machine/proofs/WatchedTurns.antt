@@ -12,7 +12,7 @@ use Rattle.gen1_machine.specs.declared.choice.Choice.TheVariants as choices
 use Rattle.gen1_machine.specs.Sides.{other}
 use Rattle.gen1_machine.specs.State.{is_over}
 use Rattle.gen1_machine.specs.Progress.{Phase, has_fallen, Progress}
-use Rattle.gen1_machine.specs.Residual.{worsen, suffer, drained_by, suffer_seed, suffer_status, residual}
+use Rattle.gen1_machine.specs.ResidualDamage.{worsen, suffer, drained_by, suffer_seed, suffer_status, residual}
 use Rattle.gen1_machine.specs.Ruling.{Ruling}
 use Rattle.gen1_machine.specs.SwitchingIn.{send_if_chosen, replace}
 use Rattle.gen1_machine.specs.TurnOrder.{toss, in_order_of_speed, in_order_of_rank, in_order}

@@ -18,7 +18,7 @@ use Rattle.gen1_tables.specs.Types.{any}
 use Rattle.gen1_rolls.specs.Streams.{byte_at, first, Stream, Link, Sweep}
 use Rattle.gen1_stats.specs.Members.{Member}
 use Rattle.gen1_machine.specs.Rules.{rules_of}
-use Rattle.gen1_machine.specs.Code.{codes_of}
+use Rattle.gen1_machine.specs.LogBytes.{codes_of}
 use Rattle.gen1_machine.specs.Conditions.{with_charging, with_invulnerability, with_recharge, with_flinch, with_reflect, with_substitute, with_seed, with_bad_poison, ActiveConditions}
 use Rattle.gen1_machine.specs.State.{known_in, with_picked_move, level_stages, usual_terms, Stages, Active, Party}
 use Rattle.gen1_machine.specs.Moves.{move_at}
@@ -28,7 +28,7 @@ use Rattle.gen1_machine.specs.Damage.{fitted_attack, fitted_defense, before_type
 use Rattle.gen1_machine.specs.HitTest.{scaled, hit_test}
 use Rattle.gen1_machine.specs.Landing.{land}
 use Rattle.gen1_machine.specs.Gate.{gate}
-use Rattle.gen1_machine.specs.Residual.{residual}
+use Rattle.gen1_machine.specs.ResidualDamage.{residual}
 use Rattle.gen1_machine.specs.StageShift.{raise_stage, lower_stage}
 use Rattle.gen1_machine.specs.Ruling.{ruling_of, Ruling}
 use Rattle.gen1_machine.specs.Falls.{settle}
@@ -128,7 +128,7 @@ draws_without_end : (until_never (Sweep 7)).drawn ∷ (until_never zero_seed).dr
 unfolding computing
 draws_without_end = refl
 
--- damage (docs/MECHANICS.md, "Damage"): Body Slam between two Tauros, by all 39 factors
+-- damage (docs/MECHANICS.md, "Damage formula"): Body Slam between two Tauros, by all 39 factors
 
 abbrev body_slam : ℕ → DamageNumbers
 body_slam level = record {
@@ -177,7 +177,7 @@ ice_on_gyarados : type_steps 75 (record {
 unfolding computing
 ice_on_gyarados = refl
 
--- the factor (docs/MECHANICS.md, "Factor"): 217 after 180 draws, 255 after 2
+-- the factor (docs/MECHANICS.md, "Factors"): 217 after 180 draws, 255 after 2
 
 abbrev varied : ℕ → Progress
 varied start = vary 255 (facing tauros as_is tauros as_is (Sweep start))
@@ -325,7 +325,7 @@ psywave_at_2 : any (λ b. not (nat_lt 0 (psywaved 2 b).field.last_damage && nat_
 unfolding computing
 psywave_at_2 = refl
 
--- residual (docs/MECHANICS.md, "Residual"): bad poison and a seed take 22 and 44 of 353; the foe heals 44, also where only 20 HP were left
+-- residual (docs/MECHANICS.md, "Residual damage"): bad poison and a seed take 22 and 44 of 353; the foe heals 44, also where only 20 HP were left
 
 abbrev badly : ℕ → Progress
 badly hp = residual One (facing (record tauros { hp = hp; status = Poisoned }) (set λ c. with_seed (with_bad_poison c)) (record tauros { hp = 300 }) as_is (Sweep 0))

@@ -2,7 +2,6 @@
 use Rattle.std.proofs.Common.{List, None, Option, Some, [], false, map, refl, true, ℕ, ◌∷◌, ◌≡◌}
 use Rattle.gen1_tables.specs.declared.effect.Stat.TheVariants.{Attack, Speed}
 use Rattle.gen1_tables.specs.declared.effect.Effect.TheVariants as effects
-use Rattle.gen1_stats.specs.declared.status.Status.{Status}
 use Rattle.gen1_stats.specs.declared.status.Status.TheVariants.{Healthy, Asleep, Poisoned, Burned, Paralysed}
 use Rattle.gen1_machine.specs.declared.side.Side.TheVariants.{One, Two}
 use Rattle.gen1_machine.specs.declared.health.Kind.TheVariants as kinds
@@ -22,7 +21,7 @@ use Rattle.gen1_machine.specs.HitEffects.{drain}
 use Rattle.gen1_machine.specs.StageShift.{raise_stage, lower_stage}
 use Rattle.gen1_machine.specs.EarlyEffects.{early_effect, heal}
 use Rattle.gen1_machine.specs.LateEffects.{late_effect}
-use Rattle.gen1_machine.specs.Residual.{residual}
+use Rattle.gen1_machine.specs.ResidualDamage.{residual}
 use Rattle.gen1_machine.proofs.Computing.{computing}
 use Rattle.gen1_machine.proofs.WorkedRules.{tauros, facing, as_is, set, hp_of, usual}
 use Rattle.gen1_machine.proofs.WorkedHits.{left_with, tauros_of, healthy_at, hurt}
@@ -126,7 +125,7 @@ confusion_is_told : ((ray 3).events ≡ events.Start (tauros_of Two) volatiles.C
 unfolding computing
 confusion_is_told = (refl, refl, refl, refl)
 
--- Toxic's counter (docs/MECHANICS.md, "Residual"): it rises by 1 with the poison and by 1 with the seed, to 64 at most; a sixteenth
+-- Toxic's counter (docs/MECHANICS.md, "Residual damage"): it rises by 1 with the poison and by 1 with the seed, to 64 at most; a sixteenth
 -- of 353 is 22, and so the first two take 22 and 44
 
 abbrev with_counter : ℕ → ActiveConditions → ActiveConditions

@@ -18,7 +18,7 @@ use Rattle.gen1_machine.specs.declared.choice.Choice.TheVariants as choices
 use Rattle.gen1_rolls.specs.Streams.{Sweep}
 use Rattle.gen1_stats.specs.Members.{Member}
 use Rattle.gen1_machine.specs.Sides.{other}
-use Rattle.gen1_machine.specs.Code.{codes_of}
+use Rattle.gen1_machine.specs.LogBytes.{codes_of}
 use Rattle.gen1_machine.specs.Lines.{line}
 use Rattle.gen1_machine.specs.Conditions.{with_recharge, with_trapping}
 use Rattle.gen1_machine.specs.State.{level_stages, party, with_party, usual_terms, first_state, Active, State}

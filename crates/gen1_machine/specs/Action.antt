@@ -10,7 +10,8 @@ use Rattle.gen1_machine.specs.declared.picks.Pick.TheVariants.{Held}
 use Rattle.gen1_machine.specs.Sides.{other}
 use Rattle.gen1_machine.specs.Conditions.{Underway}
 use Rattle.gen1_machine.specs.State.{active_in, member_in, who_in, with_pp_spent, with_kept_accuracy, is_over, Field}
-use Rattle.gen1_machine.specs.Moves.{move_at, traps, thrashes, bides, Move}
+use Rattle.gen1_tables.specs.Effects.{traps, thrashes, bides}
+use Rattle.gen1_machine.specs.Moves.{move_at, Move}
 use Rattle.gen1_machine.specs.Progress.{new_action, Phase, ◌▸◌, choose, when, unless, only, given, stop, note, on_active, on_member, set_last_damage, on_action, goes_on_now, has_missed, active, underway, Progress}
 use Rattle.gen1_machine.specs.CriticalHits.{roll_critical}
 use Rattle.gen1_machine.specs.Damage.{roll_damage}

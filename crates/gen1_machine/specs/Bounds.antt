@@ -5,10 +5,10 @@ use Rattle.gen1_machine.specs.declared.side.Side.{Side}
 use Rattle.gen1_machine.specs.declared.event.Event.{Event}
 use Rattle.gen1_machine.specs.declared.picks.Pick.{Pick}
 use Rattle.gen1_machine.specs.declared.choice.Choice.{Choice}
-use Rattle.gen1_machine.specs.Code.{codes_of}
+use Rattle.gen1_machine.specs.LogBytes.{codes_of}
 use Rattle.gen1_machine.specs.State.{Terms, State}
 use Rattle.gen1_machine.specs.Progress.{Phase, Progress}
-use Rattle.gen1_machine.specs.Residual.{residual}
+use Rattle.gen1_machine.specs.ResidualDamage.{residual}
 use Rattle.gen1_machine.specs.Ruling.{ruling_of, Ruling}
 use Rattle.gen1_machine.specs.Action.{act}
 use Rattle.gen1_machine.specs.SwitchingIn.{send_out}

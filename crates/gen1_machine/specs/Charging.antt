@@ -4,7 +4,8 @@ use Rattle.gen1_machine.specs.declared.event.Event.TheVariants as events
 use Rattle.gen1_machine.specs.declared.picks.Pick.{Pick}
 use Rattle.gen1_machine.specs.Conditions.{with_charging, without_charging, with_invulnerability, without_invulnerability}
 use Rattle.gen1_machine.specs.State.{who_in, with_current_move}
-use Rattle.gen1_machine.specs.Moves.{charges, hides, Move}
+use Rattle.gen1_tables.specs.Effects.{charges, hides}
+use Rattle.gen1_machine.specs.Moves.{Move}
 use Rattle.gen1_machine.specs.Progress.{Phase, ◌▸◌, choose, only, given, stop, note, on_active, on_conditions, active, underway}
 use Rattle.gen1_machine.specs.Picks.{used_by}
 

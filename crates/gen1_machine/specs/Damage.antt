@@ -1,16 +1,17 @@
--- Damage (docs/MECHANICS.md, "Damage numbers", "Damage", "Types", "Factor"): its numbers, its formula, the types and the
+-- Damage (docs/MECHANICS.md, "Damage numbers", "Damage formula", "Types", "Factors"): its numbers, its formula, the types and the
 -- factor.
-use Rattle.std.specs.Prelude.{Bool, List, None, Option, Some, [], count_by, false, filter, if◌then◌else◌, max, min, nat_le, nat_lt, suc, true, zero, ℕ, ◌%◌, ◌&&◌, ◌*◌, ◌+◌, ◌/◌, ◌==◌, ◌||◌, ◌∷◌}
+use Rattle.std.specs.Prelude.{Bool, List, None, Option, Some, [], count_by, false, if◌then◌else◌, max, min, nat_le, nat_lt, suc, true, zero, ℕ, ◌%◌, ◌*◌, ◌+◌, ◌/◌, ◌==◌, ◌||◌, ◌∷◌}
 use Rattle.gen1_tables.specs.declared.element.Element.{Element}
 use Rattle.gen1_tables.specs.declared.effect.Stat.{Stat}
 use Rattle.gen1_tables.specs.declared.effect.Stat.TheVariants.{Attack, Defense, Special}
 use Rattle.gen1_machine.specs.declared.side.Side.{Side}
-use Rattle.gen1_tables.specs.Types.{same_type, is_special, type_rows, TypeRow}
+use Rattle.gen1_tables.specs.Types.{same_type, is_special, rows_against, TypeRow}
 use Rattle.gen1_machine.specs.Sides.{other}
 use Rattle.gen1_machine.specs.Conditions.{ActiveConditions}
 use Rattle.gen1_machine.specs.State.{active_in, conditions_in, member_in, Field}
 use Rattle.gen1_machine.specs.CurrentStats.{unmodified, now_in}
-use Rattle.gen1_machine.specs.Moves.{explodes, Move}
+use Rattle.gen1_tables.specs.Effects.{explodes}
+use Rattle.gen1_machine.specs.Moves.{Move}
 use Rattle.gen1_machine.specs.Progress.{Phase, ◌▸◌, choose, given, draw_until, set_last_damage, on_action, set_missed, fault, Progress}
 
 -- what the formula takes
@@ -82,7 +83,7 @@ numbers_in s move critical f = if critical then critical_numbers s move f else p
 abbrev pub numbers : Side → Move → Progress → DamageNumbers
 numbers s move p = numbers_in s move p.action.critical p.field
 
--- the formula (docs/MECHANICS.md, "Damage")
+-- the formula (docs/MECHANICS.md, "Damage formula")
 
 abbrev pub divided : ℕ → ℕ → ℕ → ℕ → Option ℕ
 divided level power attack zero = None
@@ -94,11 +95,8 @@ before_types n = divided n.level n.power n.attack (if n.halved then max 1 (n.def
 
 -- the types (docs/MECHANICS.md, "Types")
 
-abbrev pub applies : DamageNumbers → TypeRow → Bool
-applies n row = same_type row.attacker n.kind && (same_type row.defender n.foe_first || same_type row.defender n.foe_second)
-
 abbrev pub rows_for : DamageNumbers → List TypeRow
-rows_for n = filter (applies n) type_rows
+rows_for n = rows_against n.kind n.foe_first n.foe_second
 
 -- row by row, rounded down each time
 abbrev pub by_rows : List TypeRow → ℕ → ℕ
@@ -115,7 +113,7 @@ type_steps d n = by_rows (rows_for n) (if is_own_type n then d + d / 2 else d)
 abbrev pub rows_of : ℕ → DamageNumbers → ℕ
 rows_of tenths n = count_by (λ row. row.tenths == tenths) (rows_for n)
 
--- the factor (docs/MECHANICS.md, "Factor")
+-- the factor (docs/MECHANICS.md, "Factors")
 
 abbrev pub rotated_right_1 : ℕ → ℕ
 rotated_right_1 b = b / 2 + b % 2 * 128

@@ -1,6 +1,6 @@
--- What a device holds.
+-- What a device holds (docs/PROGRAM.md, "Faults and statuses").
 use Rattle.std.specs.Prelude.{Bool}
-use Rattle.gen1_machine.specs.declared.wrapping.Device.{Device}
+use Rattle.gen1_machine.specs.declared.device.Device.{Device}
 
 abbrev pub device_inner : {T : Type 0} → Device T → T
 device_inner d = d.inner

@@ -1,4 +1,4 @@
--- When a write to a sink has failed.
+-- When a write to a sink has failed (docs/PROGRAM.md, "Faults and statuses").
 use Rattle.std.specs.Prelude.{ℕ, ◌&&◌, ◌==◌, List, Bool, true, nat_lt, length, Result, Ok, Err}
 
 -- by an error, or by an answer of 0 where there were bytes to write

@@ -20,7 +20,7 @@ use Rattle.gen1_machine.specs.State.{who_in, kind_of, changed_active, changed_me
 use Rattle.gen1_machine.specs.Moves.{toxic, light_screen_move, rest, Move}
 use Rattle.gen1_machine.specs.Progress.{Phase, stay, ◌▸◌, choose, only, given, draw, note, told, on_active, on_conditions, starts, active, conditions, member, status_of, has_status, has_substitute, is_invulnerable, is_confused, is_of, fail, fails_if, lose_hp, gain_hp, inflict, cure, Progress}
 use Rattle.gen1_machine.specs.HitTest.{must_hit}
-use Rattle.gen1_machine.specs.Picks.{sleeps_or_freezes}
+use Rattle.gen1_stats.specs.Members.{sleeps_or_freezes}
 
 -- confusion for two to five turns
 

@@ -37,7 +37,7 @@ battle_ends outcome event = on_field (with_outcome outcome) ▸ ask_nothing ▸ 
 abbrev pub has_living : Side → Progress → Bool
 has_living s p = any is_living (party s p.field).members
 
--- a last turn without a winner is a tie, also where a switch would be due
+-- a last turn without a winner is a tie, also where a switch would be due (docs/MECHANICS.md, "Turn limit")
 unfoldable pub end_if_decided : Ruling → Phase
 end_if_decided r =
     when (λ p. not (has_living One p) && not (has_living Two p)) (battle_ends outcomes.Tie events.Tie)

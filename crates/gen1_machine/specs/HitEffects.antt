@@ -5,7 +5,7 @@ use Rattle.gen1_tables.specs.declared.effect.Effect.TheVariants as effects
 use Rattle.gen1_machine.specs.declared.side.Side.{Side}
 use Rattle.gen1_machine.specs.declared.event.DamageSource.TheVariants as sources
 use Rattle.gen1_machine.specs.declared.event.Volatile.TheVariants as volatiles
-use Rattle.gen1_stats.specs.Members.{struggle}
+use Rattle.gen1_tables.specs.Moves.{struggle}
 use Rattle.gen1_machine.specs.Conditions.{with_rage, without_seed}
 use Rattle.gen1_machine.specs.State.{fallen}
 use Rattle.gen1_machine.specs.Moves.{Move}

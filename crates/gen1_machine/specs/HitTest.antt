@@ -7,13 +7,13 @@ use Rattle.gen1_stats.specs.declared.status.Status.{Status}
 use Rattle.gen1_machine.specs.declared.side.Side.{Side}
 use Rattle.gen1_machine.specs.declared.event.Event.{Event}
 use Rattle.gen1_machine.specs.declared.event.Event.TheVariants as events
-use Rattle.gen1_tables.specs.Types.{same_type, any, type_rows}
+use Rattle.gen1_tables.specs.Types.{any, rows_against}
 use Rattle.gen1_stats.specs.Members.{is_asleep}
 use Rattle.gen1_stats.specs.Stats.{stat}
 use Rattle.gen1_machine.specs.Sides.{other}
 use Rattle.gen1_machine.specs.Stages.{percent_at}
 use Rattle.gen1_machine.specs.Conditions.{without_trapping, ActiveConditions}
-use Rattle.gen1_machine.specs.State.{active_in, conditions_in, status_in, who_in, has_type, Stages, Active, Field}
+use Rattle.gen1_machine.specs.State.{active_in, conditions_in, status_in, who_in, Stages, Active, Field}
 use Rattle.gen1_machine.specs.Moves.{accuracy_byte, Move}
 use Rattle.gen1_machine.specs.Progress.{Phase, stay, ◌▸◌, choose, when, given, stop, draw, note, on_conditions, set_last_damage, on_action, set_missed, has_missed, active, Progress}
 
@@ -78,7 +78,7 @@ hit_or_miss s move = given (base_of s move) (hit_test s move)
 
 -- how a miss is told: a foe whose type has no effect is immune
 abbrev pub is_immune : Element → Active → Bool
-is_immune t foe = any (λ row. row.tenths == 0 && same_type row.attacker t && has_type row.defender foe) type_rows
+is_immune t foe = any (λ row. row.tenths == 0) (rows_against t foe.first_type foe.second_type)
 
 abbrev pub miss_event : Side → Move → Field → Event
 miss_event s move f =

@@ -1,8 +1,8 @@
--- What reading an input whole takes from its source, and why it stopped.
+-- What reading an input whole takes from its source, and why it stopped (docs/PROGRAM.md, "What is tested, in this order").
 use Rattle.std.specs.Prelude.{ℕ, ◌≤◌, List, length, Bool, true, false, Option, Result, Ok, Err}
 use Rattle.std.specs.Io.KnownBytes.{Consumes}
-use Rattle.gen1_machine.specs.declared.reading.InputFault.{InputFault}
-use Rattle.gen1_machine.specs.declared.reading.InputFault.TheVariants.{Device, TooLong, Memory}
+use Rattle.gen1_machine.specs.declared.input.InputFault.{InputFault}
+use Rattle.gen1_machine.specs.declared.input.InputFault.TheVariants.{Device, TooLong, Memory}
 
 -- known bytes lose so many from their front, at most
 pub record TakesAtMost (old new : Option (List ℕ)) (most : ℕ) : Type 0 where

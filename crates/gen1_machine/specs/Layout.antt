@@ -1,4 +1,5 @@
--- The 384 bytes of a battle (docs/LAYOUT.md): a header of 24, then for each side six members of 24 and an active block of 36.
+-- The 384 bytes of a battle (docs/LAYOUT.md, "The 384 bytes of a battle"): a header of 24, then for each side six members of
+-- 24 and an active block of 36.
 use Rattle.std.specs.Prelude.{Bool, List, None, Option, Some, [], flat_map, if◌then◌else◌, is_some, map, replicate, slice_index, take, unwrap_or, ℕ, ◌%◌, ◌*◌, ◌++◌, ◌+◌, ◌/◌, ◌==◌, ◌∷◌}
 use Rattle.gen1_tables.specs.declared.effect.Stat.TheVariants.{Attack, Defense, Speed, Special}
 use Rattle.gen1_stats.specs.declared.status.Status.{Status}

@@ -5,14 +5,14 @@ pub mod Numbers
 pub mod Choices
 pub mod Rules
 -- What an event is in a log, and on a line.
-pub mod Code
+pub mod LogBytes
 pub mod Lines
 -- A stat at its stage.
 pub mod Stages
 -- What sinks, sources and devices tell.
 pub mod Devices
 pub mod DeviceViews
-pub mod Sending
+pub mod Output
 pub mod Input
 -- A battle, from small to large. Who wants the whole first begins at the end, with `Step`.
 
@@ -30,7 +30,7 @@ pub mod Landing
 pub mod Picks
 pub mod HitOnItself
 pub mod Gate
-pub mod Residual
+pub mod ResidualDamage
 pub mod StageShift
 pub mod Ruling
 pub mod EarlyEffects

@@ -6,7 +6,8 @@ use Rattle.gen1_machine.specs.declared.event.DamageSource.TheVariants as sources
 use Rattle.gen1_machine.specs.declared.event.Event.TheVariants as events
 use Rattle.gen1_machine.specs.Sides.{other}
 use Rattle.gen1_machine.specs.State.{who_in}
-use Rattle.gen1_machine.specs.Moves.{explodes, crashes, knocks_out, hits_more, Move}
+use Rattle.gen1_tables.specs.Effects.{explodes, crashes, knocks_out, hits_more}
+use Rattle.gen1_machine.specs.Moves.{Move}
 use Rattle.gen1_machine.specs.Progress.{Phase, stay, ◌▸◌, choose, when, unless, only, given, stop, note, set_last_damage, on_action, broke_substitute, underway, has_fallen, lose_hp, Progress}
 use Rattle.gen1_machine.specs.Damage.{numbers, rows_of, DamageNumbers}
 use Rattle.gen1_machine.specs.HitTest.{note_miss}

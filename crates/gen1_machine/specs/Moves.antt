@@ -1,8 +1,7 @@
--- Moves by their number: what their row says, and the few that a rule names.
-use Rattle.std.specs.Prelude.{Bool, false, true, ℕ, ◌*◌, ◌/◌, ◌==◌, ◌||◌}
+-- Moves by their number (docs/TABLES.md, "Moves"): what their row says, and the few that a rule names.
+use Rattle.std.specs.Prelude.{Bool, ℕ, ◌*◌, ◌/◌, ◌==◌, ◌||◌}
 use Rattle.gen1_tables.specs.declared.element.Element.{Element}
 use Rattle.gen1_tables.specs.declared.effect.Effect.{Effect}
-use Rattle.gen1_tables.specs.declared.effect.Effect.TheVariants as effects
 use Rattle.gen1_tables.specs.Moves.{move_row, MoveRow}
 
 -- a move: its number, and its row of the table
@@ -61,51 +60,6 @@ super_fang = 162
 abbrev pub slash : ℕ
 slash = 163
 
-abbrev pub struggle : ℕ
-struggle = 165
-
 -- moves that are critical more often
 abbrev pub is_often_critical : ℕ → Bool
 is_often_critical move = move == karate_chop || move == razor_leaf || move == crabhammer || move == slash
-
--- what an effect does beside its own case
-
-abbrev pub explodes : Effect → Bool
-explodes effects.Explode = true
-explodes _ = false
-
-abbrev pub crashes : Effect → Bool
-crashes effects.CrashOnMiss = true
-crashes _ = false
-
-abbrev pub charges : Effect → Bool
-charges effects.Charge = true
-charges effects.ChargeInvulnerable = true
-charges _ = false
-
-abbrev pub hides : Effect → Bool
-hides effects.ChargeInvulnerable = true
-hides _ = false
-
-abbrev pub traps : Effect → Bool
-traps effects.Trapping = true
-traps _ = false
-
-abbrev pub thrashes : Effect → Bool
-thrashes effects.Thrash = true
-thrashes _ = false
-
-abbrev pub bides : Effect → Bool
-bides effects.Bide = true
-bides _ = false
-
-abbrev pub knocks_out : Effect → Bool
-knocks_out effects.OneHitKnockOut = true
-knocks_out _ = false
-
--- a move that may hit more than once
-abbrev pub hits_more : Effect → Bool
-hits_more effects.MultiHit = true
-hits_more effects.DoubleHit = true
-hits_more effects.Twineedle = true
-hits_more _ = false

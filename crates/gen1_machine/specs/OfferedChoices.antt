@@ -7,11 +7,10 @@ use Rattle.gen1_machine.specs.declared.terms.Request.TheVariants as requests
 use Rattle.gen1_machine.specs.declared.picks.DisabledSlot.{DisabledSlot}
 use Rattle.gen1_machine.specs.declared.choice.Choice.{Choice}
 use Rattle.gen1_machine.specs.declared.choice.Choice.TheVariants as choices
-use Rattle.gen1_stats.specs.Members.{is_living, Member}
+use Rattle.gen1_stats.specs.Members.{Member, is_living, sleeps_or_freezes}
 use Rattle.gen1_machine.specs.Sides.{other}
 use Rattle.gen1_machine.specs.Conditions.{Underway}
 use Rattle.gen1_machine.specs.State.{party, request_of, active_in, conditions_in, underway_in, member_in, status_in, is_over, Field}
-use Rattle.gen1_machine.specs.Picks.{sleeps_or_freezes}
 
 -- what leaves a member no choice at all
 abbrev pub is_committed : Underway → Bool

@@ -1,14 +1,14 @@
 -- What a side's choice of a move comes to as the turn begins (docs/MECHANICS.md, "Picks").
 use Rattle.std.specs.Prelude.{Bool, List, None, Option, Some, false, if◌then◌else◌, is_some, suc, true, zero, ℕ, ◌==◌, ◌||◌}
 use Rattle.gen1_stats.specs.declared.known_move.KnownMove.{KnownMove}
-use Rattle.gen1_stats.specs.declared.status.Status.{Status}
 use Rattle.gen1_machine.specs.declared.side.Side.{Side}
 use Rattle.gen1_machine.specs.declared.picks.UsedMove.{UsedMove}
 use Rattle.gen1_machine.specs.declared.picks.UsedMove.TheVariants.{Nothing, Slot, Struggle}
 use Rattle.gen1_machine.specs.declared.picks.Pick.{Pick}
 use Rattle.gen1_machine.specs.declared.picks.Pick.TheVariants.{Use, Continue, Idle, Held}
 use Rattle.gen1_machine.specs.declared.picks.DisabledSlot.{DisabledSlot}
-use Rattle.gen1_stats.specs.Members.{struggle, is_asleep, is_frozen}
+use Rattle.gen1_tables.specs.Moves.{struggle}
+use Rattle.gen1_stats.specs.Members.{sleeps_or_freezes}
 use Rattle.gen1_machine.specs.Sides.{other}
 use Rattle.gen1_machine.specs.Conditions.{Underway}
 use Rattle.gen1_machine.specs.State.{active_in, conditions_in, underway_in, member_in, status_in, known_in, Field}
@@ -16,9 +16,6 @@ use Rattle.gen1_machine.specs.State.{active_in, conditions_in, underway_in, memb
 -- what keeps a member at its current move
 abbrev pub must_continue : Underway → Bool
 must_continue u = u.recharge || u.rage || is_some u.thrash || u.charging || is_some u.bide || is_some u.trapping
-
-abbrev pub sleeps_or_freezes : Status → Bool
-sleeps_or_freezes status = is_asleep status || is_frozen status
 
 -- slot 0 is no slot: what it means depends on what there is
 abbrev pub pick_in : ℕ → Side → Field → Pick

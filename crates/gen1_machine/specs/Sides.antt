@@ -1,4 +1,4 @@
--- The two sides of a battle.
+-- The two sides of a battle (docs/MECHANICS.md, "Events").
 use Rattle.gen1_machine.specs.declared.side.Side.{Side}
 use Rattle.gen1_machine.specs.declared.side.Side.TheVariants.{One, Two}
 

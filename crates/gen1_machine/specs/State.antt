@@ -157,6 +157,7 @@ with_outcome outcome f = record f { outcome = outcome }
 unfoldable pub with_requests : Request → Request → Field → Field
 with_requests one two f = record f { request_one = one; request_two = two }
 
+-- the next turn (docs/MECHANICS.md, "Falls and requests")
 unfoldable pub with_next_turn : Field → Field
 with_next_turn f = record f { turn = f.turn + 1 }
 

@@ -1,4 +1,4 @@
--- One update of a battle by a pair of choices, and runs of many.
+-- One update of a battle by a pair of choices, and runs of many (docs/MECHANICS.md, "Offered choices", "Falls and requests").
 use Rattle.std.specs.Prelude.{Bool, List, [], false, true, ◌==◌, ◌∷◌}
 use Rattle.gen1_machine.specs.declared.side.Side.{Side}
 use Rattle.gen1_machine.specs.declared.side.Side.TheVariants.{One, Two}

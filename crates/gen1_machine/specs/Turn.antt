@@ -11,7 +11,7 @@ use Rattle.gen1_machine.specs.State.{with_picked_move, is_over}
 use Rattle.gen1_machine.specs.Moves.{rest}
 use Rattle.gen1_machine.specs.Progress.{Phase, stay, ◌▸◌, when, unless, given, on_active, on_conditions, active, underway, has_fallen, Progress}
 use Rattle.gen1_machine.specs.Picks.{pick_in, picked_after}
-use Rattle.gen1_machine.specs.Residual.{residual}
+use Rattle.gen1_machine.specs.ResidualDamage.{residual}
 use Rattle.gen1_machine.specs.Ruling.{Ruling}
 use Rattle.gen1_machine.specs.Action.{begin, act}
 use Rattle.gen1_machine.specs.SwitchingIn.{send_out}

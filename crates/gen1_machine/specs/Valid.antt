@@ -1,6 +1,6 @@
--- Which states are valid (docs/LAYOUT.md): `IsState`, a battle between two updates, and the weaker `IsField`, which holds inside
--- an update as well, while both sides have a member out. Three ties hold between two updates alone: the fallen are healthy,
--- what accuracy is kept belongs to rage or thrashing, and turn, outcome and requests fit together.
+-- Which states are valid (docs/LAYOUT.md, "Loading"): `IsState`, a battle between two updates, and the weaker `IsField`, which
+-- holds inside an update as well, while both sides have a member out. Three ties hold between two updates alone: the fallen are
+-- healthy, what accuracy is kept belongs to rage or thrashing, and turn, outcome and requests fit together.
 --
 -- What "Loading" tests on bytes is here, test by test:
 --   Header   `IsTerms`; `last_damage`, `turn` and `outcome` of `IsField`; at turn 0 `last_damage` of `IsUnstarted`; `seed` of `IsState`
@@ -10,7 +10,6 @@
 --   Request  `StandsAs`; at turn 0 `first_one`, `first_two`, `outcome` and `requests` of `IsUnstarted`
 use Rattle.std.specs.Prelude.{All, Bool, List, None, Option, Some, false, is_some, length, true, ℕ, ◌<◌, ◌||◌, ◌≡◌, ◌≤◌, ◌⊎◌}
 use Rattle.gen1_tables.specs.declared.effect.Effect.{Effect}
-use Rattle.gen1_tables.specs.declared.effect.Effect.TheVariants as effects
 use Rattle.gen1_tables.specs.Types.{any}
 use Rattle.gen1_rolls.specs.Streams.{IsStream, Link}
 use Rattle.gen1_stats.specs.declared.known_move.KnownMove.{KnownMove}
@@ -28,7 +27,8 @@ use Rattle.gen1_machine.specs.declared.picks.UsedMove.TheVariants.{Slot}
 use Rattle.gen1_machine.specs.Rules.{Rules}
 use Rattle.gen1_machine.specs.Conditions.{Storing, Underway, ActiveConditions}
 use Rattle.gen1_machine.specs.State.{has_fallen_in, member_at, nobody_out, party, Stages, Active, Party, Field, Terms, State}
-use Rattle.gen1_machine.specs.Moves.{bides, charges, move_at, thrashes, traps}
+use Rattle.gen1_tables.specs.Effects.{bides, charges, rages, recharges, thrashes, traps}
+use Rattle.gen1_machine.specs.Moves.{move_at}
 use Rattle.gen1_machine.specs.Picks.{number_in}
 use Rattle.gen1_machine.specs.Falls.{switch_if}
 
@@ -89,14 +89,6 @@ IsDisabled count (Some d) = IsBetween 1 count d.slot × IsBetween 1 8 d.turns
 abbrev pub IsStoring : Option Storing → Type 0
 IsStoring None = Unit {0}
 IsStoring (Some b) = IsBetween 1 3 b.turns × (b.energy ≤ 65535)
-
-abbrev pub recharges : Effect → Bool
-recharges effects.Recharge = true
-recharges _ = false
-
-abbrev pub rages : Effect → Bool
-rages effects.Rage = true
-rages _ = false
 
 -- what is underway belongs to a current move with this effect: so one thing at most is
 pub record IsUnderway (current : Effect) (u : Underway) : Type 0 where

@@ -1,3 +1,4 @@
+//! What a side chooses for an update (docs/MECHANICS.md, "Offered choices").
 ghost use Rattle.std.specs.Prelude.{◌≡◌, IfSome};
 
 use crate::{MoveSlot, Place};

@@ -1,3 +1,4 @@
+//! Where bytes are written and read: sinks, sources, and the fault of either (docs/PROGRAM.md, "Faults and statuses").
 ghost use Rattle.std.specs.Prelude.{◌≡◌, ◌||◌, ℕ, List, Bool, Option, None, is_err};
 ghost use Rattle.std.specs.Io.{ReadsAtMost, WritesAtMost};
 ghost use Rattle.std.specs.Io.KnownBytes.{ReadConsumes, WriteAppends};

@@ -1,32 +1,46 @@
-//! The public types of a link battle: its events, choices, terms and outcomes. Beside them stand
-//! the places where bytes go and come from, and two of the battle's numbers as plain functions.
+//! The public types of a link battle: its events, choices, terms and outcomes. Beside them stand the places where bytes go and
+//! come from, and two of the battle's numbers as plain functions.
+//!
+//! - `event`: what happens in a battle
+//! - `health`: whom an event is about, and the HP and status that it tells
+//! - `side`: the two sides
+//! - `ranges`: numbers that keep to a range
+//! - `choice`: what a side chooses
+//! - `picks`: what a side's choice comes to in a turn
+//! - `terms`: outcomes, requests, rules and the turn limit
+//! - `formulas`: a link number, and a stat at its stage
+//! - `io`: sinks and sources
+//! - `device`: those over std's writers and readers
+//! - `output`: writing all of some bytes
+//! - `input`: reading an input whole
+//! - `laws`: what holds of every battle
 #![tactic(auto)]
 
 mod choice;
+mod device;
 mod event;
+mod formulas;
 mod health;
+mod input;
 mod io;
 pub mod laws;
+mod output;
 mod picks;
-mod plain;
 mod ranges;
-mod reading;
 mod side;
 mod terms;
-mod wrapping;
-mod writing;
 
 pub use choice::Choice;
+pub use device::Device;
 pub use event::{
     CantReason, DamageSource, Event, EventList, Volatile, stat_from_number, stat_number,
 };
+pub use formulas::{link, now};
 pub use health::{Health, Kind, Who};
+pub use input::{InputFault, read_whole};
 pub use io::{DeviceFault, Sink, Source};
+pub use output::{send, send_all};
 pub use picks::{DisabledSlot, Pick, UsedMove};
-pub use plain::{link, now};
 pub use ranges::{FaultCode, HitCount, Level, MoveSlot, Place, Ranged, StageCount, TurnNumber};
-pub use reading::{InputFault, read_whole};
 pub use side::Side;
 pub use terms::{Outcome, Request, Rules, TurnLimit};
-pub use wrapping::Device;
-pub use writing::{send, send_all};

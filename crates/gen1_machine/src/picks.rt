@@ -1,4 +1,4 @@
-//! What a side uses in a turn, and what is disabled.
+//! What a side uses in a turn, and what is disabled (docs/MECHANICS.md, "Picks").
 
 /// A move of a member, by where it comes from (docs/MECHANICS.md, "Picks").
 #[derive(Debug, Clone, Copy, PartialEq, Eq)]

@@ -1,3 +1,4 @@
+//! The two sides of a battle (docs/MECHANICS.md, "Events").
 ghost use Rattle.std.specs.Prelude.{◌≡◌, ◌↔◌, ◌≤◌, IfSome, IsSome};
 
 /// A side of a battle.

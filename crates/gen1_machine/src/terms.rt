@@ -1,5 +1,8 @@
+//! How a battle stands, what is asked of each side, and the rules and the turn limit that it is fought under
+//! (docs/MECHANICS.md, "Falls and requests", "Rules (sleep clause, freeze clause)", "Turn limit").
 ghost use Rattle.std.specs.Prelude.{◌≡◌, ◌≤◌, ℕ, nat_le, ◌&&◌, if◌then◌else◌};
 ghost use Rattle.gen1_machine.specs.Rules.{no_rules, rules_of, bits_of_rules};
+ghost use Rattle.gen1_machine.specs.State.{is_over};
 
 use std::marker::Model;
 
@@ -13,6 +16,15 @@ pub enum Outcome {
     Tie,
     /// The battle could not go on, by the code of its `Event::Fault`.
     Fault(u8),
+}
+
+impl Outcome {
+    /// Whether the battle has ended.
+    pub fn is_over(self) -> bool
+        ensures { result ≡ is_over self }
+    {
+        !matches!(self, Outcome::Ongoing)
+    }
 }
 
 /// What is asked of a side for the next update (docs/MECHANICS.md, "Falls and requests").
@@ -41,7 +53,10 @@ impl Model for Rules {
 
     ghost view = { λ r. record { sleep_clause = r.sleep_clause; freeze_clause = r.freeze_clause } };
 
-    ghost inverse = { λ r. record { sleep_clause = r.sleep_clause; freeze_clause = r.freeze_clause } };
+    ghost inverse = { λ r. record {
+      sleep_clause = r.sleep_clause;
+      freeze_clause = r.freeze_clause;
+    } };
 }
 
 impl Default for Rules {

@@ -1,18 +1,18 @@
 -- The hits of a move, by its effect, and what comes with one.
 use Rattle.std.proofs.Common.{◌≡◌}
-use Rattle.gen1_layout.proofs.Words.{ActiveConditions, Bool, Event, Frame, List, Parts, Phase, Progress, Shows, Side, ap, arith, false, refl, stay, suc, true, zero, ℕ, ◌▸◌}
+use Rattle.gen1_layout.proofs.Words.{ActiveConditions, Phase, Side, ap, arith, false, refl, stay, suc, true, zero, ℕ, ◌▸◌}
 use Rattle.gen1_tables.specs.declared.effect.Effect.{Effect}
 use Rattle.gen1_tables.specs.declared.effect.Effect.TheVariants as effects
 use Rattle.gen1_machine.specs.Conditions.{with_rage, without_seed}
 use Rattle.gen1_machine.specs.HitEffects.{drain, explode, hit_effect, plan_hits, recoil, set_planned, start_rage}
 use Rattle.gen1_machine.specs.ManyHits.{hit_again, hit_once, hits_end}
-use Rattle.gen1_machine.specs.Moves.{hits_more, knocks_out, Move}
+use Rattle.gen1_tables.specs.Effects.{hits_more, knocks_out}
+use Rattle.gen1_machine.specs.Moves.{Move}
 use Rattle.gen1_machine.specs.Progress.{unless}
 use Rattle.gen1_layout.specs.Flags.{SameNumbers}
-use Rattle.gen1_status.specs.Shifting.{ShowsShifted}
 use Rattle.gen1_multiturn.specs.declared.hit_effects.Consequence.{Consequence}
 use Rattle.gen1_multiturn.specs.declared.hit_effects.Consequence.TheVariants as consequences
-use Rattle.gen1_multiturn.specs.Hitting.{consequence_of, is_multi_hit}
+use Rattle.gen1_multiturn.specs.ManyHits.{consequence_of, is_multi_hit}
 
 -- by the effect
 
@@ -63,12 +63,6 @@ again-none (suc n) s move e = absurd (omega arith)
 pub again-more : (n m : ℕ) (s : Side) (move : Move) → n ≡ suc m → hit_again n s move ≡ unless (hits_end s) (hit_once s move ▸ hit_again m s move)
 unfolding hit_again
 again-more n m s move e = ap (λ (k : ℕ). hit_again k s move) e
-
--- a shift that is let fail
-pub shifted : (g : Frame) (parts : Parts) (events : List Event) (b : Bool) (shift : Phase → Phase) (p : Progress) → ShowsShifted g parts events b shift stay p → Shows g parts events false (shift stay p)
-unfolding stay
-shifted g parts events true shift p h = h
-shifted g parts events false shift p h = rw h.2 h.1
 
 -- a condition without a number comes or goes, and all numbers stay
 

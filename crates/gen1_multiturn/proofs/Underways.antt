@@ -7,7 +7,7 @@ use Rattle.gen1_tables.specs.declared.effect.Effect.TheVariants as effects
 use Rattle.gen1_machine.specs.declared.side.Side.TheVariants.{One, Two}
 use Rattle.gen1_machine.specs.Conditions.{energy_with, with_bide_storing, with_thrash_one_less, with_trapping_one_less, Storing, Underway}
 use Rattle.gen1_machine.specs.Layout.{energy_of}
-use Rattle.gen1_machine.specs.Moves.{bides, thrashes, traps}
+use Rattle.gen1_tables.specs.Effects.{bides, thrashes, traps}
 use Rattle.gen1_machine.specs.Plans.{Doing, Plan}
 use Rattle.gen1_machine.specs.Rules.{bit_of}
 use Rattle.gen1_machine.specs.Sides.{other}
@@ -17,6 +17,7 @@ use Rattle.gen1_machine.proofs.Sound.{party-valid, planned-holds}
 use Rattle.gen1_layout.specs.Decoding.{turns_stored}
 use Rattle.gen1_layout.specs.Storable.{IsStorableUnderway}
 use Rattle.gen1_action.specs.Planned.{Follows}
+use Rattle.gen1_action.proofs.Planning.{nothing-there}
 
 none-on : {A : Type 0} (o : Option A) → bit_of (is_some o) ≤ 0 → o ≡ None
 none-on None h = refl
@@ -82,10 +83,6 @@ not-stored None e = refl
 not-stored (Some b) e = cc
 
 -- what a move that thrashes, or Bide, finds underway
-
-nothing-there : {A : Type 0} (o : Option A) → (is_some o ≡ true → false ≡ true) → o ≡ None
-nothing-there None k = refl
-nothing-there (Some b) k = absurd (false≢true (k refl))
 
 thrashes-bides : (e : Effect) → thrashes e ≡ true → bides e ≡ false
 thrashes-bides effects.Thrash h = refl

@@ -1,14 +1,14 @@
 -- What Bide lets out.
-pub mod Energy
+pub mod Bide
 -- What a call shows that stands for itself and draws nothing.
 pub mod Anyway
 -- What Counter deals.
-pub mod Countered
+pub mod Counter
 -- What a move of fixed damage deals.
-pub mod Dealt
+pub mod FixedDamage
 -- A charge of the move that was picked last.
-pub mod Picked
+pub mod Charging
 -- How many hits a move plans, and what each brings.
-pub mod Hitting
--- The type rows that apply to a hit.
+pub mod ManyHits
+-- How many factors of a foe's types are so many tenths.
 pub mod Effectiveness

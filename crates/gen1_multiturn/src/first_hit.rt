@@ -1,16 +1,17 @@
 //! What is told before the first hit: whether it is critical, and how it does by the types (docs/MECHANICS.md, "Order of
 //! events").
+ghost use Rattle.std.specs.Prelude.{◌≡◌};
 ghost use Rattle.gen1_layout.specs.Words.{AddsAtMost, Does, HasRoom, false, move_at, other};
 ghost use Rattle.gen1_machine.specs.Damage.{numbers};
 ghost use Rattle.gen1_machine.specs.ManyHits.{note_critical, note_effectiveness, note_first_hit};
 ghost use Rattle.gen1_machine.specs.Progress.{given};
 ghost use Rattle.gen1_action.specs.Knowing.{DoesKnowing};
+ghost use Rattle.gen1_multiturn.specs.Effectiveness.{how_many};
 
-use crate::effectiveness::{rows_of_5, rows_of_20};
 use gen1_action::Known;
 use gen1_layout::Packed;
 use gen1_machine::{Event, EventList, Side};
-use gen1_tables::MoveId;
+use gen1_tables::{MoveId, effectiveness};
 
 // `Crit`, and `SuperEffective` or `Resisted`, of the foe of `side`, where the damage went through the types.
 pub(crate) fn note_first_hit(
@@ -20,8 +21,9 @@ pub(crate) fn note_first_hit(
     known: &Known,
     events: &mut EventList,
 )
-    requires { HasRoom 2 events.old }
-    ensures shown { DoesKnowing battle.now events.old.items known.now battle.now events.new.items known.now false (note_first_hit side (move_at id)) }
+    requires room { HasRoom 2 events.old }
+    ensures shown { DoesKnowing battle.now events.old.items known.now battle.now events.new.items
+        known.now false (note_first_hit side (move_at id)) }
     ensures room { AddsAtMost 2 events.old events.new }
 {
     if !known.through_types {
@@ -32,8 +34,9 @@ pub(crate) fn note_first_hit(
 }
 
 fn note_critical(battle: &Packed, target: Side, known: &Known, events: &mut EventList)
-    requires { HasRoom 1 events.old }
-    ensures shown { DoesKnowing battle.now events.old.items known.now battle.now events.new.items known.now false (note_critical target) }
+    requires room { HasRoom 1 events.old }
+    ensures shown { DoesKnowing battle.now events.old.items known.now battle.now events.new.items
+        known.now false (note_critical target) }
     ensures room { AddsAtMost 1 events.old events.new }
 {
     if known.critical {
@@ -42,15 +45,15 @@ fn note_critical(battle: &Packed, target: Side, known: &Known, events: &mut Even
 }
 
 fn note_effectiveness(battle: &Packed, side: Side, id: MoveId, events: &mut EventList)
-    requires { HasRoom 1 events.old }
-    ensures shown { Does battle.now events.old.items battle.now events.new.items false (given (numbers side (move_at id)) (note_effectiveness (other side))) }
+    requires room { HasRoom 1 events.old }
+    ensures shown { Does battle.now events.old.items battle.now events.new.items false
+        (given (numbers side (move_at id)) (note_effectiveness (other side))) }
     ensures room { AddsAtMost 1 events.old events.new }
 {
     let foe = side.other();
-    let first = battle.first_type(foe);
-    let second = battle.second_type(foe);
-    let doubling = rows_of_20(id.kind(), first, second);
-    let halving = rows_of_5(id.kind(), first, second);
+    let factors = effectiveness(id.kind(), battle.first_type(foe), battle.second_type(foe));
+    let doubling = how_many(20, factors);
+    let halving = how_many(5, factors);
     if halving < doubling {
         events.push(Event::SuperEffective(battle.who(foe)));
         return;
@@ -58,4 +61,10 @@ fn note_effectiveness(battle: &Packed, side: Side, id: MoveId, events: &mut Even
     if doubling < halving {
         events.push(Event::Resisted(battle.who(foe)));
     }
+}
+
+fn how_many(tenths: u8, factors: (u8, u8)) -> u8
+    ensures { result ≡ how_many tenths factors }
+{
+    u8::from(factors.0 == tenths) + u8::from(factors.1 == tenths)
 }

@@ -3,12 +3,12 @@ ghost use Rattle.std.specs.Prelude.{unwrap_or, ◌-◌, ◌≡◌, ◌≤◌};
 ghost use Rattle.gen1_layout.specs.Words.{AddsAtMost, Event as EventOf, HasRoom, List, false, is_some, move_at, true};
 ghost use Rattle.gen1_machine.specs.HitEffects.{hit_effect, plan_hits};
 ghost use Rattle.gen1_machine.specs.ManyHits.{note_hit_count};
-ghost use Rattle.gen1_machine.specs.Moves.{hits_more};
+ghost use Rattle.gen1_tables.specs.Effects.{hits_more};
 ghost use Rattle.gen1_machine.specs.Progress.{broke_substitute, given, unless, when};
 ghost use Rattle.gen1_machine.specs.Valid.{IsCount};
 ghost use Rattle.gen1_layout.specs.Parts.{Parts};
 ghost use Rattle.gen1_action.specs.Knowing.{DoesKnowing, DoesKnowingDrawing};
-ghost use Rattle.gen1_multiturn.specs.Hitting.{IsFew, is_multi_hit};
+ghost use Rattle.gen1_multiturn.specs.ManyHits.{IsFew, is_multi_hit};
 
 use gen1_action::{Known, draw_count};
 use gen1_layout::Packed;
@@ -24,7 +24,10 @@ pub(crate) fn plan_unless_broken<R: Rolls>(
     random: &mut R,
 )
     requires many { hits_more (move_at id).effect ≡ true }
-    ensures shown { (parts : Parts) (events : List EventOf) → DoesKnowingDrawing R.byte R.next R.SPAN parts events random.old known.old parts events random.new known.new false (unless broke_substitute (hit_effect side (move_at id) (move_at id).effect)) }
+    ensures shown { (parts : Parts) (events : List EventOf)
+        → DoesKnowingDrawing R.byte R.next R.SPAN parts events random.old known.old parts events
+        random.new known.new false
+        (unless broke_substitute (hit_effect side (move_at id) (move_at id).effect)) }
     ensures made { known.new.hits_made ≡ known.old.hits_made }
     ensures few { IsFew known.old → IsFew known.new }
 {
@@ -36,7 +39,9 @@ pub(crate) fn plan_unless_broken<R: Rolls>(
 
 fn plan_more<R: Rolls>(side: Side, id: MoveId, known: &mut Known, random: &mut R)
     requires many { hits_more (move_at id).effect ≡ true }
-    ensures shown { (parts : Parts) (events : List EventOf) → DoesKnowingDrawing R.byte R.next R.SPAN parts events random.old known.old parts events random.new known.new false (hit_effect side (move_at id) (move_at id).effect) }
+    ensures shown { (parts : Parts) (events : List EventOf)
+        → DoesKnowingDrawing R.byte R.next R.SPAN parts events random.old known.old parts events
+        random.new known.new false (hit_effect side (move_at id) (move_at id).effect) }
     ensures made { known.new.hits_made ≡ known.old.hits_made }
     ensures few { IsFew known.old → IsFew known.new }
 {
@@ -55,7 +60,9 @@ fn is_multi_hit(effect: Effect) -> bool
 
 // Two to five, drawn after the first hit alone.
 fn plan_hits<R: Rolls>(known: &mut Known, random: &mut R)
-    ensures shown { (parts : Parts) (events : List EventOf) → DoesKnowingDrawing R.byte R.next R.SPAN parts events random.old known.old parts events random.new known.new false plan_hits }
+    ensures shown { (parts : Parts) (events : List EventOf)
+        → DoesKnowingDrawing R.byte R.next R.SPAN parts events random.old known.old parts events
+        random.new known.new false plan_hits }
     ensures made { known.new.hits_made ≡ known.old.hits_made }
     ensures few { IsFew known.old → IsFew known.new }
 {
@@ -81,7 +88,10 @@ pub(crate) fn hits_left(planned: Option<u8>) -> u8
 pub(crate) fn note_hit_count(battle: &Packed, target: Side, known: &Known, events: &mut EventList)
     requires room { HasRoom 1 events.old }
     requires made { (1 ≤ known.now.hits_made) × (known.now.hits_made ≤ 5) }
-    ensures shown { DoesKnowing battle.now events.old.items known.now battle.now events.new.items known.now false (when (λ p. is_some p.action.hits_planned) (given (λ p. p.action.hits_made) (note_hit_count target))) }
+    ensures shown { DoesKnowing battle.now events.old.items known.now battle.now events.new.items
+        known.now false
+        (when (λ p. is_some p.action.hits_planned)
+        (given (λ p. p.action.hits_made) (note_hit_count target))) }
     ensures room { AddsAtMost 1 events.old events.new }
 {
     if !known.hits_planned.is_some() {

@@ -2,15 +2,13 @@
 ghost use Rattle.std.specs.Prelude.{max, ◌/◌, ◌≡◌};
 ghost use Rattle.gen1_layout.specs.Words.{AddsAtMost, Does, Event as EventOf, HasRoom, List, false, move_at};
 ghost use Rattle.gen1_machine.specs.HitEffects.{drain, explode, hit_effect, recoil, recoil_of, start_rage};
-ghost use Rattle.gen1_machine.specs.Moves.{hits_more};
-ghost use Rattle.gen1_multiturn.specs.Hitting.{consequence_of};
+ghost use Rattle.gen1_tables.specs.Effects.{hits_more};
+ghost use Rattle.gen1_multiturn.specs.ManyHits.{consequence_of};
 
 use gen1_hits::{gain_hp, lose_hp};
 use gen1_layout::{Conditions, Packed};
 use gen1_machine::{DamageSource, Event, EventList, Side, Volatile};
-use gen1_tables::{Effect, MoveId};
-
-const STRUGGLE: u8 = 165;
+use gen1_tables::{Effect, MoveId, STRUGGLE};
 
 // What a hit brings with it.
 #[derive(Clone, Copy)]
@@ -26,7 +24,8 @@ pub(crate) enum Consequence {
 pub(crate) fn hit_effect(battle: &mut Packed, side: Side, id: MoveId, events: &mut EventList)
     requires room { HasRoom 1 events.old }
     requires one { hits_more (move_at id).effect ≡ false }
-    ensures shown { Does battle.old events.old.items battle.new events.new.items false (hit_effect side (move_at id) (move_at id).effect) }
+    ensures shown { Does battle.old events.old.items battle.new events.new.items false
+        (hit_effect side (move_at id) (move_at id).effect) }
     ensures room { AddsAtMost 1 events.old events.new }
 {
     match consequence_of(id.effect()) {
@@ -53,8 +52,9 @@ fn consequence_of(effect: Effect) -> Consequence
 
 // The user is hurt, past its own Substitute.
 fn recoil(battle: &mut Packed, side: Side, id: MoveId, events: &mut EventList)
-    requires { HasRoom 1 events.old }
-    ensures shown { Does battle.old events.old.items battle.new events.new.items false (recoil side (move_at id)) }
+    requires room { HasRoom 1 events.old }
+    ensures shown { Does battle.old events.old.items battle.new events.new.items false
+        (recoil side (move_at id)) }
     ensures room { AddsAtMost 1 events.old events.new }
 {
     let amount = recoil_of(id, battle.last_damage());
@@ -75,8 +75,9 @@ fn recoil_of(id: MoveId, damage: u16) -> u16
 
 // The user heals half of the damage, which becomes the last damage.
 fn drain(battle: &mut Packed, side: Side, events: &mut EventList)
-    requires { HasRoom 1 events.old }
-    ensures shown { Does battle.old events.old.items battle.new events.new.items false (drain side) }
+    requires room { HasRoom 1 events.old }
+    ensures shown { Does battle.old events.old.items battle.new events.new.items false
+        (drain side) }
     ensures room { AddsAtMost 1 events.old events.new }
 {
     let half = half_of(battle.last_damage());
@@ -92,8 +93,9 @@ fn half_of(damage: u16) -> u16
 
 // The user's own Rage, which never ends.
 fn start_rage(battle: &mut Packed, side: Side, events: &mut EventList)
-    requires { HasRoom 1 events.old }
-    ensures shown { Does battle.old events.old.items battle.new events.new.items false (start_rage side) }
+    requires room { HasRoom 1 events.old }
+    ensures shown { Does battle.old events.old.items battle.new events.new.items false
+        (start_rage side) }
     ensures room { AddsAtMost 1 events.old events.new }
 {
     if battle.is_on(side, Conditions::RAGE) {
@@ -105,7 +107,8 @@ fn start_rage(battle: &mut Packed, side: Side, events: &mut EventList)
 
 // The user falls, without an event of its own.
 pub(crate) fn explode(battle: &mut Packed, side: Side)
-    ensures shown { (events : List EventOf) → Does battle.old events battle.new events false (explode side) }
+    ensures shown { (events : List EventOf)
+        → Does battle.old events battle.new events false (explode side) }
 {
     battle.put_fallen(side);
     battle.put_flag(side, Conditions::SEEDED, false);

@@ -1,31 +1,30 @@
 //! Moves that last over turns, substitutes, the hits of a move and what a miss brings, over the bytes of a battle
 //! (docs/MECHANICS.md, "Going on", "Charging", "Early effects", "Many hits", "Recoil, drain and explosion").
+//!
+//! - `moves`: the moves: Bide, charging, Counter, fixed damage, one-hit moves, Rage, Substitute, Thrash and trapping
+//! - `many_hits`: the hits of a move, one after the other
+//! - `hit_counts`: how many hits a move makes
+//! - `first_hit`: what is told before the first hit
+//! - `effectiveness`: how a hit does by the types
+//! - `hit_effects`: what comes with the hit of a move that makes one
+//! - `miss`: what a miss brings
 #![tactic(auto)]
 
-mod biding;
-mod charging;
-mod countering;
-mod effectiveness;
 mod first_hit;
-mod fixed_damage;
 mod hit_counts;
 mod hit_effects;
-mod hitting;
-mod knocking_out;
-mod missing;
-mod raging;
-mod substituting;
-mod thrashing;
-mod trapping;
+mod many_hits;
+mod miss;
+mod moves;
 
-pub use biding::{bide, bide_knowing, start_bide};
-pub use charging::{charge, charge_knowing, make_current, used_by};
-pub use countering::{counter, counter_knowing};
-pub use fixed_damage::{fixed, fixed_knowing};
-pub use hitting::hits;
-pub use knocking_out::knock_out;
-pub use missing::missed_move;
-pub use raging::rage;
-pub use substituting::{make_substitute, substitute};
-pub use thrashing::{thrash, thrash_knowing};
-pub use trapping::{trap, trap_knowing};
+pub use many_hits::hits;
+pub use miss::missed_move;
+pub use moves::bide::{bide, bide_knowing, start_bide};
+pub use moves::charging::{charge, charge_knowing, make_current, used_by};
+pub use moves::counter::{counter, counter_knowing};
+pub use moves::fixed_damage::{fixed, fixed_knowing};
+pub use moves::one_hit_moves::knock_out;
+pub use moves::rage::rage;
+pub use moves::substitute::{make_substitute, substitute};
+pub use moves::thrash::{thrash, thrash_knowing};
+pub use moves::trapping::{trap, trap_knowing};

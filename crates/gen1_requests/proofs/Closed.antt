@@ -14,7 +14,7 @@ use Rattle.gen1_machine.specs.Falls.{ask_nothing, close, faint_if_fallen, settle
 use Rattle.gen1_machine.specs.Progress.{when}
 use Rattle.gen1_machine.specs.Ruling.{Ruling}
 use Rattle.gen1_machine.specs.Valid.{IsOutcome}
-use Rattle.gen1_requests.specs.Closing.{fault_in}
+use Rattle.gen1_requests.specs.Falls.{fault_in}
 
 -- a test that does not hold, before the rest
 pub passed : (test : Progress → Bool) (f k : Phase) (p : Progress) → test p ≡ false → p.stopped ≡ false → (when test f ▸ k) p ≡ k p

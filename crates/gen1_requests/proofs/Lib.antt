@@ -1,5 +1,5 @@
 -- A member that comes out: the bytes, and what is told.
-pub mod ComingOut
+pub mod SwitchingIn
 -- How an update closes.
 pub mod Closed
 -- What the choices that are offered give to an update.

@@ -24,6 +24,7 @@ use Rattle.gen1_machine.proofs.Fitting.{offered-fits, offered-place, Fits}
 use Rattle.gen1_machine.proofs.Turns.{send_one}
 use Rattle.gen1_machine.proofs.ValidTurns.{both_plan, both-planned, fits-comes, room-free, Room}
 use Rattle.gen1_requests.specs.Updates.{drawing_on, Plays}
+use Rattle.gen1_requests.proofs.BetweenUpdates.{asks_nothing}
 
 -- what is offered, by what is asked
 
@@ -46,10 +47,6 @@ fits_offered s side c h e asked o =
     offered-fits side c s.field h (subst (λ (r : Request). is_among c (offered_for r side s.field) ≡ true) asked (offered_by s side c e o))
 
 -- who is asked for something has begun
-
-asks_nothing : (side : Side) (terms : Terms) (f : Field) → IsUnstarted terms f → request_of side f ≡ requests.Pass
-asks_nothing One terms f u = u.requests.one
-asks_nothing Two terms f u = u.requests.two
 
 started_at : (s : State) (side : Side) {r : Request} → IsState s → request_of side s.field ≡ r → (requests.Pass ≡ r → ⊥) → IsStarted s.terms s.field
 started_at s side {r = r} valid is apart = by valid.field

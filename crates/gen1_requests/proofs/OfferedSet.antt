@@ -17,7 +17,7 @@ use Rattle.gen1_machine.specs.Sides.{other}
 use Rattle.gen1_machine.specs.State.{Field, active_in, conditions_in, is_over, known_in, member_at, member_in, party, request_of, status_in, underway_in}
 use Rattle.gen1_machine.specs.OfferedChoices.{bars_slot, has_no_slot_in, is_committed, moves_offered, offered, offered_for, or_struggle, others_living_from, switches_offered, usable_from}
 use Rattle.gen1_machine.specs.Step.{is_among, same_choice}
-use Rattle.gen1_requests.specs.Offering.{HasNoSlot, IsCommitted, IsOffered, IsUsable, MayChoose, MayComeOut, OffersTheSet, bides, charges, freezes, is_trapped, rages, recharges, sleeps, thrashes, traps}
+use Rattle.gen1_requests.specs.OfferedChoices.{HasNoSlot, IsCommitted, IsOffered, IsUsable, MayChoose, MayComeOut, OffersTheSet, bides, charges, freezes, is_trapped, rages, recharges, sleeps, thrashes, traps}
 use Rattle.gen1_requests.proofs.Collecting.{if_front, one_if}
 
 -- tests
@@ -51,13 +51,6 @@ at_most a b h = by (leb_tells a b)
     by : ((nat_le a b ≡ true) × (a ≤ b)) ⊎ ((nat_le a b ≡ false) × (b < a)) → nat_le a b ≡ true
     by (inl k) = k.0
     by (inr k) = absurd (omega (arith, k.1))
-
-above : (a b : ℕ) → b < a → nat_le a b ≡ false
-above a b h = by (leb_tells a b)
-  where
-    by : ((nat_le a b ≡ true) × (a ≤ b)) ⊎ ((nat_le a b ≡ false) × (b < a)) → nat_le a b ≡ false
-    by (inl k) = absurd (omega (arith, k.1))
-    by (inr k) = k.0
 
 is_at_most : (a b : ℕ) → nat_le a b ≡ true → a ≤ b
 is_at_most a b h = by (leb_tells a b)

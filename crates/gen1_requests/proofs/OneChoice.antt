@@ -29,9 +29,6 @@ no_pass_to_move s f = by (is_committed (underway_in s f)) (moves_offered s f ++ 
     by true l h = refl
     by false l h = h
 
-pub stays_in : (s : Side) (f : Field) (place : ℕ) → is_committed (underway_in s f) ≡ true → is_among (choices.Switch place) (offered_for requests.Move s f) ≡ false
-stays_in s f place e = rw e refl
-
 pub switches_out : (s : Side) (f : Field) (place : ℕ) → is_committed (underway_in s f) ≡ false
     → is_among (choices.Switch place) (offered_for requests.Move s f) ≡ is_among (choices.Switch place) (switches_offered s f)
 switches_out s f place e = rw e (in_switches (choices.Switch place) s f (no_move (choices.Switch place) (λ k. refl) s f))

@@ -19,7 +19,7 @@ use Rattle.gen1_machine.specs.Choices.{byte_of_choice}
 use Rattle.gen1_machine.specs.State.{Field, Party, Terms, active_in, conditions_in, is_over, member_at, member_in, party, request_of, underway_in}
 use Rattle.gen1_machine.specs.OfferedChoices.{has_no_slot_in, is_committed, moves_offered, offered, offered_for, or_struggle, others_living_from, switches_offered, usable_from}
 use Rattle.gen1_machine.specs.Valid.{IsField, IsMemberUnder, IsParty, IsStarted, IsUnstarted}
-use Rattle.gen1_requests.specs.Offering.{OffersRising}
+use Rattle.gen1_requests.specs.OfferedChoices.{OffersRising}
 use Rattle.gen1_requests.proofs.BetweenUpdates.{asks_nothing}
 use Rattle.gen1_requests.proofs.OfferedSet.{move_passes, switch_passes}
 

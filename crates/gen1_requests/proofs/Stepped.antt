@@ -58,7 +58,7 @@ replaces-as s one two plays =
 
 -- what an update leaves is the machine's step, which is valid
 
-valid-after : (s : State) (one two : Choice) → IsState s → IsState (step s one two).state
+pub valid-after : (s : State) (one two : Choice) → IsState s → IsState (step s one two).state
 unfolding run_by
 valid-after s one two valid = states_stay_valid s ((one, two) ∷ []) valid
 

@@ -1,8 +1,8 @@
 -- What an update is begun for, and how it leaves the bytes, the events and the generator.
 pub mod Updates
 -- A member that comes out.
-pub mod ComingOut
+pub mod SwitchingIn
 -- The end of an update.
-pub mod Closing
+pub mod Falls
 -- What each side may choose, as a set.
-pub mod Offering
+pub mod OfferedChoices

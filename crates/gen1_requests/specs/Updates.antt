@@ -1,4 +1,5 @@
--- What an update is begun for, and how it leaves the bytes, the events and the generator.
+-- What an update is begun for, and how it leaves the bytes, the events and the generator (docs/MECHANICS.md, "Falls and
+-- requests").
 use Rattle.std.specs.Prelude.{◌≡◌, ◌⊎◌}
 use Rattle.gen1_layout.specs.Words.{Event, Frame, List, Progress, Setting, Within, false, true, ℕ}
 use Rattle.gen1_rolls.specs.Draws.{StandsAt}

@@ -1,5 +1,5 @@
 //! Laws of what each side is offered. Each function does nothing: its contract is the law.
-ghost use Rattle.gen1_requests.specs.Offering.{OffersRising, OffersTheSet};
+ghost use Rattle.gen1_requests.specs.OfferedChoices.{OffersRising, OffersTheSet};
 
 /// A choice is in the list of offered choices exactly where it is offered (docs/MECHANICS.md, "Offered choices").
 pub fn offers_the_set()

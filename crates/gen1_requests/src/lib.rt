@@ -1,16 +1,23 @@
 //! What each side of a battle is asked, and what it may answer: members that come out, falls, the end of an update and the next
 //! request (docs/MECHANICS.md, "Switching in", "Falls and requests", "Offered choices").
+//!
+//! - `offered_choices`: what each side may choose
+//! - `choice_test`: whether a choice is among that
+//! - `switching_in`: a member that comes out
+//! - `start_and_replace`: updates in which members come out and nobody acts
+//! - `falls`: the end of an update
+//! - `laws`: what holds of all offered choices
 #![tactic(auto)]
 
-mod choosing;
-mod closing;
+mod choice_test;
+mod falls;
 pub mod laws;
-mod offering;
-mod sending;
-mod updates;
+mod offered_choices;
+mod start_and_replace;
+mod switching_in;
 
-pub use choosing::is_offered;
-pub use closing::close;
-pub use offering::{Choices, offered};
-pub use sending::send_out;
-pub use updates::{replace, start};
+pub use choice_test::is_offered;
+pub use falls::close;
+pub use offered_choices::{Choices, offered};
+pub use start_and_replace::{replace, send_both_first, start};
+pub use switching_in::send_out;

@@ -1,5 +1,5 @@
 -- What `first` finds, and when it finds nothing.
-use Rattle.std.proofs.Common.{◌≡◌, ℕ, zero, suc, ◌+◌, ◌-◌, ◌<◌, ◌≤◌, Bool, true, false, IsTrue, IsFalse, Option, Some, None, refl, sym, ap, ◌∙◌, subst, arith}
+use Rattle.std.proofs.Common.{◌≡◌, ℕ, zero, suc, ◌+◌, ◌<◌, ◌≤◌, Bool, true, false, IsTrue, IsFalse, Option, Some, None, refl, sym, ap, ◌∙◌, subst, arith}
 use native.Mathlib.Decide.{ℕ_discrete}  -- keep
 use Rattle.gen1_rolls.specs.Streams.{Stream, byte_at, span, first_within, first, IsFirst, IsStream}
 use Rattle.gen1_rolls.proofs.Period.{every_byte}
@@ -82,15 +82,6 @@ first-finds s n test m h = (first_within-finds (span s) s n test m h).is
 pub first-within : (s : Stream) (n : ℕ) (test : ℕ → Bool) (m : ℕ) → first s n test ≡ Some m → m < n + span s
 unfolding first
 first-within s n test m h = (first_within-finds (span s) s n test m h).within
-
--- what `IsFirst` says within a span, `first` finds
-pub first-is : (s : Stream) (n : ℕ) (test : ℕ → Bool) (m : ℕ) → IsFirst s n test m → m < n + span s → first s n test ≡ Some m
-unfolding first
-first-is s n test m is within =
-    let there : n + (m - n) ≡ m = omega (arith, is.from) in
-    first_within-is (span s) s n test (m - n) (omega (arith, is.from)) (ap (λ j. test (byte_at s j)) there ∙ is.meets)
-    (λ i lt. is.none_before (n + i) (omega arith) (omega arith))
-    ∙ ap (λ j. Some j) there
 
 -- where `first` finds nothing, a whole span fails the test
 pub first-fails : (s : Stream) (n : ℕ) (test : ℕ → Bool) → first s n test ≡ None → (j : ℕ) → n ≤ j → j < n + span s → IsFalse (test (byte_at s j))

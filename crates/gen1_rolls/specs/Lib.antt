@@ -1,3 +1,4 @@
+-- Draws, and the generators that they are taken from.
 pub mod Draws
 pub mod Link
 pub mod Streams

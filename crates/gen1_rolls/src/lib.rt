@@ -1,11 +1,18 @@
-//! Draws of a battle: streams of bytes, the generator of a link battle, a generator that counts
-//! up, and the first draw that meets a test.
+//! Draws of a battle: streams of bytes, the generator of a link battle, a generator that counts up, and the first draw that
+//! meets a test.
+//!
+//! - `rolls`: what a generator is
+//! - `link`: that of a link battle
+//! - `sweep`: one that counts up
+//! - `search`: the first draw that meets a test
+//! - `laws`: what holds of every generator
+//! - `tests`: worked draws
 #![tactic(auto)]
 
 mod laws;
 mod link;
 mod rolls;
-mod searching;
+mod search;
 mod sweep;
 #[cfg(test)]
 mod tests;
@@ -13,5 +20,5 @@ mod tests;
 pub use laws::{draws_a_stream, every_generator_stands};
 pub use link::{LinkRandom, renew};
 pub use rolls::Rolls;
-pub use searching::until;
+pub use search::until;
 pub use sweep::Sweep;

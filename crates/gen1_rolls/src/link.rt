@@ -119,7 +119,8 @@ fn number_at(numbers: &[u8], index: u8) -> u8
     requires below { index < 9 }
     requires ten { length numbers.now ≡ 10 }
     ensures value { result ≡ slice_index numbers.now index }
-    ensures stream { IsStream (stream_of byte_of after_draw 2304 (record { index = index; numbers = numbers.now })) }
+    ensures stream { IsStream
+        (stream_of byte_of after_draw 2304 (record { index = index; numbers = numbers.now })) }
 {
     numbers[index as usize]
 }

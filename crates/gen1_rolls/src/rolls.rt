@@ -1,3 +1,4 @@
+//! A generator of bytes: what every draw of a battle is taken from (docs/MECHANICS.md, "Link numbers").
 ghost use Rattle.std.specs.Prelude.{◌≡◌, ℕ, ◌<◌};
 ghost use Rattle.gen1_rolls.specs.Draws.{stream_of};
 ghost use Rattle.gen1_rolls.specs.Streams.{IsStream};

@@ -10,19 +10,16 @@ use Rattle.gen1_machine.specs.Room.{Advanced, after, choice_by_byte, choice_made
 use Rattle.gen1_machine.specs.Room as machine
 use Rattle.gen1_machine.specs.State.{is_over, same_side}
 use Rattle.gen1_engine.specs.declared.result.BattleResult.{BattleResult}
-use Rattle.gen1_engine.specs.Updating.{AreOffered, result_of}
+use Rattle.gen1_engine.specs.Update.{AreOffered, result_of}
 use Rattle.gen1_room.specs.declared.held.Held.{Held}
 use Rattle.gen1_room.specs.Rooms.{chosen_in, ended, Holds, submission_of}
-use Rattle.gen1_room.proofs.Offers.{chosen_offered}
+use Rattle.gen1_room.proofs.Offers.{chosen_offered, same_itself}
 use Rattle.gen1_room.proofs.Rooms.{chosen_more, ended_none, holds_refused, or_else}
-
-pub same_itself : (n : ℕ) → (n == n) ≡ true
-same_itself n = grind (arith, nat_tests)
 
 pub next_differs : (n : ℕ) → (n + 1 == n) ≡ false
 next_differs n = grind (arith, nat_tests)
 
-or_none : (o : Option Choice) → or_else o None ≡ o
+pub or_none : (o : Option Choice) → or_else o None ≡ o
 or_none None = refl
 or_none (Some x) = refl
 
@@ -147,7 +144,7 @@ same_side_itself Two = refl
 differs : (m n : ℕ) → m ≢ n → (m == n) ≡ false
 differs m n h = grind (arith, nat_tests)
 
-and_false : (b : Bool) → (b && false) ≡ false
+pub and_false : (b : Bool) → (b && false) ≡ false
 and_false true = refl
 and_false false = refl
 

@@ -25,11 +25,13 @@ use Rattle.gen1_layout.specs.Parts.{Parts}
 use Rattle.gen1_layout.specs.Within.{Stands}
 use Rattle.gen1_engine.specs.declared.result.BattleResult.{BattleResult}
 use Rattle.gen1_engine.specs.declared.result.Refusal.{Refusal}
-use Rattle.gen1_engine.specs.Updating.{Answers, AnswersAs, AreOffered, result_of, Tells, TellsAs}
+use Rattle.gen1_engine.specs.Update.{Answers, AnswersAs, AreOffered, result_of, Tells, TellsAs}
 use Rattle.gen1_room.specs.declared.held.Held.{Held}
 use Rattle.gen1_room.specs.Rooms.{Counts, ended, Holds, IsRoom, Opens}
 use Rattle.gen1_room.proofs.Rooms.{one_pair_more}
-use Rattle.gen1_room.proofs.Steps.{answers_ok, goes_on, made, step_accepts, unstarted_at}
+use Rattle.gen1_engine.proofs.Making.{goes_on, unstarted_at}
+use Rattle.gen1_room.proofs.Steps.{answers_ok, made, step_accepts}
+use Rattle.gen1_room.proofs.Choosing.{and_false}
 
 abbrev pub pass_for : Request → Option Choice
 pass_for r = if is_pass r then Some choices.Pass else None
@@ -39,10 +41,6 @@ later n h = grind (arith, nat_tests)
 
 eqb_zero : (n : ℕ) → (n == 0) ≡ true → n ≡ 0
 eqb_zero n h = grind (arith, nat_tests)
-
-and_false : (b : Bool) → (b && false) ≡ false
-and_false true = refl
-and_false false = refl
 
 -- after an update the battle has begun
 

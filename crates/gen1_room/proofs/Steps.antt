@@ -2,8 +2,6 @@
 use Rattle.std.proofs.Common.{List, Ok, ap, arith, false, inl, inr, refl, true, ◌≡◌, ◌⊎◌}
 use Rattle.gen1_machine.specs.declared.side.Side.{Side}
 use Rattle.gen1_machine.specs.declared.side.Side.TheVariants.{One}
-use Rattle.gen1_machine.specs.declared.terms.Outcome.{Outcome}
-use Rattle.gen1_machine.specs.declared.terms.Outcome.TheVariants as outcomes
 use Rattle.gen1_machine.specs.declared.event.Event.{Event}
 use Rattle.gen1_machine.specs.declared.choice.Choice.{Choice}
 use Rattle.gen1_machine.specs.OfferedChoices.{offered}
@@ -15,23 +13,12 @@ use Rattle.gen1_machine.specs.Valid.{IsStarted, IsState, IsUnstarted}
 use Rattle.gen1_layout.specs.Parts.{Parts}
 use Rattle.gen1_layout.specs.Within.{Stands}
 use Rattle.gen1_engine.specs.declared.result.BattleResult.{BattleResult}
-use Rattle.gen1_engine.specs.Updating.{AnswersAs, AreOffered}
+use Rattle.gen1_engine.specs.Update.{AnswersAs, AreOffered}
+use Rattle.gen1_engine.proofs.Making.{goes_on}
 
 -- what an accepted update makes
 abbrev pub made : State → Choice → Choice → Progress
 made s one two = update (ruling_of s.terms) one two (opened s)
-
--- where something is offered the battle goes on
-pub goes_on : (s : State) (side : Side) (c : Choice) → offers s side c ≡ true → s.field.outcome ≡ outcomes.Ongoing
-unfolding offered
-goes_on s side c h = by s.field.outcome refl
-  where
-    by : (o : Outcome) → s.field.outcome ≡ o → s.field.outcome ≡ outcomes.Ongoing
-    by outcomes.Ongoing e = e
-    by outcomes.WinOne e = absurd (let f = rw e at h in cc)
-    by outcomes.WinTwo e = absurd (let f = rw e at h in cc)
-    by outcomes.Tie e = absurd (let f = rw e at h in cc)
-    by (outcomes.Fault n) e = absurd (let f = rw e at h in cc)
 
 pub step_accepts : (s : State) (one two : Choice) → AreOffered s one two
     → step s one two ≡ record { answer = Accepted (made s one two).events; state = record s { field = (made s one two).field; drawn = (made s one two).drawn } }
@@ -39,20 +26,6 @@ unfolding step step_by answered
 step_accepts s one two h =
     let going : is_over s.field.outcome ≡ false = ap is_over (goes_on s One one h.first) in
     rw (going, h.first, h.second) refl
-
-pub unstarted_at : (s : State) → IsState s → s.field.turn ≡ 0 → IsUnstarted s.terms s.field
-unstarted_at s valid e = by valid.field
-  where
-    by : IsUnstarted s.terms s.field ⊎ IsStarted s.terms s.field → IsUnstarted s.terms s.field
-    by (inl u) = u
-    by (inr v) = absurd (let t = v.turn in omega arith)
-
-pub is_over_unless : (o : Outcome) → (o ≡ outcomes.Ongoing → ⊥) → is_over o ≡ true
-is_over_unless outcomes.Ongoing apart = absurd (apart refl)
-is_over_unless outcomes.WinOne apart = refl
-is_over_unless outcomes.WinTwo apart = refl
-is_over_unless outcomes.Tie apart = refl
-is_over_unless (outcomes.Fault n) apart = refl
 
 -- what an accepted update said
 

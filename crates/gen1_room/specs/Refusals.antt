@@ -1,4 +1,4 @@
--- The numbers of a room's refusals.
+-- The numbers of a room's refusals (docs/MECHANICS.md, "Rooms").
 use Rattle.std.specs.Prelude.{ℕ}
 use Rattle.gen1_room.specs.declared.reply.RoomRefusal.{RoomRefusal}
 use Rattle.gen1_room.specs.declared.reply.RoomRefusal.TheVariants.{AlreadyChosen, NotOffered, Over, Stale}

@@ -11,7 +11,7 @@ use Rattle.gen1_machine.specs.Valid.{IsState, StandsAs}
 use Rattle.gen1_events.specs.Splits.{IsReading}
 use Rattle.gen1_layout.specs.Parts.{Parts}
 use Rattle.gen1_layout.specs.Within.{Stands}
-use Rattle.gen1_engine.specs.Updating.{AreOffered}
+use Rattle.gen1_engine.specs.Update.{AreOffered}
 use Rattle.gen1_room.specs.declared.held.Held.{Held}
 use Rattle.gen1_room.specs.declared.reply.Submitted.{Submitted}
 use Rattle.gen1_room.specs.declared.reply.Submitted.TheVariants as submitted

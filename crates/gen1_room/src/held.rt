@@ -1,3 +1,4 @@
+//! What a room holds between two submissions (docs/MECHANICS.md, "Rooms").
 use gen1_engine::Battle;
 use gen1_events::LogBuf;
 use gen1_machine::{Choice, EventList};

@@ -1,4 +1,4 @@
-//! What holds of all rooms, as functions that do nothing.
+//! What holds of all rooms (docs/MECHANICS.md, "Rooms"), as functions that do nothing.
 ghost use Rattle.gen1_room.specs.Blind.{PairsAreAnswered, RepliesHideChoices};
 
 /// Until a pair has ended, no reply tells which of the offered choices a side has made for it.

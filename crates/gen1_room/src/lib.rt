@@ -1,12 +1,19 @@
 //! Rooms: two players submit their choices for a battle apart from each other.
+//!
+//! - `room`: [`Room`], for its players
+//! - `start`: a battle that comes into a room
+//! - `submission`: a submission
+//! - `reply`: what a submission is answered
+//! - `held`: what a room holds
+//! - `laws`: what holds of all rooms
 #![tactic(auto)]
 
 mod held;
 mod laws;
 mod reply;
 mod room;
-mod starting;
-mod submitting;
+mod start;
+mod submission;
 
 pub use laws::{pairs_are_answered, replies_hide_choices};
 pub use reply::{Reply, RoomRefusal, Submitted};

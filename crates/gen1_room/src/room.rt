@@ -1,4 +1,4 @@
-//! A room, for its players.
+//! A room, for its players (docs/MECHANICS.md, "Rooms").
 ghost use Rattle.std.specs.Prelude.{length, map, ◌≡◌};
 ghost use Rattle.std.specs.Result.{OnErr};
 ghost use Rattle.gen1_machine.specs.Room.{Course, after, course_of, replies_of, reply_to, room_of};
@@ -9,8 +9,8 @@ ghost use Rattle.gen1_room.specs.Rooms.{Holds, reply_of, submission_at, submissi
 
 use crate::held::Held;
 use crate::reply::Reply;
-use crate::starting::begin;
-use crate::submitting::submit;
+use crate::start::begin;
+use crate::submission::submit;
 use gen1_engine::Battle;
 use gen1_machine::Side;
 use std::marker::Model;
@@ -72,7 +72,8 @@ impl Room {
     /// A refusal changes nothing. Where both choices are there the battle is updated, and the log is that of the update.
     pub fn submit(&mut self, side: Side, number: u32, byte: u8) -> Reply
         ensures holds { (c : Course) → Holds self.old c
-            → Holds self.new (after c (submission_of side number byte)) × (reply_of result ≡ reply_to c (submission_of side number byte)) }
+            → Holds self.new (after c (submission_of side number byte))
+            × (reply_of result ≡ reply_to c (submission_of side number byte)) }
         ensures refused { OnErr result (self.new ≡ self.old) }
     {
         submit(&mut self.held, side, number, byte)
@@ -81,8 +82,11 @@ impl Room {
     /// A room for a battle, and submissions to it in their order. The reply to each is put at its place.
     pub fn run(battle: Battle, submissions: &[(Side, u32, u8)], replies: &mut [Reply]) -> Self
         requires same_length { length submissions.now ≡ length replies.old }
-        ensures holds { (s : State) → Stands battle s → Holds result (course_of (room_of s) (map submission_at submissions.now)) }
-        ensures replies { (s : State) → Stands battle s → map reply_of replies.new ≡ replies_of (room_of s) (map submission_at submissions.now) }
+        ensures holds { (s : State) → Stands battle s
+            → Holds result (course_of (room_of s) (map submission_at submissions.now)) }
+        ensures replies { (s : State) → Stands battle s
+            → map reply_of replies.new ≡ replies_of (room_of s)
+            (map submission_at submissions.now) }
     {
         let mut room = Room::new(battle);
         for (place, submission) in submissions.iter().enumerate() {

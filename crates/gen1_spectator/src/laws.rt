@@ -1,4 +1,4 @@
-//! What holds of all views, as functions that do nothing.
+//! What holds of all views (docs/MECHANICS.md, "Spectator's view"), as functions that do nothing.
 ghost use Rattle.gen1_spectator.specs.Watching.{FollowersAgree, FollowersMeetNoFault, WatchersAgree};
 
 /// After any run of a battle from its start, who was told every event that a reader hands out of the battle's log, cut as it

@@ -1,4 +1,10 @@
 //! What a watcher knows of a battle who is told its events alone.
+//!
+//! - `view`: [`View`], of a whole battle
+//! - `side_view`: what shows of one side
+//! - `shown`: what shows of a member
+//! - `stages`: the stages of the member that is out
+//! - `laws`: what holds of all views
 #![tactic(auto)]
 
 mod laws;

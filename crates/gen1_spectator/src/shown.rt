@@ -1,3 +1,4 @@
+//! What shows of a member: its HP and its kind of status (docs/MECHANICS.md, "Spectator's view").
 ghost use Rattle.std.specs.Prelude.{◌≡◌};
 ghost use Rattle.gen1_machine.specs.View.{not_shown};
 

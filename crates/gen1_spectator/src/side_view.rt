@@ -1,4 +1,4 @@
-//! What shows of one side.
+//! What shows of one side (docs/MECHANICS.md, "Spectator's view").
 ghost use Rattle.std.specs.Prelude.{None, false, length, map, ◌≡◌, ◌≤◌};
 ghost use Rattle.gen1_stats.specs.Members.{Member as Begun};
 ghost use Rattle.gen1_machine.specs.CurrentStats.{stage_of};
@@ -31,11 +31,27 @@ impl Model for SideView {
 
     ghost Value = { SideView };
 
-    ghost view = { λ s. record { place = s.place; members = s.members.items; stages = s.stages; substitute = s.substitute; confused = s.confused; light_screen = s.light_screen; reflect = s.reflect } };
+    ghost view = { λ s. record {
+      place = s.place;
+      members = s.members.items;
+      stages = s.stages;
+      substitute = s.substitute;
+      confused = s.confused;
+      light_screen = s.light_screen;
+      reflect = s.reflect;
+    } };
 
     ghost invariant = { λ s. s.place ≤ length s.members.items };
 
-    ghost inverse = { λ s. record { place = s.place; members = record { items = s.members }; stages = s.stages; substitute = s.substitute; confused = s.confused; light_screen = s.light_screen; reflect = s.reflect } };
+    ghost inverse = { λ s. record {
+      place = s.place;
+      members = record { items = s.members };
+      stages = s.stages;
+      substitute = s.substitute;
+      confused = s.confused;
+      light_screen = s.light_screen;
+      reflect = s.reflect;
+    } };
 }
 
 impl SideView {

@@ -1,3 +1,4 @@
+//! The stages of the member that is out, as a watcher knows them (docs/MECHANICS.md, "Spectator's view").
 ghost use Rattle.std.specs.Prelude.{min, ◌+◌, ◌-◌, ◌≡◌, ◌≤◌};
 ghost use Rattle.gen1_machine.specs.CurrentStats.{stage_of, with_stage};
 ghost use Rattle.gen1_machine.specs.State.{level_stages};
@@ -22,11 +23,26 @@ impl Model for Stages {
 
     ghost Value = { Stages };
 
-    ghost view = { λ s. record { attack = s.attack; defense = s.defense; speed = s.speed; special = s.special; accuracy = s.accuracy; evasion = s.evasion } };
+    ghost view = { λ s. record {
+      attack = s.attack;
+      defense = s.defense;
+      speed = s.speed;
+      special = s.special;
+      accuracy = s.accuracy;
+      evasion = s.evasion;
+    } };
 
-    ghost invariant = { λ s. (s.attack ≤ 12) × (s.defense ≤ 12) × (s.speed ≤ 12) × (s.special ≤ 12) × (s.accuracy ≤ 12) × (s.evasion ≤ 12) };
+    ghost invariant = { λ s. (s.attack ≤ 12) × (s.defense ≤ 12) × (s.speed ≤ 12) × (s.special ≤ 12)
+        × (s.accuracy ≤ 12) × (s.evasion ≤ 12) };
 
-    ghost inverse = { λ s. record { attack = s.attack; defense = s.defense; speed = s.speed; special = s.special; accuracy = s.accuracy; evasion = s.evasion } };
+    ghost inverse = { λ s. record {
+      attack = s.attack;
+      defense = s.defense;
+      speed = s.speed;
+      special = s.special;
+      accuracy = s.accuracy;
+      evasion = s.evasion;
+    } };
 }
 
 impl Stages {

@@ -6,12 +6,12 @@ use Rattle.std.proofs.lemmas.List.Elements.{All-map}
 use Rattle.std.proofs.lemmas.List.{length-map}
 use Rattle.std.proofs.lemmas.Nat.{mul-le}
 use Rattle.std.specs.List.{list_all, list_any}
-use Rattle.gen1_tables.specs.Moves.{move_row, move_rows}
+use Rattle.gen1_tables.specs.Moves.{move_row, move_rows, struggle}
 use Rattle.gen1_stats.proofs.Lists.{none_passes, only}
 use Rattle.gen1_stats.specs.declared.known_move.KnownMove.{KnownMove}
 use Rattle.gen1_stats.specs.declared.refusal.TeamRefusal.{TeamRefusal}
 use Rattle.gen1_stats.specs.declared.refusal.TeamRefusal.TheVariants.{Empty}
-use Rattle.gen1_stats.specs.Members.{IsBetween, IsFresh, IsKnown, IsMember, is_left_out, least_member, struggle}
+use Rattle.gen1_stats.specs.Members.{IsBetween, IsFresh, IsKnown, IsMember, is_left_out, least_member}
 use Rattle.gen1_stats.specs.Sheets.{Sheet}
 use Rattle.gen1_stats.specs.Stats.{full_pp}
 use Rattle.gen1_stats.specs.Teams.{first_failed, known_of, member_of, member_refusal, repeats, tests}

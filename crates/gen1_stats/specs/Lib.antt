@@ -1,3 +1,4 @@
+-- Members, their stats, and teams.
 pub mod Begun
 pub mod Members
 pub mod Refusals

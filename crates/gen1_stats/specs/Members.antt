@@ -1,11 +1,11 @@
--- What a member of a team is, as a battle begins and while it lasts.
-use Rattle.std.specs.Prelude.{All, AllPairs, Bool, List, [], false, length, nat_lt, true, ℕ, ◌≡◌, ◌∷◌, ◌≢◌, ◌≤◌}
+-- What a member of a team is, as a battle begins and while it lasts (docs/MECHANICS.md, "Stats").
+use Rattle.std.specs.Prelude.{All, AllPairs, Bool, List, [], false, length, nat_lt, true, ℕ, ◌||◌, ◌≡◌, ◌∷◌, ◌≢◌, ◌≤◌}
 use Rattle.gen1_tables.specs.declared.effect.Effect.{Effect}
 use Rattle.gen1_tables.specs.declared.effect.Effect.TheVariants.{LeftOut}
-use Rattle.gen1_tables.specs.Moves.{move_row}
+use Rattle.gen1_tables.specs.Moves.{move_row, struggle}
 use Rattle.gen1_stats.specs.declared.known_move.KnownMove.{KnownMove}
 use Rattle.gen1_stats.specs.declared.status.Status.{Status}
-use Rattle.gen1_stats.specs.declared.status.Status.TheVariants.{Asleep, Burned, Frozen, Healthy, Paralysed, Poisoned}
+use Rattle.gen1_stats.specs.declared.status.Status.TheVariants.{Asleep, Frozen, Healthy, Paralysed}
 
 pub record Member : Type 0 where
   pub species : ℕ
@@ -26,9 +26,6 @@ leaves_out _ = false
 -- whether the engine leaves a move out
 abbrev pub is_left_out : ℕ → Bool
 is_left_out move = leaves_out (move_row move).effect
-
-abbrev pub struggle : ℕ
-struggle = 165
 
 abbrev pub IsBetween : ℕ → ℕ → ℕ → Type 0
 IsBetween low high n = (low ≤ n) × (n ≤ high)
@@ -104,17 +101,12 @@ abbrev pub is_marked : Status → Bool
 is_marked (Asleep turns marked) = marked
 is_marked _ = false
 
-abbrev pub is_poisoned : Status → Bool
-is_poisoned Poisoned = true
-is_poisoned _ = false
-
-abbrev pub is_burned : Status → Bool
-is_burned Burned = true
-is_burned _ = false
-
 abbrev pub is_frozen : Status → Bool
 is_frozen Frozen = true
 is_frozen _ = false
+
+abbrev pub sleeps_or_freezes : Status → Bool
+sleeps_or_freezes status = is_asleep status || is_frozen status
 
 abbrev pub is_paralysed : Status → Bool
 is_paralysed Paralysed = true

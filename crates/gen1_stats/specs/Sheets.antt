@@ -1,5 +1,5 @@
--- A member as it is asked for.
-use Rattle.std.specs.Prelude.{List, ℕ}
+-- A member as it is asked for (docs/MECHANICS.md, "Teams").
+use Rattle.std.specs.Prelude.{List, [], replicate, ℕ}
 
 -- DVs of Attack, Defense, Speed and Special, experience of HP and of these, moves with their PP ups
 pub record Sheet : Type 0 where
@@ -8,3 +8,7 @@ pub record Sheet : Type 0 where
   pub dvs : List ℕ
   pub exp : List ℕ
   pub moves : List (ℕ × ℕ)
+
+-- a sheet that no team takes, which fills the unused places of a list of sheets
+abbrev pub least_sheet : Sheet
+least_sheet = record { species = 1; level = 1; dvs = replicate 4 0; exp = replicate 5 0; moves = [] }

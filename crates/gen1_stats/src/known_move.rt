@@ -1,4 +1,4 @@
-//! A move that a member knows.
+//! A move that a member knows (docs/MECHANICS.md, "Teams").
 use gen1_tables::MoveId;
 
 /// A move that a member knows, with the PP that are left, at most 63.

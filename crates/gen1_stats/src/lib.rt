@@ -1,4 +1,13 @@
 //! Teams, and the stats of their members.
+//!
+//! - `team`: [`Team`], one to six members
+//! - `member`: a member of it, as a battle begins
+//! - `known_move`: a move that it knows
+//! - `status`: what ails a member
+//! - `stats`: the formulas of its stats
+//! - `member_spec`: a member as it is asked for
+//! - `refusal`: why a list of members is no team
+//! - `tests`: worked stats, and refusals
 #![tactic(auto)]
 
 mod known_move;

@@ -1,16 +1,14 @@
 //! A member as it is asked for, and what may be wrong with it (docs/MECHANICS.md, "Teams").
 ghost use Rattle.std.specs.Prelude.{◌≡◌, ◌==◌, nat_lt};
 ghost use Rattle.std.specs.List.{list_any};
-ghost use Rattle.gen1_stats.specs.Members.{is_left_out, struggle};
+ghost use Rattle.gen1_tables.specs.Moves.{struggle};
+ghost use Rattle.gen1_stats.specs.Members.{is_left_out};
 ghost use Rattle.gen1_stats.specs.Teams.{member_refusal, repeats};
 
 use crate::refusal::TeamRefusal;
 use arrayvec::ArrayVec;
-use gen1_tables::{Effect, MoveId, Species};
+use gen1_tables::{Effect, MoveId, STRUGGLE, Species};
 use std::marker::Model;
-
-// The move that is used where no other can be.
-const STRUGGLE: u8 = 165;
 
 /// A member as it is asked for.
 ///
@@ -30,9 +28,38 @@ impl Model for MemberSpec {
 
     ghost Value = { Sheet };
 
-    ghost view = { λ m. record { species = m.species; level = m.level; dvs = m.dvs; exp = m.exp; moves = m.moves.items } };
+    ghost view = { λ m. record {
+      species = m.species;
+      level = m.level;
+      dvs = m.dvs;
+      exp = m.exp;
+      moves = m.moves.items;
+    } };
 
-    ghost inverse = { λ s. record { species = s.species; level = s.level; dvs = s.dvs; exp = s.exp; moves = record { items = s.moves } } };
+    ghost inverse = { λ s. record {
+      species = s.species;
+      level = s.level;
+      dvs = s.dvs;
+      exp = s.exp;
+      moves = record { items = s.moves };
+    } };
+}
+
+impl Default for MemberSpec {
+    ghost use Rattle.gen1_stats.specs.Sheets.{least_sheet};
+
+    ghost is_default = { λ spec. spec ≡ least_sheet };
+
+    /// A Bulbasaur of level 1 without a move, which no team takes: it fills the unused places of a list.
+    fn default() -> Self {
+        MemberSpec {
+            species: Species::default(),
+            level: 1,
+            dvs: [0; 4],
+            exp: [0; 5],
+            moves: ArrayVec::new(),
+        }
+    }
 }
 
 impl MemberSpec {

@@ -41,7 +41,8 @@ fn root(exp: u16) -> u16
 
 /// The DV of HP, from those of Attack, Defense, Speed and Special.
 pub(crate) fn hp_dv(dvs: [u8; 4]) -> u8
-    ensures { result ≡ hp_dv (slice_index dvs 0) (slice_index dvs 1) (slice_index dvs 2) (slice_index dvs 3) }
+    ensures { result ≡ hp_dv (slice_index dvs 0) (slice_index dvs 1) (slice_index dvs 2)
+        (slice_index dvs 3) }
 {
     8 * (dvs[0] % 2) + 4 * (dvs[1] % 2) + 2 * (dvs[2] % 2) + dvs[3] % 2
 }
@@ -50,7 +51,7 @@ pub(crate) fn hp_dv(dvs: [u8; 4]) -> u8
 pub(crate) fn full_pp(base: u8, ups: u8) -> u8
     requires base_fits { base ≤ 40 }
     requires ups_fit { ups ≤ 3 }
-    ensures { result ≡ full_pp base ups }
+    ensures value { result ≡ full_pp base ups }
 {
     base + ups * (base / 5).min(7)
 }

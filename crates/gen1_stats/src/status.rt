@@ -1,4 +1,6 @@
-//! What ails a member.
+//! What ails a member (docs/MECHANICS.md, "Penalties").
+ghost use Rattle.std.specs.Prelude.{◌≡◌};
+ghost use Rattle.gen1_stats.specs.Members.{is_healthy, sleeps_or_freezes};
 
 /// A member's status.
 #[derive(Debug, Clone, Copy, Default, PartialEq, Eq)]
@@ -11,4 +13,20 @@ pub enum Status {
     Burned,
     Frozen,
     Paralysed,
+}
+
+impl Status {
+    /// Whether nothing ails the member.
+    pub fn is_healthy(self) -> bool
+        ensures { result ≡ is_healthy self }
+    {
+        matches!(self, Status::Healthy)
+    }
+
+    /// Whether the member can't act by its status: it is asleep or frozen.
+    pub fn sleeps_or_freezes(self) -> bool
+        ensures { result ≡ sleeps_or_freezes self }
+    {
+        matches!(self, Status::Asleep { .. } | Status::Frozen)
+    }
 }

@@ -33,6 +33,7 @@ pub(crate) fn assert_same<T: PartialEq + Debug + Drop>(rt: &impl Abort, found: T
     assert_eq!(rt; found, expected);
 }
 
+// Stats and PP of a Tauros (docs/MECHANICS.md, "Stats").
 #[test]
 fn a_team_of_one(rt: HostRuntime) -> Result<(), Fail> {
     let team = Team::new(&[tauros(&[("Strength", 3), ("Wrap", 0)])?])?;
@@ -52,18 +53,21 @@ fn a_team_of_one(rt: HostRuntime) -> Result<(), Fail> {
     Ok(())
 }
 
+// The HP of a Chansey (docs/MECHANICS.md, "Stats").
 #[test]
 fn the_most_hp(rt: HostRuntime) {
     let chansey = 250;
     assert_same(&rt, hp_stat(chansey, 15, 65535, 100), 703);
 }
 
+// At level 1, without experience (docs/MECHANICS.md, "Stats").
 #[test]
 fn the_least_member(rt: HostRuntime) {
     assert_same(&rt, Member::default().max_hp(), 11);
     assert_same(&rt, Status::default(), Status::Healthy);
 }
 
+// Of two faults the first is told (docs/MECHANICS.md, "Teams").
 #[test]
 fn refusals_come_in_order(rt: HostRuntime) -> Result<(), Fail> {
     assert_same(&rt, refusal_of(&[("Strength", 3)])?, None);
@@ -89,6 +93,7 @@ fn refusals_come_in_order(rt: HostRuntime) -> Result<(), Fail> {
     Ok(())
 }
 
+// No member, seven of them, and the first of several at fault (docs/MECHANICS.md, "Teams").
 #[test]
 fn refusals_of_members(rt: HostRuntime) -> Result<(), Fail> {
     assert_same(&rt, Team::new(&[]).err(), Some(TeamRefusal::Empty));
@@ -111,6 +116,7 @@ fn refusals_of_members(rt: HostRuntime) -> Result<(), Fail> {
     Ok(())
 }
 
+// Number, place and text of each refusal (docs/MECHANICS.md, "Teams").
 #[test]
 fn refusals_in_numbers_and_words(rt: HostRuntime) -> Result<(), Fail> {
     for (refusal, number, place, text) in [
@@ -160,4 +166,26 @@ fn refusals_in_numbers_and_words(rt: HostRuntime) -> Result<(), Fail> {
         assert_same(&rt, printed.as_str(), text);
     }
     Ok(())
+}
+
+#[test]
+fn what_ails_a_member(rt: HostRuntime) {
+    let asleep = Status::Asleep {
+        turns: 2,
+        marked: false,
+    };
+    for (status, healthy, kept_from_acting) in [
+        (Status::Healthy, true, false),
+        (asleep, false, true),
+        (Status::Poisoned, false, false),
+        (Status::Burned, false, false),
+        (Status::Frozen, false, true),
+        (Status::Paralysed, false, false),
+    ] {
+        assert_same(
+            &rt,
+            (status.is_healthy(), status.sleeps_or_freezes()),
+            (healthy, kept_from_acting),
+        );
+    }
 }

@@ -1,6 +1,6 @@
 -- Tests of numbers, by what they test, and one test or another.
-use Rattle.std.proofs.Common.{◌<◌, ◌||◌, ◌≡◌, ◌≤◌}
-use Rattle.gen1_layout.proofs.Words.{Bool, arith, false, nat_le, nat_lt, nat_tests, sym, true, ℕ, ◌∙◌}
+use Rattle.std.proofs.Common.{◌<◌, ◌≡◌, ◌≤◌}
+use Rattle.gen1_layout.proofs.Words.{arith, false, nat_le, nat_lt, nat_tests, true, ℕ}
 
 pub at_most : (a b : ℕ) → a ≤ b → nat_le a b ≡ true
 at_most a b h = grind (arith, nat_tests)
@@ -13,9 +13,3 @@ below a b h = grind (arith, nat_tests)
 
 pub not_below : (a b : ℕ) → b ≤ a → nat_lt a b ≡ false
 not_below a b h = grind (arith, nat_tests)
-
-pub or_then : (a b : Bool) {v x : Bool} → x ≡ a → x ≡ true → v ≡ x → v ≡ (a || b)
-or_then a b is e value = let so : a ≡ true = sym is ∙ e in rw so (value ∙ e)
-
-pub or_else : (a b : Bool) {v x y : Bool} → x ≡ a → x ≡ false → y ≡ b → v ≡ y → v ≡ (a || b)
-or_else a b is e other value = let so : a ≡ false = sym is ∙ e in rw so (value ∙ other)

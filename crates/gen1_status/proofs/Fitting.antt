@@ -10,7 +10,7 @@ use Rattle.gen1_machine.specs.State.{Stages}
 use Rattle.gen1_machine.specs.Valid.{IsCount, IsStages, IsStatus}
 use Rattle.gen1_tables.specs.declared.effect.Stat.{Stat}
 use Rattle.gen1_tables.specs.declared.effect.Stat.TheVariants.{Accuracy, Attack, Defense, Evasion, Special, Speed}
-use Rattle.gen1_status.specs.Inflicted.{IsCountOf, status_of_kind}
+use Rattle.gen1_status.specs.Infliction.{IsCountOf, status_of_kind}
 
 -- an unmarked sleep needs no clause
 pub status_of_kind-fits : (rules : Rules) (kind : Kind) (count : ℕ) → IsCountOf kind count → IsStatus rules (status_of_kind kind count)

@@ -7,7 +7,7 @@ use Rattle.gen1_tables.specs.declared.effect.Stat.TheVariants.{Accuracy, Attack,
 use Rattle.gen1_machine.specs.Stages.{now_at}
 use Rattle.gen1_machine.specs.CurrentStats.{at_new_stage, now, now_in, penalties_of, recomputed_at, unmodified}
 use Rattle.gen1_machine.specs.StageShift.{stands_at}
-use Rattle.gen1_status.specs.Shifting.{with_stage_after}
+use Rattle.gen1_status.specs.StageShift.{with_stage_after}
 
 pub recomputed_at-is : (stat : Stat) (n : ℕ) (a : Active) → recomputed_at stat n a ≡ with_stage_after stat n 0 a
 unfolding recomputed_at

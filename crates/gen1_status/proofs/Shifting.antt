@@ -1,11 +1,12 @@
 -- What a shift comes to: it fails at once, it fails once the stage has moved and moved back, or it succeeds.
 use Rattle.gen1_layout.proofs.Words.{Bool, Event, Frame, IsBetween, List, Parts, Phase, Progress, Shows, Side, add-one, arith, choose, choose-false, choose-true, false, goes, nat_tests, on_active, refl, subst, then-goes, true, ℕ, ◌∙◌, ◌▸◌}
 use Rattle.std.proofs.Common.{negsuc, pos, ℤ, ◌≡◌}
-use Rattle.gen1_status.specs.Shifting.{IsShift, ShowsShifted, shift_stage}
+use Rattle.gen1_status.specs.StageShift.{IsShift, ShowsShifted, shift_stage}
 use lib.IntN.{nat_abs}
 use lib.Signed.{lt_z}
 use Rattle.gen1_tables.specs.declared.effect.Stat.{Stat}
 use Rattle.gen1_machine.specs.CurrentStats.{at_new_stage}
+use Rattle.gen1_machine.specs.Progress.{stay}
 use Rattle.gen1_machine.specs.StageShift.{lower_stage, shift_to}
 
 -- a shift by a number that is not above 0 goes down
@@ -54,3 +55,9 @@ module _ {g : Frame} {parts : Parts} {events : List Event} {result : Bool} {fail
   fails shift e h then =
       let w = subst (λ (b : Bool). ShowsShifted g parts events b shift failing p) e h in
       rw w.2 (then w.0 w.1)
+
+-- a shift that is let fail
+pub shifted : (g : Frame) (parts : Parts) (events : List Event) (b : Bool) (shift : Phase → Phase) (p : Progress) → ShowsShifted g parts events b shift stay p → Shows g parts events false (shift stay p)
+unfolding stay
+shifted g parts events true shift p h = h
+shifted g parts events false shift p h = rw h.2 h.1

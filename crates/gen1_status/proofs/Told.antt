@@ -10,7 +10,7 @@ use Rattle.gen1_machine.proofs.RequestsStand.{outcome-stays}
 use Rattle.gen1_machine.proofs.Steady.{land_on_foes_substitute-steady, land_on_hp-steady, Breaks, Hurts, Steady}
 use Rattle.gen1_status.specs.declared.gate_answer.Gate.{Gate}
 use Rattle.gen1_status.specs.declared.gate_answer.Gate.TheVariants.{Go, Stop, Fault}
-use Rattle.gen1_status.specs.Telling.{Tells, TellsDrawn, action_after, frame_after, outcome_after, stopped_by}
+use Rattle.gen1_status.specs.GateAnswer.{Tells, TellsDrawn, action_after, frame_after, outcome_after, stopped_by}
 
 -- how the battle stands
 

@@ -4,20 +4,20 @@ use Rattle.std.proofs.Common.{◌||◌, ◌∷◌, ◌≡◌}
 use Rattle.gen1_layout.proofs.Words.{Bool, DisabledSlot, Field, None, Option, Phase, Progress, Side, Some, [], active_in, ap, choose, choose-false, conditions_in, false, given, is_some, member_in, refl, stay, stop, then-goes, true, underway_in, ◌∙◌, ◌▸◌}
 use Rattle.gen1_stats.specs.declared.status.Status.{Status}
 use Rattle.gen1_stats.specs.declared.status.Status.TheVariants.{Asleep, Burned, Frozen, Healthy, Paralysed, Poisoned}
-use Rattle.gen1_stats.specs.Members.{is_frozen, is_living, is_paralysed}
+use Rattle.gen1_stats.specs.Members.{is_frozen, is_living, is_paralysed, sleeps_or_freezes}
 use Rattle.gen1_machine.specs.declared.picks.Pick.{Pick}
 use Rattle.gen1_machine.specs.declared.picks.Pick.TheVariants.{Continue, Held, Idle, Use}
 use Rattle.gen1_machine.specs.Sides.{other}
 use Rattle.gen1_machine.specs.Layout.{condition_bits}
 use Rattle.gen1_layout.specs.Flags.{any_at}
 use Rattle.gen1_machine.specs.Progress.{only, status_of, when}
-use Rattle.gen1_machine.specs.Picks.{bars, is_disabled_in, is_idle, sleeps_or_freezes}
+use Rattle.gen1_machine.specs.Picks.{bars, is_disabled_in, is_idle}
 use Rattle.gen1_machine.specs.Gate.{cant, confusion_test, disable_count, disabled_test, flinch_test, frozen_test, gate, gate_of_move, gate_of_status, gate_of_turn, paralysis_test, recharge_test, sleep_test, trapped_test}
 use Rattle.gen1_machine.specs.declared.event.CantReason.TheVariants as reasons
 use Rattle.gen1_machine.specs.Action.{gate_or_held}
-use Rattle.gen1_machine.specs.Residual.{residual, suffer_seed, suffer_status}
-use Rattle.gen1_status.specs.Hurting.{takes_hp}
-use Rattle.gen1_status.specs.Gating.{ActsAtOnce, IsFree, is_held, keeps_from_acting}
+use Rattle.gen1_machine.specs.ResidualDamage.{residual, suffer_seed, suffer_status}
+use Rattle.gen1_status.specs.ResidualDamage.{takes_hp}
+use Rattle.gen1_status.specs.Gate.{ActsAtOnce, IsFree, is_held, keeps_from_acting}
 
 -- who is held
 

@@ -1,9 +1,9 @@
 -- What the answer of the gate tells.
-pub mod Telling
+pub mod GateAnswer
 -- Who is held, and who is free.
-pub mod Gating
+pub mod Gate
 -- A status by its kind, and those that take HP.
-pub mod Inflicted
-pub mod Hurting
+pub mod Infliction
+pub mod ResidualDamage
 -- A stage that moves.
-pub mod Shifting
+pub mod StageShift

@@ -1,6 +1,6 @@
-//! How an action leaves the gate.
+//! How an action leaves the gate (docs/MECHANICS.md, "Gate").
 ghost use Rattle.std.specs.Prelude.{◌≡◌};
-ghost use Rattle.gen1_status.specs.Telling.{stopped_by};
+ghost use Rattle.gen1_status.specs.GateAnswer.{stopped_by};
 
 /// How an action leaves the gate (docs/MECHANICS.md, "Gate").
 #[derive(Clone, Copy, Debug, PartialEq, Eq)]

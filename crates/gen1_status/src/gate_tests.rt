@@ -3,8 +3,8 @@ ghost use Rattle.std.specs.Prelude.{◌≡◌};
 ghost use Rattle.gen1_layout.specs.Words.{AddsAtMost, Does, Field, HasRoom, Setting, Within, true};
 ghost use Rattle.gen1_machine.specs.Action.{gate_or_held};
 ghost use Rattle.gen1_machine.specs.Gate.{cant, gate};
-ghost use Rattle.gen1_status.specs.Gating.{ActsAtOnce, is_held, keeps_from_acting};
-ghost use Rattle.gen1_status.specs.Telling.{DoesTelling};
+ghost use Rattle.gen1_status.specs.Gate.{ActsAtOnce, is_held, keeps_from_acting};
+ghost use Rattle.gen1_status.specs.GateAnswer.{DoesTelling};
 
 mod by_move;
 mod by_status;
@@ -30,8 +30,9 @@ pub fn gate<R: Rolls>(
     random: &mut R,
     events: &mut EventList,
 ) -> Gate
-    requires { HasRoom 3 events.old }
-    ensures shown { DoesTelling R.byte R.next R.SPAN battle.old events.old.items random.old battle.new events.new.items random.new result (gate_or_held side pick) }
+    requires room { HasRoom 3 events.old }
+    ensures shown { DoesTelling R.byte R.next R.SPAN battle.old events.old.items random.old
+        battle.new events.new.items random.new result (gate_or_held side pick) }
     ensures room { AddsAtMost 3 events.old events.new }
 {
     if is_held(pick) {
@@ -46,7 +47,8 @@ pub fn gate<R: Rolls>(
 
 // One look for the many turns in which there is nothing to test.
 fn acts_at_once(battle: &Packed, side: Side, pick: Pick) -> bool
-    ensures stands { (g : Setting) (f : Field) → Within g battle.now f → result ≡ true → ActsAtOnce side pick f }
+    ensures stands { (g : Setting) (f : Field) → Within g battle.now f → result ≡ true
+        → ActsAtOnce side pick f }
 {
     if keeps_from_acting(battle.status(side)) {
         return false;
@@ -82,8 +84,9 @@ fn take_tests<R: Rolls>(
     random: &mut R,
     events: &mut EventList,
 ) -> Gate
-    requires { HasRoom 3 events.old }
-    ensures shown { DoesTelling R.byte R.next R.SPAN battle.old events.old.items random.old battle.new events.new.items random.new result (gate side pick) }
+    requires room { HasRoom 3 events.old }
+    ensures shown { DoesTelling R.byte R.next R.SPAN battle.old events.old.items random.old
+        battle.new events.new.items random.new result (gate side pick) }
     ensures room { AddsAtMost 3 events.old events.new }
 {
     if gate_of_status(battle, side, events) {
@@ -97,8 +100,9 @@ fn take_tests<R: Rolls>(
 
 // The member does not act, for a reason that is told.
 fn cant(battle: &Packed, side: Side, why: CantReason, events: &mut EventList)
-    requires { HasRoom 1 events.old }
-    ensures shown { Does battle.now events.old.items battle.now events.new.items true (cant side why) }
+    requires room { HasRoom 1 events.old }
+    ensures shown { Does battle.now events.old.items battle.now events.new.items true
+        (cant side why) }
     ensures room { AddsAtMost 1 events.old events.new }
 {
     events.push(Event::Cant(battle.who(side), why));

@@ -2,7 +2,7 @@
 ghost use Rattle.std.specs.Prelude.{◌≡◌, ◌≢◌};
 ghost use Rattle.gen1_layout.specs.Words.{AddsAtMost, Frame, HasRoom, Progress, Shows, conditions, false, other, stop, ◌▸◌};
 ghost use Rattle.gen1_machine.specs.HitOnItself.{hurt_itself, hurt_itself_by, land_on_foes_substitute};
-ghost use Rattle.gen1_status.specs.Telling.{Tells, frame_after};
+ghost use Rattle.gen1_status.specs.GateAnswer.{Tells, frame_after};
 
 use crate::Gate;
 use gen1_hits::{damage, land_on_hp, land_on_substitute, own_numbers};
@@ -12,7 +12,7 @@ use gen1_machine::{DamageSource, EventList, Outcome, Side};
 /// Breaks off what the member was about, and takes from it what it has the strength of: 40 in power, its own Attack against
 /// its own Defense. Writes one event at most (docs/MECHANICS.md, "Hit on itself").
 pub(crate) fn hurt_itself(battle: &mut Packed, side: Side, events: &mut EventList) -> Gate
-    requires { HasRoom 1 events.old }
+    requires room { HasRoom 1 events.old }
     ensures shown { (g : Frame) (p : Progress) → Shows g battle.old events.old.items false p
         → Tells g battle.new events.new.items result p (hurt_itself side p) }
     ensures room { AddsAtMost 1 events.old events.new }
@@ -32,7 +32,7 @@ fn hurt_itself_by(
     damage: Option<u16>,
     events: &mut EventList,
 ) -> Gate
-    requires { HasRoom 1 events.old }
+    requires room { HasRoom 1 events.old }
     ensures shown { (g : Frame) (p : Progress) → Shows g battle.old events.old.items false p
         → Tells g battle.new events.new.items result p ((hurt_itself_by side damage ▸ stop) p) }
     ensures room { AddsAtMost 1 events.old events.new }
@@ -60,9 +60,11 @@ fn land_on_foes_substitute(
     substitute: Option<u8>,
     events: &mut EventList,
 )
-    requires { HasRoom 1 events.old }
-    ensures shown { (g : Frame) (p : Progress) → (conditions (other side) p).substitute ≡ substitute → Shows g battle.old events.old.items false p
-        → Shows (frame_after Gate.Stop (land_on_foes_substitute side damage substitute p) g) battle.new events.new.items false (land_on_foes_substitute side damage substitute p) }
+    requires room { HasRoom 1 events.old }
+    ensures shown { (g : Frame) (p : Progress) → (conditions (other side) p).substitute ≡ substitute
+        → Shows g battle.old events.old.items false p
+        → Shows (frame_after Gate.Stop (land_on_foes_substitute side damage substitute p) g)
+        battle.new events.new.items false (land_on_foes_substitute side damage substitute p) }
     ensures room { AddsAtMost 1 events.old events.new }
 {
     let Some(hp) = substitute else {

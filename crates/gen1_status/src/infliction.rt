@@ -3,7 +3,7 @@ ghost use Rattle.std.specs.Prelude.{◌≡◌};
 ghost use Rattle.gen1_layout.specs.Words.{AddsAtMost, Does, Frame, HasRoom, Progress, Shows, false};
 ghost use Rattle.gen1_machine.specs.Progress.{inflict};
 ghost use Rattle.gen1_machine.specs.Valid.{IsStatus};
-ghost use Rattle.gen1_status.specs.Inflicted.{IsCountOf, status_of_kind};
+ghost use Rattle.gen1_status.specs.Infliction.{IsCountOf, status_of_kind};
 
 use crate::take_penalty;
 use gen1_layout::Packed;
@@ -15,8 +15,10 @@ use gen1_stats::Status;
 ///
 /// Sleep lasts for `count` turns, from 1 to 7, and is unmarked. For another kind `count` is of no account.
 pub fn inflict(battle: &mut Packed, target: Side, kind: Kind, count: u8, events: &mut EventList)
-    requires { HasRoom 1 events.old }
-    ensures shown { IsCountOf kind count → Does battle.old events.old.items battle.new events.new.items false (inflict target (status_of_kind kind count) kind) }
+    requires room { HasRoom 1 events.old }
+    ensures shown { IsCountOf kind count
+        → Does battle.old events.old.items battle.new events.new.items false
+        (inflict target (status_of_kind kind count) kind) }
     ensures room { AddsAtMost 1 events.old events.new }
 {
     inflict_status(battle, target, status_of_kind(kind, count), kind, events);
@@ -31,8 +33,9 @@ pub fn inflict_status(
     kind: Kind,
     events: &mut EventList,
 )
-    requires { HasRoom 1 events.old }
-    ensures shown { (g : Frame) (p : Progress) → IsStatus g.setting.terms.rules status → Shows g battle.old events.old.items false p
+    requires room { HasRoom 1 events.old }
+    ensures shown { (g : Frame) (p : Progress) → IsStatus g.setting.terms.rules status
+        → Shows g battle.old events.old.items false p
         → Shows g battle.new events.new.items false (inflict target status kind p) }
     ensures room { AddsAtMost 1 events.old events.new }
 {

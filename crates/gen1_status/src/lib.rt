@@ -1,5 +1,15 @@
 //! What keeps a member from acting, and what statuses and stages do to it, over the bytes of a battle (docs/MECHANICS.md,
-//! "Penalties", "Stage shift", "Picks" to "Hit on itself", "Residual").
+//! "Penalties", "Stage shift", "Picks" to "Hit on itself", "Residual damage").
+//!
+//! - `picks`: what a side's choice comes to
+//! - `gate_tests`: what keeps a member from acting
+//! - `gate_answer`: how an action leaves the gate
+//! - `hit_on_itself`: the hit of a confused member
+//! - `infliction`: a status that begins
+//! - `penalties`: what paralysis and a burn do to a stat
+//! - `stages`: the number that stands at a stage
+//! - `stage_shift`: stages that rise and fall
+//! - `residual_damage`: what poison, a burn and Leech Seed take
 #![tactic(auto)]
 
 mod gate_answer;
@@ -7,15 +17,15 @@ mod gate_tests;
 mod hit_on_itself;
 mod infliction;
 mod penalties;
-mod picking;
+mod picks;
 mod residual_damage;
-mod shifts;
-mod stage_writes;
+mod stage_shift;
+mod stages;
 
 pub use gate_answer::Gate;
 pub use gate_tests::gate;
 pub use infliction::{inflict, inflict_status};
 pub use penalties::take_penalty;
-pub use picking::pick;
+pub use picks::pick;
 pub use residual_damage::{residual, suffers};
-pub use shifts::{lower_stage, raise_stage, shift_stage};
+pub use stage_shift::{lower_stage, raise_stage, shift_stage};

@@ -1,9 +1,9 @@
-//! What poison, a burn and Leech Seed take (docs/MECHANICS.md, "Residual").
+//! What poison, a burn and Leech Seed take (docs/MECHANICS.md, "Residual damage").
 ghost use Rattle.std.specs.Prelude.{◌||◌, ◌≡◌, ◌≤◌};
 ghost use Rattle.gen1_layout.specs.Words.{AddsAtMost, Does, Event, HasRoom, List, Reads, conditions_in, false, is_living, member_in, status_in};
 ghost use Rattle.gen1_machine.specs.Conditions.{one_more};
-ghost use Rattle.gen1_machine.specs.Residual.{residual, residual_in, suffer, suffer_seed, suffer_status, times_poisoned, worsen};
-ghost use Rattle.gen1_status.specs.Hurting.{takes_hp};
+ghost use Rattle.gen1_machine.specs.ResidualDamage.{residual, residual_in, suffer, suffer_seed, suffer_status, times_poisoned, worsen};
+ghost use Rattle.gen1_status.specs.ResidualDamage.{takes_hp};
 
 use gen1_hits::{gain_hp, lose_hp};
 use gen1_layout::{Conditions, Packed};
@@ -11,15 +11,16 @@ use gen1_machine::{DamageSource, EventList, Side};
 use gen1_stats::Status;
 
 /// What poison or a burn, and then Leech Seed, take from the member of `side` that is out, unless it has fallen before
-/// (docs/MECHANICS.md, "Residual"). Each takes a 16th of its maximum HP, at least 1, or what is left of its HP.
+/// (docs/MECHANICS.md, "Residual damage"). Each takes a 16th of its maximum HP, at least 1, or what is left of its HP.
 ///
 /// With the bad-poison mark each of the two first raises the counter by 1, to 64 at most, and takes so many times as much.
 /// The seed heals the foe the full amount, also where less was left to take. `Damage` is written for what either takes, and
 /// `Heal` for what the foe gains: three places in `events` are to be free for them.
 #[inline(always)] // docs/SPEED.md, "Hints on inlining"
 pub fn residual(battle: &mut Packed, side: Side, events: &mut EventList)
-    requires { HasRoom 3 events.old }
-    ensures shown { Does battle.old events.old.items battle.new events.new.items false (residual side) }
+    requires room { HasRoom 3 events.old }
+    ensures shown { Does battle.old events.old.items battle.new events.new.items false
+        (residual side) }
     ensures room { AddsAtMost 3 events.old events.new }
 {
     if !suffers(battle, side) {
@@ -36,9 +37,10 @@ pub fn residual(battle: &mut Packed, side: Side, events: &mut EventList)
 }
 
 /// Whether poison, a burn or Leech Seed takes anything from the member of `side` that is out, as long as it lives
-/// (docs/MECHANICS.md, "Residual"). Most members have none of them.
+/// (docs/MECHANICS.md, "Residual damage"). Most members have none of them.
 pub fn suffers(battle: &Packed, side: Side) -> bool
-    ensures stands { Reads battle.now result λ f. (takes_hp (status_in side f) || (conditions_in side f).seeded) }
+    ensures stands { Reads battle.now result λ f.
+        (takes_hp (status_in side f) || (conditions_in side f).seeded) }
 {
     if takes_hp(battle.status(side)) {
         return true;
@@ -60,8 +62,9 @@ fn is_living(battle: &Packed, side: Side) -> bool
 
 // What a status takes: poison and a burn alone do.
 fn suffer_status(battle: &mut Packed, side: Side, status: Status, events: &mut EventList)
-    requires { HasRoom 1 events.old }
-    ensures shown { Does battle.old events.old.items battle.new events.new.items false (suffer_status side status) }
+    requires room { HasRoom 1 events.old }
+    ensures shown { Does battle.old events.old.items battle.new events.new.items false
+        (suffer_status side status) }
     ensures room { AddsAtMost 1 events.old events.new }
 {
     match status {
@@ -75,8 +78,9 @@ fn suffer_status(battle: &mut Packed, side: Side, status: Status, events: &mut E
 }
 
 fn suffer(battle: &mut Packed, side: Side, source: DamageSource, events: &mut EventList)
-    requires { HasRoom 1 events.old }
-    ensures shown { Does battle.old events.old.items battle.new events.new.items false (suffer side source) }
+    requires room { HasRoom 1 events.old }
+    ensures shown { Does battle.old events.old.items battle.new events.new.items false
+        (suffer side source) }
     ensures room { AddsAtMost 1 events.old events.new }
 {
     worsen(battle, side);
@@ -86,8 +90,9 @@ fn suffer(battle: &mut Packed, side: Side, source: DamageSource, events: &mut Ev
 
 // The foe is healed the full amount, also where less was left to take.
 fn suffer_seed(battle: &mut Packed, side: Side, events: &mut EventList)
-    requires { HasRoom 2 events.old }
-    ensures shown { Does battle.old events.old.items battle.new events.new.items false (suffer_seed side) }
+    requires room { HasRoom 2 events.old }
+    ensures shown { Does battle.old events.old.items battle.new events.new.items false
+        (suffer_seed side) }
     ensures room { AddsAtMost 2 events.old events.new }
 {
     worsen(battle, side);

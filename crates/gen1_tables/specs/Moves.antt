@@ -1,4 +1,4 @@
--- The moves, 1 to 165.
+-- The moves, 1 to 165 (docs/TABLES.md, "Moves").
 use Rattle.std.specs.Prelude.{ℕ, List, [], ◌-◌, ◌∷◌, slice_index_or}
 use Rattle.gen1_tables.specs.declared.element.Element.{Element}
 use Rattle.gen1_tables.specs.declared.element.Element.TheVariants.{Normal, Fighting, Flying, Poison, Ground, Rock, Bug, Ghost, Fire, Water, Grass, Electric, Psychic, Ice, Dragon}
@@ -7,6 +7,7 @@ use Rattle.gen1_tables.specs.declared.effect.Effect.{Effect}
 use Rattle.gen1_tables.specs.declared.effect.Effect.TheVariants.{AlwaysFails, Bide, BurnChance, Charge, ChargeInvulnerable, ConfusionChance, Conversion, Counter, CrashOnMiss, DamageOnly, Disable, DoubleHit, Drain, DreamEater, Explode, FixedDamage, FlinchChance, FocusEnergy, FreezeChance, Haze, Heal, InflictConfusion, InflictParalysis, InflictPoison, InflictSleep, LeechSeed, LeftOut, Mist, MultiHit, NeverMisses, OneHitKnockOut, ParalysisChance, PayDay, PoisonChance, Rage, Recharge, Recoil, Screen, Splash, StatDown, StatDownChance, StatUp, Substitute, SuperFang, Thrash, Trapping, Twineedle}
 
 -- a move's type, power, accuracy in percent, PP without PP ups, and what it does beside its damage
+-- (docs/TABLES.md, "Moves", "Effects")
 pub record MoveRow : Type 0 where
   pub kind : Element
   pub power : ℕ
@@ -197,3 +198,7 @@ no_move = row Normal 0 0 0 DamageOnly
 -- the move with a number
 unfoldable pub move_row : ℕ → MoveRow
 move_row number = slice_index_or move_rows (number - 1) no_move
+
+-- Struggle, which no member knows and everybody can use
+abbrev pub struggle : ℕ
+struggle = 165

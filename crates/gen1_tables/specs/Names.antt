@@ -1,4 +1,4 @@
--- The names of species and moves, in the order of their numbers, and who has a name.
+-- The names of species and moves, in the order of their numbers, and who has a name (docs/TABLES.md, "Species", "Moves").
 use Rattle.std.specs.Prelude.{ℕ, ◌+◌, ◌-◌, List, [], ◌∷◌, Option, option_map, position, bytes_eq, slice_index_or, codes}
 
 -- the name at a place of a list, counted from 1

@@ -1,4 +1,4 @@
--- The species, 1 to 151.
+-- The species, 1 to 151 (docs/TABLES.md, "Species").
 use Rattle.std.specs.Prelude.{ℕ, List, [], ◌-◌, ◌∷◌, slice_index_or}
 use Rattle.gen1_tables.specs.declared.element.Element.{Element}
 use Rattle.gen1_tables.specs.declared.element.Element.TheVariants.{Normal, Fighting, Flying, Poison, Ground, Rock, Bug, Ghost, Fire, Water, Grass, Electric, Psychic, Ice, Dragon}

@@ -1,5 +1,5 @@
--- The types: their numbers, which of them are special, and what each does to another.
-use Rattle.std.specs.Prelude.{ℕ, List, [], ◌∷◌, Bool, true, false, ◌==◌, ◌||◌}
+-- The types: their numbers, which of them are special, and what each does to another (docs/TABLES.md, "Types", "Type rows").
+use Rattle.std.specs.Prelude.{ℕ, List, [], ◌∷◌, Bool, true, false, filter, ◌==◌, ◌&&◌, ◌||◌}
 use Rattle.gen1_tables.specs.declared.element.Element.{Element}
 use Rattle.gen1_tables.specs.declared.element.Element.TheVariants.{Normal, Fighting, Flying, Poison, Ground, Rock, Bug, Ghost, Fire, Water, Grass, Electric, Psychic, Ice, Dragon}
 
@@ -138,3 +138,14 @@ type_rows =
     row Ice Dragon 20 ∷
     row Dragon Dragon 20 ∷
     []
+
+-- the rows that apply to a move of a type against a foe of two types, which may be the same
+abbrev pub rows_against : Element → Element → Element → List TypeRow
+rows_against t first second =
+    filter (λ row. same_type row.attacker t && (same_type row.defender first || same_type row.defender second)) type_rows
+
+-- the factors of two rows at most; 10 tenths leave the damage as it is
+abbrev pub tenths_of : List TypeRow → ℕ × ℕ
+tenths_of [] = (10, 10)
+tenths_of (row ∷ []) = (row.tenths, 10)
+tenths_of (row ∷ next ∷ more) = (row.tenths, next.tenths)

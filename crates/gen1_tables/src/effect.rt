@@ -1,3 +1,7 @@
+//! The stats that a stage can change, and what moves do beside their damage (docs/TABLES.md, "Effects").
+ghost use Rattle.std.specs.Prelude.{◌≡◌};
+ghost use Rattle.gen1_tables.specs.Effects.{bides, charges, explodes, rages, recharges, thrashes, traps};
+
 /// A stat that a stage can change.
 #[derive(Clone, Copy, PartialEq, Eq, Debug, Drop)]
 pub enum Stat {
@@ -109,4 +113,55 @@ pub enum Effect {
     StatUp(Stat, u8),
     /// Lowers the foe's stat by that many stages.
     StatDown(Stat, u8),
+}
+
+impl Effect {
+    /// Whether the move halves the Defense for its damage, and fells its user.
+    pub fn explodes(self) -> bool
+        ensures { result ≡ explodes self }
+    {
+        matches!(self, Effect::Explode)
+    }
+
+    /// Whether the move charges in its first turn, invulnerable or not.
+    pub fn charges(self) -> bool
+        ensures { result ≡ charges self }
+    {
+        matches!(self, Effect::Charge | Effect::ChargeInvulnerable)
+    }
+
+    /// Whether the move keeps the foe from acting.
+    pub fn traps(self) -> bool
+        ensures { result ≡ traps self }
+    {
+        matches!(self, Effect::Trapping)
+    }
+
+    /// Whether the move goes on by itself for some turns.
+    pub fn thrashes(self) -> bool
+        ensures { result ≡ thrashes self }
+    {
+        matches!(self, Effect::Thrash)
+    }
+
+    /// Whether the move is Bide.
+    pub fn bides(self) -> bool
+        ensures { result ≡ bides self }
+    {
+        matches!(self, Effect::Bide)
+    }
+
+    /// Whether the user must recharge where the move lands.
+    pub fn recharges(self) -> bool
+        ensures { result ≡ recharges self }
+    {
+        matches!(self, Effect::Recharge)
+    }
+
+    /// Whether the move is Rage.
+    pub fn rages(self) -> bool
+        ensures { result ≡ rages self }
+    {
+        matches!(self, Effect::Rage)
+    }
 }

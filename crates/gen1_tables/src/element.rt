@@ -1,3 +1,4 @@
+//! The fifteen types, and which of them are special (docs/TABLES.md, "Types").
 ghost use Rattle.std.specs.Prelude.{◌≡◌, ◌<◌};
 ghost use Rattle.gen1_tables.specs.Types.{number_of, is_special};
 

@@ -1,3 +1,4 @@
+//! The moves by their numbers, each with type, power, accuracy, PP and effect (docs/TABLES.md, "Moves").
 ghost use Rattle.std.specs.Prelude.{◌≡◌, ◌≢◌, ◌↔◌, ℕ, ◌≤◌, ◌*◌, ◌/◌, nat_le, ◌&&◌, if◌then◌else◌, IfSome, IsNone};
 ghost use Rattle.gen1_tables.specs.Moves.{move_row, row_of};
 ghost use Rattle.gen1_tables.specs.Names.{move_name, move_named};
@@ -189,6 +190,12 @@ static MOVE_ROWS: [MoveRow; 165] = [
     (Normal, 50, 100, 10, Recoil), // Struggle
 ];
 
+/// The number of Counter.
+pub const COUNTER: u8 = 68;
+
+/// The number of Struggle, which no member knows and everybody can use.
+pub const STRUGGLE: u8 = 165;
+
 /// A move, by its number from 1 to 165 (docs/TABLES.md, "Moves").
 #[derive(Clone, Copy, PartialEq, Eq, Debug, Drop)]
 pub struct MoveId {
@@ -281,7 +288,7 @@ impl MoveId {
         self.row().3
     }
 
-    /// What the move does beside its damage.
+    /// What the move does beside its damage (docs/TABLES.md, "Effects").
     pub fn effect(self) -> Effect
         ensures { result ≡ (move_row self).effect }
     {

@@ -1,4 +1,4 @@
-//! The names of species and moves, in the order of their numbers.
+//! The names of species and moves, in the order of their numbers (docs/TABLES.md, "Species", "Moves").
 ghost use Rattle.std.specs.Prelude.{◌≡◌, ◌<◌, ◌≤◌, ℕ, map, length, bytes_eq, position, IfSome};
 ghost use Rattle.gen1_tables.specs.Names.{move_names, name_at, place_of, species_names};
 
@@ -341,7 +341,7 @@ pub(crate) fn move_names() -> &'static [&'static str; 165]
 pub(crate) fn name_at(names: &'static [&'static str], place: u8) -> &'static str
     requires low { 1 ≤ place }
     requires high { place ≤ length names.now }
-    ensures { result.now ≡ name_at (map (λ name. name.now) names.now) place }
+    ensures value { result.now ≡ name_at (map (λ name. name.now) names.now) place }
 {
     names[place as usize - 1]
 }
@@ -357,7 +357,8 @@ pub(crate) fn place_of(names: &[&'static str], text: &str) -> Option<u8>
 }
 
 fn index_of(names: &[&'static str], text: &str) -> Option<usize>
-    ensures value { result ≡ position (λ name. bytes_eq name text.now) (map (λ name. name.now) names.now) }
+    ensures value { result ≡ position (λ name. bytes_eq name text.now)
+        (map (λ name. name.now) names.now) }
     ensures bound { IfSome result (λ index. index < length names.now) }
 {
     names.iter().position(|name| *name == text)

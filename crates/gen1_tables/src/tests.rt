@@ -1,13 +1,14 @@
+//! Ten rows of each table, and names and numbers that none has (docs/TABLES.md).
 use crate::Effect::{
     ChargeInvulnerable, DamageOnly, FixedDamage, OneHitKnockOut, ParalysisChance, PoisonChance,
     Recoil, StatDown, StatDownChance, StatUp,
 };
 use crate::Element::{
-    Bug, Dragon, Electric, Fighting, Fire, Flying, Ghost, Grass, Ground, Normal, Poison, Psychic,
-    Water,
+    Bug, Dragon, Electric, Fighting, Fire, Flying, Ghost, Grass, Ground, Ice, Normal, Poison,
+    Psychic, Rock, Water,
 };
 use crate::Stat::{Attack, Defense};
-use crate::{Element, MoveId, Species, type_rows};
+use crate::{COUNTER, Effect, Element, MoveId, STRUGGLE, Species, effectiveness, type_rows};
 use std::fmt::Debug;
 use std::process::Abort;
 
@@ -16,6 +17,7 @@ fn assert_same<T: PartialEq + Debug + Drop>(rt: &impl Abort, found: T, expected:
     assert_eq!(rt; found, expected);
 }
 
+// Rows of species (docs/TABLES.md, "Species").
 #[test]
 fn ten_species(rt: HostRuntime) {
     for (number, name, types, base) in [
@@ -44,6 +46,7 @@ fn check_species(rt: &impl Abort, number: u8, name: &str, types: [Element; 2], b
     assert_same(rt, (name, species.base()), (name, base));
 }
 
+// Rows of moves, with their effects (docs/TABLES.md, "Moves", "Effects").
 #[test]
 fn ten_moves(rt: HostRuntime) {
     for (number, name, kind, power, accuracy, pp, effect) in [
@@ -77,6 +80,7 @@ fn check_name(rt: &impl Abort, number: u8, name: &str) {
     assert_same(rt, (name, MoveId::from_name(name)), (name, Some(id)));
 }
 
+// Rows of the type chart (docs/TABLES.md, "Type rows").
 #[test]
 fn ten_type_rows(rt: HostRuntime) {
     for (place, row) in [
@@ -95,6 +99,44 @@ fn ten_type_rows(rt: HostRuntime) {
     }
 }
 
+// The first and the last physical and special type (docs/TABLES.md, "Types").
+#[test]
+fn rows_against_a_foe(rt: HostRuntime) {
+    for (kind, first, second, tenths) in [
+        (Ice, Water, Flying, (5, 20)),
+        (Ice, Flying, Water, (5, 20)),
+        (Grass, Water, Flying, (20, 5)),
+        (Ghost, Ghost, Psychic, (20, 0)),
+        (Rock, Fire, Flying, (20, 20)),
+        (Electric, Ground, Flying, (0, 20)),
+        (Fire, Fire, Fire, (5, 10)),
+        (Normal, Normal, Flying, (10, 10)),
+        (Dragon, Dragon, Flying, (20, 10)),
+    ] {
+        let found = effectiveness(kind, first, second);
+        assert_same(&rt, (kind, found), (kind, tenths));
+    }
+}
+
+#[test]
+fn effects(rt: HostRuntime) {
+    assert_same(&rt, Effect::Explode.explodes(), true);
+    assert_same(&rt, Effect::Charge.charges(), true);
+    assert_same(&rt, Effect::ChargeInvulnerable.charges(), true);
+    assert_same(&rt, Effect::Trapping.traps(), true);
+    assert_same(&rt, Effect::Thrash.thrashes(), true);
+    assert_same(&rt, Effect::Bide.bides(), true);
+    assert_same(&rt, Effect::Recharge.recharges(), true);
+    assert_same(&rt, Effect::Rage.rages(), true);
+    assert_same(&rt, Effect::Recoil.recharges(), false);
+}
+
+#[test]
+fn moves_by_number(rt: HostRuntime) {
+    check_name(&rt, COUNTER, "Counter");
+    check_name(&rt, STRUGGLE, "Struggle");
+}
+
 #[test]
 fn types(rt: HostRuntime) {
     for (kind, number, special) in [
@@ -108,6 +150,7 @@ fn types(rt: HostRuntime) {
     }
 }
 
+// What is nobody's, one letter or one number off (docs/TABLES.md, "Species", "Moves").
 #[test]
 fn refused_names_and_numbers(rt: HostRuntime) {
     for text in ["", "Poun", "Pound ", "pound", "Tauro", "Tauros ", "tauros"] {

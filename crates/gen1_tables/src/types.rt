@@ -1,5 +1,7 @@
-ghost use Rattle.std.specs.Prelude.{◌≡◌, map};
-ghost use Rattle.gen1_tables.specs.Types.{TypeRow, row_of, type_rows};
+//! What each type does to another: the rows of the type chart (docs/TABLES.md, "Type rows").
+ghost use Rattle.std.specs.Prelude.{length, map, ◌≡◌, ◌≤◌};
+ghost use Rattle.gen1_tables.specs.Places.{in_order, tenths_at};
+ghost use Rattle.gen1_tables.specs.Types.{TypeRow, row_of, rows_against, tenths_of, type_rows};
 
 use crate::element::Element::{
     self, Bug, Dragon, Electric, Fighting, Fire, Flying, Ghost, Grass, Ground, Ice, Normal, Poison,
@@ -94,10 +96,68 @@ static TYPE_ROWS: [TypeRow; 82] = [
     (Dragon, Dragon, 20),
 ];
 
+// By the type of a move and that of a foe, in the order of `Element`: the place of their row, from 0; 82 where there is none.
+static ROW_PLACES: [u8; 225] = [
+    82, 82, 82, 82, 82, 17, 82, 18, 82, 82, 82, 82, 82, 82, 82, // Normal
+    34, 82, 36, 35, 82, 39, 38, 41, 82, 82, 82, 82, 37, 40, 82, // Fighting
+    82, 55, 82, 82, 82, 58, 56, 82, 82, 82, 57, 54, 82, 82, 82, // Flying
+    82, 82, 82, 43, 44, 46, 45, 47, 82, 82, 42, 82, 82, 82, 82, // Poison
+    82, 82, 6, 53, 82, 52, 51, 82, 48, 82, 50, 49, 82, 82, 82, // Ground
+    82, 69, 71, 82, 70, 82, 72, 82, 68, 82, 82, 82, 82, 73, 82, // Rock
+    82, 63, 64, 67, 82, 82, 82, 66, 61, 82, 62, 82, 65, 82, 82, // Bug
+    74, 82, 82, 82, 82, 82, 82, 19, 82, 82, 82, 82, 75, 82, 82, // Ghost
+    82, 82, 82, 82, 82, 21, 20, 82, 8, 13, 1, 82, 82, 2, 76, // Fire
+    82, 82, 82, 82, 22, 5, 82, 82, 0, 7, 15, 82, 82, 82, 77, // Water
+    82, 82, 29, 27, 25, 28, 26, 82, 14, 3, 11, 82, 82, 82, 79, // Grass
+    82, 82, 24, 82, 23, 82, 82, 82, 82, 4, 16, 9, 82, 82, 78, // Electric
+    82, 59, 82, 60, 82, 82, 82, 82, 82, 82, 82, 82, 12, 82, 82, // Psychic
+    82, 82, 33, 82, 32, 82, 82, 82, 82, 30, 31, 82, 82, 10, 80, // Ice
+    82, 82, 82, 82, 82, 82, 82, 82, 82, 82, 82, 82, 82, 82, 81, // Dragon
+];
+
 /// The rows of the table of types, in the order in which they are applied. A pair without a row
 /// leaves the damage as it is (docs/TABLES.md, "Type rows").
 pub fn type_rows() -> &'static [TypeRow; 82]
     ensures { map row_of result.now ≡ type_rows }
 {
     &TYPE_ROWS
+}
+
+/// What the types of a foe, which may be the same, make of damage by a move of a type (docs/MECHANICS.md, "Types"): the
+/// factors of the rows that apply, in tenths and in the order in which they are applied. There are two at most, each 0, 5
+/// or 20, and 10, which leaves the damage as it is, stands for a row that is not there.
+pub fn effectiveness(kind: Element, first: Element, second: Element) -> (u8, u8)
+    ensures tenths { result ≡ tenths_of (rows_against kind first second) }
+    ensures all { length (rows_against kind first second) ≤ 2 }
+    ensures first_small { result.0 ≤ 20 }
+    ensures second_small { result.1 ≤ 20 }
+{
+    let row = 15 * usize::from(kind.number());
+    let one = ROW_PLACES[row + usize::from(first.number())];
+    let two = ROW_PLACES[row + usize::from(second.number())];
+    in_order(one, two)
+}
+
+// The factors of the rows at two places, which are the same where there is one row or none.
+fn in_order(one: u8, two: u8) -> (u8, u8)
+    ensures { result ≡ in_order one two }
+{
+    if one < two {
+        (tenths_at(one), tenths_at(two))
+    } else if two < one {
+        (tenths_at(two), tenths_at(one))
+    } else {
+        (tenths_at(one), 10)
+    }
+}
+
+// The factor of the row at a place, or 10 behind the last one.
+fn tenths_at(place: u8) -> u8
+    ensures { result ≡ tenths_at place }
+{
+    if place < 82 {
+        TYPE_ROWS[usize::from(place)].2
+    } else {
+        10
+    }
 }

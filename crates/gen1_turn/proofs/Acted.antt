@@ -5,7 +5,7 @@ use Rattle.gen1_machine.specs.State.{is_over}
 use Rattle.gen1_machine.specs.Action.{resume}
 use Rattle.gen1_status.specs.declared.gate_answer.Gate.{Gate}
 use Rattle.gen1_status.specs.declared.gate_answer.Gate.TheVariants.{Fault, Go, Stop}
-use Rattle.gen1_status.specs.Telling.{TellsDrawn, stopped_by}
+use Rattle.gen1_status.specs.GateAnswer.{TellsDrawn, stopped_by}
 use Rattle.gen1_action.specs.declared.known.Known.{Known}
 use Rattle.gen1_action.specs.Knowing.{knowing, ShowsOver}
 

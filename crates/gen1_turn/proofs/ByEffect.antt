@@ -9,17 +9,18 @@ use Rattle.gen1_machine.specs.Counter.{counter}
 use Rattle.gen1_machine.specs.EarlyEffects.{early_effect, is_early, make_substitute}
 use Rattle.gen1_machine.specs.FixedDamage.{fixed_damage, knock_out}
 use Rattle.gen1_machine.specs.LateEffects.{is_late, late_effect, start_bide}
-use Rattle.gen1_machine.specs.Moves.{bides, Move}
+use Rattle.gen1_tables.specs.Effects.{bides}
+use Rattle.gen1_machine.specs.Moves.{Move}
 use Rattle.gen1_machine.specs.Ruling.{Ruling}
-use Rattle.gen1_effects.specs.GroupOne.{is_group_one}
-use Rattle.gen1_effects.specs.Late.{is_group_two}
-use Rattle.gen1_turn.specs.declared.damaging.Way.{Way}
-use Rattle.gen1_turn.specs.declared.damaging.Way.TheVariants as ways
-use Rattle.gen1_turn.specs.Ways.{makes_substitute, way_of}
+use Rattle.gen1_effects.specs.EarlyEffects.{is_early_but_substitute}
+use Rattle.gen1_effects.specs.LateEffects.{is_late_but_bide}
+use Rattle.gen1_turn.specs.declared.action_damage.Way.{Way}
+use Rattle.gen1_turn.specs.declared.action_damage.Way.TheVariants as ways
+use Rattle.gen1_turn.specs.ByEffect.{makes_substitute, way_of}
 
 -- early effects
 
-pub one-early : (e : Effect) → is_group_one e ≡ true → is_early e ≡ true
+pub one-early : (e : Effect) → is_early_but_substitute e ≡ true → is_early e ≡ true
 one-early effects.Substitute is = absurd (false≢true is)
 one-early _ is = is
 
@@ -27,7 +28,7 @@ pub substitute-early : (e : Effect) → makes_substitute e ≡ true → is_early
 substitute-early effects.Substitute is = refl
 substitute-early _ is = absurd (false≢true is)
 
-pub not-early : (e : Effect) → is_group_one e ≡ false → makes_substitute e ≡ false → is_early e ≡ false
+pub not-early : (e : Effect) → is_early_but_substitute e ≡ false → makes_substitute e ≡ false → is_early e ≡ false
 not-early effects.Substitute one is = is
 not-early _ one is = one
 
@@ -38,7 +39,7 @@ early-substitute s move _ is = absurd (false≢true is)
 
 -- late effects
 
-pub two-late : (e : Effect) → is_group_two e ≡ true → is_late e ≡ true
+pub two-late : (e : Effect) → is_late_but_bide e ≡ true → is_late e ≡ true
 two-late (effects.StatUp stat by) is = refl
 two-late (effects.StatDown stat by) is = refl
 two-late effects.InflictSleep is = refl
@@ -48,7 +49,7 @@ pub bide-late : (e : Effect) → bides e ≡ true → is_late e ≡ true
 bide-late effects.Bide is = refl
 bide-late _ is = absurd (false≢true is)
 
-pub not-late : (e : Effect) → is_group_two e ≡ false → bides e ≡ false → is_late e ≡ false
+pub not-late : (e : Effect) → is_late_but_bide e ≡ false → bides e ≡ false → is_late e ≡ false
 not-late effects.Bide two is = is
 not-late _ two is = two
 

@@ -13,7 +13,7 @@ use Rattle.gen1_machine.specs.Conditions.{without_flinch}
 use Rattle.gen1_machine.specs.State.{changed_conditions, Terms}
 use Rattle.gen1_machine.specs.Progress.{on_action, unless}
 use Rattle.gen1_machine.specs.Picks.{pick_in, picked_after}
-use Rattle.gen1_machine.specs.Residual.{residual}
+use Rattle.gen1_machine.specs.ResidualDamage.{residual}
 use Rattle.gen1_machine.specs.Ruling.{Ruling, ruling_of}
 use Rattle.gen1_machine.specs.Action.{begin}
 use Rattle.gen1_machine.specs.TurnOrder.{toss}
@@ -31,7 +31,7 @@ use Rattle.gen1_layout.specs.Shows.{Does}
 use Rattle.gen1_action.specs.declared.known.Known.{Known}
 use Rattle.gen1_action.specs.Knowing.{begun, knowing, with_broke, ShowsOver}
 use Rattle.gen1_action.specs.Planned.{Follows}
-use Rattle.gen1_turn.specs.Turning.{suffering, Ends, LeavesRest, PartLeaves}
+use Rattle.gen1_turn.specs.TurnParts.{suffering, Ends, LeavesRest, PartLeaves}
 
 -- what a side suffers, and whether the turn is then cut
 

@@ -1,8 +1,8 @@
 -- What an action shows.
-pub mod Acting
+pub mod Action
 -- The phases of an action from a place on.
-pub mod Tails
+pub mod ActionSteps
 -- How a move comes by its damage, and which moves make a substitute.
-pub mod Ways
+pub mod ByEffect
 -- What the parts of a turn show.
-pub mod Turning
+pub mod TurnParts

@@ -1,20 +1,33 @@
 //! An action and a turn over the bytes of a battle (docs/MECHANICS.md, "Action", "Order of a turn").
+//!
+//! - `turn_update`: the update of a turn
+//! - `turn_choices`: a turn, by what both sides choose
+//! - `turn_order`: who acts first
+//! - `turn_parts`: the parts of a turn, with what its side then suffers
+//! - `by_side`: a generator for the action of each side
+//! - `action`: one side's action
+//! - `taken_move`: which move an action takes
+//! - `action_steps`: the steps of an action once its move is settled
+//! - `lead_up`: what comes before any damage
+//! - `used_move`: a move that is used, and its PP
+//! - `action_damage`: the damage that an action deals
+//! - `strike`: a move that hits or misses
+//! - `by_effect`: which parts of an action an effect has
 #![tactic(auto)]
 
-mod acting;
-mod by_effect;
+mod action;
+mod action_damage;
+mod action_steps;
 mod by_side;
-mod carrying_out;
-mod damaging;
-mod leading_up;
-mod ordering;
-mod striking;
-mod taking;
+mod lead_up;
+mod strike;
+mod taken_move;
+mod turn_choices;
+mod turn_order;
 mod turn_parts;
-mod turning;
-mod updating;
-mod using;
+mod turn_update;
+mod used_move;
 
-pub use acting::act;
+pub use action::act;
 pub use gen1_requests::{Choices, offered, replace, send_out, start};
-pub use updating::turn;
+pub use turn_update::turn;

@@ -4,25 +4,25 @@ ghost use Rattle.gen1_layout.specs.Words.{AddsAtMost, Bool, Does, Event, Frame, 
 ghost use Rattle.gen1_machine.specs.declared.side.Side.TheVariants as sides;
 ghost use Rattle.gen1_machine.specs.State.{has_fallen_in, is_over};
 ghost use Rattle.gen1_machine.specs.Plans.{InRange};
-ghost use Rattle.gen1_machine.specs.Residual.{residual};
+ghost use Rattle.gen1_machine.specs.ResidualDamage.{residual};
 ghost use Rattle.gen1_machine.specs.Ruling.{Ruling};
 ghost use Rattle.gen1_machine.specs.Turn.{Acts as ActsPart, Sends, do_part, end_spent_trapping, end_turn, is_spent};
 ghost use Rattle.gen1_action.specs.Knowing.{knowing, with_broke};
-ghost use Rattle.gen1_turn.specs.Acting.{Acts};
-ghost use Rattle.gen1_turn.specs.Turning.{ActsAndSuffers, LeavesRest, PartLeaves, suffering};
+ghost use Rattle.gen1_turn.specs.Action.{Acts};
+ghost use Rattle.gen1_turn.specs.TurnParts.{ActsAndSuffers, LeavesRest, PartLeaves, suffering};
 
 use crate::act;
 use crate::by_side::BySide;
 use gen1_action::Known;
-use gen1_layout::{Conditions, Packed};
-use gen1_machine::{EventList, Outcome, Pick, Place, Side};
+use gen1_layout::Packed;
+use gen1_machine::{EventList, Pick, Place, Side};
 use gen1_requests::send_out;
 use gen1_rolls::Rolls;
 use gen1_status::{residual, suffers};
 
 // A side's action, and what it then suffers, by code of its own for each side. The answer is whether the rest of the turn falls
 // away.
-pub(crate) fn acts_and_suffers<R: Rolls>(
+pub(crate) fn act_and_suffer<R: Rolls>(
     battle: &mut Packed,
     side: Side,
     pick: Pick,
@@ -30,18 +30,19 @@ pub(crate) fn acts_and_suffers<R: Rolls>(
     random: &mut BySide<R>,
     events: &mut EventList,
 ) -> bool
-    requires { HasRoom 24 events.old }
-    ensures shown { ActsAndSuffers R.byte R.next R.SPAN side pick battle.old events.old.items random.old known.old battle.new events.new.items random.new known.new result }
+    requires room { HasRoom 24 events.old }
+    ensures shown { ActsAndSuffers R.byte R.next R.SPAN side pick battle.old events.old.items
+        random.old known.old battle.new events.new.items random.new known.new result }
     ensures room { AddsAtMost 24 events.old events.new }
 {
     match side {
-        Side::One => act_and_suffer(battle, Side::One, pick, known, &mut random.0, events),
-        Side::Two => act_and_suffer(battle, Side::Two, pick, known, random, events),
+        Side::One => act_and_suffer_as(battle, Side::One, pick, known, &mut random.0, events),
+        Side::Two => act_and_suffer_as(battle, Side::Two, pick, known, random, events),
     }
 }
 
 // The same, by code that is compiled for one side.
-fn act_and_suffer<R: Rolls>(
+fn act_and_suffer_as<R: Rolls>(
     battle: &mut Packed,
     side: Side,
     pick: Pick,
@@ -49,8 +50,9 @@ fn act_and_suffer<R: Rolls>(
     random: &mut R,
     events: &mut EventList,
 ) -> bool
-    requires { HasRoom 24 events.old }
-    ensures shown { ActsAndSuffers R.byte R.next R.SPAN side pick battle.old events.old.items random.old known.old battle.new events.new.items random.new known.new result }
+    requires room { HasRoom 24 events.old }
+    ensures shown { ActsAndSuffers R.byte R.next R.SPAN side pick battle.old events.old.items
+        random.old known.old battle.new events.new.items random.new known.new result }
     ensures room { AddsAtMost 24 events.old events.new }
 {
     if act_unless_skipped(battle, side, pick, known, random, events) {
@@ -68,8 +70,10 @@ fn act_unless_skipped<R: Rolls>(
     random: &mut R,
     events: &mut EventList,
 ) -> bool
-    requires { HasRoom 21 events.old }
-    ensures shown { Acts R.byte R.next R.SPAN side pick battle.old events.old.items random.old known.old battle.new events.new.items random.new known.new result (λ r. do_part r (ActsPart side pick)) }
+    requires room { HasRoom 21 events.old }
+    ensures shown { Acts R.byte R.next R.SPAN side pick battle.old events.old.items random.old
+        known.old battle.new events.new.items random.new known.new result
+        (λ r. do_part r (ActsPart side pick)) }
     ensures room { AddsAtMost 21 events.old events.new }
 {
     *known = known.begun(side);
@@ -88,10 +92,12 @@ pub(crate) fn sends_and_suffers(
     known: &mut Known,
     events: &mut EventList,
 ) -> bool
-    requires { HasRoom 4 events.old }
-    ensures shown { (g : Frame) (p : Progress) (broke : Bool) (r : Ruling) → InRange side place p.field
+    requires room { HasRoom 4 events.old }
+    ensures shown { (g : Frame) (p : Progress) (broke : Bool) (r : Ruling)
+        → InRange side place p.field
         → Shows (knowing (with_broke broke known.old) g) battle.old events.old.items false p
-        → PartLeaves (Shows (knowing known.new g) battle.new events.new.items) result (do_part r (Sends side place)) side p }
+        → PartLeaves (Shows (knowing known.new g) battle.new events.new.items) result
+        (do_part r (Sends side place)) side p }
     ensures room { AddsAtMost 4 events.old events.new }
 {
     *known = known.begun(side);
@@ -102,9 +108,10 @@ pub(crate) fn sends_and_suffers(
 // What a side suffers unless the turn was cut. The answer is whether it is cut now.
 #[inline(always)] // docs/SPEED.md, "Hints on inlining"
 fn suffer(battle: &mut Packed, side: Side, events: &mut EventList) -> bool
-    requires { HasRoom 3 events.old }
+    requires room { HasRoom 3 events.old }
     ensures shown { (g : Frame) (p : Progress) → Shows g battle.old events.old.items false p
-        → LeavesRest (Shows g battle.new events.new.items) result (suffering side) (residual side) p }
+        → LeavesRest (Shows g battle.new events.new.items) result (suffering side) (residual side)
+        p }
     ensures room { AddsAtMost 3 events.old events.new }
 {
     if is_cut(battle) {
@@ -120,33 +127,24 @@ fn suffer(battle: &mut Packed, side: Side, events: &mut EventList) -> bool
 
 // Whether an active has fallen, or the battle is over.
 fn is_cut(battle: &Packed) -> bool
-    ensures stands { Reads battle.now result λ f. (has_fallen_in sides.One f || has_fallen_in sides.Two f || is_over f.outcome) }
+    ensures stands { Reads battle.now result λ f.
+        (has_fallen_in sides.One f || has_fallen_in sides.Two f || is_over f.outcome) }
 {
-    has_fallen(battle, Side::One) || has_fallen(battle, Side::Two) || is_over(battle.outcome())
-}
-
-fn has_fallen(battle: &Packed, side: Side) -> bool
-    ensures stands { Reads battle.now result (has_fallen_in side) }
-{
-    battle.hp(side) == 0
-}
-
-fn is_over(outcome: Outcome) -> bool
-    ensures { result ≡ is_over outcome }
-{
-    outcome != Outcome::Ongoing
+    battle.has_fallen(Side::One) || battle.has_fallen(Side::Two) || battle.outcome().is_over()
 }
 
 // Trapping with a count of 0 ends with a turn that nothing cut.
 pub(crate) fn end_turn(battle: &mut Packed)
-    ensures shown { (events : List Event) → Does battle.old events battle.new events false end_turn }
+    ensures shown { (events : List Event)
+        → Does battle.old events battle.new events false end_turn }
 {
     end_spent_trapping(battle, Side::One);
     end_spent_trapping(battle, Side::Two);
 }
 
 fn end_spent_trapping(battle: &mut Packed, side: Side)
-    ensures shown { (events : List Event) → Does battle.old events battle.new events false (end_spent_trapping side) }
+    ensures shown { (events : List Event)
+        → Does battle.old events battle.new events false (end_spent_trapping side) }
 {
     if is_spent(battle.trapping(side)) {
         battle.end_trapping(side);

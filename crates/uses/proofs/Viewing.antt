@@ -3,24 +3,21 @@ use Rattle.std.proofs.Common.{List, None, Ok, Option, Some, [], ap, append_assoc
 use Rattle.std.specs.Io.KnownBytes.{Appends}
 use Rattle.std.proofs.Math.Seq.{take-length}
 use Rattle.std.proofs.KnownBytes.{Appends-nil, Appends-trans}
-use Rattle.std.proofs.lemmas.Grind.{flat_map-append}
 use Rattle.std.proofs.lemmas.List.{append-nil}
 use Rattle.gen1_machine.specs.declared.event.Event.{Event}
-use Rattle.gen1_machine.specs.Code.{codes_of}
+use Rattle.gen1_machine.specs.LogBytes.{codes_of}
 use Rattle.gen1_machine.specs.Lines.{line, lines}
 use Rattle.gen1_machine.specs.View.{sees, sees_all, View}
 use Rattle.gen1_events.specs.Reader.{failed, Feeds, Finishes, Hands, part, Reading, waiting}
 use Rattle.gen1_events.specs.Splits.{fed, handed, made, Reads}
 use Rattle.gen1_events.proofs.Readings.{reads_part}
 use Rattle.uses.specs.Viewing.{HasShown, ShowsLog, ShowsMore}
+use Rattle.gen1_printer.proofs.Standing.{lines_more}
 
 sees_one_more : (events : List Event) (event : Event) (v : View) → sees_all (events ++ event ∷ []) v ≡ sees event (sees_all events v)
 unfolding sees_all
 sees_one_more [] event v = refl
 sees_one_more (e ∷ events) event v = sees_one_more events event (sees e v)
-
-lines_more : (events : List Event) (event : Event) → lines (events ++ event ∷ []) ≡ lines events ++ line event
-lines_more events event = flat_map-append line events (event ∷ []) ∙ ap (λ (l : List ℕ). lines events ++ l) (append-nil (line event))
 
 -- nothing was taken, and nothing shown
 pub shown_first : (first : View) (before : Option (List ℕ)) → HasShown [] (part []) first first before before

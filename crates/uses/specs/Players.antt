@@ -1,7 +1,7 @@
 -- What a player does next, by what a room answers (docs/MECHANICS.md, "Rooms").
 use Rattle.gen1_machine.specs.Room.{Advanced, AlreadyChosen, ChoiceNotOffered, Reply, RoomOver, Stale, TurnedAway, Waiting}
-use Rattle.uses.specs.declared.two_players.choosing.Next.{Next}
-use Rattle.uses.specs.declared.two_players.choosing.Next.TheVariants.{Choose, Leave, Look, Wait}
+use Rattle.uses.specs.declared.two_players.choice.Next.{Next}
+use Rattle.uses.specs.declared.two_players.choice.Next.TheVariants.{Choose, Leave, Look, Wait}
 
 abbrev pub next_of : Reply → Next
 next_of Waiting = Wait

@@ -6,7 +6,7 @@ use Rattle.gen1_machine.specs.Step.{run}
 use Rattle.gen1_layout.specs.Parts.{Parts}
 use Rattle.gen1_layout.specs.Within.{Stands}
 use Rattle.gen1_engine.specs.declared.result.BattleResult.{BattleResult}
-use Rattle.gen1_engine.specs.Updating.{result_of}
+use Rattle.gen1_engine.specs.Update.{result_of}
 
 -- from s, by some pairs of choices: it stands as the machine's run by them does, and that is over
 pub record PlayedOut (s : State) (battle : Parts) (result : BattleResult) : Type 0 where

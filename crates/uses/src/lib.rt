@@ -1,4 +1,9 @@
 //! What callers of the libraries write, whole and proved: each CALLING.md shows parts of these files.
+//!
+//! - `calculator`: a damage calculator
+//! - `player`: a random player
+//! - `two_players`: two players in a room
+//! - `viewer`: a replay viewer
 #![tactic(auto)]
 
 pub mod calculator;

@@ -7,7 +7,7 @@ ghost use Rattle.gen1_layout.specs.Within.{Stands};
 ghost use Rattle.uses.specs.Playing.{PlayedOut};
 
 use gen1_engine::{Battle, BattleResult, Choices, Refusal};
-use gen1_machine::{Choice, EventList, Outcome, Side};
+use gen1_machine::{Choice, EventList, Side};
 use gen1_rolls::Rolls;
 
 /// Plays a battle to its end, by choices that are drawn at random among those that are offered, and tells how it ended. The
@@ -23,7 +23,7 @@ pub fn play_at_random<R: Rolls>(
     // No battle takes more updates (docs/MECHANICS.md, "Turn limit").
     'updates: for _ in 0..u32::from(battle.limit()) + 11 {
         let now = battle.result();
-        if is_over(now.outcome) {
+        if now.outcome.is_over() {
             return Ok(now);
         }
         let one = pick(&battle.choices(Side::One), random);
@@ -31,15 +31,6 @@ pub fn play_at_random<R: Rolls>(
         battle.update_events(one, two, events)?;
     }
     Ok(battle.result())
-}
-
-fn is_over(outcome: Outcome) -> bool
-    ensures { result ≡ is_over outcome }
-{
-    match outcome {
-        Outcome::Ongoing => false,
-        _ => true,
-    }
 }
 
 fn pick<R: Rolls>(choices: &Choices, random: &mut R) -> Choice

@@ -1,9 +1,9 @@
 //! Two players of a battle who choose apart from each other, in a room.
-mod choosing;
-mod restoring;
+mod choice;
+mod restored_room;
 
-pub use choosing::{Next, Player, choose, look};
-pub use restoring::restored;
+pub use choice::{Next, Player, choose, look};
+pub use restored_room::restored;
 
 #[cfg(test)]
 mod tests {

@@ -19,8 +19,10 @@ pub(super) fn may_lower<R: Rolls>(
     random: &mut R,
     events: &mut EventList,
 )
-    requires { HasRoom 1 events.old }
-    ensures shown { DoesDrawing R.byte R.next R.SPAN battle.old events.old.items random.old battle.new events.new.items random.new false (by_chance 85 (lower_stage side (other side) stat 1 stay)) }
+    requires room { HasRoom 1 events.old }
+    ensures shown { DoesDrawing R.byte R.next R.SPAN battle.old events.old.items random.old
+        battle.new events.new.items random.new false
+        (by_chance 85 (lower_stage side (other side) stat 1 stay)) }
     ensures room { AddsAtMost 1 events.old events.new }
 {
     let foe = side.other();

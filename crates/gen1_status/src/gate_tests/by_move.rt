@@ -3,7 +3,7 @@ ghost use Rattle.std.specs.Prelude.{◌≡◌};
 ghost use Rattle.gen1_layout.specs.Words.{AddsAtMost, AddsNone, Does, DoesDrawing, HasRoom, Reads, false, is_paralysed};
 ghost use Rattle.gen1_machine.specs.Picks.{bars, is_disabled_in, is_idle, used_by};
 ghost use Rattle.gen1_machine.specs.Gate.{disabled_test, gate_of_move, paralysis_test};
-ghost use Rattle.gen1_status.specs.Telling.{DoesTelling};
+ghost use Rattle.gen1_status.specs.GateAnswer.{DoesTelling};
 
 use super::cant;
 use super::confusion::confusion_test;
@@ -20,8 +20,9 @@ pub(super) fn gate_of_move<R: Rolls>(
     random: &mut R,
     events: &mut EventList,
 ) -> Gate
-    requires { HasRoom 2 events.old }
-    ensures shown { DoesTelling R.byte R.next R.SPAN battle.old events.old.items random.old battle.new events.new.items random.new result (gate_of_move side pick) }
+    requires room { HasRoom 2 events.old }
+    ensures shown { DoesTelling R.byte R.next R.SPAN battle.old events.old.items random.old
+        battle.new events.new.items random.new result (gate_of_move side pick) }
     ensures room { AddsAtMost 2 events.old events.new }
 {
     let confused = confusion_test(battle, side, battle.confused(side), random, events);
@@ -42,8 +43,9 @@ pub(super) fn gate_of_move<R: Rolls>(
 
 // A move that is disabled is not used, and its charge is lost.
 fn disabled_test(battle: &mut Packed, side: Side, pick: Pick, events: &mut EventList) -> bool
-    requires { HasRoom 1 events.old }
-    ensures shown { Does battle.old events.old.items battle.new events.new.items result (disabled_test side pick) }
+    requires room { HasRoom 1 events.old }
+    ensures shown { Does battle.old events.old.items battle.new events.new.items result
+        (disabled_test side pick) }
     ensures room { AddsAtMost 1 events.old events.new }
     ensures quiet { result ≡ false → AddsNone events.old events.new }
 {
@@ -64,8 +66,9 @@ fn paralysis_test<R: Rolls>(
     random: &mut R,
     events: &mut EventList,
 ) -> bool
-    requires { HasRoom 1 events.old }
-    ensures shown { DoesDrawing R.byte R.next R.SPAN battle.old events.old.items random.old battle.new events.new.items random.new result (paralysis_test side) }
+    requires room { HasRoom 1 events.old }
+    ensures shown { DoesDrawing R.byte R.next R.SPAN battle.old events.old.items random.old
+        battle.new events.new.items random.new result (paralysis_test side) }
     ensures room { AddsAtMost 1 events.old events.new }
     ensures quiet { result ≡ false → AddsNone events.old events.new }
 {

@@ -10,8 +10,9 @@ use gen1_stats::Status;
 
 #[inline(always)] // docs/SPEED.md, "Hints on inlining"
 pub(super) fn gate_of_status(battle: &mut Packed, side: Side, events: &mut EventList) -> bool
-    requires { HasRoom 1 events.old }
-    ensures shown { Does battle.old events.old.items battle.new events.new.items result (gate_of_status side) }
+    requires room { HasRoom 1 events.old }
+    ensures shown { Does battle.old events.old.items battle.new events.new.items result
+        (gate_of_status side) }
     ensures room { AddsAtMost 1 events.old events.new }
     ensures quiet { result ≡ false → AddsNone events.old events.new }
 {
@@ -25,8 +26,9 @@ pub(super) fn gate_of_status(battle: &mut Packed, side: Side, events: &mut Event
 }
 
 fn sleep_test(battle: &mut Packed, side: Side, status: Status, events: &mut EventList) -> bool
-    requires { HasRoom 1 events.old }
-    ensures shown { DoesSeeing (status_of side) status battle.old events.old.items battle.new events.new.items result (sleep_test side status) }
+    requires room { HasRoom 1 events.old }
+    ensures shown { DoesSeeing (status_of side) status battle.old events.old.items battle.new
+        events.new.items result (sleep_test side status) }
     ensures room { AddsAtMost 1 events.old events.new }
     ensures quiet { result ≡ false → AddsNone events.old events.new }
 {
@@ -45,8 +47,10 @@ fn sleep_test(battle: &mut Packed, side: Side, status: Status, events: &mut Even
 
 // A turn of sleep is over, and who wakes up does nothing either.
 fn sleep_turn(battle: &mut Packed, side: Side, turns: u8, marked: bool, events: &mut EventList)
-    requires { HasRoom 1 events.old }
-    ensures shown { DoesSeeing (status_of side) (Status.Asleep turns marked) battle.old events.old.items battle.new events.new.items true (sleep_test side (Status.Asleep turns marked)) }
+    requires room { HasRoom 1 events.old }
+    ensures shown { DoesSeeing (status_of side) (Status.Asleep turns marked) battle.old
+        events.old.items battle.new events.new.items true
+        (sleep_test side (Status.Asleep turns marked)) }
     ensures room { AddsAtMost 1 events.old events.new }
 {
     if turns <= 1 {
@@ -60,8 +64,9 @@ fn sleep_turn(battle: &mut Packed, side: Side, turns: u8, marked: bool, events: 
 }
 
 fn frozen_test(battle: &Packed, side: Side, events: &mut EventList) -> bool
-    requires { HasRoom 1 events.old }
-    ensures shown { Does battle.now events.old.items battle.now events.new.items result (frozen_test side) }
+    requires room { HasRoom 1 events.old }
+    ensures shown { Does battle.now events.old.items battle.now events.new.items result
+        (frozen_test side) }
     ensures room { AddsAtMost 1 events.old events.new }
     ensures quiet { result ≡ false → AddsNone events.old events.new }
 {
@@ -73,8 +78,9 @@ fn frozen_test(battle: &Packed, side: Side, events: &mut EventList) -> bool
 }
 
 fn trapped_test(battle: &Packed, side: Side, events: &mut EventList) -> bool
-    requires { HasRoom 1 events.old }
-    ensures shown { Does battle.now events.old.items battle.now events.new.items result (trapped_test side) }
+    requires room { HasRoom 1 events.old }
+    ensures shown { Does battle.now events.old.items battle.now events.new.items result
+        (trapped_test side) }
     ensures room { AddsAtMost 1 events.old events.new }
     ensures quiet { result ≡ false → AddsNone events.old events.new }
 {

@@ -9,8 +9,9 @@ use gen1_machine::{CantReason, DisabledSlot, Event, EventList, Side, Volatile};
 
 #[inline(always)] // docs/SPEED.md, "Hints on inlining"
 pub(super) fn gate_of_turn(battle: &mut Packed, side: Side, events: &mut EventList) -> bool
-    requires { HasRoom 1 events.old }
-    ensures shown { Does battle.old events.old.items battle.new events.new.items result (gate_of_turn side) }
+    requires room { HasRoom 1 events.old }
+    ensures shown { Does battle.old events.old.items battle.new events.new.items result
+        (gate_of_turn side) }
     ensures room { AddsAtMost 1 events.old events.new }
 {
     if flinch_test(battle, side, events) {
@@ -24,8 +25,9 @@ pub(super) fn gate_of_turn(battle: &mut Packed, side: Side, events: &mut EventLi
 }
 
 fn flinch_test(battle: &mut Packed, side: Side, events: &mut EventList) -> bool
-    requires { HasRoom 1 events.old }
-    ensures shown { Does battle.old events.old.items battle.new events.new.items result (flinch_test side) }
+    requires room { HasRoom 1 events.old }
+    ensures shown { Does battle.old events.old.items battle.new events.new.items result
+        (flinch_test side) }
     ensures room { AddsAtMost 1 events.old events.new }
     ensures quiet { result ≡ false → AddsNone events.old events.new }
 {
@@ -38,8 +40,9 @@ fn flinch_test(battle: &mut Packed, side: Side, events: &mut EventList) -> bool
 }
 
 fn recharge_test(battle: &mut Packed, side: Side, events: &mut EventList) -> bool
-    requires { HasRoom 1 events.old }
-    ensures shown { Does battle.old events.old.items battle.new events.new.items result (recharge_test side) }
+    requires room { HasRoom 1 events.old }
+    ensures shown { Does battle.old events.old.items battle.new events.new.items result
+        (recharge_test side) }
     ensures room { AddsAtMost 1 events.old events.new }
     ensures quiet { result ≡ false → AddsNone events.old events.new }
 {
@@ -58,8 +61,9 @@ fn disable_count(
     disabled: Option<DisabledSlot>,
     events: &mut EventList,
 )
-    requires { HasRoom 1 events.old }
-    ensures shown { DoesSeeing (λ p. (conditions side p).disabled) disabled battle.old events.old.items battle.new events.new.items false (disable_count side disabled) }
+    requires room { HasRoom 1 events.old }
+    ensures shown { DoesSeeing (λ p. (conditions side p).disabled) disabled battle.old
+        events.old.items battle.new events.new.items false (disable_count side disabled) }
     ensures room { AddsAtMost 1 events.old events.new }
 {
     let Some(DisabledSlot { slot, turns }) = disabled else {

@@ -5,7 +5,7 @@ ghost use Rattle.gen1_machine.specs.declared.event.Volatile.TheVariants as volat
 ghost use Rattle.gen1_machine.specs.Conditions.{with_confusion_one_less, without_confusion};
 ghost use Rattle.gen1_machine.specs.Progress.{ends, lasts};
 ghost use Rattle.gen1_machine.specs.Gate.{confusion_test, may_hurt_itself};
-ghost use Rattle.gen1_status.specs.Telling.{TellsDrawn};
+ghost use Rattle.gen1_status.specs.GateAnswer.{TellsDrawn};
 
 use crate::Gate;
 use crate::hit_on_itself::hurt_itself;
@@ -20,10 +20,12 @@ pub(super) fn confusion_test<R: Rolls>(
     random: &mut R,
     events: &mut EventList,
 ) -> Gate
-    requires { HasRoom 2 events.old }
-    ensures shown { (origin : R) (g : Frame) (p : Progress) → (conditions side p).confused ≡ confused
+    requires room { HasRoom 2 events.old }
+    ensures shown { (origin : R) (g : Frame) (p : Progress)
+        → (conditions side p).confused ≡ confused
         → ShowsDrawn R.byte R.next R.SPAN origin g battle.old events.old.items random.old false p
-        → TellsDrawn R.byte R.next R.SPAN origin g battle.new events.new.items random.new result p (confusion_test side confused p) }
+        → TellsDrawn R.byte R.next R.SPAN origin g battle.new events.new.items random.new result p
+        (confusion_test side confused p) }
     ensures room { AddsAtMost 2 events.old events.new }
     ensures quiet { result ≡ Gate.Go → AddsAtMost 1 events.old events.new }
 {
@@ -38,8 +40,9 @@ pub(super) fn confusion_test<R: Rolls>(
 }
 
 fn confusion_ends(battle: &mut Packed, side: Side, events: &mut EventList)
-    requires { HasRoom 1 events.old }
-    ensures shown { Does battle.old events.old.items battle.new events.new.items false (ends side volatiles.Confusion without_confusion) }
+    requires room { HasRoom 1 events.old }
+    ensures shown { Does battle.old events.old.items battle.new events.new.items false
+        (ends side volatiles.Confusion without_confusion) }
     ensures room { AddsAtMost 1 events.old events.new }
 {
     battle.put_confused(side, None);
@@ -56,8 +59,9 @@ fn confusion_lasts<R: Rolls>(
     random: &mut R,
     events: &mut EventList,
 ) -> Gate
-    requires { HasRoom 2 events.old }
-    ensures shown { (origin : R) (g : Frame) (p : Progress) → (conditions side p).confused ≡ Some turns
+    requires room { HasRoom 2 events.old }
+    ensures shown { (origin : R) (g : Frame) (p : Progress)
+        → (conditions side p).confused ≡ Some turns
         → ShowsDrawn R.byte R.next R.SPAN origin g battle.old events.old.items random.old false p
         → TellsDrawn R.byte R.next R.SPAN origin g battle.new events.new.items random.new result p
         ((lasts side volatiles.Confusion with_confusion_one_less ▸ draw (may_hurt_itself side)) p) }

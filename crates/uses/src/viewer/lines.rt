@@ -1,3 +1,4 @@
+//! An event that is shown: as a line, and to a view.
 // calling: gen1_printer
 ghost use Rattle.std.specs.Prelude.{OnOk, ◌≡◌};
 ghost use Rattle.std.specs.Io.KnownBytes.{Appends};
@@ -15,7 +16,8 @@ use gen1_spectator::View;
 /// A write that failed.
 pub fn show_event<W: Sink>(event: &Event, view: &mut View, out: &mut W) -> Result<(), PrintFault>
     ensures told { OnOk result (view.new ≡ sees event.now view.old) }
-    ensures printed { OnOk result (Appends (W.contents out.old) (W.contents out.new) (line event.now)) }
+    ensures printed { OnOk result
+        (Appends (W.contents out.old) (W.contents out.new) (line event.now)) }
 {
     print_line(event, out)?;
     view.apply(event);

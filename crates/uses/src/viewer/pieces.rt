@@ -1,3 +1,4 @@
+//! A log that comes in pieces, whose events are shown as soon as they are whole.
 // calling: gen1_events
 ghost use Rattle.std.specs.Prelude.{OnOk};
 ghost use Rattle.uses.specs.Viewing.{ShowsMore};
@@ -19,7 +20,9 @@ pub fn show_piece<W: Sink>(
     view: &mut View,
     out: &mut W,
 ) -> Result<(), PrintFault>
-    ensures { OnOk result (ShowsMore bytes.now reader.old view.old (W.contents out.old) reader.new view.new (W.contents out.new)) }
+    ensures { OnOk result
+        (ShowsMore bytes.now reader.old view.old (W.contents out.old) reader.new view.new
+        (W.contents out.new)) }
 {
     let mut rest = bytes;
     'events: loop {

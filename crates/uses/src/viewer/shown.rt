@@ -1,3 +1,4 @@
+//! A whole log that is shown, and what a view then knows.
 // calling: gen1_spectator
 ghost use Rattle.std.specs.Prelude.{IfOk, ◌≡◌};
 ghost use Rattle.std.specs.List.{flat_map};
@@ -24,7 +25,9 @@ pub fn show_log<W: Sink>(
     pieces: &[&[u8]],
     out: &mut W,
 ) -> Result<View, PrintFault>
-    ensures { IfOk result (λ view. ShowsLog (flat_map (λ p. p.now) pieces.now) (first_view one.now two.now) view (W.contents out.old) (W.contents out.new)) }
+    ensures { IfOk result
+        (λ view. ShowsLog (flat_map (λ p. p.now) pieces.now) (first_view one.now two.now) view
+        (W.contents out.old) (W.contents out.new)) }
 {
     let mut view = View::new(one, two);
     let mut reader = LogReader::new();

@@ -1,4 +1,4 @@
-use Rattle.gen1_layout.proofs.Words.{Who, ap, arith, if_not, if_so, noted, stays, who_in}
+use Rattle.gen1_layout.proofs.Words.{Who, ap, arith, if_not, if_so, noted, refl, stays, who_in}
 use Rattle.gen1_machine.specs.declared.event.Event.TheVariants as events
 use Rattle.gen1_machine.specs.ManyHits.{note_effectiveness}
 use Rattle.gen1_machine.specs.Moves.{move_at}
@@ -12,10 +12,10 @@ pub returns-then-halving-doubling-clause-shown : goal.returns-then-halving-doubl
 unfolding given note_effectiveness
 returns-then-halving-doubling-clause-shown c g p h =
     let s = c.args.side in
-    let first = rw c.other-foe.ensures at (c.first_type-first.ensures.stands _ p.field h.within) in
-    let second = rw c.other-foe.ensures at (c.second_type-second.ensures.stands _ p.field h.within) in
-    let twice = counted 20 s (move_at c.args.id) p c.kind.ensures first second c.rows_of_20-doubling.ensures in
-    let half = counted 5 s (move_at c.args.id) p c.kind-2.ensures first second c.rows_of_5-halving.ensures in
+    let first = rw c.other-foe.ensures at (c.first_type.ensures.stands _ p.field h.within) in
+    let second = rw c.other-foe.ensures at (c.second_type.ensures.stands _ p.field h.within) in
+    let twice = counted 20 s (move_at c.args.id) p c.kind.ensures first second c.effectiveness-factors.ensures.tenths c.effectiveness-factors.ensures.all refl c.how_many-doubling.ensures in
+    let half = counted 5 s (move_at c.args.id) p c.kind.ensures first second c.effectiveness-factors.ensures.tenths c.effectiveness-factors.ensures.all refl c.how_many-halving.ensures in
     if_so _ _ _ (below _ _ (omega (arith, half, twice, c.if-halving-doubling.true)))
     (noted h (λ f. events.SuperEffective (who_in (other s) f)) c.push.ensures.items (ap (λ (w : Who). events.SuperEffective w) (rw c.other-foe.ensures at (c.who.ensures.stands _ _ h.within))))
 
@@ -23,10 +23,10 @@ pub returns-then-doubling-halving-clause-shown : goal.returns-then-doubling-halv
 unfolding given note_effectiveness
 returns-then-doubling-halving-clause-shown c g p h =
     let s = c.args.side in
-    let first = rw c.other-foe.ensures at (c.first_type-first.ensures.stands _ p.field h.within) in
-    let second = rw c.other-foe.ensures at (c.second_type-second.ensures.stands _ p.field h.within) in
-    let twice = counted 20 s (move_at c.args.id) p c.kind.ensures first second c.rows_of_20-doubling.ensures in
-    let half = counted 5 s (move_at c.args.id) p c.kind-2.ensures first second c.rows_of_5-halving.ensures in
+    let first = rw c.other-foe.ensures at (c.first_type.ensures.stands _ p.field h.within) in
+    let second = rw c.other-foe.ensures at (c.second_type.ensures.stands _ p.field h.within) in
+    let twice = counted 20 s (move_at c.args.id) p c.kind.ensures first second c.effectiveness-factors.ensures.tenths c.effectiveness-factors.ensures.all refl c.how_many-doubling.ensures in
+    let half = counted 5 s (move_at c.args.id) p c.kind.ensures first second c.effectiveness-factors.ensures.tenths c.effectiveness-factors.ensures.all refl c.how_many-halving.ensures in
     if_not _ _ _ (not_below _ _ (omega (arith, half, twice, c.if-halving-doubling.false)))
     (if_so _ _ _ (below _ _ (omega (arith, half, twice, c.if-doubling-halving.true)))
     (noted h (λ f. events.Resisted (who_in (other s) f)) c.push-then-doubling-halving.ensures.items (ap (λ (w : Who). events.Resisted w) (rw c.other-foe.ensures at (c.who-then-doubling-halving.ensures.stands _ _ h.within)))))
@@ -35,9 +35,9 @@ pub returns-else-doubling-halving-clause-shown : goal.returns-else-doubling-halv
 unfolding given note_effectiveness
 returns-else-doubling-halving-clause-shown c g p h =
     let s = c.args.side in
-    let first = rw c.other-foe.ensures at (c.first_type-first.ensures.stands _ p.field h.within) in
-    let second = rw c.other-foe.ensures at (c.second_type-second.ensures.stands _ p.field h.within) in
-    let twice = counted 20 s (move_at c.args.id) p c.kind.ensures first second c.rows_of_20-doubling.ensures in
-    let half = counted 5 s (move_at c.args.id) p c.kind-2.ensures first second c.rows_of_5-halving.ensures in
+    let first = rw c.other-foe.ensures at (c.first_type.ensures.stands _ p.field h.within) in
+    let second = rw c.other-foe.ensures at (c.second_type.ensures.stands _ p.field h.within) in
+    let twice = counted 20 s (move_at c.args.id) p c.kind.ensures first second c.effectiveness-factors.ensures.tenths c.effectiveness-factors.ensures.all refl c.how_many-doubling.ensures in
+    let half = counted 5 s (move_at c.args.id) p c.kind.ensures first second c.effectiveness-factors.ensures.tenths c.effectiveness-factors.ensures.all refl c.how_many-halving.ensures in
     if_not _ _ _ (not_below _ _ (omega (arith, half, twice, c.if-halving-doubling.false)))
     (if_not _ _ _ (not_below _ _ (omega (arith, half, twice, c.if-doubling-halving.false))) (stays h))

@@ -1,7 +1,7 @@
 use Rattle.gen1_layout.proofs.Words.{Action, Some, ap, drawn_acted, sym, ◌∙◌}
 use Rattle.gen1_machine.specs.HitEffects.{set_planned}
 use Rattle.gen1_machine.specs.Moves.{move_at}
-use Rattle.gen1_multiturn.specs.Hitting.{is_multi_hit}
+use Rattle.gen1_multiturn.specs.ManyHits.{is_multi_hit}
 use Rattle.gen1_multiturn.proofs.ManyHits.{planned-many, planned-two}
 use Rattle.gen1_multiturn.proofs.hit_counts.plan_more.Goals as goal
 

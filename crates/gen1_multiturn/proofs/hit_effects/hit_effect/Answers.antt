@@ -2,7 +2,7 @@ use Rattle.std.proofs.Common.{◌≡◌}
 use Rattle.gen1_layout.proofs.Words.{ap, stays, sym, ◌∙◌}
 use Rattle.gen1_machine.specs.Moves.{move_at}
 use Rattle.gen1_multiturn.specs.declared.hit_effects.Consequence.TheVariants as consequences
-use Rattle.gen1_multiturn.specs.Hitting.{consequence_of}
+use Rattle.gen1_multiturn.specs.ManyHits.{consequence_of}
 use Rattle.gen1_multiturn.proofs.ManyHits.{hit_effect-by}
 use Rattle.gen1_multiturn.proofs.hit_effects.hit_effect.Goals as goal
 

@@ -1,6 +1,6 @@
 use Rattle.gen1_layout.proofs.Words.{Bool, Side, [], ap, false, is_some, refl, sym, true, underway_in, ◌∙◌}
 use Rattle.std.proofs.Common.{not, ◌∷◌, ◌≡◌}
-use Rattle.gen1_status.specs.Gating.{keeps_from_acting}
+use Rattle.gen1_status.specs.Gate.{keeps_from_acting}
 use Rattle.gen1_status.proofs.Untested.{free-is}
 use Rattle.gen1_status.proofs.gate_tests.acts_at_once.Goals as goal
 

@@ -1,4 +1,4 @@
-use Rattle.gen1_machine.specs.Residual.{suffer}
+use Rattle.gen1_machine.specs.ResidualDamage.{suffer}
 use Rattle.gen1_layout.proofs.Chain.{goes, seeing}
 use Rattle.gen1_status.proofs.residual_damage.suffer.Goals as goal
 

@@ -1,4 +1,4 @@
-use Rattle.gen1_machine.specs.Residual.{drained_by, suffer_seed}
+use Rattle.gen1_machine.specs.ResidualDamage.{drained_by, suffer_seed}
 use Rattle.gen1_layout.proofs.Chain.{goes, seeing}
 use Rattle.gen1_status.proofs.residual_damage.suffer_seed.Goals as goal
 

@@ -1,4 +1,4 @@
-use Rattle.gen1_machine.specs.Residual.{suffer_status}
+use Rattle.gen1_machine.specs.ResidualDamage.{suffer_status}
 use Rattle.gen1_layout.proofs.Chain.{stays}
 use Rattle.gen1_status.proofs.residual_damage.suffer_status.Goals as goal
 

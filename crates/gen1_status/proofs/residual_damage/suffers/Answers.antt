@@ -1,5 +1,5 @@
 use Rattle.std.proofs.Common.{ap, refl, sym, ◌∙◌}
-use Rattle.gen1_status.specs.Hurting.{takes_hp}
+use Rattle.gen1_status.specs.ResidualDamage.{takes_hp}
 use Rattle.gen1_status.proofs.residual_damage.suffers.Goals as goal
 
 pub returns-then-takes_hp : goal.returns-then-takes_hp

@@ -2,7 +2,7 @@ use Rattle.gen1_layout.proofs.Words.{arith, refl, stay, still}
 use Rattle.gen1_machine.specs.Sides.{other}
 use Rattle.gen1_machine.specs.StageShift.{lower_stage}
 use Rattle.gen1_effects.proofs.Chances.{comes, passes}
-use Rattle.gen1_effects.proofs.SideEffects.{shifted}
+use Rattle.gen1_status.proofs.Shifting.{shifted}
 use Rattle.gen1_effects.proofs.side_effects.stat_drops.may_lower.Goals as goal
 
 pub returns-then-not-is_drawn_below-clause-shown : goal.returns-then-not-is_drawn_below-clause-shown

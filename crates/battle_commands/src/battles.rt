@@ -1,0 +1,92 @@
+//! Battles that are played pair by pair, and the lines of each (docs/PROGRAM.md, "run", "Output").
+ghost use Rattle.std.specs.Prelude.{◌≡◌, ◌||◌, IfOk, IfSome, false};
+ghost use Rattle.gen1_machine.specs.Lines.{lines};
+ghost use Rattle.gen1_machine.specs.State.{State};
+ghost use Rattle.gen1_layout.specs.Within.{Stands};
+ghost use Rattle.battle_commands.specs.Answers.{Answers, is_read_fault, is_write_fault};
+ghost use Rattle.battle_commands.specs.Due.{due_from, run_due};
+
+use crate::asked_battle::open_bout;
+use crate::fault::ToolFault;
+use crate::input::read_input;
+use gen1_engine::Battle;
+use gen1_machine::{Device, Event, EventList, Sink, Source, send};
+use gen1_printer::print_line;
+use std::alloc::{AllocError, Allocator, Global};
+
+/// Reads what `run` is asked for, and writes the lines of each pair (docs/PROGRAM.md, "run", "Output").
+///
+/// The input is read whole, then its sheet, then side 1's team, then side 2's, and then the pairs
+/// are played, up to the first that is refused. Where a fault is answered the lines before it are
+/// written, and those of a pair are sent together.
+pub fn play<A: AllocGlobal, R: Source, W: Sink>(
+    rt: &A,
+    reader: &mut R,
+    writer: &mut W,
+) -> Result<(), ToolFault>
+    // Where the source tells its bytes, what is due for them is written and answered.
+    ensures answers { IfSome (R.remaining reader.old)
+        (λ input. Answers (run_due input) (W.contents writer.old) (W.contents writer.new) result) }
+
+    // A fault of a device is answered exactly where that device has failed in this call.
+    ensures read { R.has_failed reader.new ≡ (R.has_failed reader.old || is_read_fault result) }
+    ensures write { W.has_failed writer.new ≡ (W.has_failed writer.old || is_write_fault result) }
+{
+    let input = match read_input(rt.alloc(), reader) {
+        Ok(input) => input,
+        Err(fault) => return Err(fault),
+    };
+    let mut bout = match open_bout::<(u8, u8)>(rt.alloc(), input.as_slice(), "choices") {
+        Ok(bout) => bout,
+        Err(fault) => return Err(fault),
+    };
+    play_pairs(rt.alloc(), &mut bout.battle, bout.items.as_slice(), writer)
+}
+
+/// Plays pairs, and sends the lines of each.
+fn play_pairs<W: Sink>(
+    alloc: Global,
+    battle: &mut Battle,
+    pairs: &[(u8, u8)],
+    sink: &mut W,
+) -> Result<(), ToolFault>
+    ensures answers { (s : State) → Stands battle.old s
+        → Answers (due_from 0 s pairs.now) (W.contents sink.old) (W.contents sink.new) result }
+    ensures write { W.has_failed sink.new ≡ (W.has_failed sink.old || is_write_fault result) }
+    ensures read { is_read_fault result ≡ false }
+{
+    let mut events = EventList::new();
+    for (number, pair) in pairs.iter().enumerate() {
+        match battle.update_events_by_bytes(pair.0, pair.1, &mut events) {
+            Ok(_) => {}
+            Err(refusal) => {
+                let refusal = refusal.number();
+                return Err(ToolFault::Pair { number, refusal });
+            }
+        }
+        let text = match text_of(alloc, events.as_slice()) {
+            Ok(text) => text,
+            Err(_) => return Err(ToolFault::Memory),
+        };
+        match send(sink, text.as_slice()) {
+            Ok(()) => {}
+            Err(_) => return Err(ToolFault::Write),
+        }
+    }
+    Ok(())
+}
+
+/// The lines of events.
+pub fn text_of<A: Allocator>(alloc: A, events: &[Event]) -> Result<Vec<u8, A>, AllocError>
+    ensures { IfOk result (λ text. text.items ≡ lines events.now) }
+{
+    let mut text = Device::new(Vec::new(alloc));
+    for event in events {
+        match print_line(event, &mut text) {
+            Ok(()) => {}
+            // A vector refuses a write for want of memory alone.
+            Err(_) => return Err(AllocError),
+        }
+    }
+    Ok(text.into_inner())
+}

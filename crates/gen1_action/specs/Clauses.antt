@@ -1,0 +1,10 @@
+-- What the clauses of the rules count of living members (docs/MECHANICS.md, "Rules (sleep clause, freeze clause)").
+use Rattle.std.specs.Prelude.{Bool}
+use Rattle.gen1_stats.specs.declared.status.Status.{Status}
+use Rattle.gen1_stats.specs.Members.{is_frozen, is_marked}
+use Rattle.gen1_action.specs.declared.clauses.Clause.{Clause}
+use Rattle.gen1_action.specs.declared.clauses.Clause.TheVariants.{Freeze, Sleep}
+
+abbrev pub counts : Clause → Status → Bool
+counts Sleep status = is_marked status
+counts Freeze status = is_frozen status

@@ -1,0 +1,100 @@
+//! The hit test of an action, and how a miss is told (docs/MECHANICS.md, "Hit test", "Action").
+ghost use Rattle.gen1_layout.specs.Words.{Adds, AddsAtMost, AddsNone, Does, Event, HasRoom, List, Reads, active_in, false, move_at, true};
+ghost use Rattle.std.specs.Prelude.{if◌then◌else◌, ◌≡◌};
+ghost use Rattle.gen1_machine.specs.Moves.{accuracy_byte};
+ghost use Rattle.gen1_machine.specs.HitTest.{hit_or_miss, miss_event, must_hit, note_miss};
+ghost use Rattle.gen1_action.specs.Knowing.{DoesKnowingDrawing, IsUncounted};
+
+use crate::Known;
+use crate::immunity::is_immune;
+use gen1_hits::hit_test;
+use gen1_layout::Packed;
+use gen1_machine::{Event, EventList, Side};
+use gen1_rolls::Rolls;
+use gen1_tables::MoveId;
+
+/// The hit test of a move of `side`, at its accuracy byte, or at the kept accuracy where the action goes on
+/// (docs/MECHANICS.md, "Hit test"). At most one draw is taken. What is known then is the byte that was tested, and whether
+/// the action has missed: what missed before still has. A miss sets the last damage to 0 and ends the user's Trapping; nothing
+/// else of the battle changes.
+pub fn hit_or_miss<R: Rolls>(
+    battle: &mut Packed,
+    side: Side,
+    id: MoveId,
+    known: &mut Known,
+    random: &mut R,
+)
+    ensures shown { (events : List Event)
+        → DoesKnowingDrawing R.byte R.next R.SPAN battle.old events random.old known.old battle.new
+        events random.new known.new false (hit_or_miss side (move_at id)) }
+    ensures counts { IsUncounted known.old → IsUncounted known.new }
+{
+    let base = base_of(battle, side, id, known.going_on);
+    let test = hit_test(battle, side, id, base, random);
+    known.missed = missed_after(test.hit, known.missed);
+    known.accuracy_tested = Some(test.kept);
+}
+
+/// The same, as a test whose miss ends the action: a miss is told, and `true` answered (docs/MECHANICS.md, "Early effects",
+/// "Late effects"). One event is written at most, and none where it hits; a place in `events` is to be free for it.
+pub fn must_hit<R: Rolls>(
+    battle: &mut Packed,
+    side: Side,
+    id: MoveId,
+    known: &mut Known,
+    random: &mut R,
+    events: &mut EventList,
+) -> bool
+    requires room { HasRoom 1 events.old }
+    ensures shown { DoesKnowingDrawing R.byte R.next R.SPAN battle.old events.old.items random.old
+        known.old battle.new events.new.items random.new known.new result
+        (must_hit side (move_at id)) }
+    ensures counts { IsUncounted known.old → IsUncounted known.new }
+    ensures room { AddsAtMost 1 events.old events.new }
+    ensures quiet { result ≡ false → AddsNone events.old events.new }
+{
+    hit_or_miss(battle, side, id, known, random);
+    if !known.missed {
+        return false;
+    }
+    note_miss(battle, side, id, events);
+    true
+}
+
+/// Tells of a miss of `side`: `Immune` of the foe, where a type row of 0 has the move's type and a type of the foe, else
+/// `Miss` of the user (docs/MECHANICS.md, "Action", step 9). A place in `events` is to be free for it. Nothing else changes.
+pub fn note_miss(battle: &Packed, side: Side, id: MoveId, events: &mut EventList)
+    requires room { HasRoom 1 events.old }
+    ensures shown { Does battle.now events.old.items battle.now events.new.items false
+        (note_miss side (move_at id)) }
+    ensures room { Adds 1 events.old events.new }
+{
+    events.push(miss_event(battle, side, id));
+}
+
+fn miss_event(battle: &Packed, side: Side, id: MoveId) -> Event
+    ensures stands { Reads battle.now result (miss_event side (move_at id)) }
+{
+    let foe = side.other();
+    if is_immune(battle, foe, id.kind()) {
+        return Event::Immune(battle.who(foe));
+    }
+    Event::Miss(battle.who(side))
+}
+
+// What the test is made at (docs/MECHANICS.md, "Hit test", "Kept accuracy").
+fn base_of(battle: &Packed, side: Side, id: MoveId, going_on: bool) -> u8
+    ensures stands { Reads battle.now result λ f.
+        (if going_on then (active_in side f).kept_accuracy else accuracy_byte (move_at id)) }
+{
+    if going_on {
+        return battle.kept_accuracy(side);
+    }
+    id.accuracy_byte()
+}
+
+fn missed_after(hit: bool, missed: bool) -> bool
+    ensures { result ≡ (if hit then missed else true) }
+{
+    !hit || missed
+}

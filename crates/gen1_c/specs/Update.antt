@@ -1,0 +1,50 @@
+-- What is offered, what an update answers and leaves, and how a battle stands (include/gen1.h, "playing").
+use Rattle.std.specs.Prelude.{Bool, List, [], length, map, nat_lt, ℕ, ◌&&◌, ◌*◌, ◌+◌, ◌≡◌, ◌≢◌, ◌∷◌}
+use Rattle.gen1_machine.specs.declared.choice.Choice.{Choice}
+use Rattle.gen1_machine.specs.declared.event.Event.{Event}
+use Rattle.gen1_machine.specs.declared.side.Side.{Side}
+use Rattle.gen1_machine.specs.Choices.{byte_of_choice}
+use Rattle.gen1_machine.specs.Layout.{outcome_byte, request_byte}
+use Rattle.gen1_machine.specs.Numbers.{side_number}
+use Rattle.gen1_machine.specs.State.{Field, State}
+use Rattle.gen1_machine.specs.Step.{Accepted, Answer, Refused}
+use Rattle.gen1_events.specs.Splits.{IsReading}
+use Rattle.gen1_layout.specs.Parts.{Parts}
+use Rattle.gen1_layout.specs.Within.{Stands}
+use Rattle.gen1_engine.specs.Replay.{step_by_bytes}
+use Rattle.gen1_engine.specs.Update.{refusal_number, refusal_of}
+use Rattle.gen1_c.specs.Fronts.{over_front}
+
+abbrev pub IsNoSide : ℕ → Type 0
+IsNoSide number = (side : Side) → number ≢ side_number side
+
+-- the bytes of these choices stand at the front, and their number is told
+abbrev pub Offers : List Choice → List ℕ → List ℕ → ℕ → Type 0
+Offers choices old new count = (count ≡ length choices) × (new ≡ over_front (map byte_of_choice choices) old)
+
+-- room for a log, but not for every log
+abbrev pub has_small_log : List ℕ → Bool
+has_small_log log = nat_lt 0 (length log) && nat_lt (length log) 512
+
+-- the log of events stands at the front of the room, where there is any, and its length is told
+abbrev pub Logs : List Event → List ℕ → List ℕ → ℕ → Type 0
+Logs events [] new count = (new ≡ []) × (count ≡ 0)
+Logs events (first ∷ rest) new count = (log : List ℕ) × IsReading log events × (new ≡ over_front log (first ∷ rest)) × (count ≡ length log)
+
+-- what a caller of an update holds: the battle, the room for the log, and the log's length
+pub record Held : Type 0 where
+  pub battle : Parts
+  pub log : List ℕ
+  pub count : ℕ
+
+-- a refused pair is told by its number, and nothing changes; after an accepted one the bytes stand for the next state
+abbrev pub UpdatesAs : Answer → State → Held → Held → ℕ → Type 0
+UpdatesAs (Refused why) next old new code = (code ≡ refusal_number (refusal_of why)) × (new ≡ old)
+UpdatesAs (Accepted events) next old new code = (code ≡ 0) × Stands new.battle next × Logs events old.log new.log new.count
+
+abbrev pub Updates : State → ℕ × ℕ → Held → Held → ℕ → Type 0
+Updates s bytes = UpdatesAs (step_by_bytes s bytes).answer (step_by_bytes s bytes).state
+
+-- the outcome, and what is asked of each side, as one number
+abbrev pub result_byte : Field → ℕ
+result_byte f = outcome_byte f.outcome + 8 * request_byte f.request_one + 32 * request_byte f.request_two

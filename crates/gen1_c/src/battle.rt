@@ -1,0 +1,72 @@
+//! Battles of two teams, and of bytes (include/gen1.h, "beginning").
+ghost use Rattle.std.specs.Prelude.{◌↔◌, ◌≡◌, ◌≢◌};
+ghost use Rattle.gen1_stats.specs.Teams.{team_of};
+ghost use Rattle.gen1_machine.specs.Rules.{rules_of};
+ghost use Rattle.gen1_machine.specs.State.{first_state};
+ghost use Rattle.gen1_layout.specs.LoadingMeaning.{IsBattle, StandsForSome};
+ghost use Rattle.gen1_layout.specs.Within.{Stands};
+ghost use Rattle.gen1_c.specs.Battle.{Loads, new_fault};
+ghost use Rattle.gen1_c.specs.Teams.{sheets_of};
+
+use crate::teams::{TeamForm, team_of};
+use gen1_layout::Packed;
+use gen1_machine::{Rules, TurnLimit};
+
+const WRONG_RULES: u32 = 12;
+
+const WRONG_LIMIT: u32 = 13;
+
+/// A battle of two teams before its first update (include/gen1.h, "beginning").
+///
+/// The answer is 0, or a fault: its code, 256 for each place up to that of the member at fault, and 65,536 for each side up to
+/// the one at fault.
+#[unsafe(no_mangle)]
+pub extern "C" fn gen1_new(
+    battle: &mut Packed,
+    one: &TeamForm,
+    two: &TeamForm,
+    seed: &[u8; 10],
+    rules: u8,
+    limit: u16,
+) -> u32
+    ensures fault { result ≡ new_fault one.now two.now rules limit }
+    ensures begun { result ≡ 0
+        → Stands battle.new
+        (first_state (record { rules = rules_of rules; limit = limit })
+        (team_of (sheets_of one.now)) (team_of (sheets_of two.now)) seed.now) }
+    ensures kept { result ≢ 0 → battle.new ≡ battle.old }
+{
+    let Some(rules) = Rules::new(rules) else {
+        return WRONG_RULES;
+    };
+    let Some(limit) = TurnLimit::new(limit) else {
+        return WRONG_LIMIT;
+    };
+    let one = match team_of(one) {
+        Ok(team) => team,
+        Err(fault) => return 65536 + fault,
+    };
+    let two = match team_of(two) {
+        Ok(team) => team,
+        Err(fault) => return 131072 + fault,
+    };
+    *battle = Packed::with_limit(&one, &two, *seed, rules, limit);
+    0
+}
+
+/// The battle of these bytes (include/gen1.h, "beginning"; docs/LAYOUT.md, "Loading"), of any of the three versions. The answer
+/// is 0, or the number of the first of the seven tests that they fail.
+#[unsafe(no_mangle)]
+pub extern "C" fn gen1_load(battle: &mut Packed, bytes: &[u8]) -> u8
+    ensures tests { Loads bytes.now battle.old battle.new result }
+    ensures battle { result ≡ 0 ↔ IsBattle bytes.now }
+    ensures stands { result ≡ 0 → StandsForSome battle.new }
+{
+    match Packed::load(bytes) {
+        Ok(packed) => {
+            *battle = packed;
+            0
+        }
+        Err(fault) => fault.number(),
+    }
+}

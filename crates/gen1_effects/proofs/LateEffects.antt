@@ -1,0 +1,49 @@
+-- What a late effect comes to, by the effect of the move.
+use Rattle.std.proofs.Common.{◌≡◌}
+use Rattle.gen1_layout.proofs.Words.{Bool, Phase, Progress, Side, ap, false, refl, stop, true, ℕ, ◌▸◌}
+use Rattle.std.proofs.lemmas.Bool.{false≢true}
+use Rattle.gen1_tables.specs.declared.effect.Effect.{Effect}
+use Rattle.gen1_tables.specs.declared.effect.Effect.TheVariants as effects
+use Rattle.gen1_tables.specs.declared.effect.Stat.{Stat}
+use Rattle.gen1_machine.specs.LateEffects.{late_effect, lower_foes_stat, put_to_sleep}
+use Rattle.gen1_machine.specs.Moves.{Move}
+use Rattle.gen1_machine.specs.Progress.{fail}
+use Rattle.gen1_machine.specs.Ruling.{fall_asleep, sleep_freely, sleep_only_one, sleeps_under, Ruling}
+use Rattle.gen1_machine.specs.Sides.{other}
+use Rattle.gen1_machine.specs.StageShift.{raise_stage}
+use Rattle.gen1_effects.specs.LateEffects.{is_late_but_bide}
+
+module _ (r : Ruling) (s : Side) (move : Move) (e : Effect) (p : Progress) where
+  -- the action ends with whatever the effect comes to
+  ends_with : (f : Phase) → late_effect r s move e ≡ f → (late_effect r s move e ▸ stop) p ≡ (f ▸ stop) p
+  ends_with f so = ap (λ (h : Phase). (h ▸ stop) p) so
+
+  pub raises : (stat : Stat) (by : ℕ) → e ≡ effects.StatUp stat by → (late_effect r s move e ▸ stop) p ≡ (raise_stage s s stat by (fail s) ▸ stop) p
+  unfolding late_effect
+  raises stat by is = ends_with (raise_stage s s stat by (fail s)) (ap (late_effect r s move) is)
+
+  pub lowers : (stat : Stat) (by : ℕ) → e ≡ effects.StatDown stat by → (late_effect r s move e ▸ stop) p ≡ (lower_foes_stat s move stat by ▸ stop) p
+  unfolding late_effect
+  lowers stat by is = ends_with (lower_foes_stat s move stat by) (ap (late_effect r s move) is)
+
+  pub sleeps : e ≡ effects.InflictSleep → (late_effect r s move e ▸ stop) p ≡ (put_to_sleep r s move ▸ stop) p
+  unfolding late_effect
+  sleeps is = ends_with (put_to_sleep r s move) (ap (late_effect r s move) is)
+
+-- there are no others
+pub no_other : (e : Effect) → is_late_but_bide e ≡ true → ((stat : Stat) (by : ℕ) → e ≡ effects.StatUp stat by → ⊥)
+    → ((stat : Stat) (by : ℕ) → e ≡ effects.StatDown stat by → ⊥) → (e ≡ effects.InflictSleep → ⊥) → ⊥
+no_other (effects.StatUp stat by) tie up down sleep = up stat by refl
+no_other (effects.StatDown stat by) tie up down sleep = down stat by refl
+no_other effects.InflictSleep tie up down sleep = sleep refl
+no_other _ tie up down sleep = false≢true tie
+
+-- sleep by the rules of the battle
+
+pub sleeps-one : (clause : Bool) (s : Side) (p : Progress) → clause ≡ true → sleeps_under clause s p ≡ sleep_only_one s p
+unfolding sleeps_under
+sleeps-one clause s p is = ap (λ (b : Bool). sleeps_under b s p) is
+
+pub sleeps-any : (clause : Bool) (s : Side) (p : Progress) → clause ≡ false → sleeps_under clause s p ≡ fall_asleep false (other s) p
+unfolding sleeps_under sleep_freely
+sleeps-any clause s p is = ap (λ (b : Bool). sleeps_under b s p) is

@@ -1,0 +1,25 @@
+use Rattle.gen1_layout.proofs.Words.{Progress, Side, ap, drawn_seeing, rules}
+use Rattle.gen1_machine.specs.Progress.{draw_until, member}
+use Rattle.gen1_machine.specs.Sides.{other}
+use Rattle.gen1_machine.specs.SideEffects.{disable_slot, names_slot}
+use Rattle.gen1_effects.proofs.Chances.{finding, finding_none}
+use Rattle.gen1_effects.proofs.side_effects.disable.draw_slot.Goals as goal
+
+pub returns-in-Some-clause-shown : goal.returns-in-Some-clause-shown
+returns-in-Some-clause-shown t c origin g p h =
+    let s = c.args.side in
+    let moves = (member c.other-foe.result p).moves in
+    let within = h.shows.within in
+    let any = c.has_pp-any_pp.ensures.stands _ _ within in
+    drawn_seeing (λ (q : Progress). (member (other s) q).moves) (λ ms. draw_until (names_slot ms) (disable_slot s ms)) (ap (λ (x : Side). (member x p).moves) c.other-foe.ensures)
+    (finding (names_slot moves) (disable_slot s moves) h (c.in-Some.ensures.found (names_slot moves) (λ x answer lt post. search rules))
+    (λ m named d. rw c.other-foe.ensures (c.disable_slot.ensures.shown origin g _ (rw c.other-foe.ensures at any) (rw c.other-foe.ensures at named) d)))
+
+pub returns-in-None-clause-shown : goal.returns-in-None-clause-shown
+returns-in-None-clause-shown t c origin g p h =
+    let s = c.args.side in
+    let moves = (member c.other-foe.result p).moves in
+    let within = h.shows.within in
+    let any = c.has_pp-any_pp.ensures.stands _ _ within in
+    drawn_seeing (λ (q : Progress). (member (other s) q).moves) (λ ms. draw_until (names_slot ms) (disable_slot s ms)) (ap (λ (x : Side). (member x p).moves) c.other-foe.ensures)
+    (finding_none (names_slot moves) (disable_slot s moves) h (c.in-None.ensures.none (names_slot moves) (λ x answer lt post. search rules)))

@@ -1,0 +1,41 @@
+//! Supersonic and Confuse Ray (docs/MECHANICS.md, "Early effects").
+ghost use Rattle.gen1_layout.specs.Words.{AddsAtMost, HasRoom, move_at, stop, true, ◌▸◌};
+ghost use Rattle.gen1_machine.specs.EarlyEffects.{confuse_foe};
+ghost use Rattle.gen1_action.specs.Knowing.{DoesKnowingDrawing, IsUncounted};
+
+use crate::targets::{has_substitute, is_confused};
+use gen1_action::{Known, confuse, fail, must_hit};
+use gen1_layout::Packed;
+use gen1_machine::{EventList, Side};
+use gen1_rolls::Rolls;
+use gen1_tables::MoveId;
+
+pub(super) fn confuse_foe<R: Rolls>(
+    battle: &mut Packed,
+    side: Side,
+    id: MoveId,
+    known: &mut Known,
+    random: &mut R,
+    events: &mut EventList,
+)
+    requires room { HasRoom 2 events.old }
+    ensures shown { DoesKnowingDrawing R.byte R.next R.SPAN battle.old events.old.items random.old
+        known.old battle.new events.new.items random.new known.new true
+        (confuse_foe side (move_at id) ▸ stop) }
+    ensures counts { IsUncounted known.old → IsUncounted known.new }
+    ensures room { AddsAtMost 2 events.old events.new }
+{
+    let foe = side.other();
+    if has_substitute(battle, foe) {
+        fail(battle, side, events);
+        return;
+    }
+    if must_hit(battle, side, id, known, random, events) {
+        return;
+    }
+    if is_confused(battle, foe) {
+        fail(battle, side, events);
+        return;
+    }
+    confuse(battle, foe, random, events);
+}

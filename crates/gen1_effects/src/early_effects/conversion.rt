@@ -1,0 +1,24 @@
+//! Conversion (docs/MECHANICS.md, "Early effects").
+ghost use Rattle.gen1_layout.specs.Words.{AddsAtMost, Does, HasRoom, stop, true, ◌▸◌};
+ghost use Rattle.gen1_machine.specs.EarlyEffects.{convert};
+
+use gen1_action::fail;
+use gen1_layout::{Conditions, Packed};
+use gen1_machine::{Event, EventList, Side, Volatile};
+
+pub(super) fn convert(battle: &mut Packed, side: Side, events: &mut EventList)
+    requires room { HasRoom 1 events.old }
+    ensures shown { Does battle.old events.old.items battle.new events.new.items true
+        (convert side ▸ stop) }
+    ensures room { AddsAtMost 1 events.old events.new }
+{
+    let foe = side.other();
+    if battle.is_on(foe, Conditions::INVULNERABLE) {
+        fail(battle, side, events);
+        return;
+    }
+    let first = battle.first_type(foe);
+    let second = battle.second_type(foe);
+    battle.put_types(side, first, second);
+    events.push(Event::Start(battle.who(side), Volatile::TypeChange));
+}

@@ -1,0 +1,137 @@
+//! An early effect, by the effect of the move (docs/MECHANICS.md, "Early effects").
+ghost use Rattle.std.specs.Prelude.{◌≡◌};
+ghost use Rattle.gen1_layout.specs.Words.{AddsAtMost, HasRoom, move_at, stop, true, ◌▸◌};
+ghost use Rattle.gen1_machine.specs.EarlyEffects.{early_effect};
+ghost use Rattle.gen1_action.specs.Alone.{DoesAlone};
+ghost use Rattle.gen1_action.specs.Knowing.{DoesKnowingDrawing, IsUncounted};
+ghost use Rattle.gen1_effects.specs.EarlyEffects.{is_early_but_substitute, way_of};
+
+use super::confusion_moves::confuse_foe;
+use super::conversion::convert;
+use super::haze::haze;
+use super::leech_seed::seed_foe;
+use super::mist_and_screens::{set_focus_energy, set_mist, set_screen};
+use super::paralysis_moves::paralyse_foe;
+use super::poison_moves::poison_foe;
+use super::recovery::heal;
+use super::splash::splash;
+use gen1_action::{Known, fail};
+use gen1_layout::Packed;
+use gen1_machine::{EventList, Side};
+use gen1_rolls::Rolls;
+use gen1_tables::{Effect, MoveId};
+
+/// Whether an effect is one of [`early_effect`]: an early effect but Substitute (docs/MECHANICS.md, "Early effects").
+pub fn is_early_but_substitute(effect: Effect) -> bool
+    ensures { result ≡ is_early_but_substitute effect }
+{
+    matches!(
+        effect,
+        Effect::AlwaysFails
+            | Effect::Conversion
+            | Effect::Mist
+            | Effect::FocusEnergy
+            | Effect::Screen
+            | Effect::Haze
+            | Effect::InflictConfusion
+            | Effect::Heal
+            | Effect::InflictPoison
+            | Effect::InflictParalysis
+            | Effect::LeechSeed
+            | Effect::Splash
+    )
+}
+
+/// Plays the move of `side`, whose effect is early and not Substitute (docs/MECHANICS.md, "Early effects"): moves that always
+/// fail, Conversion, Mist, Focus Energy, screens, Haze, confusion, healing, poison, paralysis, Leech Seed and Splash.
+///
+/// The action has just begun. At most two draws are taken, and two events written at most, for which two places in `events`
+/// are to be free. A move that fails, or misses, says so by an event, and changes nothing but what a miss changes.
+pub fn early_effect<R: Rolls>(
+    battle: &mut Packed,
+    side: Side,
+    id: MoveId,
+    random: &mut R,
+    events: &mut EventList,
+)
+    requires room { HasRoom 2 events.old }
+    requires early { is_early_but_substitute (move_at id).effect ≡ true }
+    ensures shown { DoesAlone R.byte R.next R.SPAN side battle.old events.old.items random.old
+        battle.new events.new.items random.new
+        (λ rules. early_effect side (move_at id) (move_at id).effect ▸ stop) }
+    ensures room { AddsAtMost 2 events.old events.new }
+{
+    let mut known = Known::new().begun(side);
+    early_effect_knowing(battle, side, id, &mut known, random, events);
+}
+
+/// The same as [`early_effect`] in the middle of an action, of which `known` tells: whether a hit test was missed, and at which
+/// byte it was made, is known then, and after Haze whether the foe is skipped in this turn.
+#[inline(never)] // docs/SPEED.md, "Hints on inlining"
+pub fn early_effect_knowing<R: Rolls>(
+    battle: &mut Packed,
+    side: Side,
+    id: MoveId,
+    known: &mut Known,
+    random: &mut R,
+    events: &mut EventList,
+)
+    requires room { HasRoom 2 events.old }
+    requires early { is_early_but_substitute (move_at id).effect ≡ true }
+    ensures shown { DoesKnowingDrawing R.byte R.next R.SPAN battle.old events.old.items random.old
+        known.old battle.new events.new.items random.new known.new true
+        (early_effect side (move_at id) (move_at id).effect ▸ stop) }
+    ensures counts { IsUncounted known.old → IsUncounted known.new }
+    ensures room { AddsAtMost 2 events.old events.new }
+{
+    match way_of(id.effect()) {
+        Way::Fails => fail(battle, side, events),
+        Way::Conversion => convert(battle, side, events),
+        Way::Mist => set_mist(battle, side, events),
+        Way::FocusEnergy => set_focus_energy(battle, side, events),
+        Way::Screen => set_screen(battle, side, id, events),
+        Way::Haze => haze(battle, side, known, events),
+        Way::Confusion => confuse_foe(battle, side, id, known, random, events),
+        Way::Heal => heal(battle, side, id, events),
+        Way::Poison => poison_foe(battle, side, id, known, random, events),
+        Way::Paralysis => paralyse_foe(battle, side, id, known, random, events),
+        Way::LeechSeed => seed_foe(battle, side, id, known, random, events),
+        Way::Splash => splash(battle, side, events),
+    }
+}
+
+// By which way an early effect goes.
+#[derive(Clone, Copy, Debug, PartialEq, Eq)]
+enum Way {
+    Fails,
+    Conversion,
+    Mist,
+    FocusEnergy,
+    Screen,
+    Haze,
+    Confusion,
+    Heal,
+    Poison,
+    Paralysis,
+    LeechSeed,
+    Splash,
+}
+
+fn way_of(effect: Effect) -> Way
+    ensures { result ≡ way_of effect }
+{
+    match effect {
+        Effect::Conversion => Way::Conversion,
+        Effect::Mist => Way::Mist,
+        Effect::FocusEnergy => Way::FocusEnergy,
+        Effect::Screen => Way::Screen,
+        Effect::Haze => Way::Haze,
+        Effect::InflictConfusion => Way::Confusion,
+        Effect::Heal => Way::Heal,
+        Effect::InflictPoison => Way::Poison,
+        Effect::InflictParalysis => Way::Paralysis,
+        Effect::LeechSeed => Way::LeechSeed,
+        Effect::Splash => Way::Splash,
+        _ => Way::Fails,
+    }
+}

@@ -1,0 +1,91 @@
+//! Mist, Focus Energy and the screens, which stay up, and fail where they are up (docs/MECHANICS.md, "Early effects").
+ghost use Rattle.gen1_layout.specs.Words.{ActiveConditions, AddsAtMost, Does, HasRoom, conditions, false, move_at, slice_index_or, slice_set, stop, true, ℕ, ◌▸◌};
+ghost use Rattle.std.specs.Prelude.{◌==◌, ◌<◌, ◌^◌, ◌≡◌};
+ghost use Rattle.gen1_machine.specs.EarlyEffects.{set_focus_energy, set_mist, set_screen};
+ghost use Rattle.gen1_machine.specs.Layout.{condition_bits};
+ghost use Rattle.gen1_machine.specs.Moves.{light_screen_move};
+ghost use Rattle.gen1_machine.specs.Progress.{fails_if, starts};
+ghost use Rattle.gen1_layout.specs.Flags.{SameNumbers};
+
+use gen1_action::fail;
+use gen1_layout::{Conditions, Packed};
+use gen1_machine::{Event, EventList, Side, Volatile};
+use gen1_tables::MoveId;
+
+pub(super) fn set_mist(battle: &mut Packed, side: Side, events: &mut EventList)
+    requires room { HasRoom 1 events.old }
+    ensures shown { Does battle.old events.old.items battle.new events.new.items true
+        (set_mist side ▸ stop) }
+    ensures room { AddsAtMost 1 events.old events.new }
+{
+    put_up(battle, side, Conditions::MIST, Volatile::Mist, events);
+}
+
+pub(super) fn set_focus_energy(battle: &mut Packed, side: Side, events: &mut EventList)
+    requires room { HasRoom 1 events.old }
+    ensures shown { Does battle.old events.old.items battle.new events.new.items true
+        (set_focus_energy side ▸ stop) }
+    ensures room { AddsAtMost 1 events.old events.new }
+{
+    put_up(
+        battle,
+        side,
+        Conditions::FOCUS_ENERGY,
+        Volatile::FocusEnergy,
+        events,
+    );
+}
+
+// Light Screen or Reflect, by the move.
+pub(super) fn set_screen(battle: &mut Packed, side: Side, id: MoveId, events: &mut EventList)
+    requires room { HasRoom 1 events.old }
+    ensures shown { Does battle.old events.old.items battle.new events.new.items true
+        (set_screen side (move_at id) ▸ stop) }
+    ensures room { AddsAtMost 1 events.old events.new }
+{
+    if is_light_screen(id) {
+        put_up(
+            battle,
+            side,
+            Conditions::LIGHT_SCREEN,
+            Volatile::LightScreen,
+            events,
+        );
+        return;
+    }
+    put_up(battle, side, Conditions::REFLECT, Volatile::Reflect, events);
+}
+
+const LIGHT_SCREEN: u8 = 113;
+
+fn is_light_screen(id: MoveId) -> bool
+    ensures { result ≡ ((move_at id).number == light_screen_move) }
+{
+    id.number() == LIGHT_SCREEN
+}
+
+// Sets a condition that has no number, and fails where it is on. The place of its bit is k.
+fn put_up(
+    battle: &mut Packed,
+    side: Side,
+    which: Conditions,
+    what: Volatile,
+    events: &mut EventList,
+)
+    requires room { HasRoom 1 events.old }
+    ensures shown { (k : ℕ) → which.0 ≡ 2 ^ k → k < 17
+        → (change : ActiveConditions → ActiveConditions)
+        → ((c : ActiveConditions) → condition_bits (change c) ≡ slice_set (condition_bits c) k true)
+        → ((c : ActiveConditions) → SameNumbers (change c) c)
+        → Does battle.old events.old.items battle.new events.new.items true
+        ((fails_if side (λ p. slice_index_or (condition_bits (conditions side p)) k false)
+        ▸ starts side what change) ▸ stop) }
+    ensures room { AddsAtMost 1 events.old events.new }
+{
+    if battle.is_on(side, which) {
+        fail(battle, side, events);
+        return;
+    }
+    battle.put_flag(side, which, true);
+    events.push(Event::Start(battle.who(side), what));
+}

@@ -1,0 +1,42 @@
+//! Stun Spore, Thunder Wave and Glare (docs/MECHANICS.md, "Early effects").
+ghost use Rattle.gen1_layout.specs.Words.{AddsAtMost, HasRoom, move_at, stop, true, ◌▸◌};
+ghost use Rattle.gen1_machine.specs.EarlyEffects.{paralyse_foe};
+ghost use Rattle.gen1_action.specs.Knowing.{DoesKnowingDrawing, IsUncounted};
+
+use crate::targets::{has_status, is_grounded};
+use gen1_action::{Known, fail, must_hit};
+use gen1_layout::Packed;
+use gen1_machine::{EventList, Kind, Side};
+use gen1_rolls::Rolls;
+use gen1_status::inflict;
+use gen1_tables::MoveId;
+
+pub(super) fn paralyse_foe<R: Rolls>(
+    battle: &mut Packed,
+    side: Side,
+    id: MoveId,
+    known: &mut Known,
+    random: &mut R,
+    events: &mut EventList,
+)
+    requires room { HasRoom 2 events.old }
+    ensures shown { DoesKnowingDrawing R.byte R.next R.SPAN battle.old events.old.items random.old
+        known.old battle.new events.new.items random.new known.new true
+        (paralyse_foe side (move_at id) ▸ stop) }
+    ensures counts { IsUncounted known.old → IsUncounted known.new }
+    ensures room { AddsAtMost 2 events.old events.new }
+{
+    let foe = side.other();
+    if has_status(battle, foe) {
+        fail(battle, side, events);
+        return;
+    }
+    if is_grounded(battle, foe, id.kind()) {
+        fail(battle, side, events);
+        return;
+    }
+    if must_hit(battle, side, id, known, random, events) {
+        return;
+    }
+    inflict(battle, foe, Kind::Paralysis, 0, events);
+}

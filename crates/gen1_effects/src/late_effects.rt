@@ -1,0 +1,83 @@
+//! Moves that act where others deal their damage: stages that rise and fall, and sleep (docs/MECHANICS.md, "Late effects").
+//! Bide, which lasts, is none of these.
+ghost use Rattle.std.specs.Prelude.{◌≡◌};
+ghost use Rattle.gen1_layout.specs.Words.{AddsAtMost, HasRoom, move_at, stop, true, ◌▸◌};
+ghost use Rattle.gen1_machine.specs.LateEffects.{late_effect};
+ghost use Rattle.gen1_action.specs.Alone.{DoesAlone};
+ghost use Rattle.gen1_action.specs.Planned.{DoesUnder};
+ghost use Rattle.gen1_effects.specs.LateEffects.{is_late_but_bide};
+
+use gen1_action::Known;
+use gen1_layout::Packed;
+use gen1_machine::{EventList, Side};
+use gen1_rolls::Rolls;
+use gen1_tables::{Effect, MoveId};
+
+mod sleep_moves;
+mod stat_moves;
+
+use sleep_moves::put_to_sleep;
+use stat_moves::{lower_foes_stat, raise_own_stat};
+
+/// Whether an effect is one of these: of a move that raises a stat of the user's, lowers one of the foe's, or puts the foe to
+/// sleep (docs/MECHANICS.md, "Late effects").
+pub fn is_late_but_bide(effect: Effect) -> bool
+    ensures { result ≡ is_late_but_bide effect }
+{
+    matches!(
+        effect,
+        Effect::StatUp(..) | Effect::StatDown(..) | Effect::InflictSleep
+    )
+}
+
+/// What a move of `side` does that raises a stat of the user's, lowers one of the foe's, or puts the foe to sleep
+/// (docs/MECHANICS.md, "Late effects"), from the beginning of its action. The hit test, where it makes one, and a count of
+/// sleep are drawn; two places in `events` are to be free. What the effect leaves alone stays as it is.
+pub fn late_effect<R: Rolls>(
+    battle: &mut Packed,
+    side: Side,
+    id: MoveId,
+    random: &mut R,
+    events: &mut EventList,
+)
+    requires room { HasRoom 2 events.old }
+    requires tie { is_late_but_bide (move_at id).effect ≡ true }
+    ensures shown { DoesAlone R.byte R.next R.SPAN side battle.old events.old.items random.old
+        battle.new events.new.items random.new
+        (λ r. late_effect r side (move_at id) (move_at id).effect) }
+    ensures room { AddsAtMost 2 events.old events.new }
+{
+    let mut known = Known::new().begun(side);
+    late_effect_knowing(battle, side, id, &mut known, random, events);
+}
+
+/// The same in the middle of an action, of which more may be known. The action ends with it (docs/MECHANICS.md, "Action").
+#[inline(never)] // docs/SPEED.md, "Hints on inlining"
+pub fn late_effect_knowing<R: Rolls>(
+    battle: &mut Packed,
+    side: Side,
+    id: MoveId,
+    known: &mut Known,
+    random: &mut R,
+    events: &mut EventList,
+)
+    requires room { HasRoom 2 events.old }
+    requires tie { is_late_but_bide (move_at id).effect ≡ true }
+    ensures shown { DoesUnder R.byte R.next R.SPAN battle.old events.old.items random.old known.old
+        battle.new events.new.items random.new known.new true
+        (λ r. late_effect r side (move_at id) (move_at id).effect ▸ stop) }
+    ensures room { AddsAtMost 2 events.old events.new }
+{
+    match id.effect() {
+        Effect::StatUp(stat, by) => {
+            raise_own_stat(battle, side, stat, by, events);
+        }
+        Effect::StatDown(stat, by) => {
+            lower_foes_stat(battle, side, id, stat, by, known, random, events);
+        }
+        Effect::InflictSleep => {
+            put_to_sleep(battle, side, id, known, random, events);
+        }
+        _ => {}
+    }
+}

@@ -1,0 +1,90 @@
+//! Moves that raise a stat of the user's or lower one of the foe's (docs/MECHANICS.md, "Late effects", "Stage shift").
+ghost use Rattle.gen1_layout.specs.Words.{AddsAtMost, Does, HasRoom, IsBetween, move_at, other, ◌▸◌};
+ghost use Rattle.gen1_machine.specs.LateEffects.{lower_foes_stat};
+ghost use Rattle.gen1_machine.specs.Progress.{fail, fails_if, is_invulnerable};
+ghost use Rattle.gen1_machine.specs.StageShift.{lower_stage, raise_stage};
+ghost use Rattle.gen1_action.specs.Knowing.{DoesKnowingDrawing};
+
+use gen1_action::{Known, fail, must_hit};
+use gen1_layout::{Conditions, Packed};
+use gen1_machine::{EventList, Side};
+use gen1_rolls::Rolls;
+use gen1_status::{lower_stage, raise_stage};
+use gen1_tables::{MoveId, Stat};
+
+// Raises a stat of the user's by 1 or 2 stages. True where it fails, which is told.
+pub(super) fn raise_own_stat(
+    battle: &mut Packed,
+    side: Side,
+    stat: Stat,
+    by: u8,
+    events: &mut EventList,
+) -> bool
+    requires room { HasRoom 2 events.old }
+    ensures shown { IsBetween 1 2 by
+        → Does battle.old events.old.items battle.new events.new.items result
+        (raise_stage side side stat by (fail side)) }
+    ensures room { AddsAtMost 2 events.old events.new }
+{
+    if raise_stage(battle, side, side, stat, by, events) {
+        return false;
+    }
+    fail(battle, side, events);
+    true
+}
+
+// Lowers a stat of the foe's by 1 or 2 stages. True where it fails or misses, which is told.
+pub(super) fn lower_foes_stat<R: Rolls>(
+    battle: &mut Packed,
+    side: Side,
+    id: MoveId,
+    stat: Stat,
+    by: u8,
+    known: &mut Known,
+    random: &mut R,
+    events: &mut EventList,
+) -> bool
+    requires room { HasRoom 2 events.old }
+    ensures shown { IsBetween 1 2 by
+        → DoesKnowingDrawing R.byte R.next R.SPAN battle.old events.old.items random.old known.old
+        battle.new events.new.items random.new known.new result
+        (lower_foes_stat side (move_at id) stat by) }
+    ensures room { AddsAtMost 2 events.old events.new }
+{
+    let foe = side.other();
+    if battle.is_on(foe, Conditions::SUBSTITUTE) {
+        fail(battle, side, events);
+        return true;
+    }
+    if must_hit(battle, side, id, known, random, events) {
+        return true;
+    }
+    lower_unless_away(battle, side, stat, by, events)
+}
+
+// What follows the hit test.
+fn lower_unless_away(
+    battle: &mut Packed,
+    side: Side,
+    stat: Stat,
+    by: u8,
+    events: &mut EventList,
+) -> bool
+    requires room { HasRoom 2 events.old }
+    ensures shown { IsBetween 1 2 by
+        → Does battle.old events.old.items battle.new events.new.items result
+        (fails_if side (is_invulnerable (other side))
+        ▸ lower_stage side (other side) stat by (fail side)) }
+    ensures room { AddsAtMost 2 events.old events.new }
+{
+    let foe = side.other();
+    if battle.is_on(foe, Conditions::INVULNERABLE) {
+        fail(battle, side, events);
+        return true;
+    }
+    if lower_stage(battle, side, foe, stat, by, events) {
+        return false;
+    }
+    fail(battle, side, events);
+    true
+}

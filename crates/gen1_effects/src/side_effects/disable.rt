@@ -1,0 +1,125 @@
+//! Disable, with its draws (docs/MECHANICS.md, "Side effects").
+ghost use Rattle.std.specs.Prelude.{◌≡◌};
+ghost use Rattle.gen1_layout.specs.Words.{AddsAtMost, DoesDrawing, DoesSeeing, Field, Frame, HasRoom, Progress, Reads, Setting, ShowsDrawn, Within, false, member_in, move_at, other, true};
+ghost use Rattle.gen1_machine.specs.Progress.{member};
+ghost use Rattle.gen1_machine.specs.SideEffects.{disable, disable_for, disable_slot, has_pp, names_slot};
+ghost use Rattle.gen1_action.specs.Knowing.{DoesKnowingDrawing, IsUncounted};
+ghost use Rattle.gen1_effects.specs.SideEffects.{draw_slot};
+
+use gen1_action::{Known, fail, must_hit};
+use gen1_layout::{Conditions, Packed};
+use gen1_machine::{DisabledSlot, Event, EventList, Side, Volatile};
+use gen1_rolls::{Rolls, until};
+use gen1_tables::MoveId;
+
+pub(super) fn disable<R: Rolls>(
+    battle: &mut Packed,
+    side: Side,
+    id: MoveId,
+    known: &mut Known,
+    random: &mut R,
+    events: &mut EventList,
+) -> bool
+    requires room { HasRoom 1 events.old }
+    ensures shown { DoesKnowingDrawing R.byte R.next R.SPAN battle.old events.old.items random.old
+        known.old battle.new events.new.items random.new known.new result
+        (disable side (move_at id)) }
+    ensures counts { IsUncounted known.old → IsUncounted known.new }
+    ensures room { AddsAtMost 1 events.old events.new }
+{
+    if must_hit(battle, side, id, known, random, events) {
+        return true;
+    }
+    if battle.is_on(side.other(), Conditions::DISABLED) {
+        fail(battle, side, events);
+        return true;
+    }
+    draw_slot(battle, side, random, events)
+}
+
+// Draws until a byte names a slot. Where no slot has PP it fails at the first that holds a move.
+fn draw_slot<R: Rolls>(
+    battle: &mut Packed,
+    side: Side,
+    random: &mut R,
+    events: &mut EventList,
+) -> bool
+    requires room { HasRoom 1 events.old }
+    ensures shown { DoesDrawing R.byte R.next R.SPAN battle.old events.old.items random.old
+        battle.new events.new.items random.new result (draw_slot side) }
+    ensures room { AddsAtMost 1 events.old events.new }
+{
+    let foe = side.other();
+    let any_pp = has_pp(battle, foe);
+    let found = {
+        let now: &Packed = battle;
+        until(random, |byte| names_slot(now, foe, any_pp, byte))
+    };
+    match found {
+        Some(byte) => disable_slot(battle, side, any_pp, byte, random, events),
+        None => false,
+    }
+}
+
+fn disable_slot<R: Rolls>(
+    battle: &mut Packed,
+    side: Side,
+    any_pp: bool,
+    byte: u8,
+    random: &mut R,
+    events: &mut EventList,
+) -> bool
+    requires room { HasRoom 1 events.old }
+    ensures shown { (origin : R) (g : Frame) (p : Progress)
+        → any_pp ≡ has_pp (member (other side) p).moves
+        → names_slot (member (other side) p).moves byte ≡ true
+        → ShowsDrawn R.byte R.next R.SPAN origin g battle.old events.old.items random.old false p
+        → ShowsDrawn R.byte R.next R.SPAN origin g battle.new events.new.items random.new result
+        (disable_slot side (member (other side) p).moves byte p) }
+    ensures room { AddsAtMost 1 events.old events.new }
+{
+    if !any_pp {
+        fail(battle, side, events);
+        return true;
+    }
+    let count = random.draw();
+    disable_for(battle, side.other(), byte, count, events);
+    false
+}
+
+fn disable_for(battle: &mut Packed, foe: Side, byte: u8, count: u8, events: &mut EventList)
+    requires room { HasRoom 1 events.old }
+    ensures shown { DoesSeeing (λ p. names_slot (member foe p).moves byte) true battle.old
+        events.old.items battle.new events.new.items false (disable_for foe byte count) }
+    ensures room { AddsAtMost 1 events.old events.new }
+{
+    let disabled = DisabledSlot {
+        slot: byte % 4 + 1,
+        turns: count % 8 + 1,
+    };
+    battle.put_disabled(foe, Some(disabled));
+    events.push(Event::Start(battle.who(foe), Volatile::Disable));
+}
+
+// A drawn slot has to hold a move, with PP where any move has PP.
+fn names_slot(battle: &Packed, foe: Side, any_pp: bool, byte: u8) -> bool
+    ensures stands { (g : Setting) (f : Field) → Within g battle.now f
+        → any_pp ≡ has_pp (member_in foe f).moves
+        → result ≡ names_slot (member_in foe f).moves byte }
+{
+    let slot = byte % 4 + 1;
+    let held = battle.move_in(foe, slot) > 0;
+    let has_pp = battle.pp(foe, slot) > 0;
+    held & (!any_pp | has_pp)
+}
+
+// Whether a move of the member that is out has PP left.
+fn has_pp(battle: &Packed, side: Side) -> bool
+    ensures stands { Reads battle.now result λ f. has_pp (member_in side f).moves }
+{
+    let one = battle.pp(side, 1) > 0;
+    let two = battle.pp(side, 2) > 0;
+    let three = battle.pp(side, 3) > 0;
+    let four = battle.pp(side, 4) > 0;
+    one | (two | (three | four))
+}

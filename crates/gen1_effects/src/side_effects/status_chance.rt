@@ -1,0 +1,151 @@
+//! Statuses by chance, and the thaw (docs/MECHANICS.md, "Side effects", "Rules (sleep clause, freeze clause)").
+ghost use Rattle.std.specs.Prelude.{◌&&◌, ◌||◌, ◌≡◌};
+ghost use Rattle.gen1_layout.specs.Words.{AddsAtMost, Does, DoesDrawing, Field, Frame, HasRoom, Progress, Reads, Setting, Shows, Within, active_in, false, is_frozen, move_at, not, party, status_in};
+ghost use Rattle.gen1_tables.specs.declared.element.Element.TheVariants.{Fire, Poison};
+ghost use Rattle.gen1_tables.specs.Types.{same_type};
+ghost use Rattle.gen1_stats.specs.Members.{is_healthy};
+ghost use Rattle.gen1_machine.specs.Ruling.{freezes_under, ruling_of};
+ghost use Rattle.gen1_machine.specs.State.{any_living, has_type};
+ghost use Rattle.gen1_machine.specs.SideEffects.{may_inflict, may_poison, thaw};
+ghost use Rattle.gen1_status.specs.Infliction.{IsCountOf};
+ghost use Rattle.gen1_effects.specs.SideEffects.{DoesByRules, afflict, is_freeze};
+
+use super::chance::is_drawn_below;
+use crate::targets::{has_status, has_type};
+use gen1_action::has_frozen_member;
+use gen1_layout::{Conditions, Packed};
+use gen1_machine::{Event, EventList, Kind, Side};
+use gen1_rolls::Rolls;
+use gen1_stats::Status;
+use gen1_status::inflict;
+use gen1_tables::{Element, MoveId};
+
+// A status, and a type of Poison, rule it out before the draw.
+pub(super) fn may_poison<R: Rolls>(
+    battle: &mut Packed,
+    side: Side,
+    bound: u8,
+    random: &mut R,
+    events: &mut EventList,
+)
+    requires room { HasRoom 1 events.old }
+    ensures shown { DoesDrawing R.byte R.next R.SPAN battle.old events.old.items random.old
+        battle.new events.new.items random.new false (may_poison side bound) }
+    ensures room { AddsAtMost 1 events.old events.new }
+{
+    let foe = side.other();
+    if resists_poison(battle, foe) {
+        return;
+    }
+    if !is_drawn_below(bound, random) {
+        return;
+    }
+    inflict(battle, foe, Kind::Poison, 0, events);
+}
+
+fn resists_poison(battle: &Packed, side: Side) -> bool
+    ensures stands { Reads battle.now result λ f.
+        (not (is_healthy (status_in side f)) || has_type Poison (active_in side f)) }
+{
+    let ailing = has_status(battle, side);
+    let immune = has_type(battle, side, Element::Poison);
+    ailing | immune
+}
+
+// A burn, a freeze or paralysis: a status, which a Fire move may thaw, and the move's own type rule it out before the draw.
+pub(super) fn may_inflict<R: Rolls>(
+    battle: &mut Packed,
+    side: Side,
+    id: MoveId,
+    kind: Kind,
+    bound: u8,
+    random: &mut R,
+    events: &mut EventList,
+)
+    requires room { HasRoom 1 events.old }
+    ensures shown { IsCountOf kind 0
+        → DoesByRules R.byte R.next R.SPAN battle.old events.old.items random.old battle.new
+        events.new.items random.new
+        (λ r. may_inflict side (move_at id) bound (afflict r side kind)) }
+    ensures room { AddsAtMost 1 events.old events.new }
+{
+    let foe = side.other();
+    if has_status(battle, foe) {
+        thaw(battle, side, id, events);
+        return;
+    }
+    if has_type(battle, foe, id.kind()) {
+        return;
+    }
+    if !is_drawn_below(bound, random) {
+        return;
+    }
+    afflict(battle, side, kind, events);
+}
+
+fn thaw(battle: &mut Packed, side: Side, id: MoveId, events: &mut EventList)
+    requires room { HasRoom 1 events.old }
+    ensures shown { Does battle.old events.old.items battle.new events.new.items false
+        (thaw side (move_at id)) }
+    ensures room { AddsAtMost 1 events.old events.new }
+{
+    let foe = side.other();
+    if !thaws(id.kind(), battle.status(foe)) {
+        return;
+    }
+    battle.put_status(foe, Status::Healthy);
+    events.push(Event::Cure(battle.who(foe), Kind::Freeze));
+}
+
+fn afflict(battle: &mut Packed, side: Side, kind: Kind, events: &mut EventList)
+    requires room { HasRoom 1 events.old }
+    ensures shown { (g : Frame) (p : Progress) → IsCountOf kind 0
+        → Shows g battle.old events.old.items false p
+        → Shows g battle.new events.new.items false
+        (afflict (ruling_of g.setting.terms) side kind p) }
+    ensures room { AddsAtMost 1 events.old events.new }
+{
+    if is_freeze(kind) {
+        freeze(battle, side, events);
+        return;
+    }
+    inflict(battle, side.other(), kind, 0, events);
+}
+
+// The freeze clause lets one living member of the foe's be frozen at a time. A freeze spares the foe its recharging.
+fn freeze(battle: &mut Packed, side: Side, events: &mut EventList)
+    requires room { HasRoom 1 events.old }
+    ensures shown { (g : Frame) (p : Progress) → Shows g battle.old events.old.items false p
+        → Shows g battle.new events.new.items false
+        (freezes_under g.setting.terms.rules.freeze_clause side p) }
+    ensures room { AddsAtMost 1 events.old events.new }
+{
+    let foe = side.other();
+    if is_refused(battle, foe) {
+        return;
+    }
+    battle.put_flag(foe, Conditions::RECHARGE, false);
+    inflict(battle, foe, Kind::Freeze, 0, events);
+}
+
+fn is_refused(battle: &Packed, foe: Side) -> bool
+    ensures stands { (g : Setting) (f : Field) → Within g battle.now f
+        → result ≡ (g.terms.rules.freeze_clause && any_living (λ m. is_frozen m.status)
+        (party foe f)) }
+{
+    let clause = battle.freeze_clause();
+    let taken = has_frozen_member(battle, foe);
+    clause & taken
+}
+
+fn is_freeze(kind: Kind) -> bool
+    ensures { result ≡ is_freeze kind }
+{
+    matches!(kind, Kind::Freeze)
+}
+
+fn thaws(kind: Element, status: Status) -> bool
+    ensures { result ≡ (same_type kind Fire && is_frozen status) }
+{
+    matches!((kind, status), (Element::Fire, Status::Frozen))
+}

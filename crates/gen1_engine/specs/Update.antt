@@ -1,0 +1,67 @@
+-- What an update answers, leaves and tells, for a state that the bytes stand for (docs/MECHANICS.md, "Offered choices", "Falls
+-- and requests"): what the machine's step says.
+use Rattle.std.specs.Prelude.{Err, Ok, Result, true, ℕ, ◌≡◌}
+use Rattle.arrayvec.specs.ArrayVec.{ArrayVec}
+use Rattle.gen1_machine.specs.declared.side.Side.TheVariants.{One, Two}
+use Rattle.gen1_machine.specs.declared.event.Event.{Event}
+use Rattle.gen1_machine.specs.declared.choice.Choice.{Choice}
+use Rattle.gen1_machine.specs.Bounds.{Bounded}
+use Rattle.gen1_machine.specs.State.{State}
+use Rattle.gen1_machine.specs.Step.{Accepted, Answer, NotOffered, Over, Refused, Refusal as Reason, offers, step}
+use Rattle.gen1_events.specs.Splits.{IsReading}
+use Rattle.gen1_layout.specs.Parts.{Parts}
+use Rattle.gen1_layout.specs.Within.{Stands}
+use Rattle.gen1_engine.specs.declared.result.BattleResult.{BattleResult}
+use Rattle.gen1_engine.specs.declared.result.Refusal.{Refusal}
+use Rattle.gen1_engine.specs.declared.result.Refusal.TheVariants as refusals
+
+abbrev pub result_of : State → BattleResult
+result_of s = record { outcome = s.field.outcome; request_one = s.field.request_one; request_two = s.field.request_two }
+
+abbrev pub refusal_of : Reason → Refusal
+refusal_of Over = refusals.Over
+refusal_of (NotOffered side) = refusals.NotOffered side
+
+abbrev pub refusal_number : Refusal → ℕ
+refusal_number refusals.Over = 1
+refusal_number (refusals.NotOffered One) = 2
+refusal_number (refusals.NotOffered Two) = 3
+
+-- a refused pair leaves the bytes as they are; after an accepted one they stand for the next state, whose result is answered
+abbrev pub AnswersAs : Answer → State → Parts → Parts → Result BattleResult Refusal → Type 0
+AnswersAs (Refused why) next old new result = (result ≡ Err (refusal_of why)) × (new ≡ old)
+AnswersAs (Accepted events) next old new result = (result ≡ Ok (result_of next)) × Stands new next
+
+-- a refused pair leaves the buffer as it is; an accepted one leaves in it what its events read as, and nothing else
+abbrev pub LogsAs : Answer → ArrayVec ℕ → ArrayVec ℕ → Type 0
+LogsAs (Refused why) old new = new ≡ old
+LogsAs (Accepted events) old new = IsReading new.items events
+
+-- a refused pair leaves the list as it is; an accepted one leaves its events in it, and nothing else
+abbrev pub TellsAs : Answer → ArrayVec Event → ArrayVec Event → Type 0
+TellsAs (Refused why) old new = new ≡ old
+TellsAs (Accepted events) old new = new.items ≡ events
+
+-- what an accepted pair costs at most: 4,700 draws, 64 events and 512 bytes
+abbrev pub IsBoundedAs : State → Answer → State → Type 0
+IsBoundedAs s (Refused why) next = Unit {0}
+IsBoundedAs s (Accepted events) next = Bounded s events next
+
+-- by the machine's step
+
+abbrev pub Answers : State → Choice → Choice → Parts → Parts → Result BattleResult Refusal → Type 0
+Answers s one two old new result = AnswersAs (step s one two).answer (step s one two).state old new result
+
+abbrev pub Logs : State → Choice → Choice → ArrayVec ℕ → ArrayVec ℕ → Type 0
+Logs s one two old new = LogsAs (step s one two).answer old new
+
+abbrev pub Tells : State → Choice → Choice → ArrayVec Event → ArrayVec Event → Type 0
+Tells s one two old new = TellsAs (step s one two).answer old new
+
+abbrev pub IsBounded : State → Choice → Choice → Type 0
+IsBounded s one two = IsBoundedAs s (step s one two).answer (step s one two).state
+
+-- both choices are offered
+pub record AreOffered (s : State) (one two : Choice) : Type 0 where
+  pub first : offers s One one ≡ true
+  pub second : offers s Two two ≡ true

@@ -1,0 +1,23 @@
+use Rattle.std.proofs.Common.{◌≡◌}
+use Rattle.gen1_layout.proofs.Words.{arith, drawing, false, if_not, if_so, nat_lt, nat_tests, refl, stays, still, true}
+use Rattle.gen1_machine.specs.HitTest.{hits_below}
+use Rattle.gen1_hits.proofs.hit_tests.draw_below.Goals as goal
+
+pub returns-then-draw-byte : goal.returns-then-draw-byte
+unfolding hits_below
+returns-then-draw-byte t c =
+    record {
+      shown = λ origin g events p h.
+          let below : nat_lt c.draw.result c.args.byte ≡ true = grind (arith, nat_tests) in
+          drawing (hits_below c.args.side c.args.byte) h c.draw.ensures.drawn c.draw.ensures.left (λ a. still a (if_so _ _ _ below (stays a.shows)) refl);
+    }
+
+pub returns : goal.returns
+unfolding hits_below
+returns t c =
+    record {
+      shown = λ origin g events p h.
+          let above : nat_lt c.draw.result c.args.byte ≡ false = grind (arith, nat_tests) in
+          drawing (hits_below c.args.side c.args.byte) h c.draw.ensures.drawn c.draw.ensures.left
+          (λ a. still a (if_not _ _ _ above (c.miss.ensures.shown _ _ _ a.shows)) refl);
+    }

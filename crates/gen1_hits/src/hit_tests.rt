@@ -1,0 +1,174 @@
+//! The hit test (docs/MECHANICS.md, "Hit test").
+ghost use Rattle.gen1_layout.specs.Words.{Event, Frame, List, Progress, Reads, Shows, ShowsDrawn, draw, false, is_asleep, move_at, not, status_in};
+ghost use Rattle.std.specs.Prelude.{max, ◌&&◌, ◌*◌, ◌+◌, ◌/◌, ◌≡◌, ◌≤◌};
+ghost use Rattle.gen1_machine.specs.Stages.{percent_at};
+ghost use Rattle.gen1_machine.specs.HitTest.{eats_dreams, hit_test, hits_below, lowers, miss, never_misses, scaled_in, settled_hit_in};
+ghost use Rattle.gen1_hits.specs.HitTests.{with_miss_unless, with_test};
+
+use gen1_layout::{Conditions, Packed};
+use gen1_machine::Side;
+use gen1_rolls::Rolls;
+use gen1_stats::Status;
+use gen1_tables::{Effect, MoveId, Stat};
+
+// What the stages from -6 to +6 make of a number, in percent (docs/MECHANICS.md, "Stages").
+const PERCENTS: [u32; 13] = [25, 28, 33, 40, 50, 66, 100, 150, 200, 250, 300, 350, 400];
+
+// A stage of 0, as it is stored.
+const LEVEL: u8 = 6;
+
+/// What a hit test came to.
+#[derive(Clone, Copy, Debug, PartialEq, Eq, Drop)]
+pub struct Hit {
+    /// Whether the move hits.
+    pub hit: bool,
+    /// The byte that the draw was compared with, or the base where the test was settled without a draw: what is kept for a
+    /// move that goes on (docs/MECHANICS.md, "Kept accuracy").
+    pub kept: u8,
+}
+
+/// Tests whether a move of `side` hits its foe, with `base` as its accuracy byte. At most one draw is taken. A miss sets the
+/// last damage to 0 and ends the user's Trapping; nothing else of the battle changes, and no event is written
+/// (docs/MECHANICS.md, "Hit test").
+pub fn hit_test<R: Rolls>(
+    battle: &mut Packed,
+    side: Side,
+    id: MoveId,
+    base: u8,
+    random: &mut R,
+) -> Hit
+    ensures shown { (origin : R) (g : Frame) (events : List Event) (p : Progress)
+        → ShowsDrawn R.byte R.next R.SPAN origin g battle.old events random.old false p
+        → ShowsDrawn R.byte R.next R.SPAN origin (with_test result.hit result.kept g) battle.new
+        events random.new false (hit_test side (move_at id) base p) }
+{
+    match settled_hit(battle, side, id) {
+        Some(true) => Hit {
+            hit: true,
+            kept: base,
+        },
+        Some(false) => {
+            miss(battle, side);
+            Hit {
+                hit: false,
+                kept: base,
+            }
+        }
+        None => {
+            let kept = scaled_accuracy(battle, side, base);
+            let hit = draw_below(battle, side, kept, random);
+            Hit { hit, kept }
+        }
+    }
+}
+
+// Whether a move hits, where that is settled without a draw.
+fn settled_hit(battle: &Packed, side: Side, id: MoveId) -> Option<bool>
+    ensures stands { Reads battle.now result (settled_hit_in side (move_at id)) }
+{
+    let foe = side.other();
+    let effect = id.effect();
+    if finds_no_dream(battle, foe, effect) {
+        return Some(false);
+    }
+    if never_misses(effect) {
+        return Some(true);
+    }
+    if battle.is_on(foe, Conditions::INVULNERABLE) {
+        return Some(false);
+    }
+    if is_misted(effect, battle.is_on(foe, Conditions::MIST)) {
+        return Some(false);
+    }
+    None
+}
+
+// Only Dream Eater asks for the foe's status.
+fn finds_no_dream(battle: &Packed, foe: Side, effect: Effect) -> bool
+    ensures stands { Reads battle.now result λ f.
+        (eats_dreams effect && not (is_asleep (status_in foe f))) }
+{
+    if !eats_dreams(effect) {
+        return false;
+    }
+    !is_asleep(battle.status(foe))
+}
+
+fn eats_dreams(effect: Effect) -> bool
+    ensures { result ≡ eats_dreams effect }
+{
+    matches!(effect, Effect::DreamEater)
+}
+
+fn is_asleep(status: Status) -> bool
+    ensures { result ≡ is_asleep status }
+{
+    matches!(status, Status::Asleep { .. })
+}
+
+fn never_misses(effect: Effect) -> bool
+    ensures { result ≡ never_misses effect }
+{
+    matches!(effect, Effect::NeverMisses)
+}
+
+fn is_misted(effect: Effect, mist: bool) -> bool
+    ensures { result ≡ (lowers effect && mist) }
+{
+    matches!(effect, Effect::StatDown(..)) && mist
+}
+
+/// The byte that a draw must be below for a hit: `base` scaled by the accuracy stage of `side`, and by the evasion stage of
+/// its foe with its sign turned, from 1 to 255 (docs/MECHANICS.md, "Hit test").
+pub fn scaled_accuracy(battle: &Packed, side: Side, base: u8) -> u8
+    ensures stands { Reads battle.now result (scaled_in side base) }
+{
+    let accuracy = battle.stage(side, Stat::Accuracy);
+    let evasion = battle.stage(side.other(), Stat::Evasion);
+    if accuracy == LEVEL && evasion == LEVEL {
+        return base.max(1);
+    }
+    let aimed = at_percent(base.into(), percent_at(accuracy));
+    // A stage is stored as 0 to 12, so 12 less it is the one with its sign turned.
+    at_percent(aimed, percent_at(12_u8.saturating_sub(evasion))).min(255) as u8
+}
+
+// So many percent of a number, at least 1.
+fn at_percent(number: u32, percent: u32) -> u32
+    requires number { number ≤ 1021 }
+    requires percent { percent ≤ 400 }
+    ensures value { result ≡ max 1 (number * percent / 100) }
+    ensures most { result ≤ 4 * number + 1 }
+{
+    (number * percent / 100).max(1)
+}
+
+fn percent_at(stage: u8) -> u32
+    ensures value { result ≡ percent_at stage }
+    ensures most { result ≤ 400 }
+{
+    PERCENTS.get(stage as usize).copied().unwrap_or(0)
+}
+
+// Draws, and tells whether the draw is below the byte; else the move misses.
+fn draw_below<R: Rolls>(battle: &mut Packed, side: Side, byte: u8, random: &mut R) -> bool
+    ensures shown { (origin : R) (g : Frame) (events : List Event) (p : Progress)
+        → ShowsDrawn R.byte R.next R.SPAN origin g battle.old events random.old false p
+        → ShowsDrawn R.byte R.next R.SPAN origin (with_miss_unless result g) battle.new events
+        random.new false (draw (hits_below side byte) p) }
+{
+    if random.draw() < byte {
+        return true;
+    }
+    miss(battle, side);
+    false
+}
+
+fn miss(battle: &mut Packed, side: Side)
+    ensures shown { (g : Frame) (events : List Event) (p : Progress)
+        → Shows g battle.old events false p
+        → Shows (with_miss_unless false g) battle.new events false (miss side p) }
+{
+    battle.put_last_damage(0);
+    battle.end_trapping(side);
+}

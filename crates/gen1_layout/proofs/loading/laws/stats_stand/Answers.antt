@@ -1,0 +1,5 @@
+use Rattle.gen1_layout.proofs.LoadingStatLaws.{stats_law}
+use Rattle.gen1_layout.proofs.loading.laws.stats_stand.Goals as goal
+
+pub returns : goal.returns
+returns c = stats_law

@@ -1,0 +1,112 @@
+//! Reading a battle from bytes (docs/LAYOUT.md, "Loading").
+ghost use Rattle.std.specs.Prelude.{◌≡◌, ◌↔◌, IfOk, IsOk};
+ghost use Rattle.gen1_layout.specs.Loading.{number_of, IsLoadedAs, IsReadAs};
+ghost use Rattle.gen1_layout.specs.LoadingMeaning.{IsBattle, StandsForSome};
+
+mod active;
+mod bytes;
+mod header;
+pub mod laws;
+mod member;
+mod requests;
+mod stats;
+
+use crate::Packed;
+use thiserror::Error;
+
+/// Why bytes stand for no battle (docs/LAYOUT.md, "Loading"): the first of the seven tests that
+/// fails.
+#[derive(Clone, Copy, Debug, PartialEq, Eq, Error)]
+pub enum LoadFault {
+    /// There are not 384 bytes.
+    #[error("a battle has 384 bytes")]
+    Length,
+    /// The layout's version is none of 1, 2 and 3.
+    #[error("the layout version is not 1, 2 or 3")]
+    Version,
+    /// A field of the header is out of its range.
+    #[error("a field of the header is out of its range")]
+    Header,
+    /// A place for a member holds neither a member nor zeros, or members do not come first.
+    #[error("a place holds no valid member")]
+    Member,
+    /// A field of an active block is out of its range.
+    #[error("a field of an active block is out of its range")]
+    Active,
+    /// A current stat does not come from the member's own stat and its stage.
+    #[error("a current stat does not come from its stage")]
+    Stat,
+    /// Turn, outcome, requests and living members do not fit together.
+    #[error("turn, outcome, requests and living members do not fit together")]
+    Request,
+}
+
+impl LoadFault {
+    /// The number of the test that failed, from 1 to 7.
+    pub fn number(self) -> u8
+        ensures { result ≡ number_of self }
+    {
+        match self {
+            LoadFault::Length => 1,
+            LoadFault::Version => 2,
+            LoadFault::Header => 3,
+            LoadFault::Member => 4,
+            LoadFault::Active => 5,
+            LoadFault::Stat => 6,
+            LoadFault::Request => 7,
+        }
+    }
+}
+
+impl Packed {
+    /// Loads a battle (docs/LAYOUT.md, "Loading") from bytes of any of the three versions; it comes out in the
+    /// form of version 3.
+    ///
+    /// # Errors
+    ///
+    /// The first of the seven tests that the bytes fail. They pass all exactly where they stand for a valid state.
+    pub fn load(bytes: &[u8]) -> Result<Packed, LoadFault>
+        ensures tests { IsLoadedAs result bytes.now }
+        ensures battle { IsOk result ↔ IsBattle bytes.now }
+        ensures stands { IfOk result (λ loaded. StandsForSome loaded) }
+    {
+        Ok(Packed::of_bytes(form_of(bytes)?))
+    }
+}
+
+// The form of version 3 of bytes that stand for a valid state, or the first test that they fail.
+fn form_of(bytes: &[u8]) -> Result<[u8; 384], LoadFault>
+    ensures tests { IsReadAs result bytes.now }
+    ensures battle { IsOk result ↔ IsBattle bytes.now }
+{
+    tested(bytes)
+}
+
+// The seven tests, in their order.
+fn tested(bytes: &[u8]) -> Result<[u8; 384], LoadFault>
+    ensures { IsReadAs result bytes.now }
+{
+    if bytes.len() != 384 {
+        return Err(LoadFault::Length);
+    }
+    if !header::has_version(bytes[0]) {
+        return Err(LoadFault::Version);
+    }
+    let form = header::version_three(bytes);
+    if !header::pass(bytes, &form) {
+        return Err(LoadFault::Header);
+    }
+    if !member::pass(&form) {
+        return Err(LoadFault::Member);
+    }
+    if !active::pass(&form) {
+        return Err(LoadFault::Active);
+    }
+    if !stats::pass(&form) {
+        return Err(LoadFault::Stat);
+    }
+    if !requests::pass(&form) {
+        return Err(LoadFault::Request);
+    }
+    Ok(form)
+}

@@ -1,0 +1,228 @@
+//! The test of the active blocks, but for their current stats (docs/LAYOUT.md, "Active block", "Condition bits").
+ghost use Rattle.std.specs.Prelude.{◌≡◌, ◌↔◌, ◌+◌, ◌<◌, ◌≤◌, ◌&&◌, ◌||◌, ◌==◌, IsTrue, length, slice_index};
+ghost use Rattle.std.specs.Int.{bit_at};
+ghost use Rattle.gen1_machine.specs.Valid.{OnlyWith};
+ghost use Rattle.gen1_layout.specs.LoadingBytes.{active_bytes, long, word};
+ghost use Rattle.gen1_layout.specs.Loading.{PassesOfActives};
+ghost use Rattle.gen1_layout.specs.LoadingActive.{effect_in, has, CountFits, DisabledFits, HoldsMove, PassesActive, PassesActiveAt, PassesCounts, PassesFixed, PassesOut, PassesProgress, PassesStages, PassesUnderway, TurnsFit, UsedFits};
+
+use crate::loading::bytes::{active_bytes, are_zero, long, member_bytes, word};
+use gen1_tables::{Effect, MoveId};
+
+// The places of the condition bits that come with a number or belong to the current move.
+const BIDE: u32 = 0;
+
+const THRASH: u32 = 1;
+
+const TRAPPING: u32 = 2;
+
+const CHARGING: u32 = 4;
+
+const CONFUSED: u32 = 6;
+
+const SUBSTITUTE: u32 = 9;
+
+const RECHARGE: u32 = 10;
+
+const RAGE: u32 = 11;
+
+const BAD_POISON: u32 = 13;
+
+const DISABLED: u32 = 16;
+
+// Whether both sides have valid active blocks.
+pub(crate) fn pass(form: &[u8]) -> bool
+    requires { length form.now ≡ 384 }
+    ensures { IsTrue result ↔ PassesOfActives form.now }
+{
+    let turn = word(form, 1);
+    is_active_at(&form[24..204], turn) && is_active_at(&form[204..384], turn)
+}
+
+// Whether nobody is out at turn 0, and a member from turn 1 on.
+fn is_active_at(side: &[u8], turn: u16) -> bool
+    requires { length side.now ≡ 180 }
+    ensures { IsTrue result ↔ PassesActiveAt turn side.now }
+{
+    if turn == 0 {
+        are_zero(active_bytes(side))
+    } else {
+        is_active(side)
+    }
+}
+
+fn is_active(side: &[u8]) -> bool
+    requires { length side.now ≡ 180 }
+    ensures { IsTrue result ↔ PassesActive side.now }
+{
+    let place = side[144];
+    if !(1..=6).contains(&place) {
+        return false;
+    }
+    let member = member_bytes(side, place);
+    member[0] != 0 && is_out(member, active_bytes(side))
+}
+
+fn is_out(member: &[u8], active: &[u8]) -> bool
+    requires member { length member.now ≡ 24 }
+    requires active { length active.now ≡ 36 }
+    ensures passes { IsTrue result ↔ PassesOut member.now active.now }
+{
+    has_fixed(active)
+        && has_counts(member, active)
+        && has_progress(active)
+        && is_used(member, active[29])
+        && is_used(member, active[30])
+        && is_underway(effect_in(member, active[29]), active)
+}
+
+// Whether the parts that need no other part are in their ranges.
+fn has_fixed(active: &[u8]) -> bool
+    requires { length active.now ≡ 36 }
+    ensures { IsTrue result ↔ PassesFixed active.now }
+{
+    active[1] <= 14
+        && active[2] <= 14
+        && are_stages(active)
+        && long(active, 17) < 1 << 17
+        && long(active, 32) == 0
+}
+
+fn are_stages(active: &[u8]) -> bool
+    requires { length active.now ≡ 36 }
+    ensures { IsTrue result ↔ PassesStages active.now }
+{
+    active[3] <= 12
+        && active[4] <= 12
+        && active[5] <= 12
+        && active[6] <= 12
+        && active[7] <= 12
+        && active[8] <= 12
+}
+
+// Whether a condition is on, by the place of its bit.
+fn has(active: &[u8], bit: u32) -> bool
+    requires active { length active.now ≡ 36 }
+    requires bit { bit < 32 }
+    ensures value { result ≡ has bit active.now }
+{
+    (long(active, 17) >> bit) % 2 == 1
+}
+
+// Whether the conditions that end on their own have their numbers.
+fn has_counts(member: &[u8], active: &[u8]) -> bool
+    requires member { length member.now ≡ 24 }
+    requires active { length active.now ≡ 36 }
+    ensures passes { IsTrue result ↔ PassesCounts member.now active.now }
+{
+    is_count(has(active, SUBSTITUTE), 0, 249, active[21])
+        && is_count(has(active, CONFUSED), 1, 5, active[22])
+        && is_disabled(has(active, DISABLED), member, active[23], active[24])
+        && is_count(has(active, BAD_POISON), 0, 64, active[25])
+}
+
+// Whether what is underway has its numbers.
+fn has_progress(active: &[u8]) -> bool
+    requires { length active.now ≡ 36 }
+    ensures { IsTrue result ↔ PassesProgress active.now }
+{
+    let (bide, thrash) = (has(active, BIDE), has(active, THRASH));
+    are_turns(either(bide, thrash), has(active, TRAPPING), active[26])
+        && is_energy(bide, word(active, 27))
+        && is_count(either(has(active, RAGE), thrash), 1, 255, active[31])
+}
+
+fn either(one: bool, other: bool) -> bool
+    ensures { result ≡ (one || other) }
+{
+    one || other
+}
+
+fn is_energy(bide: bool, energy: u16) -> bool
+    ensures { IsTrue result ↔ CountFits bide 0 65535 energy }
+{
+    bide || energy == 0
+}
+
+// Whether a count is in its range with its condition, and 0 without.
+fn is_count(on: bool, low: u8, high: u8, count: u8) -> bool
+    ensures { IsTrue result ↔ CountFits on low high count }
+{
+    if on {
+        low <= count && count <= high
+    } else {
+        count == 0
+    }
+}
+
+// Whether the turns are those of Bide or thrashing, or else of trapping.
+fn are_turns(long: bool, trapping: bool, turns: u8) -> bool
+    ensures { IsTrue result ↔ TurnsFit long trapping turns }
+{
+    if long {
+        is_count(true, 1, 3, turns)
+    } else {
+        is_count(trapping, 0, 4, turns)
+    }
+}
+
+fn is_disabled(on: bool, member: &[u8], slot: u8, turns: u8) -> bool
+    requires { length member.now ≡ 24 }
+    ensures { IsTrue result ↔ DisabledFits on member.now slot turns }
+{
+    if on {
+        holds_move(member, slot) && is_count(true, 1, 8, turns)
+    } else {
+        slot == 0 && turns == 0
+    }
+}
+
+fn holds_move(member: &[u8], slot: u8) -> bool
+    requires { length member.now ≡ 24 }
+    ensures { IsTrue result ↔ HoldsMove member.now slot }
+{
+    (1..=4).contains(&slot) && member[14 + slot as usize] != 0
+}
+
+// Whether a byte is 0 for no move, 5 for Struggle, or a slot that holds a move.
+fn is_used(member: &[u8], used: u8) -> bool
+    requires { length member.now ≡ 24 }
+    ensures { IsTrue result ↔ UsedFits member.now used }
+{
+    used == 0 || used == 5 || holds_move(member, used)
+}
+
+// Whether what is underway belongs to a current move with this effect.
+fn is_underway(effect: Effect, active: &[u8]) -> bool
+    requires { length active.now ≡ 36 }
+    ensures { IsTrue result ↔ PassesUnderway effect active.now }
+{
+    is_explained(effect.bides(), has(active, BIDE))
+        && is_explained(effect.thrashes(), has(active, THRASH))
+        && is_explained(effect.traps(), has(active, TRAPPING))
+        && is_explained(effect.charges(), has(active, CHARGING))
+        && is_explained(effect.recharges(), has(active, RECHARGE))
+        && is_explained(effect.rages(), has(active, RAGE))
+}
+
+fn is_explained(explained: bool, on: bool) -> bool
+    ensures { IsTrue result ↔ OnlyWith explained on }
+{
+    !on || explained
+}
+
+// The effect of the move in a slot; none for no slot, or for Struggle's.
+fn effect_in(member: &[u8], slot: u8) -> Effect
+    requires { length member.now ≡ 24 }
+    ensures { result ≡ effect_in member.now slot }
+{
+    let id = if (1..=4).contains(&slot) {
+        member[14 + slot as usize]
+    } else {
+        0
+    };
+    match MoveId::new(id) {
+        Some(used) => used.effect(),
+        None => Effect::DamageOnly,
+    }
+}

@@ -1,0 +1,67 @@
+//! The tests of the version and the header (docs/LAYOUT.md, "Header", "Versions 1 and 2").
+ghost use Rattle.std.specs.Prelude.{◌≡◌, ◌↔◌, ◌≤◌, IsTrue, length};
+ghost use Rattle.gen1_stats.specs.Members.{IsBetween};
+ghost use Rattle.gen1_layout.specs.LoadingBytes.{header_of};
+ghost use Rattle.gen1_layout.specs.LoadingHeader.{version_three, PassesHeader, PassesVersion};
+
+use crate::loading::bytes::word;
+
+// Whether there is such a version.
+pub(crate) fn has_version(version: u8) -> bool
+    ensures { IsTrue result ↔ IsBetween 1 3 version }
+{
+    (1..=3).contains(&version)
+}
+
+// Whether bytes keep to their version, and the header of their form of version 3 to its ranges.
+pub(crate) fn pass(bytes: &[u8], form: &[u8]) -> bool
+    requires bytes { length bytes.now ≡ 384 }
+    requires form { length form.now ≡ 384 }
+    ensures passes { IsTrue result ↔ (PassesVersion bytes.now × PassesHeader (header_of form.now)) }
+{
+    keeps_version(bytes) && is_header(&form[..24])
+}
+
+// Whether bytes that came later than their version are zeros.
+fn keeps_version(bytes: &[u8]) -> bool
+    requires { length bytes.now ≡ 384 }
+    ensures { IsTrue result ↔ PassesVersion bytes.now }
+{
+    match bytes[0] {
+        1 => bytes[19] == 0 && word(bytes, 20) == 0,
+        0 | 2 => word(bytes, 20) == 0,
+        _ => true,
+    }
+}
+
+// The bytes in the form of version 3: a battle of an older version has 1,000 turns at most.
+pub(crate) fn version_three(bytes: &[u8]) -> [u8; 384]
+    requires { length bytes.now ≡ 384 }
+    ensures { result ≡ version_three bytes.now }
+{
+    let mut form = [0; 384];
+    form.copy_from_slice(bytes);
+    if form[0] != 3 {
+        form[0] = 3;
+        let [low, high] = 1000u16.to_le_bytes();
+        form[20] = low;
+        form[21] = high;
+    }
+    form
+}
+
+// Whether the fields of a header are in their ranges.
+fn is_header(header: &[u8]) -> bool
+    requires { length header.now ≡ 24 }
+    ensures { IsTrue result ↔ PassesHeader header.now }
+{
+    let limit = word(header, 20);
+    (1..=9999).contains(&limit)
+        && word(header, 1) <= limit
+        && header[5] <= 8
+        && header[16] <= 5
+        && header[17] <= 2
+        && header[18] <= 2
+        && header[19] <= 3
+        && word(header, 22) == 0
+}

@@ -1,0 +1,94 @@
+//! The test of the current stats (docs/LAYOUT.md, "Current stats").
+ghost use Rattle.std.specs.Prelude.{◌≡◌, ◌↔◌, ◌≤◌, IsTrue, length};
+ghost use Rattle.gen1_machine.specs.Stages.{now_at};
+ghost use Rattle.gen1_layout.specs.LoadingBytes.{active_bytes, word};
+ghost use Rattle.gen1_layout.specs.Loading.{PassesOfActives, PassesOfStats};
+ghost use Rattle.gen1_layout.specs.LoadingActive.{out_bytes, PassesActiveAt, PassesStages};
+ghost use Rattle.gen1_layout.specs.LoadingStats.{ComesFrom, PassesStats, PassesStatsAt};
+
+use crate::loading::bytes::{active_bytes, member_bytes, word};
+use gen1_machine::now;
+use gen1_tables::Stat;
+
+// A stat of at most 999 is 1 after so many penalties, and stays so.
+const HALVINGS: u8 = 9;
+
+const QUARTERINGS: u8 = 5;
+
+// Whether the current stats of both sides come from their members' own.
+pub(crate) fn pass(form: &[u8]) -> bool
+    requires form { length form.now ≡ 384 }
+    requires active { PassesOfActives form.now }
+    ensures passes { IsTrue result ↔ PassesOfStats form.now }
+{
+    let turn = word(form, 1);
+    are_stats_at(&form[24..204], turn) && are_stats_at(&form[204..384], turn)
+}
+
+// Whether from turn 1 on the current stats come from the stats of the member that is out.
+fn are_stats_at(side: &[u8], turn: u16) -> bool
+    requires side { length side.now ≡ 180 }
+    requires active { PassesActiveAt turn side.now }
+    ensures passes { IsTrue result ↔ PassesStatsAt turn side.now }
+{
+    turn == 0 || are_stats(member_bytes(side, side[144]), active_bytes(side))
+}
+
+fn are_stats(member: &[u8], active: &[u8]) -> bool
+    requires member { length member.now ≡ 24 }
+    requires active { length active.now ≡ 36 }
+    requires stages { PassesStages active.now }
+    ensures passes { IsTrue result ↔ PassesStats member.now active.now }
+{
+    let attack = comes_from(
+        word(member, 6),
+        active[3],
+        Stat::Attack,
+        HALVINGS,
+        word(active, 9),
+    );
+    let defense = comes_from(
+        word(member, 8),
+        active[4],
+        Stat::Defense,
+        0,
+        word(active, 11),
+    );
+    let speed = comes_from(
+        word(member, 10),
+        active[5],
+        Stat::Speed,
+        QUARTERINGS,
+        word(active, 13),
+    );
+    let special = comes_from(
+        word(member, 12),
+        active[6],
+        Stat::Special,
+        0,
+        word(active, 15),
+    );
+    attack && defense && speed && special
+}
+
+// Whether a current stat is the unmodified one at its stage, after so many penalties at most.
+fn comes_from(unmodified: u16, stage: u8, stat: Stat, most: u8, current: u16) -> bool
+    requires stage { stage ≤ 12 }
+    requires most { most ≤ 9 }
+    ensures passes { IsTrue result ↔ ComesFrom unmodified stage stat most current }
+{
+    'penalties: for times in 0..most + 1 {
+        if at_stage(unmodified, stage, stat, times) == current {
+            return true;
+        }
+    }
+    false
+}
+
+// A stat at a stage from 0 to 12, after so many penalties.
+fn at_stage(unmodified: u16, stage: u8, stat: Stat, times: u8) -> u16
+    requires { stage ≤ 12 }
+    ensures { result ≡ now_at unmodified stage stat times }
+{
+    now(unmodified, stage as i8 - 6, stat, times)
+}

@@ -1,0 +1,51 @@
+//! An input that is read whole, up to a limit (docs/PROGRAM.md, "What is tested, in this order").
+ghost use Rattle.std.specs.Prelude.{◌≡◌, ◌||◌, ◌+◌, ◌<◌, ◌≤◌, ◌^◌, IfOk, IfSome, IsErrOf, length, vec_len};
+ghost use Rattle.gen1_machine.specs.Input.{device_refused, TakesAtMost};
+
+use crate::{DeviceFault, Source};
+use std::alloc::Allocator;
+
+/// Why an input was not read whole.
+#[derive(Clone, Copy, Debug, PartialEq, Eq, Drop)]
+pub enum InputFault {
+    /// A read failed.
+    Device,
+    /// There are more bytes than the limit.
+    TooLong,
+    /// A growth of the list of bytes was refused.
+    Memory,
+}
+
+/// Reads all bytes that are left. They may be `limit` at most, which is below 2^32.
+///
+/// Whatever the answer, at most one byte above the limit is gone from the source. After a fault
+/// the bytes that were read are lost.
+pub fn read_whole<R: Source, A: Allocator>(
+    alloc: A,
+    source: &mut R,
+    limit: usize,
+) -> Result<Vec<u8, A>, InputFault>
+    requires limit { limit < 2 ^ 32 }
+    ensures whole { IfOk result (λ v. IfSome (R.remaining source.old) (λ bytes. v.items ≡ bytes)) }
+    ensures fits { IfOk result (λ v. vec_len v ≤ limit) }
+    ensures too_long { IsErrOf result InputFault.TooLong
+        → IfSome (R.remaining source.old) (λ bytes. limit < length bytes) }
+    ensures taken { TakesAtMost (R.remaining source.old) (R.remaining source.new) (limit + 1) }
+    ensures fault { R.has_failed source.new ≡ (R.has_failed source.old || device_refused result) }
+{
+    let mut bytes = Vec::new(alloc);
+    let mut chunk = [0u8; 4096];
+    'parts: while bytes.len() <= limit {
+        let most = chunk.len().min(limit - bytes.len() + 1);
+        let Ok(count) = source.read(&mut chunk[..most]) else {
+            return Err(InputFault::Device);
+        };
+        if count == 0 {
+            return Ok(bytes);
+        }
+        if bytes.extend_from_slice(&chunk[..count]).is_err() {
+            return Err(InputFault::Memory);
+        }
+    }
+    Err(InputFault::TooLong)
+}

@@ -1,0 +1,21 @@
+use Rattle.std.proofs.Common.{◌%◌, ◌+◌}
+use Rattle.gen1_layout.proofs.Words.{active_in, ap, arith, drawing, drawn_goes, on_conditions, on_field, put_on_active, put_on_conditions, refl, still, ℕ}
+use Rattle.gen1_machine.specs.Conditions.{with_thrash}
+use Rattle.gen1_machine.specs.GoingOn.{thrash_for}
+use Rattle.gen1_machine.specs.Moves.{accuracy_byte}
+use Rattle.gen1_machine.specs.State.{with_kept_accuracy}
+use Rattle.gen1_multiturn.proofs.moves.thrash.begin_thrashing.Goals as goal
+
+pub returns : goal.returns
+unfolding thrash_for with_thrash with_kept_accuracy on_conditions on_field
+returns t c = record {
+  shown = λ events move origin g p is bide trapping h.
+      let s = c.args.side in
+      let byte = c.draw-byte.result in
+      drawing (thrash_for s move) h c.draw-byte.ensures.drawn c.draw-byte.ensures.left (λ d.
+      let w = c.put_thrash.ensures.stands _ _ (with_thrash (byte % 2 + 2)) d.shows.within refl (omega arith) bide trapping in
+      let a = still {g' = g} d (put_on_conditions d.shows s (with_thrash (byte % 2 + 2)) w) refl in
+      let v = c.put_kept_accuracy.ensures.stands _ _ (with_kept_accuracy (accuracy_byte move)) a.shows.within
+      (ap (λ (n : ℕ). record (active_in s (on_conditions s (with_thrash (byte % 2 + 2)) p).field) { kept_accuracy = n }) is) in
+      drawn_goes _ _ a (still {g' = g} a (put_on_active a.shows s (with_kept_accuracy (accuracy_byte move)) v) refl));
+}

@@ -1,0 +1,228 @@
+//! The hits of a move, one after the other (docs/MECHANICS.md, "Many hits").
+ghost use Rattle.std.specs.Prelude.{◌*◌, ◌+◌, ◌||◌, ◌≡◌, ◌≤◌};
+ghost use Rattle.arrayvec.specs.ArrayVec.{array_vec_len};
+ghost use Rattle.gen1_layout.specs.Words.{AddsAtMost, Does, HasRoom, Reads, false, move_at, other, true};
+ghost use Rattle.gen1_machine.specs.State.{has_fallen_in};
+ghost use Rattle.gen1_machine.specs.declared.event.Event.TheVariants as told;
+ghost use Rattle.gen1_machine.specs.HitEffects.{hit_effect};
+ghost use Rattle.gen1_machine.specs.Landing.{land};
+ghost use Rattle.gen1_machine.specs.ManyHits.{hit_again, hit_once, hits, other_hits};
+ghost use Rattle.gen1_tables.specs.Effects.{hits_more, knocks_out};
+ghost use Rattle.gen1_machine.specs.Progress.{broke_substitute, note, only, unless};
+ghost use Rattle.gen1_layout.specs.Parts.{Parts};
+ghost use Rattle.gen1_hits.specs.Landing.{has_broken};
+ghost use Rattle.gen1_action.specs.Knowing.{DoesKnowing, DoesKnowingDrawing, IsUncounted};
+ghost use Rattle.gen1_multiturn.specs.ManyHits.{IsFew};
+
+use crate::first_hit::note_first_hit;
+use crate::hit_counts::{hits_left, note_hit_count, plan_unless_broken};
+use crate::hit_effects::hit_effect;
+use crate::moves::rage::rage;
+use gen1_action::Known;
+use gen1_hits::{Landed, land};
+use gen1_layout::Packed;
+use gen1_machine::{Event, EventList, Side};
+use gen1_rolls::Rolls;
+use gen1_tables::{Effect, MoveId};
+
+/// Makes all hits of a move of `side` that hits: one, or as many as its effect plans after the first, until a Substitute breaks
+/// or the foe falls. Each lands the last damage, which a landing on HP may cut, and brings what comes with it: recoil, drained
+/// HP, the user's own Rage or its explosion, unless it broke a Substitute; and the foe's Rage builds, if it lives.
+///
+/// Before the first hit `Crit` and `SuperEffective` or `Resisted` are written, where the damage went through the types; after
+/// the last the hit count, where one was planned. Thirteen places in `events` are to be free. What is known then is how many
+/// hits were planned and made, and whether a Substitute broke; before, no hit was planned or made. One draw or two are taken
+/// for a count of two to five, else none (docs/MECHANICS.md, "Many hits", "Recoil, drain and explosion").
+pub fn hits<R: Rolls>(
+    battle: &mut Packed,
+    side: Side,
+    id: MoveId,
+    known: &mut Known,
+    random: &mut R,
+    events: &mut EventList,
+)
+    requires room { HasRoom 13 events.old }
+    requires counts { IsUncounted known.old }
+    ensures shown { DoesKnowingDrawing R.byte R.next R.SPAN battle.old events.old.items random.old
+        known.old battle.new events.new.items random.new known.new false (hits side (move_at id)) }
+    ensures room { AddsAtMost 13 events.old events.new }
+{
+    note_first_hit(battle, side, id, known, events);
+    if hits_more(id.effect()) {
+        hit_of_many(battle, side, id, known, random, events);
+        other_hits(battle, side, id, known, random, events);
+    } else {
+        hit_once(battle, side, id, known, events);
+    }
+}
+
+fn hits_more(effect: Effect) -> bool
+    ensures { result ≡ hits_more effect }
+{
+    matches!(
+        effect,
+        Effect::MultiHit | Effect::DoubleHit | Effect::Twineedle
+    )
+}
+
+// The hit of a move that makes one.
+#[inline(always)] // docs/SPEED.md, "Hints on inlining"
+fn hit_once(battle: &mut Packed, side: Side, id: MoveId, known: &mut Known, events: &mut EventList)
+    requires room { HasRoom 4 events.old }
+    requires one { hits_more (move_at id).effect ≡ false }
+    requires made { known.old.hits_made ≤ 4 }
+    ensures shown { DoesKnowing battle.old events.old.items known.old battle.new events.new.items
+        known.new false (hit_once side (move_at id)) }
+    ensures room { AddsAtMost 4 events.old events.new }
+{
+    land_hit(battle, side, known, events);
+    note_knock_out(id.effect(), events);
+    known.hits_made += 1;
+    effect_unless_broken(battle, side, id, known, events);
+    rage(battle, side, events);
+}
+
+// A hit of a move that makes several: two events at most, since nothing else comes with it.
+fn hit_of_many<R: Rolls>(
+    battle: &mut Packed,
+    side: Side,
+    id: MoveId,
+    known: &mut Known,
+    random: &mut R,
+    events: &mut EventList,
+)
+    requires room { HasRoom 2 events.old }
+    requires many { hits_more (move_at id).effect ≡ true }
+    requires made { known.old.hits_made ≤ 4 }
+    ensures shown { DoesKnowingDrawing R.byte R.next R.SPAN battle.old events.old.items random.old
+        known.old battle.new events.new.items random.new known.new false
+        (hit_once side (move_at id)) }
+    ensures room { AddsAtMost 2 events.old events.new }
+    ensures made { known.new.hits_made ≡ known.old.hits_made + 1 }
+    ensures few { IsFew known.old → IsFew known.new }
+{
+    land_hit(battle, side, known, events);
+    known.hits_made += 1;
+    plan_unless_broken(side, id, known, random);
+    rage(battle, side, events);
+}
+
+// The last damage lands on the foe.
+fn land_hit(battle: &mut Packed, side: Side, known: &mut Known, events: &mut EventList)
+    requires room { HasRoom 1 events.old }
+    ensures shown { DoesKnowing battle.old events.old.items known.old battle.new events.new.items
+        known.new false (land (other side)) }
+    ensures room { AddsAtMost 1 events.old events.new }
+    ensures same { (known.new.hits_made ≡ known.old.hits_made)
+        × (known.new.hits_planned ≡ known.old.hits_planned) }
+{
+    let damage = battle.last_damage();
+    let landed = land(battle, side, damage, events);
+    let broke = has_broken(landed);
+    known.broke = broke | known.broke;
+}
+
+fn has_broken(landed: Landed) -> bool
+    ensures { result ≡ has_broken landed }
+{
+    matches!(landed, Landed::Broke)
+}
+
+fn note_knock_out(effect: Effect, events: &mut EventList)
+    requires room { HasRoom 1 events.old }
+    ensures shown { (parts : Parts)
+        → Does parts events.old.items parts events.new.items false
+        (only (knocks_out effect) (note λ f. told.OneHitKnockOut)) }
+    ensures room { AddsAtMost 1 events.old events.new }
+{
+    if knocks_out(effect) {
+        events.push(Event::OneHitKnockOut);
+    }
+}
+
+fn knocks_out(effect: Effect) -> bool
+    ensures { result ≡ knocks_out effect }
+{
+    matches!(effect, Effect::OneHitKnockOut)
+}
+
+fn effect_unless_broken(
+    battle: &mut Packed,
+    side: Side,
+    id: MoveId,
+    known: &Known,
+    events: &mut EventList,
+)
+    requires room { HasRoom 1 events.old }
+    requires one { hits_more (move_at id).effect ≡ false }
+    ensures shown { DoesKnowing battle.old events.old.items known.now battle.new events.new.items
+        known.now false
+        (unless broke_substitute (hit_effect side (move_at id) (move_at id).effect)) }
+    ensures room { AddsAtMost 1 events.old events.new }
+{
+    if !known.broke {
+        hit_effect(battle, side, id, events);
+    }
+}
+
+// The hits after the first, and how many there were in all.
+fn other_hits<R: Rolls>(
+    battle: &mut Packed,
+    side: Side,
+    id: MoveId,
+    known: &mut Known,
+    random: &mut R,
+    events: &mut EventList,
+)
+    requires room { HasRoom 9 events.old }
+    requires many { hits_more (move_at id).effect ≡ true }
+    requires made { known.old.hits_made ≡ 1 }
+    requires few { IsFew known.old }
+    ensures shown { DoesKnowingDrawing R.byte R.next R.SPAN battle.old events.old.items random.old
+        known.old battle.new events.new.items random.new known.new false
+        (other_hits side (move_at id)) }
+    ensures room { AddsAtMost 9 events.old events.new }
+{
+    let left = hits_left(known.hits_planned);
+    hit_again(battle, side, id, left, known, random, events);
+    note_hit_count(battle, side.other(), known, events);
+}
+
+// So many hits more, if nothing ends them.
+fn hit_again<R: Rolls>(
+    battle: &mut Packed,
+    side: Side,
+    id: MoveId,
+    left: u8,
+    known: &mut Known,
+    random: &mut R,
+    events: &mut EventList,
+)
+    requires room { array_vec_len events.old + 2 * left ≤ 64 }
+    requires many { hits_more (move_at id).effect ≡ true }
+    requires made { known.old.hits_made + left ≤ 5 }
+    ensures shown { DoesKnowingDrawing R.byte R.next R.SPAN battle.old events.old.items random.old
+        known.old battle.new events.new.items random.new known.new false
+        (hit_again left side (move_at id)) }
+    ensures room { array_vec_len events.new ≤ array_vec_len events.old + 2 * left }
+    ensures low { known.old.hits_made ≤ known.new.hits_made }
+    ensures high { known.new.hits_made ≤ known.old.hits_made + left }
+{
+    if left == 0 {
+        return;
+    }
+    if hits_end(battle, side, known) {
+        return;
+    }
+    hit_of_many(battle, side, id, known, random, events);
+    hit_again(battle, side, id, left - 1, known, random, events);
+}
+
+// A Substitute that broke or a fall ends the hits.
+fn hits_end(battle: &Packed, side: Side, known: &Known) -> bool
+    ensures stands { Reads battle.now result λ f.
+        (known.now.broke || has_fallen_in (other side) f) }
+{
+    let fallen = battle.has_fallen(side.other());
+    known.broke | fallen
+}

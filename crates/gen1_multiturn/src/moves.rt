@@ -1,0 +1,11 @@
+//! Moves that last, and moves that strike by rules of their own (docs/MECHANICS.md, "Fixed damage and one-hit moves",
+//! "Going on", "Charging", "Counter").
+pub mod bide;
+pub mod charging;
+pub mod counter;
+pub mod fixed_damage;
+pub mod one_hit_moves;
+pub mod rage;
+pub mod substitute;
+pub mod thrash;
+pub mod trapping;

@@ -1,0 +1,148 @@
+//! Bide, which begins, stores the last damage, and lets it out twice over (docs/MECHANICS.md, "Going on").
+ghost use Rattle.std.specs.Prelude.{◌-◌, ◌≡◌};
+ghost use Rattle.gen1_layout.specs.Words.{Adds, AddsAtMost, Frame, HasRoom, None, Progress, Reads, Shows, Some, false, true, underway_in, ℕ};
+ghost use Rattle.gen1_tables.specs.declared.effect.Effect.{Effect};
+ghost use Rattle.gen1_tables.specs.declared.effect.Effect.TheVariants.{Bide};
+ghost use Rattle.gen1_machine.specs.Conditions.{Storing, energy_with};
+ghost use Rattle.gen1_machine.specs.GoingOn.{bide_goes_on, let_energy_go, let_out, store_energy};
+ghost use Rattle.gen1_machine.specs.LateEffects.{bide_for, start_bide};
+ghost use Rattle.gen1_tables.specs.Effects.{bides};
+ghost use Rattle.gen1_machine.specs.Progress.{underway};
+ghost use Rattle.gen1_action.specs.declared.known.Known.{Known as Knowledge};
+ghost use Rattle.gen1_action.specs.Alone.{DoesAloneAt};
+ghost use Rattle.gen1_action.specs.Knowing.{DoesKnowing, IsUncounted};
+ghost use Rattle.gen1_action.specs.Planned.{DoesAt};
+ghost use Rattle.gen1_multiturn.specs.Bide.{energy_let_out, use_bide};
+
+use gen1_action::Known;
+use gen1_layout::{Conditions, Packed};
+use gen1_machine::{Event, EventList, Side, Volatile};
+use gen1_rolls::Rolls;
+
+/// Uses Bide: `side` begins to store, for two or three turns of one draw, with `Start`; or it stores the last damage, with
+/// `Activate`; or in its last turn it ends, with `End`, and the last damage becomes twice the energy, which is answered: from 0
+/// to 65,535, as 16 bits hold it. 0 is a miss. A place in `events` is to be free, and nothing else changes (docs/MECHANICS.md,
+/// "Going on").
+pub fn bide<R: Rolls>(
+    battle: &mut Packed,
+    side: Side,
+    random: &mut R,
+    events: &mut EventList,
+) -> Option<u16>
+    requires room { HasRoom 1 events.old }
+    ensures left { DoesAloneAt R.byte R.next R.SPAN side Bide battle.old events.old.items random.old
+        battle.new events.new.items random.new (λ r. use_bide side) }
+    ensures energy { Reads battle.old result λ f. energy_let_out f.last_damage
+        (underway_in side f).bide }
+    ensures room { AddsAtMost 1 events.old events.new }
+{
+    let energy = energy_let_out(battle, side);
+    match battle.bide(side) {
+        None => start_bide(battle, side, random, events),
+        Some(_) => {
+            bide_knowing(battle, side, &mut Known::new().begun(side), events);
+        }
+    }
+    energy
+}
+
+/// Goes on with the Bide of `side`, if it is on: it stores, and the action ends with that, for which the answer is `true`; or it
+/// lets its energy go, and what is known then is that, and whether it is a miss. A place in `events` is to be free, and nothing
+/// else changes (docs/MECHANICS.md, "Going on").
+pub fn bide_knowing(
+    battle: &mut Packed,
+    side: Side,
+    known: &mut Known,
+    events: &mut EventList,
+) -> bool
+    requires room { HasRoom 1 events.old }
+    ensures shown { DoesKnowing battle.old events.old.items known.old battle.new events.new.items
+        known.new result (bide_goes_on side) }
+    ensures counts { IsUncounted known.old → IsUncounted known.new }
+    ensures room { AddsAtMost 1 events.old events.new }
+{
+    let Some(turns) = battle.bide(side) else {
+        return false;
+    };
+    let energy = battle.energy(side).wrapping_add(battle.last_damage());
+    if turns <= 1 {
+        let_energy_go(battle, side, energy.wrapping_mul(2), known, events);
+        return false;
+    }
+    store_energy(battle, side, turns.saturating_sub(1), energy, events);
+    true
+}
+
+/// Begins the Bide of `side`, with `Start`: for two or three turns of one draw, with no energy yet. A place in `events` is to be
+/// free for it, and nothing else changes (docs/MECHANICS.md, "Going on").
+pub fn start_bide<R: Rolls>(battle: &mut Packed, side: Side, random: &mut R, events: &mut EventList)
+    requires room { HasRoom 1 events.old }
+    ensures shown { (known : Knowledge) (effect : Effect) → bides effect ≡ true
+        → DoesAt R.byte R.next R.SPAN side effect battle.old events.old.items random.old known
+        battle.new events.new.items random.new known false (λ r. start_bide side) }
+    ensures room { Adds 1 events.old events.new }
+{
+    let byte = random.draw();
+    bide_for(battle, side, byte, events);
+}
+
+// Neither thrashing nor trapping is on.
+fn bide_for(battle: &mut Packed, side: Side, byte: u8, events: &mut EventList)
+    requires room { HasRoom 1 events.old }
+    ensures shown { (g : Frame) (p : Progress) → (underway side p).thrash ≡ None
+        → (underway side p).trapping ≡ None
+        → Shows g battle.old events.old.items false p
+        → Shows g battle.new events.new.items false (bide_for side byte p) }
+    ensures room { Adds 1 events.old events.new }
+{
+    battle.put_bide(side, byte % 2 + 2, 0);
+    events.push(Event::Start(battle.who(side), Volatile::Bide));
+}
+
+// What is let out in this turn, where that is the last.
+fn energy_let_out(battle: &Packed, side: Side) -> Option<u16>
+    ensures { Reads battle.now result λ f. energy_let_out f.last_damage (underway_in side f).bide }
+{
+    let Some(turns) = battle.bide(side) else {
+        return None;
+    };
+    if turns <= 1 {
+        let energy = battle.energy(side).wrapping_add(battle.last_damage());
+        return Some(energy.wrapping_mul(2));
+    }
+    None
+}
+
+// The damage is twice the energy; 0 is a miss.
+fn let_energy_go(
+    battle: &mut Packed,
+    side: Side,
+    damage: u16,
+    known: &mut Known,
+    events: &mut EventList,
+)
+    requires room { HasRoom 1 events.old }
+    ensures shown { (energy : ℕ) → damage ≡ let_out energy
+        → DoesKnowing battle.old events.old.items known.old battle.new events.new.items known.new
+        false (let_energy_go side energy) }
+    ensures counts { IsUncounted known.old → IsUncounted known.new }
+    ensures room { Adds 1 events.old events.new }
+{
+    battle.end_bide(side);
+    events.push(Event::End(battle.who(side), Volatile::Bide));
+    battle.put_last_damage(damage);
+    known.letting_go = true;
+    known.missed = damage == 0;
+}
+
+fn store_energy(battle: &mut Packed, side: Side, turns: u8, energy: u16, events: &mut EventList)
+    requires room { HasRoom 1 events.old }
+    ensures shown { (g : Frame) (p : Progress) (damage : ℕ) (b : Storing)
+        → (underway side p).bide ≡ Some b → turns ≡ b.turns - 1 → energy ≡ energy_with damage b
+        → Shows g battle.old events.old.items false p
+        → Shows g battle.new events.new.items true (store_energy side damage p) }
+    ensures room { Adds 1 events.old events.new }
+{
+    battle.put_bide(side, turns, energy);
+    events.push(Event::Activate(battle.who(side), Volatile::Bide));
+}

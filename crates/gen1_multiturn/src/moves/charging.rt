@@ -1,0 +1,144 @@
+//! Moves that charge for a turn before they strike (docs/MECHANICS.md, "Charging").
+ghost use Rattle.std.specs.Prelude.{◌≡◌};
+ghost use Rattle.gen1_layout.specs.Words.{Adds, AddsAtMost, Does, Event, Frame, HasRoom, List, Progress, Shows, active_in, false, length, member_in, move_at, true};
+ghost use Rattle.gen1_machine.specs.Charging.{begin_charge, charge, end_charge, make_current};
+ghost use Rattle.gen1_machine.specs.Conditions.{with_invulnerability};
+ghost use Rattle.gen1_tables.specs.Effects.{hides};
+ghost use Rattle.gen1_machine.specs.Picks.{used_by};
+ghost use Rattle.gen1_machine.specs.Progress.{on_conditions, only};
+ghost use Rattle.gen1_machine.specs.Valid.{IsUsedMove};
+ghost use Rattle.gen1_action.specs.Planned.{DoesTaking};
+ghost use Rattle.gen1_multiturn.specs.Charging.{charge_picked};
+
+use gen1_action::Known;
+use gen1_layout::{Conditions, Packed};
+use gen1_machine::{Event, EventList, Pick, Side, UsedMove};
+use gen1_rolls::Rolls;
+use gen1_tables::{Effect, MoveId};
+
+/// Charges the move that `side` has picked, if it charges. In the first turn the picked move becomes the current one, the user is
+/// Charging, and for Fly and Dig also Invulnerable, and `Prepare` is written; `true` says that the action ends with that. In the
+/// second turn, in which Charging is on, both conditions are cleared. A place in `events` is to be free, and nothing else
+/// changes (docs/MECHANICS.md, "Charging").
+pub fn charge(battle: &mut Packed, side: Side, id: MoveId, events: &mut EventList) -> bool
+    requires room { HasRoom 1 events.old }
+    ensures shown { Does battle.old events.old.items battle.new events.new.items result
+        (charge_picked side (move_at id)) }
+    ensures room { AddsAtMost 1 events.old events.new }
+{
+    let pick = Pick::Use(battle.picked_move(side));
+    charge_by(battle, side, pick, id, events)
+}
+
+/// The same of the move that a pick takes up, in an action of which something is known. The answer is `true` where the action
+/// ends with it: in the first turn, where the move becomes the current one (docs/MECHANICS.md, "Charging").
+pub fn charge_knowing<R: Rolls>(
+    battle: &mut Packed,
+    side: Side,
+    pick: Pick,
+    id: MoveId,
+    known: &Known,
+    random: &R,
+    events: &mut EventList,
+) -> bool
+    requires room { HasRoom 1 events.old }
+    ensures shown { DoesTaking R.byte R.next R.SPAN side pick (move_at id).effect battle.old
+        events.old.items random.now known.now battle.new events.new.items random.now known.now
+        result (λ r. charge side pick (move_at id)) }
+    ensures room { AddsAtMost 1 events.old events.new }
+{
+    charge_by(battle, side, pick, id, events)
+}
+
+/// Makes the move that a pick uses the current one of `side`; nothing else changes (docs/MECHANICS.md, "Charging").
+pub fn make_current(battle: &mut Packed, side: Side, pick: Pick)
+    ensures shown { (g : Frame) (p : Progress) (events : List Event)
+        → IsUsedMove (length (member_in side p.field).moves)
+        (used_by pick (active_in side p.field).current_move)
+        → Shows g battle.old events false p
+        → Shows g battle.new events false (make_current side pick p) }
+{
+    let used = used_by(pick, battle.current_move(side));
+    battle.put_current_move(side, used);
+}
+
+/// What a pick uses: the move that is picked, or else the current one (docs/MECHANICS.md, "Picks").
+pub fn used_by(pick: Pick, current: UsedMove) -> UsedMove
+    ensures { result ≡ used_by pick current }
+{
+    match pick {
+        Pick::Use(used) => used,
+        Pick::Continue => current,
+        Pick::Idle => current,
+        Pick::Held => current,
+    }
+}
+
+// True where the action ends with it.
+fn charge_by(
+    battle: &mut Packed,
+    side: Side,
+    pick: Pick,
+    id: MoveId,
+    events: &mut EventList,
+) -> bool
+    requires room { HasRoom 1 events.old }
+    ensures shown { (g : Frame) (p : Progress)
+        → IsUsedMove (length (member_in side p.field).moves)
+        (used_by pick (active_in side p.field).current_move)
+        → Shows g battle.old events.old.items false p
+        → Shows g battle.new events.new.items result (charge side pick (move_at id) p) }
+    ensures room { AddsAtMost 1 events.old events.new }
+{
+    if !id.effect().charges() {
+        return false;
+    }
+    if battle.is_on(side, Conditions::CHARGING) {
+        end_charge(battle, side);
+        return false;
+    }
+    begin_charge(battle, side, pick, id, events);
+    true
+}
+
+// The first turn.
+fn begin_charge(battle: &mut Packed, side: Side, pick: Pick, id: MoveId, events: &mut EventList)
+    requires room { HasRoom 1 events.old }
+    ensures shown { (g : Frame) (p : Progress)
+        → IsUsedMove (length (member_in side p.field).moves)
+        (used_by pick (active_in side p.field).current_move)
+        → Shows g battle.old events.old.items false p
+        → Shows g battle.new events.new.items true (begin_charge side pick (move_at id) p) }
+    ensures room { Adds 1 events.old events.new }
+{
+    make_current(battle, side, pick);
+    battle.put_flag(side, Conditions::CHARGING, true);
+    hide(battle, side, id.effect());
+    events.push(Event::Prepare(battle.who(side), id));
+}
+
+// Who flies up or digs in can't be hit meanwhile.
+fn hide(battle: &mut Packed, side: Side, effect: Effect)
+    ensures shown { (events : List Event)
+        → Does battle.old events battle.new events false
+        (only (hides effect) (on_conditions side with_invulnerability)) }
+{
+    if hides(effect) {
+        battle.put_flag(side, Conditions::INVULNERABLE, true);
+    }
+}
+
+fn hides(effect: Effect) -> bool
+    ensures { result ≡ hides effect }
+{
+    matches!(effect, Effect::ChargeInvulnerable)
+}
+
+// The second turn.
+fn end_charge(battle: &mut Packed, side: Side)
+    ensures shown { (events : List Event)
+        → Does battle.old events battle.new events false (end_charge side) }
+{
+    battle.put_flag(side, Conditions::CHARGING, false);
+    battle.put_flag(side, Conditions::INVULNERABLE, false);
+}

@@ -1,0 +1,88 @@
+//! Counter, which gives the last damage back twice over (docs/MECHANICS.md, "Counter").
+ghost use Rattle.std.specs.Prelude.{◌≡◌, ◌≤◌};
+ghost use Rattle.gen1_layout.specs.Words.{Event, List, Reads, false, move_at};
+ghost use Rattle.gen1_machine.specs.Counter.{can_be_countered, counter};
+ghost use Rattle.gen1_machine.specs.Picks.{picked_move_in};
+ghost use Rattle.gen1_action.specs.Knowing.{DoesKnowingDrawing, IsUncounted};
+ghost use Rattle.gen1_multiturn.specs.Counter.{can_counter_in, countered};
+
+use gen1_action::{Known, hit_or_miss};
+use gen1_hits::critical;
+use gen1_layout::Packed;
+use gen1_machine::{Side, UsedMove};
+use gen1_rolls::Rolls;
+use gen1_tables::{COUNTER, Element, MoveId, STRUGGLE};
+
+/// The damage that a Counter of `side` deals if it hits: twice the last damage, from 2 to 65,535. `None` where it misses before
+/// its hit test, since the foe has picked no move, Counter, a move of power 0 or one that is neither Normal nor Fighting, or
+/// since the last damage is 0 (docs/MECHANICS.md, "Counter"). The foe's picked move is looked up in the member that is out now.
+pub fn counter(battle: &Packed, side: Side) -> Option<u16>
+    ensures stands { Reads battle.now result (countered side) }
+{
+    if !can_counter(battle, side) {
+        return None;
+    }
+    Some(battle.last_damage().saturating_mul(2))
+}
+
+/// Counter, or a move that does as it does, in an action of which something is known: the critical draw, then a miss that keeps
+/// the last damage; or twice the last damage takes its place, and the hit test comes. What is known then is whether it would be
+/// critical, the byte that was tested, and whether it missed; nothing else of the battle changes (docs/MECHANICS.md, "Counter").
+pub fn counter_knowing<R: Rolls>(
+    battle: &mut Packed,
+    side: Side,
+    id: MoveId,
+    known: &mut Known,
+    random: &mut R,
+)
+    ensures shown { (events : List Event)
+        → DoesKnowingDrawing R.byte R.next R.SPAN battle.old events random.old known.old battle.new
+        events random.new known.new false (counter side (move_at id)) }
+    ensures counts { IsUncounted known.old → IsUncounted known.new }
+{
+    known.critical = critical(battle, side, id, random);
+    let Some(damage) = counter(battle, side) else {
+        known.missed = true;
+        return;
+    };
+    battle.put_last_damage(damage);
+    hit_or_miss(battle, side, id, known, random);
+}
+
+fn can_counter(battle: &Packed, side: Side) -> bool
+    ensures stands { Reads battle.now result (can_counter_in side) }
+{
+    let picked = picked_number(battle, side.other());
+    let hurt = 0 < battle.last_damage();
+    can_be_countered(picked) & hurt
+}
+
+// The number of the move that was picked last, 0 for none.
+fn picked_number(battle: &Packed, side: Side) -> u8
+    ensures stands { Reads battle.now result (picked_move_in side) }
+{
+    match battle.picked_move(side) {
+        UsedMove::Nothing => 0,
+        UsedMove::Slot(slot) => battle.move_in(side, slot.max(1).min(4)),
+        UsedMove::Struggle => STRUGGLE,
+    }
+}
+
+// By the number of a move, or 0 for none.
+fn can_be_countered(number: u8) -> bool
+    ensures { number ≤ 165 → result ≡ can_be_countered (move_at number) }
+{
+    match MoveId::new(number) {
+        Some(id) => is_answered(id),
+        None => false,
+    }
+}
+
+fn is_answered(id: MoveId) -> bool
+    ensures { result ≡ can_be_countered (move_at id) }
+{
+    let another = id.number() != COUNTER;
+    let strong = 0 < id.power();
+    let direct = matches!(id.kind(), Element::Normal | Element::Fighting);
+    another & (strong & direct)
+}

@@ -1,0 +1,102 @@
+//! Moves of fixed damage, Super Fang and Psywave (docs/MECHANICS.md, "Fixed damage and one-hit moves").
+ghost use Rattle.std.specs.Prelude.{◌≡◌};
+ghost use Rattle.gen1_layout.specs.Words.{Event, List, Reads, false, member_in, move_at};
+ghost use Rattle.gen1_layout.specs.Parts.{Parts};
+ghost use Rattle.gen1_machine.specs.FixedDamage.{deal_fixed, fixed_damage, half_hp, is_psywave, psywave};
+ghost use Rattle.gen1_action.specs.Knowing.{DoesKnowingDrawing, IsUncounted};
+ghost use Rattle.gen1_multiturn.specs.FixedDamage.{DealsAs};
+
+use gen1_action::{Known, hit_or_miss};
+use gen1_layout::Packed;
+use gen1_machine::{Outcome, Side};
+use gen1_rolls::{Rolls, until};
+use gen1_tables::MoveId;
+
+const SONIC_BOOM: u8 = 49;
+
+const DRAGON_RAGE: u8 = 82;
+
+const PSYWAVE: u8 = 149;
+
+const SUPER_FANG: u8 = 162;
+
+/// The damage that a move of `side` deals once it has hit: 20 for Sonic Boom, 40 for Dragon Rage, half of the foe's HP, at least
+/// 1, for Super Fang, a drawn number for Psywave, and for Seismic Toss, Night Shade and every other move the user's level.
+/// `None` is the fault of Psywave at level 1, which draws nothing (docs/MECHANICS.md, "Fixed damage and one-hit moves").
+pub fn fixed<R: Rolls>(battle: &Packed, side: Side, id: MoveId, random: &mut R) -> Option<u16>
+    ensures deals { DealsAs R.byte R.next R.SPAN battle.now random.old result random.new
+        (deal_fixed side id) }
+{
+    let number = id.number();
+    if number == SONIC_BOOM {
+        return Some(20);
+    }
+    if number == DRAGON_RAGE {
+        return Some(40);
+    }
+    if number == PSYWAVE {
+        return psywave(battle.level(side), random);
+    }
+    if number == SUPER_FANG {
+        return Some(half_hp(battle, side.other()));
+    }
+    Some(u16::from(battle.level(side)))
+}
+
+/// A move of fixed damage in an action of which something is known: the hit test, and on a hit the damage, which becomes the
+/// last damage. `true` where the battle ended with the fault of Psywave at level 1, for which the last damage stays as it was.
+/// What is known then is the byte that was tested, and whether it missed (docs/MECHANICS.md, "Fixed damage and one-hit moves").
+pub fn fixed_knowing<R: Rolls>(
+    battle: &mut Packed,
+    side: Side,
+    id: MoveId,
+    known: &mut Known,
+    random: &mut R,
+) -> bool
+    ensures shown { (events : List Event)
+        → DoesKnowingDrawing R.byte R.next R.SPAN battle.old events random.old known.old battle.new
+        events random.new known.new result (fixed_damage side (move_at id)) }
+    ensures counts { IsUncounted known.old → IsUncounted known.new }
+{
+    hit_or_miss(battle, side, id, known, random);
+    if known.missed {
+        return false;
+    }
+    match fixed(battle, side, id, random) {
+        Some(damage) => {
+            battle.put_last_damage(damage);
+            false
+        }
+        None => {
+            battle.put_outcome(Outcome::Fault(2));
+            true
+        }
+    }
+}
+
+// A draw above 0 and below one and a half times the level.
+fn psywave<R: Rolls>(level: u8, random: &mut R) -> Option<u16>
+    ensures deals { (parts : Parts)
+        → DealsAs R.byte R.next R.SPAN parts random.old result random.new (psywave level) }
+{
+    if level <= 1 {
+        return None;
+    }
+    match until(random, |byte| is_psywave(level, byte)) {
+        Some(byte) => Some(u16::from(byte)),
+        None => unreachable!(),
+    }
+}
+
+fn is_psywave(level: u8, byte: u8) -> bool
+    ensures { result ≡ is_psywave level byte }
+{
+    let top = u16::from(level) * 3 / 2;
+    (0 < byte) & (u16::from(byte) < top)
+}
+
+fn half_hp(battle: &Packed, side: Side) -> u16
+    ensures stands { Reads battle.now result λ f. half_hp (member_in side f) }
+{
+    (battle.hp(side) / 2).max(1)
+}

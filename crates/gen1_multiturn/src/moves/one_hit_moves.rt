@@ -1,0 +1,79 @@
+//! One-hit moves (docs/MECHANICS.md, "Fixed damage and one-hit moves").
+ghost use Rattle.gen1_layout.specs.Words.{DoesDrawing, Event, List, Reads, false, move_at, now_in, nat_lt, other};
+ghost use Rattle.gen1_tables.specs.declared.effect.Stat.TheVariants.{Speed};
+ghost use Rattle.gen1_machine.specs.Damage.{is_factor};
+ghost use Rattle.gen1_machine.specs.FixedDamage.{deal_everything, knock_out, knock_out_by_type};
+ghost use Rattle.gen1_machine.specs.Progress.{draw_until};
+ghost use Rattle.gen1_action.specs.Knowing.{DoesKnowingDrawing, IsUncounted};
+
+use gen1_action::{Known, hit_or_miss, is_immune};
+use gen1_hits::{critical, is_factor};
+use gen1_layout::Packed;
+use gen1_machine::Side;
+use gen1_rolls::{Rolls, until};
+use gen1_tables::{MoveId, Stat};
+
+/// A one-hit move of `side`, in an action of which something is known (docs/MECHANICS.md, "Fixed damage and one-hit moves"). The
+/// last damage becomes 0 and the critical draw is taken. A user that is slower than its foe misses, with no more draws. Else a
+/// move with no effect on the foe misses, and any other takes the draws of a factor and makes the last damage 65,535; then
+/// comes the hit test in either case. What is known then is whether it would be critical, the byte that was tested, and whether
+/// it missed.
+pub fn knock_out<R: Rolls>(
+    battle: &mut Packed,
+    side: Side,
+    id: MoveId,
+    known: &mut Known,
+    random: &mut R,
+)
+    ensures shown { (events : List Event)
+        → DoesKnowingDrawing R.byte R.next R.SPAN battle.old events random.old known.old battle.new
+        events random.new known.new false (knock_out side (move_at id)) }
+    ensures counts { IsUncounted known.old → IsUncounted known.new }
+{
+    battle.put_last_damage(0);
+    known.critical = critical(battle, side, id, random);
+    if is_slower(battle, side) {
+        known.missed = true;
+        return;
+    }
+    knock_out_by_type(battle, side, id, known, random);
+    hit_or_miss(battle, side, id, known, random);
+}
+
+fn is_slower(battle: &Packed, side: Side) -> bool
+    ensures stands { Reads battle.now result λ f. nat_lt (now_in Speed side f)
+        (now_in Speed (other side) f) }
+{
+    battle.current_stat(side, Stat::Speed) < battle.current_stat(side.other(), Stat::Speed)
+}
+
+fn knock_out_by_type<R: Rolls>(
+    battle: &mut Packed,
+    side: Side,
+    id: MoveId,
+    known: &mut Known,
+    random: &mut R,
+)
+    ensures shown { (events : List Event)
+        → DoesKnowingDrawing R.byte R.next R.SPAN battle.old events random.old known.old battle.new
+        events random.new known.new false (knock_out_by_type side (move_at id)) }
+    ensures counts { IsUncounted known.old → IsUncounted known.new }
+{
+    if is_immune(battle, side.other(), id.kind()) {
+        known.missed = true;
+        return;
+    }
+    deal_everything(battle, random);
+}
+
+// The draws of a factor, which is not used.
+fn deal_everything<R: Rolls>(battle: &mut Packed, random: &mut R)
+    ensures shown { (events : List Event)
+        → DoesDrawing R.byte R.next R.SPAN battle.old events random.old battle.new events random.new
+        false (draw_until is_factor deal_everything) }
+{
+    let Some(_) = until(random, |byte| is_factor(byte)) else {
+        return;
+    };
+    battle.put_last_damage(u16::MAX);
+}

@@ -1,0 +1,123 @@
+//! Thrashing, which begins, goes on, and ends in confusion (docs/MECHANICS.md, "Going on").
+ghost use Rattle.std.specs.Prelude.{◌≡◌};
+ghost use Rattle.gen1_layout.specs.Words.{AddsAtMost, Event, Frame, HasRoom, List, None, Progress, ShowsDrawn, draw, false, move_at, true};
+ghost use Rattle.gen1_tables.specs.declared.effect.Effect.{Effect};
+ghost use Rattle.gen1_tables.specs.declared.effect.Effect.TheVariants.{Thrash};
+ghost use Rattle.gen1_tables.specs.Effects.{thrashes};
+ghost use Rattle.gen1_machine.specs.Moves.{Move, accuracy_byte};
+ghost use Rattle.gen1_machine.specs.GoingOn.{thrash_about, thrash_for, thrash_less};
+ghost use Rattle.gen1_machine.specs.Progress.{underway};
+ghost use Rattle.gen1_action.specs.Alone.{DoesAloneAt};
+ghost use Rattle.gen1_action.specs.Planned.{DoesAt};
+
+use gen1_action::{Known, confuse};
+use gen1_layout::Packed;
+use gen1_machine::{EventList, Side};
+use gen1_rolls::Rolls;
+use gen1_tables::MoveId;
+
+// The accuracy byte of Thrash and of Petal Dance.
+const ACCURACY: u8 = 255;
+
+/// Begins the thrashing of `side`, which uses Thrash or Petal Dance: for two or three turns more, of one draw, with the accuracy
+/// byte of these moves, 255, kept for them. Nothing else changes, and no event is written (docs/MECHANICS.md, "Going on").
+pub fn thrash<R: Rolls>(battle: &mut Packed, side: Side, random: &mut R, events: &mut EventList)
+    requires room { HasRoom 1 events.old }
+    ensures left { (move : Move) → accuracy_byte move ≡ 255
+        → DoesAloneAt R.byte R.next R.SPAN side Thrash battle.old events.old.items random.old
+        battle.new events.new.items random.new (λ r. thrash_about side move) }
+    ensures room { AddsAtMost 1 events.old events.new }
+{
+    thrash_with(
+        battle,
+        side,
+        ACCURACY,
+        &Known::new().begun(side),
+        random,
+        events,
+    );
+}
+
+/// The same for a move that thrashes, in an action of which something is known: where it goes on, a turn less is left, and after
+/// the last the user is confused, by a draw, and a place in `events` is to be free for the `Start` (docs/MECHANICS.md, "Going on").
+pub fn thrash_knowing<R: Rolls>(
+    battle: &mut Packed,
+    side: Side,
+    id: MoveId,
+    known: &Known,
+    random: &mut R,
+    events: &mut EventList,
+)
+    requires room { HasRoom 1 events.old }
+    requires tie { thrashes (move_at id).effect ≡ true }
+    ensures shown { DoesAt R.byte R.next R.SPAN side (move_at id).effect battle.old events.old.items
+        random.old known.now battle.new events.new.items random.new known.now false
+        (λ r. thrash_about side (move_at id)) }
+    ensures room { AddsAtMost 1 events.old events.new }
+{
+    thrash_with(battle, side, id.accuracy_byte(), known, random, events);
+}
+
+// The same for a move with this accuracy byte.
+fn thrash_with<R: Rolls>(
+    battle: &mut Packed,
+    side: Side,
+    accuracy: u8,
+    known: &Known,
+    random: &mut R,
+    events: &mut EventList,
+)
+    requires room { HasRoom 1 events.old }
+    ensures shown { (move : Move) (effect : Effect) → accuracy_byte move ≡ accuracy
+        → thrashes effect ≡ true
+        → DoesAt R.byte R.next R.SPAN side effect battle.old events.old.items random.old known.now
+        battle.new events.new.items random.new known.now false (λ r. thrash_about side move) }
+    ensures room { AddsAtMost 1 events.old events.new }
+{
+    if known.going_on {
+        thrash_on(battle, side, battle.thrash(side), random, events);
+        return;
+    }
+    begin_thrashing(battle, side, accuracy, random);
+}
+
+// A turn less is left; after the last it ends, and the user is confused.
+fn thrash_on<R: Rolls>(
+    battle: &mut Packed,
+    side: Side,
+    left: Option<u8>,
+    random: &mut R,
+    events: &mut EventList,
+)
+    requires room { HasRoom 1 events.old }
+    ensures shown { (origin : R) (g : Frame) (p : Progress) → (underway side p).thrash ≡ left
+        → ShowsDrawn R.byte R.next R.SPAN origin g battle.old events.old.items random.old false p
+        → ShowsDrawn R.byte R.next R.SPAN origin g battle.new events.new.items random.new false
+        (thrash_less side left p) }
+    ensures room { AddsAtMost 1 events.old events.new }
+{
+    let Some(turns) = left else {
+        return;
+    };
+    if turns <= 1 {
+        battle.end_thrash(side);
+        confuse(battle, side, random, events);
+        return;
+    }
+    battle.put_thrash(side, turns.saturating_sub(1));
+}
+
+// Neither Bide nor trapping is on. The accuracy is kept from here on, since a fault may come before the hit test
+// (docs/MECHANICS.md, "Going on", "Kept accuracy").
+fn begin_thrashing<R: Rolls>(battle: &mut Packed, side: Side, accuracy: u8, random: &mut R)
+    ensures shown { (events : List Event) (move : Move) (origin : R) (g : Frame) (p : Progress)
+        → accuracy_byte move ≡ accuracy
+        → (underway side p).bide ≡ None → (underway side p).trapping ≡ None
+        → ShowsDrawn R.byte R.next R.SPAN origin g battle.old events random.old false p
+        → ShowsDrawn R.byte R.next R.SPAN origin g battle.new events random.new false
+        (draw (thrash_for side move) p) }
+{
+    let byte = random.draw();
+    battle.put_thrash(side, byte % 2 + 2);
+    battle.put_kept_accuracy(side, accuracy);
+}

@@ -1,0 +1,64 @@
+//! Trapping, which begins or goes on (docs/MECHANICS.md, "Going on").
+ghost use Rattle.std.specs.Prelude.{◌≡◌};
+ghost use Rattle.gen1_layout.specs.Words.{Does, Event, Frame, List, None, Progress, ShowsDrawn, false, other, true, ◌▸◌};
+ghost use Rattle.gen1_tables.specs.declared.effect.Effect.{Effect};
+ghost use Rattle.gen1_tables.specs.declared.effect.Effect.TheVariants.{Trapping};
+ghost use Rattle.gen1_machine.specs.Conditions.{with_trapping_one_less, without_recharge};
+ghost use Rattle.gen1_tables.specs.Effects.{traps};
+ghost use Rattle.gen1_machine.specs.GoingOn.{draw_count, trap, trap_for};
+ghost use Rattle.gen1_machine.specs.Progress.{on_conditions, underway};
+ghost use Rattle.gen1_action.specs.Alone.{DoesAloneAt};
+ghost use Rattle.gen1_action.specs.Planned.{DoesAt};
+
+use gen1_action::{Known, draw_count};
+use gen1_layout::{Conditions, Packed};
+use gen1_machine::Side;
+use gen1_rolls::Rolls;
+
+/// Begins the Trapping of `side`, which uses a move that traps: the foe's Recharge is cleared, and for two to five turns of one
+/// draw or two the foe can do nothing. Nothing else changes, and no event is written (docs/MECHANICS.md, "Going on").
+pub fn trap<R: Rolls>(battle: &mut Packed, side: Side, random: &mut R)
+    ensures left { (events : List Event)
+        → DoesAloneAt R.byte R.next R.SPAN side Trapping battle.old events random.old battle.new
+        events random.new (λ r. trap side) }
+{
+    trap_knowing(battle, side, &Known::new().begun(side), random);
+}
+
+/// The same in an action of which something is known: where it goes on, a turn less is left, and nothing is drawn
+/// (docs/MECHANICS.md, "Going on").
+pub fn trap_knowing<R: Rolls>(battle: &mut Packed, side: Side, known: &Known, random: &mut R)
+    ensures shown { (events : List Event) (effect : Effect) → traps effect ≡ true
+        → DoesAt R.byte R.next R.SPAN side effect battle.old events random.old known.now battle.new
+        events random.new known.now false (λ r. trap side) }
+{
+    if known.going_on {
+        trap_one_turn_less(battle, side);
+        return;
+    }
+    begin_trapping(battle, side, random);
+}
+
+fn trap_one_turn_less(battle: &mut Packed, side: Side)
+    ensures shown { (events : List Event)
+        → Does battle.old events battle.new events false
+        (on_conditions side with_trapping_one_less) }
+{
+    match battle.trapping(side) {
+        Some(turns) => battle.put_trapping(side, turns.saturating_sub(1)),
+        None => {}
+    }
+}
+
+// Neither Bide nor thrashing is on.
+fn begin_trapping<R: Rolls>(battle: &mut Packed, side: Side, random: &mut R)
+    ensures shown { (events : List Event) (origin : R) (g : Frame) (p : Progress)
+        → (underway side p).bide ≡ None → (underway side p).thrash ≡ None
+        → ShowsDrawn R.byte R.next R.SPAN origin g battle.old events random.old false p
+        → ShowsDrawn R.byte R.next R.SPAN origin g battle.new events random.new false
+        ((on_conditions (other side) without_recharge ▸ draw_count (trap_for side)) p) }
+{
+    battle.put_flag(side.other(), Conditions::RECHARGE, false);
+    let count = draw_count(random);
+    battle.put_trapping(side, count + 1);
+}

@@ -1,0 +1,249 @@
+//! The end of an update (docs/MECHANICS.md, "Falls and requests", "Turn limit"): who has fallen, who has won, and what is asked
+//! next.
+ghost use Rattle.std.specs.Prelude.{not, ◌&&◌, ◌<◌, ◌≡◌};
+ghost use Rattle.gen1_tables.specs.Types.{any};
+ghost use Rattle.gen1_layout.specs.Words.{AddsAtMost, AddsNone, Bool, Does, Event as EventOf, Field, Frame, HasRoom, List, Progress, Reads, Setting, Shows, Within, false, is_living, nat_le, party, true, ◌▸◌};
+ghost use Rattle.gen1_machine.specs.declared.event.Event.TheVariants as told;
+ghost use Rattle.gen1_machine.specs.declared.side.Side.TheVariants as sides;
+ghost use Rattle.gen1_machine.specs.Falls.{ask_for_moves, ask_nothing, battle_ends, close, faint_if_fallen, faint_in_order, settle, switch_if, the_fallen_faint};
+ghost use Rattle.gen1_machine.specs.Progress.{note};
+ghost use Rattle.gen1_machine.specs.Ruling.{ruling_of};
+ghost use Rattle.gen1_machine.specs.State.{has_fallen_in};
+ghost use Rattle.gen1_machine.specs.Valid.{IsOutcome};
+ghost use Rattle.gen1_stats.specs.Members.{IsBetween};
+ghost use Rattle.gen1_requests.specs.Falls.{Decides, ask_next, fault_in};
+
+use gen1_layout::Packed;
+use gen1_machine::{Event, EventList, FaultCode, Outcome, Request, Side, TurnNumber};
+
+/// Closes an update whose last actor was `actor`: the side that acted, was skipped, or was sent out last in a turn, and side 1
+/// where there was no turn. The fallen who are out faint, the foe of `actor` first; then the battle ends with a win or a tie, or
+/// switches are asked of who has fallen, or the turn number rises by 1 and moves are asked of both. Where the outcome is a fault
+/// nobody faints, and nothing is asked any more. At most 3 events are written (docs/MECHANICS.md, "Falls and requests", "Turn
+/// limit").
+pub fn close(battle: &mut Packed, actor: Side, events: &mut EventList)
+    requires space { HasRoom 3 events.old }
+    ensures shown { (g : Frame) (p : Progress) → g.action.side ≡ actor
+        → Shows g battle.old events.old.items false p
+        → (stopped : Bool)
+        × Shows g battle.new events.new.items stopped
+        (close (ruling_of g.setting.terms) p.field.outcome p) }
+    ensures room { AddsAtMost 3 events.old events.new }
+{
+    match fault_in(battle.outcome()) {
+        Some(number) => end_by_fault(battle, number, events),
+        None => faint_and_settle(battle, actor, events),
+    }
+}
+
+fn fault_in(outcome: Outcome) -> Option<u8>
+    ensures { result ≡ fault_in outcome }
+{
+    match outcome {
+        Outcome::Fault(number) => Some(number),
+        Outcome::Ongoing => None,
+        Outcome::WinOne => None,
+        Outcome::WinTwo => None,
+        Outcome::Tie => None,
+    }
+}
+
+fn end_by_fault(battle: &mut Packed, number: u8, events: &mut EventList)
+    requires space { HasRoom 1 events.old }
+    ensures shown { IsBetween 1 2 number
+        → Does battle.old events.old.items battle.new events.new.items false
+        (ask_nothing ▸ note λ f. told.Fault number) }
+    ensures room { AddsAtMost 1 events.old events.new }
+{
+    ask_nothing(battle);
+    if let Some(code) = FaultCode::new(number) {
+        events.push(Event::Fault(code));
+    }
+}
+
+fn faint_and_settle(battle: &mut Packed, actor: Side, events: &mut EventList)
+    requires space { HasRoom 3 events.old }
+    ensures shown { (g : Frame) (p : Progress) → g.action.side ≡ actor
+        → Shows g battle.old events.old.items false p
+        → (stopped : Bool)
+        × Shows g battle.new events.new.items stopped
+        ((the_fallen_faint ▸ settle (ruling_of g.setting.terms)) p) }
+    ensures room { AddsAtMost 3 events.old events.new }
+{
+    if nobody_has_fallen(battle) {
+        go_on(battle, events);
+        return;
+    }
+    faint_in_order(battle, actor, events);
+    settle(battle, events);
+}
+
+// One look for the many updates in which nobody faints.
+fn nobody_has_fallen(battle: &Packed) -> bool
+    ensures stands { Reads battle.now result λ f.
+        (not (has_fallen_in sides.One f) && not (has_fallen_in sides.Two f)) }
+{
+    !battle.has_fallen(Side::One) && !battle.has_fallen(Side::Two)
+}
+
+// What is settled where both live who are out: neither side has lost.
+fn go_on(battle: &mut Packed, events: &mut EventList)
+    requires space { HasRoom 1 events.old }
+    ensures shown { (g : Frame) (p : Progress) → has_fallen_in sides.One p.field ≡ false
+        → has_fallen_in sides.Two p.field ≡ false
+        → Shows g battle.old events.old.items false p → (stopped : Bool)
+        × Shows g battle.new events.new.items stopped (settle (ruling_of g.setting.terms) p) }
+    ensures room { AddsAtMost 1 events.old events.new }
+{
+    if is_last_turn(battle) {
+        battle_ends(battle, Outcome::Tie, Event::Tie, events);
+    } else {
+        ask_for_moves(battle, events);
+    }
+}
+
+fn faint_in_order(battle: &mut Packed, actor: Side, events: &mut EventList)
+    requires space { HasRoom 2 events.old }
+    ensures shown { Does battle.old events.old.items battle.new events.new.items false
+        (faint_in_order actor) }
+    ensures room { AddsAtMost 2 events.old events.new }
+{
+    faint_if_fallen(battle, actor.other(), events);
+    faint_if_fallen(battle, actor, events);
+}
+
+fn faint_if_fallen(battle: &mut Packed, side: Side, events: &mut EventList)
+    requires space { HasRoom 1 events.old }
+    ensures shown { Does battle.old events.old.items battle.new events.new.items false
+        (faint_if_fallen side) }
+    ensures room { AddsAtMost 1 events.old events.new }
+{
+    if !battle.has_fallen(side) {
+        return;
+    }
+    battle.put_fallen(side);
+    events.push(Event::Faint(battle.who(side)));
+}
+
+fn settle(battle: &mut Packed, events: &mut EventList)
+    requires space { HasRoom 1 events.old }
+    ensures shown { (g : Frame) (p : Progress) → Shows g battle.old events.old.items false p
+        → (stopped : Bool)
+        × Shows g battle.new events.new.items stopped (settle (ruling_of g.setting.terms) p) }
+    ensures room { AddsAtMost 1 events.old events.new }
+{
+    if end_if_decided(battle, events) {
+        return;
+    }
+    ask_next(battle, events);
+}
+
+// Whether no turn is left.
+fn is_last_turn(battle: &Packed) -> bool
+    ensures stands { (g : Setting) (f : Field) → Within g battle.now f
+        → result ≡ nat_le g.terms.limit f.turn }
+{
+    battle.limit() <= battle.turn()
+}
+
+// Whether the battle has ended. A win in the last turn is a win.
+fn end_if_decided(battle: &mut Packed, events: &mut EventList) -> bool
+    requires space { HasRoom 1 events.old }
+    ensures shown { (g : Frame) (p : Progress) → Shows g battle.old events.old.items false p
+        → Decides g battle.new events.new.items result p }
+    ensures room { AddsAtMost 1 events.old events.new }
+    ensures quiet { result ≡ false → AddsNone events.old events.new }
+{
+    let one = has_living(battle, Side::One);
+    let two = has_living(battle, Side::Two);
+    let late = is_last_turn(battle);
+    let neither = !one & !two;
+    if neither {
+        battle_ends(battle, Outcome::Tie, Event::Tie, events);
+        return true;
+    }
+    if !one {
+        battle_ends(battle, Outcome::WinTwo, Event::Win(Side::Two), events);
+        return true;
+    }
+    if !two {
+        battle_ends(battle, Outcome::WinOne, Event::Win(Side::One), events);
+        return true;
+    }
+    if late {
+        battle_ends(battle, Outcome::Tie, Event::Tie, events);
+        return true;
+    }
+    false
+}
+
+// Where who is out lives, nobody else need be looked at.
+fn has_living(battle: &Packed, side: Side) -> bool
+    ensures { Reads battle.now result λ f. any is_living (party side f).members }
+{
+    if battle.has_fallen(side) {
+        return battle.has_living(side);
+    }
+    true
+}
+
+fn battle_ends(battle: &mut Packed, outcome: Outcome, event: Event, events: &mut EventList)
+    requires space { HasRoom 1 events.old }
+    ensures shown { IsOutcome outcome
+        → Does battle.old events.old.items battle.new events.new.items true
+        (battle_ends outcome event) }
+    ensures room { AddsAtMost 1 events.old events.new }
+{
+    battle.put_outcome(outcome);
+    ask_nothing(battle);
+    events.push(event);
+}
+
+fn ask_nothing(battle: &mut Packed)
+    ensures shown { (events : List EventOf)
+        → Does battle.old events battle.new events false ask_nothing }
+{
+    battle.put_requests(Request::Pass, Request::Pass);
+}
+
+// A switch of each side that has fallen, and else moves of both in the next turn.
+fn ask_next(battle: &mut Packed, events: &mut EventList)
+    requires space { HasRoom 1 events.old }
+    ensures shown { (g : Frame) (p : Progress) → p.field.turn < g.setting.terms.limit
+        → Shows g battle.old events.old.items false p
+        → Shows g battle.new events.new.items false (ask_next p) }
+    ensures room { AddsAtMost 1 events.old events.new }
+{
+    let one = battle.has_fallen(Side::One);
+    let two = battle.has_fallen(Side::Two);
+    let some = one | two;
+    if some {
+        battle.put_requests(switch_if(one), switch_if(two));
+    } else {
+        ask_for_moves(battle, events);
+    }
+}
+
+fn switch_if(fallen: bool) -> Request
+    ensures { result ≡ switch_if fallen }
+{
+    if fallen {
+        Request::Switch
+    } else {
+        Request::Pass
+    }
+}
+
+fn ask_for_moves(battle: &mut Packed, events: &mut EventList)
+    requires space { HasRoom 1 events.old }
+    ensures shown { (g : Frame) (p : Progress) → p.field.turn < g.setting.terms.limit
+        → Shows g battle.old events.old.items false p
+        → Shows g battle.new events.new.items false (ask_for_moves p) }
+    ensures room { AddsAtMost 1 events.old events.new }
+{
+    battle.put_next_turn();
+    battle.put_requests(Request::Move, Request::Move);
+    if let Some(number) = TurnNumber::new(battle.turn()) {
+        events.push(Event::Turn(number));
+    }
+}

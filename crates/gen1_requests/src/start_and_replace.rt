@@ -1,0 +1,96 @@
+//! The two updates in which members come out and nobody acts: the first of a battle, and replacements for the fallen
+//! (docs/MECHANICS.md, "Falls and requests").
+ghost use Rattle.std.specs.Prelude.{◌≡◌};
+ghost use Rattle.gen1_layout.specs.Words.{AddsAtMost, Frame, HasRoom, Progress, Shows, [], false};
+ghost use Rattle.gen1_machine.specs.declared.choice.Choice.TheVariants.{Pass};
+ghost use Rattle.gen1_machine.specs.declared.side.Side.TheVariants as sides;
+ghost use Rattle.gen1_machine.specs.declared.terms.Request.TheVariants.{Switch};
+ghost use Rattle.gen1_machine.specs.Plans.{Comes};
+ghost use Rattle.gen1_machine.specs.Ruling.{ruling_of};
+ghost use Rattle.gen1_machine.specs.State.{State};
+ghost use Rattle.gen1_machine.specs.Step.{close_update, opened};
+ghost use Rattle.gen1_machine.specs.SwitchingIn.{replace, send_if_chosen, start};
+ghost use Rattle.gen1_machine.specs.Valid.{IsUnstarted};
+ghost use Rattle.gen1_layout.specs.Within.{Stands, setting_of};
+ghost use Rattle.gen1_requests.specs.Updates.{Plays, Starts, Steps, Updated, beginning};
+
+use crate::switching_in::send_first;
+use crate::{close, send_out};
+use gen1_layout::Packed;
+use gen1_machine::{Choice, EventList, Place, Side};
+
+/// The first update of a battle, by a Pass of both sides at turn 0: sends out the first member of side 1 and then of side 2,
+/// begins turn 1, and asks moves of both. Nothing is drawn. Into `events`, which is empty, go two `Switch` and a `Turn`
+/// (docs/MECHANICS.md, "Switching in", "Falls and requests").
+pub fn start(battle: &mut Packed, events: &mut EventList)
+    requires empty { events.old.items ≡ [] }
+    ensures updated { (s : State) → Stands battle.old s → Starts s
+        → Updated (setting_of s) battle.new events.new.items
+        (close_update (ruling_of s.terms) (start (opened s))) }
+    ensures stepped { (s : State) → Stands battle.old s → Starts s
+        → Steps s Pass Pass battle.new events.new.items }
+    // Whatever the bytes are.
+    ensures room { AddsAtMost 5 events.old events.new }
+{
+    send_both_first(battle, events);
+    close(battle, Side::One, events);
+}
+
+/// The update by replacements for the fallen: sends out whom the sides chose by `Choice::Switch`, side 1's first, begins the next
+/// turn, and asks moves of both. Nothing is drawn. Into `events`, which is empty, go one or two `Switch` and a `Turn`
+/// (docs/MECHANICS.md, "Switching in", "Falls and requests").
+pub fn replace(battle: &mut Packed, one: Choice, two: Choice, events: &mut EventList)
+    requires empty { events.old.items ≡ [] }
+    ensures updated { (s : State) → Stands battle.old s → Plays s Switch one two
+        → Updated (setting_of s) battle.new events.new.items
+        (close_update (ruling_of s.terms) (replace one two (opened s))) }
+    ensures stepped { (s : State) → Stands battle.old s → Plays s Switch one two
+        → Steps s one two battle.new events.new.items }
+    // Whatever the bytes are.
+    ensures room { AddsAtMost 5 events.old events.new }
+{
+    send_both_chosen(battle, one, two, events);
+    close(battle, Side::One, events);
+}
+
+/// Sends out the first member of side 1 and then of side 2, as the first update does before moves are asked: for who wants the two
+/// members that face each other, and no turn. The battle is at turn 0, and `events` is empty; two `Switch` go into it
+/// (docs/MECHANICS.md, "Switching in").
+pub fn send_both_first(battle: &mut Packed, events: &mut EventList)
+    requires space { HasRoom 2 events.old }
+    ensures shown { (s : State) → events.old.items ≡ [] → Stands battle.old s
+        → IsUnstarted s.terms s.field
+        → Shows (beginning s) battle.new events.new.items false (start (opened s)) }
+    ensures room { AddsAtMost 2 events.old events.new }
+{
+    if let Some(first) = Place::new(1) {
+        send_first(battle, Side::One, first, events);
+        send_first(battle, Side::Two, first, events);
+    }
+}
+
+fn send_both_chosen(battle: &mut Packed, one: Choice, two: Choice, events: &mut EventList)
+    requires space { HasRoom 2 events.old }
+    ensures shown { (g : Frame) (p : Progress) → Comes one sides.One p.field
+        → Comes two sides.Two p.field
+        → Shows g battle.old events.old.items false p
+        → Shows g battle.new events.new.items false (replace one two p) }
+    ensures room { AddsAtMost 2 events.old events.new }
+{
+    send_if_chosen(battle, Side::One, one, events);
+    send_if_chosen(battle, Side::Two, two, events);
+}
+
+fn send_if_chosen(battle: &mut Packed, side: Side, choice: Choice, events: &mut EventList)
+    requires space { HasRoom 1 events.old }
+    ensures shown { (g : Frame) (p : Progress) → Comes choice side p.field
+        → Shows g battle.old events.old.items false p
+        → Shows g battle.new events.new.items false (send_if_chosen side choice p) }
+    ensures room { AddsAtMost 1 events.old events.new }
+{
+    match choice {
+        Choice::Switch(place) => send_out(battle, side, place, events),
+        Choice::Move(_) => {}
+        Choice::Pass => {}
+    }
+}

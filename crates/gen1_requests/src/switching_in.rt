@@ -1,0 +1,91 @@
+//! Members that come out (docs/MECHANICS.md, "Switching in").
+ghost use Rattle.std.specs.Prelude.{[], ◌++◌, ◌≡◌, ◌∷◌};
+ghost use Rattle.gen1_layout.specs.Words.{AddsAtMost, Field, Frame, HasRoom, None, Packs, Progress, Setting, Shows, Some, Within, false, member_at, other, party, underway_in};
+ghost use Rattle.gen1_machine.specs.Plans.{InRange};
+ghost use Rattle.gen1_machine.specs.SwitchingIn.{send_out};
+ghost use Rattle.gen1_layout.specs.Shows.{ShowsPacked};
+ghost use Rattle.gen1_requests.specs.SwitchingIn.{coming_out, stats_out, with_out};
+
+use gen1_layout::Packed;
+use gen1_machine::{Event, EventList, Place, Side, Who};
+use gen1_stats::Status;
+
+/// Sends out the member of `side` at a place of its team: with all stages 0, no condition, no current and no picked move, and
+/// with one penalty if it is paralysed or burned. The foe's Trapping ends; members, last damage and header stay as they are.
+/// One event is written, `Switch` (docs/MECHANICS.md, "Switching in").
+#[inline(always)] // docs/SPEED.md, "Hints on inlining"
+pub fn send_out(battle: &mut Packed, side: Side, place: Place, events: &mut EventList)
+    requires space { HasRoom 1 events.old }
+    ensures shown { (g : Frame) (p : Progress) → InRange side place p.field
+        → Shows g battle.old events.old.items false p
+        → Shows g battle.new events.new.items false (send_out side place p) }
+    ensures room { AddsAtMost 1 events.old events.new }
+{
+    tell_coming_out(battle, side, place, events);
+    put_out(battle, side, place);
+    battle.end_trapping(side.other());
+}
+
+// The same while a side may still have nobody out, and where the foe is not trapping.
+pub(crate) fn send_first(battle: &mut Packed, side: Side, place: Place, events: &mut EventList)
+    requires space { HasRoom 1 events.old }
+    ensures shown { (g : Frame) (p : Progress) → InRange side place p.field
+        → (underway_in (other side) p.field).trapping ≡ None
+        → ShowsPacked g battle.old events.old.items p
+        → ShowsPacked g battle.new events.new.items (send_out side place p) }
+    ensures room { AddsAtMost 1 events.old events.new }
+{
+    tell_coming_out(battle, side, place, events);
+    put_out(battle, side, place);
+}
+
+// What is told of a member that comes out is known before it does.
+fn tell_coming_out(battle: &Packed, side: Side, place: Place, events: &mut EventList)
+    requires space { HasRoom 1 events.old }
+    ensures told { (g : Setting) (f : Field) → Packs g battle.now f → InRange side place f
+        → events.new.items ≡ events.old.items ++ coming_out side place
+        (member_at place (party side f)) ∷ [] }
+    ensures room { AddsAtMost 1 events.old events.new }
+{
+    if let Some(event) = coming_out(battle, side, place) {
+        events.push(event);
+    }
+}
+
+fn coming_out(battle: &Packed, side: Side, place: Place) -> Option<Event>
+    ensures packs { (g : Setting) (f : Field) → Packs g battle.now f → InRange side place f
+        → result ≡ Some (coming_out side place (member_at place (party side f))) }
+{
+    let at = place.number();
+    let species = battle.species_from(side, at)?;
+    let level = battle.level_from(side, at)?;
+    let health = battle.health_from(side, at)?;
+    Some(Event::Switch(Who { side, species }, place, level, health))
+}
+
+fn put_out(battle: &mut Packed, side: Side, place: Place)
+    ensures stands { (g : Setting) (f : Field) → Within g battle.old f → InRange side place f
+        → Within g battle.new (with_out side place f) }
+    ensures packs { (g : Setting) (f : Field) → Packs g battle.old f → InRange side place f
+        → Packs g battle.new (with_out side place f) }
+{
+    let at = place.number();
+    let status = battle.status_at(side, at);
+    let [attack, defense, speed, special] = battle.own_stats_at(side, at);
+    let stats = stats_out(status, attack, defense, speed, special);
+    if let Some(species) = battle.species_from(side, at) {
+        let [first, second] = species.types();
+        battle.put_sent_out(side, at, first, second, stats);
+    }
+}
+
+// A member's own stats with the penalty that its status brings along. At stage 0 they are as they are.
+fn stats_out(status: Status, attack: u16, defense: u16, speed: u16, special: u16) -> [u16; 4]
+    ensures { result ≡ stats_out status attack defense speed special }
+{
+    match status {
+        Status::Burned => [(attack / 2).max(1), defense, speed, special],
+        Status::Paralysed => [attack, defense, (speed / 4).max(1), special],
+        _ => [attack, defense, speed, special],
+    }
+}

@@ -1,0 +1,24 @@
+//! The first draw that meets a test (docs/MECHANICS.md, "Link numbers").
+ghost use Rattle.std.specs.Prelude.{ℕ, Bool, IfSome, IfNone};
+ghost use Rattle.gen1_rolls.specs.Draws.{Settles, FindsDraw, FindsNone};
+
+use crate::rolls::Rolls;
+
+/// Draws until a byte meets the test, and answers that byte: the first draw that meets it. `None`
+/// after `SPAN` draws, where no byte from 0 to 255 meets it. The test's answer is to be settled by
+/// the byte.
+pub fn until<R: Rolls, F: Fn(u8) -> bool>(r: &mut R, test: F) -> Option<u8>
+    requires callable { F.IsAlwaysCallable test }
+    ensures found { (p : ℕ → Bool) → Settles (F.post test) p
+        → IfSome result (λ b. FindsDraw R.byte R.next R.SPAN p r.old b r.new) }
+    ensures none { (p : ℕ → Bool) → Settles (F.post test) p
+        → IfNone result (FindsNone R.byte R.next R.SPAN p r.old r.new) }
+{
+    'draws: for _ in 0..R::SPAN {
+        let byte = r.draw();
+        if test(byte) {
+            return Some(byte);
+        }
+    }
+    None
+}

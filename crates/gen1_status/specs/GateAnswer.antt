@@ -1,0 +1,43 @@
+-- What an answer of the gate tells of the phase that it stands for (docs/MECHANICS.md, "Gate"): whether that stopped, and how
+-- the battle stands then.
+use Rattle.std.specs.Prelude.{◌≡◌}
+use Rattle.gen1_layout.specs.Words.{Bool, Event, Frame, List, Phase, Progress, Shows, ShowsDrawn, false, true, ℕ}
+use Rattle.gen1_machine.specs.declared.terms.Outcome.{Outcome}
+use Rattle.gen1_machine.specs.declared.terms.Outcome.TheVariants as outcomes
+use Rattle.gen1_machine.specs.Progress.{Action}
+use Rattle.gen1_layout.specs.Parts.{Parts}
+use Rattle.gen1_status.specs.declared.gate_answer.Gate.{Gate}
+use Rattle.gen1_status.specs.declared.gate_answer.Gate.TheVariants.{Go, Fault}
+
+abbrev pub stopped_by : Gate → Bool
+stopped_by Go = false
+stopped_by _ = true
+
+-- a hit on itself that ends the action may have broken the foe's substitute
+abbrev pub action_after : Gate → Action → Action → Action
+action_after Go found left = found
+action_after _ found left = record found { broke = left.broke }
+
+abbrev pub frame_after : Gate → Progress → Frame → Frame
+frame_after answer after g = record g { action = action_after answer g.action after.action }
+
+-- only a divisor of 0 ends the battle here
+abbrev pub outcome_after : Gate → Outcome → Outcome
+outcome_after Fault outcome = outcomes.Fault 1
+outcome_after _ outcome = outcome
+
+-- the parts and the events stand for what came after
+pub record Tells (g : Frame) (parts : Parts) (events : List Event) (answer : Gate) (before after : Progress) : Type 0 where
+  pub shows : Shows (frame_after answer after g) parts events (stopped_by answer) after
+  pub outcome : after.field.outcome ≡ outcome_after answer before.field.outcome
+
+-- the same with a generator
+pub record TellsDrawn {A : Type 0} (byte : A → ℕ) (next : A → A) (width : ℕ) (origin : A) (g : Frame) (parts : Parts) (events : List Event) (now : A) (answer : Gate) (before after : Progress) : Type 0 where
+  pub shows : ShowsDrawn byte next width origin (frame_after answer after g) parts events now (stopped_by answer) after
+  pub outcome : after.field.outcome ≡ outcome_after answer before.field.outcome
+
+-- code with draws does what a phase does, and its answer tells how that ended
+abbrev pub DoesTelling : {A : Type 0} → (A → ℕ) → (A → A) → ℕ → Parts → List Event → A → Parts → List Event → A → Gate → Phase → Type 0
+DoesTelling {A = A} byte next width parts events old parts' events' new answer phase =
+    (origin : A) (g : Frame) (p : Progress) → ShowsDrawn byte next width origin g parts events old false p
+    → TellsDrawn byte next width origin g parts' events' new answer p (phase p)

@@ -1,0 +1,51 @@
+//! What a side's choice comes to as the turn begins (docs/MECHANICS.md, "Picks").
+ghost use Rattle.std.specs.Prelude.{◌≡◌};
+ghost use Rattle.gen1_layout.specs.Words.{Reads, underway_in, zero, ℕ};
+ghost use Rattle.gen1_machine.specs.Picks.{must_continue, pick_in};
+
+use gen1_layout::{Conditions, Packed};
+use gen1_machine::{Choice, Pick, Side, UsedMove};
+
+/// What a choice of a move comes to (docs/MECHANICS.md, "Picks"): slots 1 to 4 are picked as they are, and what slot 0 means
+/// depends on what there is. Another choice is no pick, and is answered as slot 0 is.
+pub fn pick(battle: &Packed, side: Side, choice: Choice) -> Pick
+    ensures stands { (slot : ℕ) → choice ≡ Choice.Move slot
+        → Reads battle.now result (pick_in slot side) }
+{
+    match choice {
+        Choice::Move(slot) => pick_of(battle, side, slot.number()),
+        Choice::Pass => pick_without_slot(battle, side),
+        Choice::Switch(_) => pick_without_slot(battle, side),
+    }
+}
+
+fn pick_of(battle: &Packed, side: Side, slot: u8) -> Pick
+    ensures stands { Reads battle.now result (pick_in slot side) }
+{
+    if slot == 0 {
+        return pick_without_slot(battle, side);
+    }
+    Pick::Use(UsedMove::Slot(slot))
+}
+
+fn pick_without_slot(battle: &Packed, side: Side) -> Pick
+    ensures stands { Reads battle.now result (pick_in zero side) }
+{
+    if must_continue(battle, side) {
+        return Pick::Continue;
+    }
+    if battle.status(side).sleeps_or_freezes() {
+        return Pick::Idle;
+    }
+    if battle.is_on(side.other(), Conditions::TRAPPING) {
+        return Pick::Held;
+    }
+    Pick::Use(UsedMove::Struggle)
+}
+
+// Whether something keeps the member at its current move.
+fn must_continue(battle: &Packed, side: Side) -> bool
+    ensures stands { Reads battle.now result λ f. must_continue (underway_in side f) }
+{
+    battle.has_any(side, Conditions::CONTINUES)
+}

@@ -1,0 +1,154 @@
+//! Stages that rise and fall in battle (docs/MECHANICS.md, "Stage shift").
+ghost use Rattle.std.specs.Prelude.{◌≤◌};
+ghost use Rattle.gen1_layout.specs.Words.{AddsAtMost, Does, Event, HasRoom, IsBetween, List, false};
+ghost use Rattle.gen1_machine.specs.StageShift.{lower_stage, note_boost, note_unboost, raise_stage, shift_to};
+ghost use Rattle.gen1_status.specs.StageShift.{IsShift, Shifts, shift_stage};
+
+use crate::stages::{put_stage, recompute, stands_at};
+use crate::take_penalty;
+use gen1_layout::Packed;
+use gen1_machine::{Event, EventList, Side, StageCount};
+use gen1_tables::Stat;
+
+// As the bytes have them, stages are numbered from 0 to 12, with 6 in the middle.
+const LOWEST_STAGE: u8 = 0;
+
+const HIGHEST_STAGE: u8 = 12;
+
+const LOWEST_STAT: u16 = 1;
+
+const HIGHEST_STAT: u16 = 999;
+
+/// Has `user` shift a stage of `target`, which is itself or its foe, up by 1 or 2 or down by -1 or -2; nothing is said of
+/// other numbers, which no move has. True where it succeeds, as [`raise_stage`] and [`lower_stage`] say. What else a failure
+/// brings about, as `Fail`, is left to the caller (docs/MECHANICS.md, "Stage shift").
+pub fn shift_stage(
+    battle: &mut Packed,
+    user: Side,
+    target: Side,
+    stat: Stat,
+    by: i8,
+    events: &mut EventList,
+) -> bool
+    requires room { HasRoom 1 events.old }
+    ensures shown { IsShift by
+        → Shifts battle.old events.old.items battle.new events.new.items result
+        (shift_stage user target stat by) }
+    ensures room { AddsAtMost 1 events.old events.new }
+{
+    let stages = by.unsigned_abs();
+    if by > 0 {
+        raise_stage(battle, user, target, stat, stages, events)
+    } else {
+        lower_stage(battle, user, target, stat, stages, events)
+    }
+}
+
+/// Raises a stage of `target` by 1 or 2, at most to +6, and recomputes the stat without its penalties. Then the foe of `user`
+/// takes the penalty of its status once more, whatever the stat was, and `Boost` is written.
+///
+/// False where it fails. At +6 nothing changes. A stat of 999 stays, but its stage rises all the same and falls back by 1;
+/// `Boost` is written if that is a change. One place in `events` is to be free (docs/MECHANICS.md, "Stage shift").
+pub fn raise_stage(
+    battle: &mut Packed,
+    user: Side,
+    target: Side,
+    stat: Stat,
+    by: u8,
+    events: &mut EventList,
+) -> bool
+    requires room { HasRoom 1 events.old }
+    ensures shown { IsBetween 1 2 by
+        → Shifts battle.old events.old.items battle.new events.new.items result
+        (raise_stage user target stat by) }
+    ensures room { AddsAtMost 1 events.old events.new }
+{
+    let stage = battle.stage(target, stat);
+    if stage >= HIGHEST_STAGE {
+        return false;
+    }
+    let raised = stage.saturating_add(by).min(HIGHEST_STAGE);
+    if stands_at(battle, target, stat, HIGHEST_STAT) {
+        let fallen_back = raised.saturating_sub(1);
+        let net = fallen_back.saturating_sub(stage);
+        put_stage(battle, target, stat, fallen_back, HIGHEST_STAT);
+        note_boost(battle, target, stat, net, events);
+        return false;
+    }
+    shift_to(battle, user, target, stat, raised);
+    note_boost(battle, target, stat, raised.saturating_sub(stage), events);
+    true
+}
+
+/// Lowers a stage of `target` by 1 or 2, at least to -6, and recomputes the stat without its penalties. Then the foe of `user`
+/// takes the penalty of its status once more, whatever the stat was, and `Unboost` is written.
+///
+/// False where it fails. At -6 nothing changes. A stat of 1 stays, but its stage falls all the same and rises back by 1;
+/// `Unboost` is written if that is a change. One place in `events` is to be free (docs/MECHANICS.md, "Stage shift").
+pub fn lower_stage(
+    battle: &mut Packed,
+    user: Side,
+    target: Side,
+    stat: Stat,
+    by: u8,
+    events: &mut EventList,
+) -> bool
+    requires room { HasRoom 1 events.old }
+    ensures shown { IsBetween 1 2 by
+        → Shifts battle.old events.old.items battle.new events.new.items result
+        (lower_stage user target stat by) }
+    ensures room { AddsAtMost 1 events.old events.new }
+{
+    let stage = battle.stage(target, stat);
+    if stage == LOWEST_STAGE {
+        return false;
+    }
+    let lowered = stage.saturating_sub(by);
+    if stands_at(battle, target, stat, LOWEST_STAT) {
+        let risen_back = lowered.saturating_add(1);
+        let net = stage.saturating_sub(risen_back);
+        put_stage(battle, target, stat, risen_back, LOWEST_STAT);
+        note_unboost(battle, target, stat, net, events);
+        return false;
+    }
+    shift_to(battle, user, target, stat, lowered);
+    note_unboost(battle, target, stat, stage.saturating_sub(lowered), events);
+    true
+}
+
+// Recomputes a stat at its new stage, and has the user's foe take its penalty once more.
+fn shift_to(battle: &mut Packed, user: Side, target: Side, stat: Stat, stage: u8)
+    ensures { (events : List Event) → stage ≤ 12
+        → Does battle.old events battle.new events false (shift_to user target stat stage) }
+{
+    recompute(battle, target, stat, stage);
+    let foe = user.other();
+    let status = battle.status(foe);
+    take_penalty(battle, foe, status);
+}
+
+// Tells by how much a stage rose, if it did.
+fn note_boost(battle: &Packed, side: Side, stat: Stat, stages: u8, events: &mut EventList)
+    requires room { HasRoom 1 events.old }
+    ensures shown { stages ≤ 2
+        → Does battle.now events.old.items battle.now events.new.items false
+        (note_boost side stat stages) }
+    ensures room { AddsAtMost 1 events.old events.new }
+{
+    if let Some(count) = StageCount::new(stages) {
+        events.push(Event::Boost(battle.who(side), stat, count));
+    }
+}
+
+// Tells by how much a stage fell, if it did.
+fn note_unboost(battle: &Packed, side: Side, stat: Stat, stages: u8, events: &mut EventList)
+    requires room { HasRoom 1 events.old }
+    ensures shown { stages ≤ 2
+        → Does battle.now events.old.items battle.now events.new.items false
+        (note_unboost side stat stages) }
+    ensures room { AddsAtMost 1 events.old events.new }
+{
+    if let Some(count) = StageCount::new(stages) {
+        events.push(Event::Unboost(battle.who(side), stat, count));
+    }
+}

@@ -1,0 +1,42 @@
+use Rattle.std.proofs.Common.{◌∷◌}
+use Rattle.gen1_layout.proofs.Words.{[], Phase, subst, sym, ◌∙◌}
+use Rattle.gen1_machine.specs.Ruling.{ruling_of}
+use Rattle.gen1_machine.specs.Sides.{other}
+use Rattle.gen1_machine.specs.Turn.{do_part, do_parts, end_turn, Acts, Suffers}
+use Rattle.gen1_machine.specs.Plans.{with_plan, Any, FitsPick, Plan}
+use Rattle.gen1_machine.proofs.ValidTurns.{act_part, suffers_part, with_plan-other}
+use Rattle.gen1_turn.proofs.Turns.{ended, ends_as}
+use Rattle.gen1_turn.proofs.turn_choices.both_act.Goals as goal
+
+pub returns-then-act_and_suffer-clause-shown : goal.returns-then-act_and_suffer-clause-shown
+unfolding do_parts do_part
+returns-then-act_and_suffer-clause-shown t c origin g p plan (mine, others) v h =
+    let s = c.args.side in
+    (rw c.if-act_and_suffer.true at (c.act_and_suffer.ensures.shown origin g p plan mine v h))
+    (do_parts (ruling_of g.setting.terms) (Acts (other s) c.args.others ∷ Suffers (other s) ∷ []))
+
+pub returns-then-act_and_suffer-2-clause-shown : goal.returns-then-act_and_suffer-2-clause-shown
+unfolding do_parts do_part
+returns-then-act_and_suffer-2-clause-shown t c origin g p plan (mine, others) v h =
+    let terms = g.setting.terms in
+    let s = c.args.side in
+    let rest : Phase = do_parts (ruling_of terms) (Acts (other s) c.args.others ∷ Suffers (other s) ∷ []) in
+    let a = rw c.if-act_and_suffer.false at (c.act_and_suffer.ensures.shown origin g p plan mine v h) in
+    let valid = (suffers_part terms (with_plan s Any plan) s).kept _ ((act_part terms plan s c.args.mine mine).led p v) in
+    let next = subst (λ (x : Plan). FitsPick c.args.others x) (sym (with_plan-other s Any plan)) others in
+    let second = rw c.other.ensures at c.act_and_suffer-2.ensures.shown in
+    let b = rw c.if-act_and_suffer-2.true at (second origin g _ (with_plan s Any plan) next valid a.0) in
+    ends_as c.act_and_suffer-2.new.known g _ _ (a.1 rest) (b end_turn)
+
+pub returns-clause-shown : goal.returns-clause-shown
+unfolding do_parts do_part
+returns-clause-shown t c origin g p plan (mine, others) v h =
+    let terms = g.setting.terms in
+    let s = c.args.side in
+    let rest : Phase = do_parts (ruling_of terms) (Acts (other s) c.args.others ∷ Suffers (other s) ∷ []) in
+    let a = rw c.if-act_and_suffer.false at (c.act_and_suffer.ensures.shown origin g p plan mine v h) in
+    let valid = (suffers_part terms (with_plan s Any plan) s).kept _ ((act_part terms plan s c.args.mine mine).led p v) in
+    let next = subst (λ (x : Plan). FitsPick c.args.others x) (sym (with_plan-other s Any plan)) others in
+    let second = rw c.other.ensures at c.act_and_suffer-2.ensures.shown in
+    let b = rw c.if-act_and_suffer-2.false at (second origin g _ (with_plan s Any plan) next valid a.0) in
+    ends_as c.act_and_suffer-2.new.known g _ _ (a.1 rest ∙ b.1 end_turn) (ended c.act_and_suffer-2.new.known g end_turn (c.end_turn.ensures.shown _) b.0)

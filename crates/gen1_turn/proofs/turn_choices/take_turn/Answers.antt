@@ -1,0 +1,20 @@
+use Rattle.gen1_layout.proofs.Words.{on_conditions, refl, still, then-goes, ◌∙◌}
+use Rattle.gen1_machine.specs.declared.side.Side.TheVariants.{One, Two}
+use Rattle.gen1_machine.specs.Conditions.{without_flinch}
+use Rattle.gen1_machine.specs.Turn.{turn}
+use Rattle.gen1_action.specs.Knowing.{knowing, with_broke}
+use Rattle.gen1_turn.proofs.Turns.{ends_as, flinch-comes, flinch-planned}
+use Rattle.gen1_turn.proofs.turn_choices.take_turn.Goals as goal
+
+pub returns-clause-shown : goal.returns-clause-shown
+unfolding turn
+returns-clause-shown t c origin g p plan (one, two, x, y) v h =
+    let terms = g.setting.terms in
+    let a = still {g' = knowing (with_broke h.0 c.args.known.now) g} h.1 (c.end_flinch.ensures.shown _ _ _ h.1.shows) refl in
+    let va = (flinch-planned terms plan One).kept p v in
+    let b = still {g' = knowing (with_broke h.0 c.args.known.now) g} a (c.end_flinch-2.ensures.shown _ _ _ a.shows) refl in
+    let vb = (flinch-planned terms plan Two).kept _ va in
+    let still_one = flinch-comes c.args.one Two One _ (flinch-comes c.args.one One One p x) in
+    let still_two = flinch-comes c.args.two Two Two _ (flinch-comes c.args.two One Two p y) in
+    let q = c.play_choices.ensures.shown origin g _ plan (one, two, still_one, still_two) vb (h.0, b) in
+    ends_as c.play_choices.new.known g _ _ (then-goes (on_conditions One without_flinch) _ p a.shows.ends ∙ then-goes (on_conditions Two without_flinch) _ _ b.shows.ends) q

@@ -1,0 +1,60 @@
+use Rattle.std.proofs.Common.{◌+◌, ◌≡◌}
+use Rattle.gen1_layout.proofs.Words.{choose-false, choose-true, false, nat_lt, refl, true, ◌∙◌}
+use Rattle.gen1_tables.specs.declared.effect.Stat.TheVariants.{Speed}
+use Rattle.gen1_machine.specs.declared.side.Side.TheVariants.{One, Two}
+use Rattle.gen1_machine.specs.CurrentStats.{now_in}
+use Rattle.gen1_machine.specs.TurnOrder.{in_order_of_speed}
+use Rattle.gen1_status.proofs.Comparing.{below, not_below}
+use Rattle.gen1_turn.proofs.Turns.{drawn_byte, drawn_next, tossed_one, tossed_two}
+use Rattle.gen1_turn.proofs.turn_order.faster_side.Goals as goal
+
+pub returns-then-two-one : goal.returns-then-two-one
+unfolding in_order_of_speed
+returns-then-two-one t c = record {
+  shown = λ origin g events p h.
+      let one = c.current_stat-one.ensures.stands _ _ h.shows.within refl in
+      let two = c.current_stat-two.ensures.stands _ _ h.shows.within refl in
+      let e : nat_lt (now_in Speed Two p.field) (now_in Speed One p.field) ≡ true = rw (← two, ← one) (below _ _ c.if-two-one.true) in
+      (p.drawn, h, λ begins. choose-true _ _ _ p e);
+}
+
+pub returns-then-one-two : goal.returns-then-one-two
+unfolding in_order_of_speed
+returns-then-one-two t c = record {
+  shown = λ origin g events p h.
+      let one = c.current_stat-one.ensures.stands _ _ h.shows.within refl in
+      let two = c.current_stat-two.ensures.stands _ _ h.shows.within refl in
+      let e : nat_lt (now_in Speed Two p.field) (now_in Speed One p.field) ≡ false = rw (← two, ← one) (not_below _ _ c.if-two-one.false) in
+      let e' : nat_lt (now_in Speed One p.field) (now_in Speed Two p.field) ≡ true = rw (← two, ← one) (below _ _ c.if-one-two.true) in
+      (p.drawn, h, λ begins. choose-false _ _ _ p e ∙ choose-true _ _ _ p e');
+}
+
+pub returns-then-draw-lt-SIDE_1_BELOW : goal.returns-then-draw-lt-SIDE_1_BELOW
+unfolding in_order_of_speed
+returns-then-draw-lt-SIDE_1_BELOW t c = record {
+  shown = λ origin g events p h.
+      let one = c.current_stat-one.ensures.stands _ _ h.shows.within refl in
+      let two = c.current_stat-two.ensures.stands _ _ h.shows.within refl in
+      let e : nat_lt (now_in Speed Two p.field) (now_in Speed One p.field) ≡ false = rw (← two, ← one) (not_below _ _ c.if-two-one.false) in
+      let e' : nat_lt (now_in Speed One p.field) (now_in Speed Two p.field) ≡ false = rw (← two, ← one) (not_below _ _ c.if-one-two.false) in (
+        p.drawn + 1,
+        drawn_next h c.draw.ensures.left,
+        λ begins. choose-false _ _ _ p e ∙ choose-false _ _ _ p e'
+            ∙ tossed_one begins p c.draw.result (drawn_byte c.draw.result h c.draw.ensures.drawn) (below _ _ c.if-draw-lt-SIDE_1_BELOW.true),
+      );
+}
+
+pub returns : goal.returns
+unfolding in_order_of_speed
+returns t c = record {
+  shown = λ origin g events p h.
+      let one = c.current_stat-one.ensures.stands _ _ h.shows.within refl in
+      let two = c.current_stat-two.ensures.stands _ _ h.shows.within refl in
+      let e : nat_lt (now_in Speed Two p.field) (now_in Speed One p.field) ≡ false = rw (← two, ← one) (not_below _ _ c.if-two-one.false) in
+      let e' : nat_lt (now_in Speed One p.field) (now_in Speed Two p.field) ≡ false = rw (← two, ← one) (not_below _ _ c.if-one-two.false) in (
+        p.drawn + 1,
+        drawn_next h c.draw.ensures.left,
+        λ begins. choose-false _ _ _ p e ∙ choose-false _ _ _ p e'
+            ∙ tossed_two begins p c.draw.result (drawn_byte c.draw.result h c.draw.ensures.drawn) (not_below _ _ c.if-draw-lt-SIDE_1_BELOW.false),
+      );
+}

@@ -1,0 +1,96 @@
+//! One side's action (docs/MECHANICS.md, "Action").
+ghost use Rattle.std.specs.Prelude.{◌||◌, ◌≡◌};
+ghost use Rattle.gen1_layout.specs.Words.{AddsAtMost, Bool, Event, Frame, HasRoom, List, Progress, Reads, Shows, active_in, is_some, underway_in};
+ghost use Rattle.gen1_machine.specs.Action.{accuracy_after, act, action_parts, keep_accuracy};
+ghost use Rattle.gen1_machine.specs.State.{is_over};
+ghost use Rattle.gen1_action.specs.Knowing.{IsUncounted};
+ghost use Rattle.gen1_turn.specs.Action.{Acts, DoesParts};
+
+use crate::action_steps::carry_out;
+use crate::taken_move::{move_taken, see_if_going_on};
+use gen1_action::Known;
+use gen1_layout::{Conditions, Packed};
+use gen1_machine::{EventList, Pick, Side};
+use gen1_rolls::Rolls;
+use gen1_status::gate;
+
+/// Plays the action of `side`, by its pick, from its gate to the accuracy that is kept (docs/MECHANICS.md, "Action"). The answer
+/// is whether the battle is over then, as it is by a fault. At most 21 events are written, for which places in `events` are to be
+/// free. What is known of the last action is forgotten, but for who is skipped.
+pub fn act<R: Rolls>(
+    battle: &mut Packed,
+    side: Side,
+    pick: Pick,
+    known: &mut Known,
+    random: &mut R,
+    events: &mut EventList,
+) -> bool
+    requires room { HasRoom 21 events.old }
+    ensures shown { Acts R.byte R.next R.SPAN side pick battle.old events.old.items random.old
+        known.old battle.new events.new.items random.new known.new result (λ r. act r side pick) }
+    ensures room { AddsAtMost 21 events.old events.new }
+{
+    *known = known.begun(side);
+    action_parts(battle, side, pick, known, random, events);
+    keep_accuracy(battle, side, known.accuracy_tested);
+    battle.outcome().is_over()
+}
+
+fn action_parts<R: Rolls>(
+    battle: &mut Packed,
+    side: Side,
+    pick: Pick,
+    known: &mut Known,
+    random: &mut R,
+    events: &mut EventList,
+) -> bool
+    requires room { HasRoom 21 events.old }
+    requires counts { IsUncounted known.old }
+    ensures shown { DoesParts R.byte R.next R.SPAN side pick battle.old events.old.items random.old
+        known.old battle.new events.new.items random.new known.new result
+        (λ r. action_parts r side pick) }
+    ensures room { AddsAtMost 21 events.old events.new }
+{
+    if gate(battle, side, pick, random, events).stops() {
+        return true;
+    }
+    see_if_going_on(battle, side, pick, known);
+    let id = move_taken(battle, side, pick);
+    carry_out(battle, side, pick, id, known, random, events)
+}
+
+// However an action ends, the accuracy of its hit test is kept while rage or thrashing is on (docs/MECHANICS.md, "Kept
+// accuracy").
+fn keep_accuracy(battle: &mut Packed, side: Side, tested: Option<u8>)
+    ensures shown { (g : Frame) (p : Progress) (events : List Event) (stopped : Bool)
+        → g.action.accuracy_tested ≡ tested
+        → Shows g battle.old events stopped p
+        → Shows g battle.new events stopped (keep_accuracy side p) }
+{
+    let byte = accuracy_to_keep(battle, side, tested);
+    battle.put_kept_accuracy(side, byte);
+}
+
+// Of an action without a hit test, what was kept before (docs/MECHANICS.md, "Kept accuracy").
+fn accuracy_to_keep(battle: &Packed, side: Side, tested: Option<u8>) -> u8
+    ensures stands { Reads battle.now result λ f. accuracy_after (underway_in side f) tested
+        (active_in side f).kept_accuracy }
+{
+    if !keeps_accuracy(battle, side) {
+        return 0;
+    }
+    match tested {
+        Some(byte) => byte,
+        None => battle.kept_accuracy(side),
+    }
+}
+
+fn keeps_accuracy(battle: &Packed, side: Side) -> bool
+    ensures stands { Reads battle.now result λ f.
+        ((underway_in side f).rage || is_some (underway_in side f).thrash) }
+{
+    if battle.is_on(side, Conditions::RAGE) {
+        return true;
+    }
+    battle.is_on(side, Conditions::THRASH)
+}

@@ -1,0 +1,115 @@
+//! What damage an action deals (docs/MECHANICS.md, "Action", step 7).
+ghost use Rattle.std.specs.Prelude.{◌≡◌};
+ghost use Rattle.gen1_layout.specs.Words.{Event, List, move_at, nat_lt};
+ghost use Rattle.gen1_machine.specs.Action.{damage_of, usual_damage};
+ghost use Rattle.gen1_machine.specs.Damage.{roll_damage};
+ghost use Rattle.gen1_machine.specs.Progress.{choose, set_last_damage};
+ghost use Rattle.gen1_action.specs.Knowing.{DoesKnowingDrawing, IsUncounted};
+ghost use Rattle.gen1_turn.specs.ByEffect.{way_of};
+
+use gen1_action::{Known, hit_or_miss};
+use gen1_hits::{critical, damage, factor, numbers, type_steps};
+use gen1_layout::Packed;
+use gen1_machine::{Outcome, Side};
+use gen1_multiturn::{counter_knowing, fixed_knowing, knock_out};
+use gen1_rolls::Rolls;
+use gen1_tables::{Effect, MoveId};
+
+// How a move comes by its damage.
+#[derive(Clone, Copy, Debug, PartialEq, Eq)]
+pub(crate) enum Way {
+    Counter,
+    Fixed,
+    KnockOut,
+    Usual,
+}
+
+fn way_of(effect: Effect) -> Way
+    ensures { result ≡ way_of effect }
+{
+    match effect {
+        Effect::Counter => Way::Counter,
+        Effect::FixedDamage | Effect::SuperFang => Way::Fixed,
+        Effect::OneHitKnockOut => Way::KnockOut,
+        _ => Way::Usual,
+    }
+}
+
+// The damage of a move, and whether it hits; true where a fault ended the battle.
+pub(crate) fn damage_of<R: Rolls>(
+    battle: &mut Packed,
+    side: Side,
+    id: MoveId,
+    known: &mut Known,
+    random: &mut R,
+) -> bool
+    ensures shown { (events : List Event)
+        → DoesKnowingDrawing R.byte R.next R.SPAN battle.old events random.old known.old battle.new
+        events random.new known.new result (damage_of side (move_at id) (move_at id).effect) }
+    ensures counts { IsUncounted known.old → IsUncounted known.new }
+{
+    match way_of(id.effect()) {
+        Way::Counter => {
+            counter_knowing(battle, side, id, known, random);
+            false
+        }
+        Way::Fixed => fixed_knowing(battle, side, id, known, random),
+        Way::KnockOut => {
+            knock_out(battle, side, id, known, random);
+            false
+        }
+        Way::Usual => damage_by_power(battle, side, id, known, random),
+    }
+}
+
+fn damage_by_power<R: Rolls>(
+    battle: &mut Packed,
+    side: Side,
+    id: MoveId,
+    known: &mut Known,
+    random: &mut R,
+) -> bool
+    ensures shown { (events : List Event)
+        → DoesKnowingDrawing R.byte R.next R.SPAN battle.old events random.old known.old battle.new
+        events random.new known.new result
+        (choose (λ _. nat_lt 0 (move_at id).power) (usual_damage side (move_at id))
+        (set_last_damage 0)) }
+    ensures counts { IsUncounted known.old → IsUncounted known.new }
+{
+    battle.put_last_damage(0);
+    if id.power() == 0 {
+        return false;
+    }
+    known.critical = critical(battle, side, id, random);
+    if roll_damage(battle, side, id, known, random) {
+        return true;
+    }
+    hit_or_miss(battle, side, id, known, random);
+    false
+}
+
+// What a hit comes to; true where the divisor is 0.
+fn roll_damage<R: Rolls>(
+    battle: &mut Packed,
+    side: Side,
+    id: MoveId,
+    known: &mut Known,
+    random: &mut R,
+) -> bool
+    ensures shown { (events : List Event)
+        → DoesKnowingDrawing R.byte R.next R.SPAN battle.old events random.old known.old battle.new
+        events random.new known.new result (roll_damage side (move_at id)) }
+    ensures counts { IsUncounted known.old → IsUncounted known.new }
+{
+    let numbers = numbers(battle, side, id, known.critical);
+    let Some(before) = damage(&numbers) else {
+        battle.put_outcome(Outcome::Fault(1));
+        return true;
+    };
+    let after = type_steps(before, &numbers);
+    known.through_types = true;
+    known.missed = after == 0;
+    let varied = factor(after, random);
+    battle.put_last_damage(varied);
+    false
+}

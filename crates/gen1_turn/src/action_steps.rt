@@ -1,0 +1,172 @@
+//! An action once it is settled which move is used (docs/MECHANICS.md, "Action", from step 2 on).
+ghost use Rattle.std.specs.Prelude.{◌&&◌, ◌||◌, ◌≡◌};
+ghost use Rattle.gen1_layout.specs.Words.{AddsAtMost, AddsNone, Event, HasRoom, List, false, move_at, stop, ◌▸◌};
+ghost use Rattle.gen1_machine.specs.Action.{carry_out, damage_of, lands_at_once, lead_up, lets_energy_go};
+ghost use Rattle.gen1_machine.specs.LateEffects.{is_late, late_effect};
+ghost use Rattle.gen1_tables.specs.Effects.{traps};
+ghost use Rattle.gen1_machine.specs.Progress.{only, unless};
+ghost use Rattle.gen1_action.specs.Knowing.{DoesKnowingDrawing, IsUncounted};
+ghost use Rattle.gen1_action.specs.Planned.{DoesAt, DoesTaking};
+ghost use Rattle.gen1_turn.specs.ActionSteps.{late_part, damage_and_strike};
+
+use crate::action_damage::damage_of;
+use crate::lead_up::lead_up;
+use crate::strike::strike;
+use gen1_action::Known;
+use gen1_effects::{is_late_but_bide, late_effect_knowing};
+use gen1_layout::Packed;
+use gen1_machine::{EventList, Pick, Side};
+use gen1_multiturn::{bide_knowing, start_bide};
+use gen1_rolls::Rolls;
+use gen1_tables::{Effect, MoveId};
+
+// The energy of Bide enters late. The answer is whether the rest of the action fell away.
+pub(crate) fn carry_out<R: Rolls>(
+    battle: &mut Packed,
+    side: Side,
+    pick: Pick,
+    id: MoveId,
+    known: &mut Known,
+    random: &mut R,
+    events: &mut EventList,
+) -> bool
+    requires room { HasRoom 18 events.old }
+    requires counts { IsUncounted known.old }
+    ensures shown { DoesTaking R.byte R.next R.SPAN side pick (move_at id).effect battle.old
+        events.old.items random.old known.old battle.new events.new.items random.new known.new
+        result (λ r. carry_out r side pick (move_at id)) }
+    ensures room { AddsAtMost 18 events.old events.new }
+{
+    if bide_knowing(battle, side, known, events) {
+        return true;
+    }
+    if lead_up_unless_let_go(battle, side, pick, id, known, random, events) {
+        return true;
+    }
+    damage_and_strike(battle, side, id, known, random, events)
+}
+
+fn lead_up_unless_let_go<R: Rolls>(
+    battle: &mut Packed,
+    side: Side,
+    pick: Pick,
+    id: MoveId,
+    known: &mut Known,
+    random: &mut R,
+    events: &mut EventList,
+) -> bool
+    requires room { HasRoom 4 events.old }
+    ensures shown { DoesTaking R.byte R.next R.SPAN side pick (move_at id).effect battle.old
+        events.old.items random.old known.old battle.new events.new.items random.new known.new
+        result (λ r. unless lets_energy_go (lead_up side pick (move_at id))) }
+    ensures same { result ≡ false → known.new ≡ known.old }
+    ensures room { AddsAtMost 4 events.old events.new }
+    ensures few { result ≡ false → AddsAtMost 3 events.old events.new }
+{
+    if known.letting_go {
+        return false;
+    }
+    lead_up(battle, side, pick, id, known, random, events)
+}
+
+// What comes after the move was led up to.
+fn damage_and_strike<R: Rolls>(
+    battle: &mut Packed,
+    side: Side,
+    id: MoveId,
+    known: &mut Known,
+    random: &mut R,
+    events: &mut EventList,
+) -> bool
+    requires room { HasRoom 14 events.old }
+    requires counts { IsUncounted known.old }
+    ensures shown { DoesAt R.byte R.next R.SPAN side (move_at id).effect battle.old events.old.items
+        random.old known.old battle.new events.new.items random.new known.new result
+        (λ r. damage_and_strike r side (move_at id)) }
+    ensures room { AddsAtMost 14 events.old events.new }
+{
+    if damage_unless_landing(battle, side, id, known, random) {
+        return true;
+    }
+    if late_part(battle, side, id, known, random, events) {
+        return true;
+    }
+    strike(battle, side, id, known, random, events)
+}
+
+fn damage_unless_landing<R: Rolls>(
+    battle: &mut Packed,
+    side: Side,
+    id: MoveId,
+    known: &mut Known,
+    random: &mut R,
+) -> bool
+    ensures shown { (events : List Event)
+        → DoesKnowingDrawing R.byte R.next R.SPAN battle.old events random.old known.old battle.new
+        events random.new known.new result
+        (unless (lands_at_once (move_at id)) (damage_of side (move_at id) (move_at id).effect)) }
+    ensures counts { IsUncounted known.old → IsUncounted known.new }
+{
+    if lands_at_once(known, id.effect()) {
+        return false;
+    }
+    damage_of(battle, side, id, known, random)
+}
+
+// What goes straight to its landing: the energy of Bide, and trapping that goes on.
+fn lands_at_once(known: &Known, effect: Effect) -> bool
+    ensures { result ≡ (known.now.letting_go || (known.now.going_on && traps effect)) }
+{
+    known.letting_go || (known.going_on && effect.traps())
+}
+
+fn late_part<R: Rolls>(
+    battle: &mut Packed,
+    side: Side,
+    id: MoveId,
+    known: &mut Known,
+    random: &mut R,
+    events: &mut EventList,
+) -> bool
+    requires room { HasRoom 2 events.old }
+    ensures shown { DoesAt R.byte R.next R.SPAN side (move_at id).effect battle.old events.old.items
+        random.old known.old battle.new events.new.items random.new known.new result
+        (λ r. late_part r side (move_at id)) }
+    ensures same { result ≡ false → known.new ≡ known.old }
+    ensures room { AddsAtMost 2 events.old events.new }
+    ensures quiet { result ≡ false → AddsNone events.old events.new }
+{
+    if known.letting_go {
+        return false;
+    }
+    late_effect(battle, side, id, known, random, events)
+}
+
+// The action ends with a late effect, for which the answer is true; other moves have none.
+fn late_effect<R: Rolls>(
+    battle: &mut Packed,
+    side: Side,
+    id: MoveId,
+    known: &mut Known,
+    random: &mut R,
+    events: &mut EventList,
+) -> bool
+    requires room { HasRoom 2 events.old }
+    ensures shown { DoesAt R.byte R.next R.SPAN side (move_at id).effect battle.old events.old.items
+        random.old known.old battle.new events.new.items random.new known.new result
+        (λ r. only (is_late (move_at id).effect)
+        (late_effect r side (move_at id) (move_at id).effect ▸ stop)) }
+    ensures same { result ≡ false → known.new ≡ known.old }
+    ensures room { AddsAtMost 2 events.old events.new }
+    ensures quiet { result ≡ false → AddsNone events.old events.new }
+{
+    if is_late_but_bide(id.effect()) {
+        late_effect_knowing(battle, side, id, known, random, events);
+        return true;
+    }
+    if id.effect().bides() {
+        start_bide(battle, side, random, events);
+        return true;
+    }
+    false
+}

@@ -1,0 +1,128 @@
+//! What comes before any damage: charging, the use of the move, an early effect, and what trapping and thrashing do first
+//! (docs/MECHANICS.md, "Action", steps 3 to 6).
+ghost use Rattle.std.specs.Prelude.{◌≡◌};
+ghost use Rattle.gen1_layout.specs.Words.{AddsAtMost, AddsNone, HasRoom, false, move_at, stop, ◌▸◌};
+ghost use Rattle.gen1_machine.specs.Action.{lead_up, prelude};
+ghost use Rattle.gen1_machine.specs.EarlyEffects.{early_effect, is_early};
+ghost use Rattle.gen1_machine.specs.Progress.{only};
+ghost use Rattle.gen1_action.specs.Knowing.{DoesKnowingDrawing};
+ghost use Rattle.gen1_action.specs.Planned.{DoesAt, DoesTaking};
+ghost use Rattle.gen1_turn.specs.ActionSteps.{begin_move};
+ghost use Rattle.gen1_turn.specs.ByEffect.{makes_substitute};
+
+use crate::used_move::use_move;
+use gen1_action::Known;
+use gen1_effects::{early_effect_knowing, is_early_but_substitute};
+use gen1_layout::Packed;
+use gen1_machine::{EventList, Pick, Side};
+use gen1_multiturn::{charge_knowing, make_substitute, thrash_knowing, trap_knowing};
+use gen1_rolls::Rolls;
+use gen1_tables::{Effect, MoveId};
+
+pub(crate) fn lead_up<R: Rolls>(
+    battle: &mut Packed,
+    side: Side,
+    pick: Pick,
+    id: MoveId,
+    known: &mut Known,
+    random: &mut R,
+    events: &mut EventList,
+) -> bool
+    requires room { HasRoom 4 events.old }
+    ensures shown { DoesTaking R.byte R.next R.SPAN side pick (move_at id).effect battle.old
+        events.old.items random.old known.old battle.new events.new.items random.new known.new
+        result (λ r. lead_up side pick (move_at id)) }
+    ensures same { result ≡ false → known.new ≡ known.old }
+    ensures room { AddsAtMost 4 events.old events.new }
+    ensures few { result ≡ false → AddsAtMost 3 events.old events.new }
+{
+    if charge_knowing(battle, side, pick, id, known, random, events) {
+        return true;
+    }
+    use_move(battle, side, pick, id, known, events);
+    begin_move(battle, side, id, known, random, events)
+}
+
+// Once the move is used.
+fn begin_move<R: Rolls>(
+    battle: &mut Packed,
+    side: Side,
+    id: MoveId,
+    known: &mut Known,
+    random: &mut R,
+    events: &mut EventList,
+) -> bool
+    requires room { HasRoom 2 events.old }
+    ensures shown { DoesAt R.byte R.next R.SPAN side (move_at id).effect battle.old events.old.items
+        random.old known.old battle.new events.new.items random.new known.new result
+        (λ r. begin_move side (move_at id)) }
+    ensures same { result ≡ false → known.new ≡ known.old }
+    ensures room { AddsAtMost 2 events.old events.new }
+    ensures few { result ≡ false → AddsAtMost 1 events.old events.new }
+{
+    if early_effect(battle, side, id, known, random, events) {
+        return true;
+    }
+    prelude(battle, side, id, known, random, events);
+    false
+}
+
+// The action ends with an early effect, for which the answer is true; other moves have none.
+fn early_effect<R: Rolls>(
+    battle: &mut Packed,
+    side: Side,
+    id: MoveId,
+    known: &mut Known,
+    random: &mut R,
+    events: &mut EventList,
+) -> bool
+    requires room { HasRoom 2 events.old }
+    ensures shown { DoesKnowingDrawing R.byte R.next R.SPAN battle.old events.old.items random.old
+        known.old battle.new events.new.items random.new known.new result
+        (only (is_early (move_at id).effect) (early_effect side (move_at id) (move_at id).effect
+        ▸ stop)) }
+    ensures early { result ≡ is_early (move_at id).effect }
+    ensures same { result ≡ false → known.new ≡ known.old }
+    ensures room { AddsAtMost 2 events.old events.new }
+    ensures quiet { result ≡ false → AddsNone events.old events.new }
+{
+    if is_early_but_substitute(id.effect()) {
+        early_effect_knowing(battle, side, id, known, random, events);
+        return true;
+    }
+    if makes_substitute(id.effect()) {
+        make_substitute(battle, side, events);
+        return true;
+    }
+    false
+}
+
+// What trapping and thrashing do before their damage.
+fn prelude<R: Rolls>(
+    battle: &mut Packed,
+    side: Side,
+    id: MoveId,
+    known: &Known,
+    random: &mut R,
+    events: &mut EventList,
+)
+    requires room { HasRoom 1 events.old }
+    ensures shown { DoesAt R.byte R.next R.SPAN side (move_at id).effect battle.old events.old.items
+        random.old known.now battle.new events.new.items random.new known.now false
+        (λ r. prelude side (move_at id)) }
+    ensures room { AddsAtMost 1 events.old events.new }
+{
+    if id.effect().traps() {
+        trap_knowing(battle, side, known, random);
+        return;
+    }
+    if id.effect().thrashes() {
+        thrash_knowing(battle, side, id, known, random, events);
+    }
+}
+
+fn makes_substitute(effect: Effect) -> bool
+    ensures { result ≡ makes_substitute effect }
+{
+    matches!(effect, Effect::Substitute)
+}

@@ -1,0 +1,68 @@
+//! A move that hits or misses, and its side effect (docs/MECHANICS.md, "Action", from step 9 on).
+ghost use Rattle.std.specs.Prelude.{◌||◌};
+ghost use Rattle.gen1_layout.specs.Words.{AddsAtMost, HasRoom, Reads, move_at, other};
+ghost use Rattle.gen1_machine.specs.Action.{strike};
+ghost use Rattle.gen1_machine.specs.State.{has_fallen_in};
+ghost use Rattle.gen1_action.specs.Knowing.{IsUncounted};
+ghost use Rattle.gen1_action.specs.Planned.{DoesUnder};
+ghost use Rattle.gen1_turn.specs.ActionSteps.{hits_with_effect};
+
+use gen1_action::Known;
+use gen1_effects::side_effect_knowing;
+use gen1_layout::Packed;
+use gen1_machine::{EventList, Side};
+use gen1_multiturn::{hits, missed_move};
+use gen1_rolls::Rolls;
+use gen1_tables::MoveId;
+
+pub(crate) fn strike<R: Rolls>(
+    battle: &mut Packed,
+    side: Side,
+    id: MoveId,
+    known: &mut Known,
+    random: &mut R,
+    events: &mut EventList,
+) -> bool
+    requires room { HasRoom 14 events.old }
+    requires counts { IsUncounted known.old }
+    ensures shown { DoesUnder R.byte R.next R.SPAN battle.old events.old.items random.old known.old
+        battle.new events.new.items random.new known.new result (λ r. strike r side (move_at id)) }
+    ensures room { AddsAtMost 14 events.old events.new }
+{
+    if known.missed {
+        missed_move(battle, side, id, events);
+        return true;
+    }
+    hits_with_effect(battle, side, id, known, random, events)
+}
+
+// Once it is known to hit.
+fn hits_with_effect<R: Rolls>(
+    battle: &mut Packed,
+    side: Side,
+    id: MoveId,
+    known: &mut Known,
+    random: &mut R,
+    events: &mut EventList,
+) -> bool
+    requires room { HasRoom 14 events.old }
+    requires counts { IsUncounted known.old }
+    ensures shown { DoesUnder R.byte R.next R.SPAN battle.old events.old.items random.old known.old
+        battle.new events.new.items random.new known.new result
+        (λ r. hits_with_effect r side (move_at id)) }
+    ensures room { AddsAtMost 14 events.old events.new }
+{
+    hits(battle, side, id, known, random, events);
+    if has_no_effect(battle, side, known) {
+        return false;
+    }
+    side_effect_knowing(battle, side, id, known, random, events)
+}
+
+// The energy of Bide, a broken substitute and a fall have no side effect.
+fn has_no_effect(battle: &Packed, side: Side, known: &Known) -> bool
+    ensures stands { Reads battle.now result λ f.
+        (known.now.letting_go || (known.now.broke || has_fallen_in (other side) f)) }
+{
+    known.letting_go || (known.broke || battle.hp(side.other()) == 0)
+}

@@ -1,0 +1,90 @@
+//! Which move an action takes, and whether that goes on (docs/MECHANICS.md, "Picks", "Going on").
+ghost use Rattle.std.specs.Prelude.{◌&&◌, ◌≡◌, ◌≤◌};
+ghost use Rattle.gen1_layout.specs.Words.{Event, Field, IsBetween, List, Reads, Setting, Within, active_in, false, length, member_in, not, underway_in};
+ghost use Rattle.gen1_machine.specs.Action.{keeps_going, see_if_going_on};
+ghost use Rattle.gen1_machine.specs.Picks.{is_use, number_in, used_by};
+ghost use Rattle.gen1_machine.specs.Valid.{IsUsedMove};
+ghost use Rattle.gen1_action.specs.Knowing.{DoesKnowing, IsUncounted};
+
+use gen1_action::Known;
+use gen1_layout::{Conditions, Packed};
+use gen1_machine::{Pick, Side, UsedMove};
+use gen1_multiturn::used_by;
+use gen1_tables::{MoveId, STRUGGLE};
+
+// What goes on by itself keeps its PP, unless its condition is gone: then the move is used anew.
+pub(crate) fn see_if_going_on(battle: &Packed, side: Side, pick: Pick, known: &mut Known)
+    ensures shown { (events : List Event)
+        → DoesKnowing battle.now events known.old battle.now events known.new false
+        (see_if_going_on side pick) }
+    ensures counts { IsUncounted known.old → IsUncounted known.new }
+{
+    known.going_on = goes_on(battle, side, pick);
+}
+
+fn goes_on(battle: &Packed, side: Side, pick: Pick) -> bool
+    ensures stands { Reads battle.now result λ f.
+        (not (is_use pick) && keeps_going (underway_in side f)) }
+{
+    if is_use(pick) {
+        return false;
+    }
+    keeps_going(battle, side)
+}
+
+fn is_use(pick: Pick) -> bool
+    ensures { result ≡ is_use pick }
+{
+    matches!(pick, Pick::Use(_))
+}
+
+fn keeps_going(battle: &Packed, side: Side) -> bool
+    ensures stands { Reads battle.now result λ f. keeps_going (underway_in side f) }
+{
+    if battle.is_on(side, Conditions::THRASH) {
+        return true;
+    }
+    if battle.is_on(side, Conditions::TRAPPING) {
+        return true;
+    }
+    battle.is_on(side, Conditions::RAGE)
+}
+
+// The move that a pick uses. There is one wherever an action comes as far.
+pub(crate) fn move_taken(battle: &Packed, side: Side, pick: Pick) -> MoveId
+    ensures stands { (g : Setting) (f : Field) → Within g battle.now f
+        → IsUsedMove (length (member_in side f).moves)
+        (used_by pick (active_in side f).current_move)
+        → IsBetween 1 165
+        (number_in (used_by pick (active_in side f).current_move) (member_in side f).moves)
+        → result ≡ number_in (used_by pick (active_in side f).current_move)
+        (member_in side f).moves }
+{
+    let used = used_by(pick, battle.current_move(side));
+    match MoveId::new(number_of(battle, side, used)) {
+        Some(id) => id,
+        None => MoveId::default(),
+    }
+}
+
+// The number of a move, by where it comes from; 0 is that of none.
+pub(crate) fn number_of(battle: &Packed, side: Side, used: UsedMove) -> u8
+    ensures stands { (g : Setting) (f : Field) → Within g battle.now f
+        → IsUsedMove (length (member_in side f).moves) used
+        → result ≡ number_in used (member_in side f).moves }
+{
+    match used {
+        UsedMove::Nothing => 0,
+        UsedMove::Slot(slot) => battle.move_in(side, among_slots(slot)),
+        UsedMove::Struggle => STRUGGLE,
+    }
+}
+
+// A slot from 1 to 4 is itself. Whatever else a byte holds is made one of them.
+pub(crate) fn among_slots(slot: u8) -> u8
+    ensures low { 1 ≤ result }
+    ensures high { result ≤ 4 }
+    ensures same { IsBetween 1 4 slot → result ≡ slot }
+{
+    slot.wrapping_sub(1) % 4 + 1
+}

@@ -1,0 +1,206 @@
+//! A turn, by what both sides choose (docs/MECHANICS.md, "Order of a turn").
+ghost use Rattle.std.specs.Prelude.{◌≡◌};
+ghost use Rattle.gen1_layout.specs.Words.{AddsAtMost, Bool, Does, Event, Frame, HasRoom, List, Progress, Shows, false, length, member_in, other};
+ghost use Rattle.gen1_machine.specs.declared.side.Side.TheVariants as sides;
+ghost use Rattle.gen1_machine.specs.Conditions.{without_flinch};
+ghost use Rattle.gen1_machine.specs.State.{active_in};
+ghost use Rattle.gen1_machine.specs.Progress.{on_conditions};
+ghost use Rattle.gen1_machine.specs.Picks.{picked_after};
+ghost use Rattle.gen1_machine.specs.Plans.{Any, FitsPick, InRange};
+ghost use Rattle.gen1_machine.specs.Ruling.{ruling_of};
+ghost use Rattle.gen1_machine.specs.Turn.{both_pick, both_switch, do_parts, one_picks, play_turn, set_picked, turn};
+ghost use Rattle.gen1_machine.specs.Valid.{IsUsedMove};
+ghost use Rattle.gen1_action.specs.Knowing.{knowing, with_broke};
+ghost use Rattle.gen1_turn.specs.TurnParts.{Chooses, DoesTurn, acts_in_turn};
+
+use crate::by_side::BySide;
+use crate::turn_order::first_side;
+use crate::turn_parts::{act_and_suffer, end_turn, sends_and_suffers};
+use gen1_action::Known;
+use gen1_layout::{Conditions, Packed};
+use gen1_machine::{Choice, EventList, Pick, Place, Side, UsedMove};
+use gen1_rolls::Rolls;
+use gen1_status::pick;
+
+// A whole turn, after which nobody has fainted yet.
+pub(crate) fn take_turn<R: Rolls>(
+    battle: &mut Packed,
+    one: Choice,
+    two: Choice,
+    known: &mut Known,
+    random: &mut BySide<R>,
+    events: &mut EventList,
+)
+    requires room { HasRoom 48 events.old }
+    ensures shown { DoesTurn R.byte R.next R.SPAN battle.old events.old.items random.old known.old
+        battle.new events.new.items random.new known.new (Chooses one two) (λ r. turn r one two) }
+    ensures room { AddsAtMost 48 events.old events.new }
+{
+    end_flinch(battle, Side::One);
+    end_flinch(battle, Side::Two);
+    play_choices(battle, one, two, known, random, events);
+}
+
+fn end_flinch(battle: &mut Packed, side: Side)
+    ensures shown { (events : List Event)
+        → Does battle.old events battle.new events false (on_conditions side without_flinch) }
+{
+    battle.put_flag(side, Conditions::FLINCH, false);
+}
+
+fn play_choices<R: Rolls>(
+    battle: &mut Packed,
+    one: Choice,
+    two: Choice,
+    known: &mut Known,
+    random: &mut BySide<R>,
+    events: &mut EventList,
+)
+    requires room { HasRoom 48 events.old }
+    ensures shown { DoesTurn R.byte R.next R.SPAN battle.old events.old.items random.old known.old
+        battle.new events.new.items random.new known.new (Chooses one two)
+        (λ r. play_turn r one two) }
+    ensures room { AddsAtMost 48 events.old events.new }
+{
+    match one {
+        Choice::Move(_) => match two {
+            Choice::Move(_) => {
+                let first = pick(battle, Side::One, one);
+                let second = pick(battle, Side::Two, two);
+                both_pick(battle, first, second, known, random, events);
+            }
+            Choice::Switch(place) => {
+                let first = pick(battle, Side::One, one);
+                one_picks(battle, Side::One, first, place, known, random, events);
+            }
+            Choice::Pass => {}
+        },
+        Choice::Switch(place) => match two {
+            Choice::Move(_) => {
+                let second = pick(battle, Side::Two, two);
+                one_picks(battle, Side::Two, second, place, known, random, events);
+            }
+            Choice::Switch(other) => both_switch(battle, place, other, known, events),
+            Choice::Pass => {}
+        },
+        Choice::Pass => {}
+    }
+}
+
+fn both_pick<R: Rolls>(
+    battle: &mut Packed,
+    one: Pick,
+    two: Pick,
+    known: &mut Known,
+    random: &mut BySide<R>,
+    events: &mut EventList,
+)
+    requires room { HasRoom 48 events.old }
+    ensures shown { DoesTurn R.byte R.next R.SPAN battle.old events.old.items random.old known.old
+        battle.new events.new.items random.new known.new
+        (λ plan p. FitsPick one (plan sides.One) × FitsPick two (plan sides.Two))
+        (λ r. both_pick r one two) }
+    ensures room { AddsAtMost 48 events.old events.new }
+{
+    set_picked(battle, Side::One, one);
+    set_picked(battle, Side::Two, two);
+    match first_side(battle, random) {
+        Side::One => both_act(battle, Side::One, one, two, known, random, events),
+        Side::Two => both_act(battle, Side::Two, two, one, known, random, events),
+    }
+}
+
+fn set_picked(battle: &mut Packed, side: Side, pick: Pick)
+    ensures shown { (g : Frame) (p : Progress) (events : List Event)
+        → IsUsedMove (length (member_in side p.field).moves)
+        (picked_after pick (active_in side p.field).picked_move)
+        → Shows g battle.old events false p
+        → Shows g battle.new events false (set_picked side pick p) }
+{
+    match pick {
+        Pick::Use(used) => battle.put_picked_move(side, used),
+        Pick::Held => battle.put_picked_move(side, UsedMove::Nothing),
+        Pick::Continue => {}
+        Pick::Idle => {}
+    }
+}
+
+// Both use a move, this side first.
+fn both_act<R: Rolls>(
+    battle: &mut Packed,
+    side: Side,
+    mine: Pick,
+    others: Pick,
+    known: &mut Known,
+    random: &mut BySide<R>,
+    events: &mut EventList,
+)
+    requires room { HasRoom 48 events.old }
+    ensures shown { DoesTurn R.byte R.next R.SPAN battle.old events.old.items random.old known.old
+        battle.new events.new.items random.new known.new
+        (λ plan p. FitsPick mine (plan side) × FitsPick others (plan (other side)))
+        (λ r. do_parts r (acts_in_turn side mine others)) }
+    ensures room { AddsAtMost 48 events.old events.new }
+{
+    if act_and_suffer(battle, side, mine, known, random, events) {
+        return;
+    }
+    if act_and_suffer(battle, side.other(), others, known, random, events) {
+        return;
+    }
+    end_turn(battle);
+}
+
+// One side uses a move; the other switches first.
+#[inline(always)] // docs/SPEED.md, "Hints on inlining"
+fn one_picks<R: Rolls>(
+    battle: &mut Packed,
+    side: Side,
+    pick: Pick,
+    place: Place,
+    known: &mut Known,
+    random: &mut BySide<R>,
+    events: &mut EventList,
+)
+    requires room { HasRoom 48 events.old }
+    ensures shown { DoesTurn R.byte R.next R.SPAN battle.old events.old.items random.old known.old
+        battle.new events.new.items random.new known.new
+        (λ plan p. FitsPick pick (plan side) × (plan (other side) ≡ Any)
+        × InRange (other side) place p.field) (λ r. one_picks r side pick place) }
+    ensures room { AddsAtMost 48 events.old events.new }
+{
+    set_picked(battle, side, pick);
+    if sends_and_suffers(battle, side.other(), place, known, events) {
+        return;
+    }
+    if act_and_suffer(battle, side, pick, known, random, events) {
+        return;
+    }
+    end_turn(battle);
+}
+
+// Both switch, side 1 first.
+fn both_switch(
+    battle: &mut Packed,
+    one: Place,
+    two: Place,
+    known: &mut Known,
+    events: &mut EventList,
+)
+    requires room { HasRoom 48 events.old }
+    ensures shown { (g : Frame) (p : Progress) (broke : Bool) → InRange sides.One one p.field
+        → InRange sides.Two two p.field
+        → Shows (knowing (with_broke broke known.old) g) battle.old events.old.items false p
+        → (stopped : Bool)
+        × Shows (knowing known.new g) battle.new events.new.items stopped
+        (do_parts (ruling_of g.setting.terms) (both_switch one two) p) }
+    ensures room { AddsAtMost 48 events.old events.new }
+{
+    if sends_and_suffers(battle, Side::One, one, known, events) {
+        return;
+    }
+    if sends_and_suffers(battle, Side::Two, two, known, events) {
+        return;
+    }
+    end_turn(battle);
+}

@@ -1,0 +1,52 @@
+//! The update of a battle that asks both sides for a move: a turn, and what follows at its end (docs/MECHANICS.md, "Order of a
+//! turn", "Falls and requests").
+ghost use Rattle.std.specs.Prelude.{◌≡◌};
+ghost use Rattle.gen1_layout.specs.Words.{AddsAtMost, [], ℕ};
+ghost use Rattle.gen1_rolls.specs.Draws.{StandsAt};
+ghost use Rattle.gen1_rolls.specs.Streams.{IsStream, Stream};
+ghost use Rattle.gen1_machine.specs.declared.terms.Request.TheVariants.{Move};
+ghost use Rattle.gen1_machine.specs.State.{State};
+ghost use Rattle.gen1_machine.specs.Ruling.{ruling_of};
+ghost use Rattle.gen1_machine.specs.Turn.{turn};
+ghost use Rattle.gen1_machine.specs.Step.{close_update};
+ghost use Rattle.gen1_layout.specs.Within.{Stands, setting_of};
+ghost use Rattle.gen1_requests.specs.Updates.{Plays, UpdatedDrawing, drawing_on};
+
+use crate::by_side::BySide;
+use crate::turn_choices::take_turn;
+use gen1_action::Known;
+use gen1_layout::Packed;
+use gen1_machine::{Choice, EventList};
+use gen1_requests::close;
+use gen1_rolls::Rolls;
+
+/// Plays a turn of a battle that asks for moves, by a choice of each side among those that it was offered; then the fallen
+/// faint, and the battle ends, or asks for switches or for the next turn (docs/MECHANICS.md, "Order of a turn", "Falls and
+/// requests").
+///
+/// Draws come from `random` alone, which is given back as they leave it: the index and the numbers in the bytes stay as they
+/// are. The events of the update, 51 at most, are written to `events`, which is to be empty.
+pub fn turn<R: Rolls>(
+    battle: &mut Packed,
+    one: Choice,
+    two: Choice,
+    random: R,
+    events: &mut EventList,
+) -> R
+    requires empty { events.old.items ≡ [] }
+    ensures updated { (s : State) (origin : R) (stream : Stream) (drawn : ℕ) → Stands battle.old s
+        → Plays s Move one two
+        → IsStream stream → StandsAt R.byte R.next R.SPAN origin stream drawn random
+        → UpdatedDrawing R.byte R.next R.SPAN origin stream (setting_of s) battle.new
+        events.new.items result
+        (close_update (ruling_of s.terms)
+        (turn (ruling_of s.terms) one two (drawing_on stream drawn s))) }
+    ensures room { AddsAtMost 51 events.old events.new }
+{
+    let mut known = Known::new();
+    let mut by_side = BySide(random);
+    take_turn(battle, one, two, &mut known, &mut by_side, events);
+    close(battle, known.side, events);
+    let BySide(left) = by_side;
+    left
+}

@@ -1,0 +1,117 @@
+//! A move that is used: it becomes the current one, and costs PP (docs/MECHANICS.md, "Action", step 4).
+ghost use Rattle.std.specs.Prelude.{if◌then◌else◌, ◌-◌, ◌==◌, ◌≡◌, ◌≤◌};
+ghost use Rattle.gen1_layout.specs.Words.{AddsAtMost, Does, Event, Frame, HasRoom, IsBetween, List, Progress, Shows, active_in, false, length, member_in, move_at, not, other, who_in};
+ghost use Rattle.gen1_machine.specs.Charging.{make_current};
+ghost use Rattle.gen1_machine.specs.Action.{spend_pp, use_move};
+ghost use Rattle.gen1_tables.specs.Effects.{bides};
+ghost use Rattle.gen1_machine.specs.Picks.{used_by};
+ghost use Rattle.gen1_machine.specs.Progress.{goes_on_now, note, on_member, only, unless};
+ghost use Rattle.gen1_machine.specs.State.{with_pp_spent};
+ghost use Rattle.gen1_machine.specs.Valid.{IsUsedMove};
+ghost use Rattle.gen1_action.specs.Knowing.{DoesKnowing, knowing};
+
+use crate::taken_move::among_slots;
+use gen1_action::Known;
+use gen1_layout::Packed;
+use gen1_machine::{Event, EventList, Pick, Side, UsedMove};
+use gen1_multiturn::make_current;
+use gen1_tables::MoveId;
+
+// A move is used; Bide has no event for it.
+#[inline(always)] // docs/SPEED.md, "Hints on inlining"
+pub(crate) fn use_move(
+    battle: &mut Packed,
+    side: Side,
+    pick: Pick,
+    id: MoveId,
+    known: &Known,
+    events: &mut EventList,
+)
+    requires room { HasRoom 1 events.old }
+    ensures shown { (g : Frame) (p : Progress)
+        → IsUsedMove (length (member_in side p.field).moves)
+        (used_by pick (active_in side p.field).current_move)
+        → Shows (knowing known.now g) battle.old events.old.items false p
+        → Shows (knowing known.now g) battle.new events.new.items false
+        (use_move side pick (move_at id) p) }
+    ensures room { AddsAtMost 1 events.old events.new }
+{
+    take_up(battle, side, pick);
+    spend_pp_unless_going(battle, side, known);
+    note_move(battle, side, id, events);
+}
+
+// A move that is picked becomes the current one; what goes on is that already.
+fn take_up(battle: &mut Packed, side: Side, pick: Pick)
+    ensures shown { (g : Frame) (p : Progress) (events : List Event)
+        → IsUsedMove (length (member_in side p.field).moves)
+        (used_by pick (active_in side p.field).current_move)
+        → Shows g battle.old events false p
+        → Shows g battle.new events false (make_current side pick p) }
+{
+    match pick {
+        Pick::Use(_) => make_current(battle, side, pick),
+        Pick::Continue => {}
+        Pick::Idle => {}
+        Pick::Held => {}
+    }
+}
+
+fn spend_pp_unless_going(battle: &mut Packed, side: Side, known: &Known)
+    ensures shown { (events : List Event)
+        → DoesKnowing battle.old events known.now battle.new events known.now false
+        (unless goes_on_now (spend_pp side)) }
+{
+    if known.going_on {
+        return;
+    }
+    spend_pp(battle, side, battle.current_move(side));
+}
+
+fn spend_pp(battle: &mut Packed, side: Side, used: UsedMove)
+    ensures shown { (g : Frame) (p : Progress) (events : List Event)
+        → (active_in side p.field).current_move ≡ used
+        → Shows g battle.old events false p
+        → Shows g battle.new events false (on_member side (with_pp_spent used) p) }
+{
+    match used {
+        UsedMove::Nothing => {}
+        UsedMove::Struggle => {}
+        UsedMove::Slot(slot) => spend_pp_of(battle, side, slot),
+    }
+}
+
+fn spend_pp_of(battle: &mut Packed, side: Side, slot: u8)
+    ensures shown { (g : Frame) (p : Progress) (events : List Event)
+        → IsBetween 1 (length (member_in side p.field).moves) slot
+        → Shows g battle.old events false p
+        → Shows g battle.new events false (on_member side (with_pp_spent (UsedMove.Slot slot)) p) }
+{
+    let slot = among_slots(slot);
+    let left = less_pp(battle.pp(side, slot));
+    battle.put_pp(side, slot, left);
+}
+
+// PP are six bits, so what comes after 0 is 63.
+fn less_pp(pp: u8) -> u8
+    ensures value { result ≡ (if pp == 0 then 63 else pp - 1) }
+    ensures most { pp ≤ 63 → result ≤ 63 }
+{
+    match pp {
+        0 => 63,
+        _ => pp - 1,
+    }
+}
+
+fn note_move(battle: &Packed, side: Side, id: MoveId, events: &mut EventList)
+    requires room { HasRoom 1 events.old }
+    ensures shown { Does battle.now events.old.items battle.now events.new.items false
+        (only (not (bides (move_at id).effect))
+        (note (λ f. Event.Move (who_in side f) id (who_in (other side) f)))) }
+    ensures room { AddsAtMost 1 events.old events.new }
+{
+    if id.effect().bides() {
+        return;
+    }
+    events.push(Event::Move(battle.who(side), id, battle.who(side.other())));
+}

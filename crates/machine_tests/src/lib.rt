@@ -1,8 +1,0 @@
-//! Tests of `gen1_machine`, through its public functions. A crate with tests is proved twice, so they
-//! stand in a crate of their own.
-#![tactic(auto)]
-
-#[cfg(test)]
-mod laws;
-#[cfg(test)]
-mod values;

@@ -1,3 +1,0 @@
-//! The worked numbers of docs/MECHANICS.md, on battles of two members of one species.
-mod gates;
-mod statuses;

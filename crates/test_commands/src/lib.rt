@@ -1,0 +1,13 @@
+//! Tests of the subcommands of `battle_tool`: whole inputs, and devices and heaps that fail.
+//!
+//! - `tests`: `run`, `calc`, `print` and the command line
+//! - `rooms`: `room`
+//! - `setting`: what both share
+#![tactic(auto)]
+
+#[cfg(test)]
+mod rooms;
+#[cfg(test)]
+mod setting;
+#[cfg(test)]
+mod tests;

@@ -1,0 +1,103 @@
+//! Stages that rise and fall, and sleep, with the numbers of docs/MECHANICS.md, "Late effects", "Stage shift", "Rules (sleep
+//! clause, freeze clause)". 75 was the last damage.
+use crate::battles::{self, BOTH, FOE, USER, assert_same, electrode, named, send_out};
+use gen1_effects::{is_late_but_bide, late_effect};
+use gen1_layout::{Conditions, Packed};
+use gen1_machine::{Event, EventList, Kind, Side, StageCount};
+use gen1_rolls::{LinkRandom, Rolls, Sweep};
+use gen1_stats::Status;
+use gen1_tables::Element::Ghost;
+use gen1_tables::Stat;
+use std::process::Abort;
+use std::test::Fail;
+
+mod sleep_moves;
+mod stat_moves;
+
+fn tauros_under(rules: u8) -> Result<Packed, Fail> {
+    let mut battle = battles::tauros_under(rules)?;
+    battle.put_last_damage(75);
+    Ok(battle)
+}
+
+fn tauros() -> Result<Packed, Fail> {
+    tauros_under(0)
+}
+
+// Plays a move of the user's.
+fn play<R: Rolls>(battle: &mut Packed, name: &str, random: &mut R) -> Result<EventList, Fail> {
+    let id = named(name)?;
+    if !is_late_but_bide(id.effect()) {
+        return Err("another effect")?;
+    }
+    let mut events = EventList::new();
+    late_effect(battle, USER, id, random, &mut events);
+    Ok(events)
+}
+
+// The same with draws that begin with this byte, a sweep's or link numbers that are all the same; and how many were taken, up
+// to 8 of link numbers.
+fn play_from(
+    battle: &mut Packed,
+    (name, byte, link): (&str, u8, bool),
+) -> Result<(EventList, u8), Fail> {
+    if link {
+        let mut random = LinkRandom::new([byte; 10]);
+        let events = play(battle, name, &mut random)?;
+        return Ok((events, random.index()));
+    }
+    let mut random = Sweep::new(byte);
+    let events = play(battle, name, &mut random)?;
+    Ok((events, random.draw().wrapping_sub(byte)))
+}
+
+// Plays a move so, and compares what it tells, how many draws it takes, and the bytes.
+fn plays(
+    rt: &impl Abort,
+    battle: &mut Packed,
+    played: (&str, u8, bool),
+    told: &[Event],
+    draws: u8,
+    want: &Packed,
+) -> Result<(), Fail> {
+    let (events, drawn) = play_from(battle, played)?;
+    let (name, _, _) = played;
+    assert_same(rt, (name, drawn), (name, draws));
+    compare(rt, battle, &events, told, want);
+    Ok(())
+}
+
+// What has been told, and the bytes.
+fn compare(rt: &impl Abort, battle: &Packed, events: &EventList, told: &[Event], want: &Packed) {
+    assert_same(rt, events.as_slice(), told);
+    assert_same(rt, battle.as_bytes(), want.as_bytes());
+}
+
+// A move that misses, whose last damage is 0 then.
+fn misses(
+    rt: &impl Abort,
+    battle: &mut Packed,
+    played: (&str, u8, bool),
+    draws: u8,
+    want: &mut Packed,
+) -> Result<(), Fail> {
+    let told = [Event::Miss(battle.who(USER))];
+    want.put_last_damage(0);
+    plays(rt, battle, played, &told, draws, want)
+}
+
+// A move that fails.
+fn fails(
+    rt: &impl Abort,
+    battle: &mut Packed,
+    played: (&str, u8, bool),
+    draws: u8,
+    want: &Packed,
+) -> Result<(), Fail> {
+    let told = [Event::Fail(battle.who(USER))];
+    plays(rt, battle, played, &told, draws, want)
+}
+
+fn count(stages: u8) -> Result<StageCount, Fail> {
+    Ok(StageCount::new(stages).ok_or("no such count")?)
+}

@@ -1,0 +1,2 @@
+-- A generator that counts down.
+pub mod Countdown

@@ -1,0 +1,76 @@
+//! The operations that draw, with any generator: what a caller knows that is itself generic, from their contracts alone.
+ghost use Rattle.std.specs.Prelude.{◌+◌, ◌<◌, ◌≡◌, ◌≤◌};
+ghost use Rattle.gen1_layout.specs.Words.{Field, HasRoom, None, Setting, Some, Within, move_at, nat_lt, status_in, ℕ};
+ghost use Rattle.gen1_rolls.specs.Draws.{draws_of, stream_of};
+ghost use Rattle.gen1_rolls.specs.Streams.{first, iterate};
+ghost use Rattle.gen1_stats.specs.declared.status.Status.TheVariants.{Healthy, Paralysed};
+ghost use Rattle.gen1_machine.specs.CriticalHits.{critical_bound_in, rotated_left_3};
+ghost use Rattle.gen1_machine.specs.Damage.{is_factor, rotated_right_1, times_factor};
+ghost use Rattle.gen1_machine.specs.HitTest.{scaled_in, settled_hit_in};
+ghost use Rattle.gen1_status.specs.GateAnswer.{stopped_by};
+ghost use Rattle.gen1_status.specs.Gate.{IsFree};
+
+use gen1_hits::{Hit, critical, factor, hit_test};
+use gen1_layout::Packed;
+use gen1_machine::{EventList, Pick, Side, UsedMove};
+use gen1_rolls::Rolls;
+use gen1_status::{Gate, gate};
+use gen1_tables::MoveId;
+
+/// The critical draw: it takes one byte, the generator's next, and the hit is critical where that, rotated, is below the
+/// machine's bound.
+pub fn critical_by<R: Rolls>(battle: &Packed, side: Side, id: MoveId, random: &mut R) -> bool
+    ensures { (g : Setting) (f : Field) → Within g battle.now f
+        → (result ≡ nat_lt (rotated_left_3 (R.byte random.old))
+        (critical_bound_in side (move_at id) f)) × (random.new ≡ R.next random.old) }
+{
+    critical(battle, side, id, random)
+}
+
+/// The factor of damage: 0 and 1 are kept with no draw, and more is multiplied by the first byte that is a factor, rotated.
+pub fn factor_by<R: Rolls>(damage: u16, random: &mut R) -> u16
+    ensures kept { damage ≤ 1 → (result ≡ damage) × (random.new ≡ random.old) }
+    ensures drawn { (m : ℕ) → 1 < damage
+        → first (stream_of R.byte R.next R.SPAN random.old) 0 is_factor ≡ Some m
+        → (result ≡ times_factor (rotated_right_1 (draws_of R.byte R.next random.old m)) damage)
+        × (random.new ≡ iterate (m + 1) R.next random.old) }
+{
+    factor(damage, random)
+}
+
+/// The hit test: where it is not settled without a draw, one byte is drawn, and the move hits where that is below the scaled
+/// accuracy.
+pub fn hit_test_by<R: Rolls>(
+    battle: &mut Packed,
+    side: Side,
+    id: MoveId,
+    base: u8,
+    random: &mut R,
+) -> Hit
+    ensures { (g : Setting) (f : Field) → Within g battle.old f
+        → settled_hit_in side (move_at id) f ≡ None
+        → (result.hit ≡ nat_lt (R.byte random.old) (scaled_in side base f))
+        × (random.new ≡ R.next random.old) }
+{
+    hit_test(battle, side, id, base, random)
+}
+
+/// The gate of a member that uses a move and that nothing but its status can keep from acting: a healthy one acts with no
+/// draw, and a paralysed one where its draw is not below 63.
+pub fn gate_by<R: Rolls>(
+    battle: &mut Packed,
+    side: Side,
+    used: UsedMove,
+    random: &mut R,
+    events: &mut EventList,
+) -> Gate
+    requires room { HasRoom 3 events.old }
+    ensures healthy { (g : Setting) (f : Field) → Within g battle.old f → IsFree side f
+        → status_in side f ≡ Healthy
+        → (result ≡ Gate.Go) × (random.new ≡ random.old) }
+    ensures paralysed { (g : Setting) (f : Field) → Within g battle.old f → IsFree side f
+        → status_in side f ≡ Paralysed
+        → (stopped_by result ≡ nat_lt (R.byte random.old) 63) × (random.new ≡ R.next random.old) }
+{
+    gate(battle, side, Pick::Use(used), random, events)
+}

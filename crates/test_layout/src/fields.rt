@@ -1,0 +1,291 @@
+//! A battle at turn 0 by docs/LAYOUT.md, and each reader and writer once.
+ghost use Rattle.std.specs.Prelude.{◌≡◌};
+
+use crate::comparing::assert_same;
+use arrayvec::ArrayVec;
+use gen1_layout::{Conditions, Packed, in_two};
+use gen1_machine::{DisabledSlot, Kind, Outcome, Request, Rules, Side, TurnLimit, UsedMove};
+use gen1_rolls::{LinkRandom, Rolls};
+use gen1_stats::{MemberSpec, Status, Team};
+use gen1_tables::{Element, MoveId, Species, Stat};
+use std::test::Fail;
+
+// A Tauros at level 100 with full DVs and experience, that knows Strength with three PP ups and Wrap.
+fn tauros() -> Result<Team, Fail> {
+    let mut moves = ArrayVec::new();
+    moves.push((MoveId::from_name("Strength").ok_or("no such move")?, 3));
+    moves.push((MoveId::from_name("Wrap").ok_or("no such move")?, 0));
+    let spec = MemberSpec {
+        species: Species::from_name("Tauros").ok_or("no such species")?,
+        level: 100,
+        dvs: [15; 4],
+        exp: [65535; 5],
+        moves,
+    };
+    Ok(Team::new(&[spec])?)
+}
+
+const SEED: [u8; 10] = [1, 2, 3, 4, 5, 6, 7, 8, 9, 10];
+
+// The bytes of that Tauros: 128, level 100, HP 353 of 353, Attack 298, Defense 288, Speed 318, Special 238, healthy,
+// moves 70 and 35 with 24 and 20 PP.
+const TAUROS: [u8; 24] = [
+    128, 100, 97, 1, 97, 1, 42, 1, 32, 1, 62, 1, 238, 0, 0, 70, 35, 0, 0, 24, 20, 0, 0, 0,
+];
+
+// Both Tauros are out, each at place 1.
+fn begun() -> Result<Packed, Fail> {
+    let mut packed = Packed::new(&tauros()?, &tauros()?, SEED);
+    packed.active_mut(Side::One)[0] = 1;
+    packed.active_mut(Side::Two)[0] = 1;
+    Ok(packed)
+}
+
+// The bytes of two teams (docs/LAYOUT.md, "Header", "Member", "Turn, outcome and requests").
+#[test]
+fn a_battle_at_turn_0(rt: HostRuntime) -> Result<(), Fail> {
+    let packed = Packed::new(&tauros()?, &tauros()?, SEED);
+    assert_same(&rt, packed.as_bytes().len(), 384);
+    let header = [
+        3, 0, 0, 0, 0, 0, 1, 2, 3, 4, 5, 6, 7, 8, 9, 10, 0, 0, 0, 0, 232, 3, 0, 0,
+    ];
+    assert_same(&rt, packed.header(), &header[..]);
+    assert_same(&rt, packed.member(Side::One, 1), &TAUROS[..]);
+    assert_same(&rt, packed.member(Side::Two, 1), &TAUROS[..]);
+    assert_same(&rt, packed.member(Side::One, 2), &[0; 24][..]);
+    assert_same(&rt, packed.active(Side::Two), &[0; 36][..]);
+    assert_same(&rt, packed.side(Side::One).len(), 180);
+    assert_same(&rt, packed.species_at(Side::One, 1), 128);
+    assert_same(&rt, packed.hp_at(Side::Two, 1), 353);
+    assert_same(&rt, packed.hp_at(Side::Two, 2), 0);
+    assert_same(&rt, packed.status_at(Side::Two, 1), Status::Healthy);
+    Ok(())
+}
+
+// Side 1 lies from offset 24 on, and side 2 from 204 on.
+#[test]
+fn both_sides_at_once(rt: HostRuntime) -> Result<(), Fail> {
+    let mut packed = begun()?;
+    assert_same(&rt, packed.sides_mut().len(), 360);
+    let (own, others) = packed.both_mut(Side::Two);
+    own[0] = 7;
+    others[179] = 9;
+    assert_same(&rt, packed.as_bytes()[204], 7);
+    assert_same(&rt, packed.as_bytes()[203], 9);
+    take_over(&mut packed, Side::One);
+    assert_same(&rt, packed.as_bytes()[24], 7);
+    Ok(())
+}
+
+// What a caller learns of the battle, by the two calls that `both_mut` makes.
+fn take_over(packed: &mut Packed, side: Side)
+    ensures { packed.new.header ≡ packed.old.header }
+{
+    let (own, others) = in_two(packed.sides_mut(), side);
+    own[0] = others[0];
+}
+
+// Rules and turn limit in the bytes (docs/LAYOUT.md, "Header").
+#[test]
+fn rules_and_limit(rt: HostRuntime) -> Result<(), Fail> {
+    let rules = Rules::new(3).ok_or("no such rules")?;
+    let limit = TurnLimit::new(300).ok_or("no such limit")?;
+    let plain = Packed::with_rules(&tauros()?, &tauros()?, SEED, rules);
+    assert_same(&rt, plain.limit(), 1000);
+    let packed = Packed::with_limit(&tauros()?, &tauros()?, SEED, rules, limit);
+    assert_same(&rt, packed.limit(), 300);
+    assert_same(
+        &rt,
+        (packed.sleep_clause(), packed.freeze_clause()),
+        (true, true),
+    );
+    Ok(())
+}
+
+// Readers and writers of the header (docs/LAYOUT.md, "Header").
+#[test]
+fn the_header(rt: HostRuntime) -> Result<(), Fail> {
+    let mut packed = begun()?;
+    packed.put_last_damage(513);
+    packed.put_outcome(Outcome::Fault(2));
+    packed.put_requests(Request::Move, Request::Switch);
+    packed.put_next_turn();
+    assert_same(&rt, packed.last_damage(), 513);
+    assert_same(&rt, packed.outcome(), Outcome::Fault(2));
+    assert_same(&rt, packed.request(Side::One), Request::Move);
+    assert_same(&rt, packed.request(Side::Two), Request::Switch);
+    assert_same(&rt, packed.turn(), 1);
+    let mut random = LinkRandom::new(SEED);
+    assert_same(&rt, packed.generator(), Some(random));
+    for _ in 0..11 {
+        random.draw();
+    }
+    packed.put_generator(&random);
+    assert_same(&rt, packed.generator(), Some(random));
+    assert_same(&rt, packed.header()[5], 2);
+    packed.header_mut()[0] = 3;
+    Ok(())
+}
+
+// Readers and writers of a member (docs/LAYOUT.md, "Member").
+#[test]
+fn a_member(rt: HostRuntime) -> Result<(), Fail> {
+    let mut packed = begun()?;
+    let side = Side::Two;
+    assert_same(&rt, packed.place(side), 1);
+    assert_same(&rt, packed.species(side).name(), "Tauros");
+    assert_same(&rt, packed.who(side).species.number(), 128);
+    assert_same(&rt, packed.level(side), 100);
+    assert_same(&rt, packed.unmodified(side, Stat::Speed), 318);
+    assert_same(&rt, (packed.move_in(side, 1), packed.pp(side, 2)), (70, 20));
+    packed.put_hp(side, 300);
+    packed.put_status(
+        side,
+        Status::Asleep {
+            turns: 7,
+            marked: true,
+        },
+    );
+    packed.put_pp(side, 2, 19);
+    assert_same(&rt, (packed.hp(side), packed.max_hp(side)), (300, 353));
+    assert_same(
+        &rt,
+        packed.status(side),
+        Status::Asleep {
+            turns: 7,
+            marked: true,
+        },
+    );
+    assert_same(&rt, packed.kind(side), Some(Kind::Sleep));
+    assert_same(
+        &rt,
+        packed.health(side).map(|health| health.hp()),
+        Some(300),
+    );
+    assert_same(&rt, packed.pp(side, 2), 19);
+    assert_same(&rt, packed.member(Side::One, 1), &TAUROS[..]);
+    packed.member_mut(side, 6)[0] = 1;
+    packed.side_mut(side)[120] = 2;
+    assert_same(&rt, packed.species_at(side, 6), 2);
+    Ok(())
+}
+
+// Readers and writers of an active block (docs/LAYOUT.md, "Active block").
+#[test]
+fn an_active_block(rt: HostRuntime) -> Result<(), Fail> {
+    let mut packed = begun()?;
+    let side = Side::One;
+    packed.put_types(side, Element::Ghost, Element::Dragon);
+    packed.put_attack(side, 7, 447);
+    packed.put_defense(side, 6, 288);
+    packed.put_speed(side, 6, 79);
+    packed.put_special(side, 5, 157);
+    packed.put_accuracy(side, 4);
+    packed.put_evasion(side, 12);
+    packed.put_current_move(side, UsedMove::Slot(2));
+    packed.put_picked_move(side, UsedMove::Struggle);
+    packed.put_kept_accuracy(side, 229);
+    assert_same(&rt, packed.first_type(side), Element::Ghost);
+    assert_same(&rt, packed.second_type(side), Element::Dragon);
+    assert_same(&rt, packed.stage(side, Stat::Evasion), 12);
+    assert_same(&rt, packed.current_stat(side, Stat::Attack), 447);
+    assert_same(&rt, packed.current_move(side), UsedMove::Slot(2));
+    assert_same(&rt, packed.picked_move(side), UsedMove::Struggle);
+    assert_same(&rt, packed.kept_accuracy(side), 229);
+    let block = [
+        1, 7, 14, 7, 6, 6, 5, 4, 12, 191, 1, 32, 1, 79, 0, 157, 0, 0, 0, 0, 0, 0, 0, 0, 0, 0, 0, 0,
+        0, 2, 5, 229, 0, 0, 0, 0,
+    ];
+    assert_same(&rt, packed.active(side), &block[..]);
+    packed.put_sent_out(
+        side,
+        1,
+        Element::Fire,
+        Element::Flying,
+        [149, 288, 318, 238],
+    );
+    let block = [
+        1, 8, 2, 6, 6, 6, 6, 6, 6, 149, 0, 32, 1, 62, 1, 238, 0, 0, 0, 0, 0, 0, 0, 0, 0, 0, 0, 0,
+        0, 0, 0, 0, 0, 0, 0, 0,
+    ];
+    assert_same(&rt, packed.active(side), &block[..]);
+    Ok(())
+}
+
+// A number goes with its condition; Haze ends all of these but the Substitute (docs/MECHANICS.md, "Conditions").
+#[test]
+fn conditions_with_numbers(rt: HostRuntime) -> Result<(), Fail> {
+    let mut packed = begun()?;
+    let side = Side::One;
+    packed.put_substitute(side, Some(89));
+    packed.put_confused(side, Some(5));
+    packed.put_bad_poison(side, Some(64));
+    let disabled = DisabledSlot { slot: 2, turns: 8 };
+    packed.put_disabled(side, Some(disabled));
+    packed.put_flag(side, Conditions::MIST, true);
+    assert_same(&rt, packed.substitute(side), Some(89));
+    assert_same(&rt, packed.confused(side), Some(5));
+    assert_same(&rt, packed.bad_poison(side), Some(64));
+    assert_same(&rt, packed.disabled(side), Some(disabled));
+    assert_same(&rt, packed.is_on(side, Conditions::MIST), true);
+    // Bits 6, 7, 9, 13 and 16.
+    assert_same(
+        &rt,
+        &packed.active(side)[17..26],
+        &[192, 34, 1, 0, 89, 5, 2, 8, 64][..],
+    );
+    packed.clear_by_haze(side);
+    assert_same(&rt, packed.conditions(side), Conditions::SUBSTITUTE);
+    assert_same(
+        &rt,
+        packed.conditions(side).has(Conditions::SUBSTITUTE),
+        true,
+    );
+    assert_same(
+        &rt,
+        Conditions::MIST.with(Conditions::RAGE, true),
+        Conditions::MIST | Conditions::RAGE,
+    );
+    Ok(())
+}
+
+// Bide, Thrash and Trapping, one at a time, each with its numbers; what breaks them off ends Charging too (docs/MECHANICS.md,
+// "Conditions").
+#[test]
+fn what_goes_on(rt: HostRuntime) -> Result<(), Fail> {
+    let mut packed = begun()?;
+    let side = Side::Two;
+    packed.put_bide(side, 3, 513);
+    assert_same(
+        &rt,
+        (packed.bide(side), packed.energy(side)),
+        (Some(3), 513),
+    );
+    packed.end_bide(side);
+    assert_same(&rt, (packed.bide(side), packed.energy(side)), (None, 0));
+    packed.put_thrash(side, 2);
+    assert_same(&rt, packed.thrash(side), Some(2));
+    packed.end_thrash(side);
+    packed.put_trapping(side, 4);
+    assert_same(
+        &rt,
+        (packed.thrash(side), packed.trapping(side)),
+        (None, Some(4)),
+    );
+    packed.end_trapping(side);
+    assert_same(&rt, packed.trapping(side), None);
+    packed.put_flag(side, Conditions::CHARGING, true);
+    packed.break_off(side);
+    assert_same(
+        &rt,
+        packed.active(side)[17..29].iter().all(|byte| *byte == 0),
+        true,
+    );
+    Ok(())
+}
+
+// Its size in memory (docs/LAYOUT.md, "The 384 bytes of a battle").
+#[test]
+fn a_packed_battle_is_384_bytes(rt: HostRuntime) {
+    assert_same(&rt, std::mem::size_of::<Packed>(), 384);
+}

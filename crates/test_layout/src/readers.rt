@@ -1,0 +1,179 @@
+//! Members by their places, several conditions at once, the terms, and a battle at turn 0 (docs/LAYOUT.md).
+use crate::comparing::assert_same;
+use arrayvec::ArrayVec;
+use gen1_layout::{Conditions, Packed};
+use gen1_machine::{Health, Level, Outcome, Request, Rules, Side, TurnLimit};
+use gen1_stats::{MemberSpec, Status, Team};
+use gen1_tables::{MoveId, Species, Stat};
+use std::test::Fail;
+
+const SEED: [u8; 10] = [1, 2, 3, 4, 5, 6, 7, 8, 9, 10];
+
+// A Tauros at level 100 with full DVs and experience: HP 353, Attack 298, Defense 288, Speed 318, Special 238. It knows
+// Strength, which is move 70, with three PP ups and so 24 PP, and Wrap, move 35, with 20.
+fn tauros() -> Result<MemberSpec, Fail> {
+    let mut moves = ArrayVec::new();
+    moves.push((MoveId::from_name("Strength").ok_or("no such move")?, 3));
+    moves.push((MoveId::from_name("Wrap").ok_or("no such move")?, 0));
+    Ok(MemberSpec {
+        species: Species::from_name("Tauros").ok_or("no such species")?,
+        level: 100,
+        dvs: [15; 4],
+        exp: [65535; 5],
+        moves,
+    })
+}
+
+// One Tauros against two, under both clauses, for 300 turns at most.
+fn at_turn_0() -> Result<Packed, Fail> {
+    Ok(Packed::with_limit(
+        &Team::new(&[tauros()?])?,
+        &Team::new(&[tauros()?, tauros()?])?,
+        SEED,
+        Rules::new(3).ok_or("no such rules")?,
+        TurnLimit::new(300).ok_or("no such limit")?,
+    ))
+}
+
+// The same with the first member of each side out.
+fn begun() -> Result<Packed, Fail> {
+    let mut packed = at_turn_0()?;
+    packed.active_mut(Side::One)[0] = 1;
+    packed.active_mut(Side::Two)[0] = 1;
+    Ok(packed)
+}
+
+// Place 2 of side 1 is empty.
+#[test]
+fn members_by_their_places(rt: HostRuntime) -> Result<(), Fail> {
+    let packed = at_turn_0()?;
+    for place in 1..3 {
+        let side = Side::Two;
+        assert_same(
+            &rt,
+            packed.species_from(side, place),
+            Species::from_name("Tauros"),
+        );
+        assert_same(&rt, packed.level_at(side, place), 100);
+        assert_same(&rt, packed.level_from(side, place), Level::new(100));
+        assert_same(&rt, packed.max_hp_at(side, place), 353);
+        assert_same(&rt, packed.own_stats_at(side, place), [298, 288, 318, 238]);
+        assert_same(
+            &rt,
+            packed.health_from(side, place),
+            Health::new(353, 353, None),
+        );
+        assert_same(
+            &rt,
+            (packed.move_at(side, place, 1), packed.pp_at(side, place, 1)),
+            (70, 24),
+        );
+        assert_same(
+            &rt,
+            (packed.move_at(side, place, 2), packed.pp_at(side, place, 2)),
+            (35, 20),
+        );
+        assert_same(
+            &rt,
+            (packed.move_at(side, place, 3), packed.pp_at(side, place, 3)),
+            (0, 0),
+        );
+    }
+    assert_same(&rt, packed.species_from(Side::One, 2), None);
+    assert_same(&rt, packed.level_from(Side::One, 2), None);
+    assert_same(&rt, packed.health_from(Side::One, 2), None);
+    assert_same(&rt, packed.own_stats_at(Side::One, 2), [0; 4]);
+    Ok(())
+}
+
+// Byte 19 of the header has the rules, and bytes 20 and 21 the limit: 300 is 44 + 256.
+#[test]
+fn the_terms_and_a_battle_at_turn_0(rt: HostRuntime) -> Result<(), Fail> {
+    let mut packed = at_turn_0()?;
+    assert_same(&rt, &packed.header()[19..22], &[3, 44, 1][..]);
+    assert_same(&rt, Some(packed.rules()), Rules::new(3));
+    assert_same(
+        &rt,
+        (packed.sleep_clause(), packed.freeze_clause()),
+        (true, true),
+    );
+    assert_same(
+        &rt,
+        (packed.limit(), packed.turn(), packed.last_damage()),
+        (300, 0, 0),
+    );
+    assert_same(&rt, packed.outcome(), Outcome::Ongoing);
+    assert_same(&rt, packed.request(Side::Two), Request::Pass);
+    assert_same(&rt, packed.generator().is_some(), true);
+    packed.put_next_turn();
+    packed.put_requests(Request::Move, Request::Pass);
+    assert_same(
+        &rt,
+        (packed.turn(), packed.request(Side::One)),
+        (1, Request::Move),
+    );
+    Ok(())
+}
+
+#[test]
+fn a_marked_sleeper_falls(rt: HostRuntime) -> Result<(), Fail> {
+    let mut packed = begun()?;
+    let status = Status::Asleep {
+        turns: 3,
+        marked: true,
+    };
+    packed.put_status(Side::One, status);
+    packed.put_status(Side::Two, status);
+    assert_same(
+        &rt,
+        (packed.mark(Side::One, 1), packed.mark(Side::Two, 2)),
+        (true, false),
+    );
+    assert_same(&rt, packed.has_fallen(Side::One), false);
+    packed.put_fallen(Side::One);
+    packed.put_fallen(Side::Two);
+    assert_same(&rt, packed.has_fallen(Side::One), true);
+    assert_same(
+        &rt,
+        (packed.hp(Side::One), packed.status(Side::One)),
+        (0, Status::Healthy),
+    );
+    assert_same(&rt, packed.mark(Side::One, 1), false);
+    // The bytes of HP, status and mark.
+    let member = packed.member(Side::One, 1);
+    assert_same(&rt, [member[4], member[5], member[14], member[23]], [0; 4]);
+    assert_same(
+        &rt,
+        (packed.has_living(Side::One), packed.has_living(Side::Two)),
+        (false, true),
+    );
+    Ok(())
+}
+
+// Conditions that have no number, and the six of the current move (docs/MECHANICS.md, "Conditions"). Bits 0, 1, 2, 4, 10 and 11
+// are 1, 2, 4, 16, 1024 and 2048.
+#[test]
+fn several_conditions_at_once(rt: HostRuntime) -> Result<(), Fail> {
+    let mut packed = begun()?;
+    let side = Side::Two;
+    let either = Conditions::MIST | Conditions::SEEDED;
+    packed.put_flag(side, Conditions::SEEDED, true);
+    assert_same(&rt, packed.has_any(side, either), true);
+    assert_same(&rt, packed.has_any(side, Conditions::CONTINUES), false);
+    assert_same(&rt, packed.has_any(Side::One, either), false);
+    packed.put_flag(side, Conditions::RAGE, true);
+    assert_same(&rt, packed.has_any(side, Conditions::CONTINUES), true);
+    assert_same(&rt, Conditions::CONTINUES.has_any(either), false);
+    packed.put_flag(side, Conditions::BIDE, true);
+    assert_same(&rt, packed.conditions(side).has_any(Conditions::BIDE), true);
+    Ok(())
+}
+
+#[test]
+fn accuracy_and_evasion_have_no_number(rt: HostRuntime) -> Result<(), Fail> {
+    let mut packed = begun()?;
+    packed.put_accuracy(Side::One, 12);
+    assert_same(&rt, packed.current_stat(Side::One, Stat::Accuracy), 1);
+    assert_same(&rt, packed.current_stat(Side::One, Stat::Evasion), 1);
+    Ok(())
+}

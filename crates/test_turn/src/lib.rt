@@ -1,0 +1,35 @@
+//! Tests of `gen1_requests` and `gen1_turn`, through their public functions. A crate with tests is proved twice, so they stand
+//! in a crate of their own.
+//!
+//! - `start`: the first update
+//! - `switching_in`: members that come out
+//! - `offered_choices`: what may be chosen
+//! - `turn_order`: who acts first
+//! - `turn_choices`: whole turns
+//! - `action`: actions of one side
+//! - `falls`: the end of an update
+//! - `recorded`: recorded battles
+//! - `duels`: battles of a few members
+//! - `setting`: the battle that most begin with
+#![tactic(auto)]
+
+#[cfg(test)]
+mod action;
+#[cfg(test)]
+mod duels;
+#[cfg(test)]
+mod falls;
+#[cfg(test)]
+mod offered_choices;
+#[cfg(test)]
+mod recorded;
+#[cfg(test)]
+mod setting;
+#[cfg(test)]
+mod start;
+#[cfg(test)]
+mod switching_in;
+#[cfg(test)]
+mod turn_choices;
+#[cfg(test)]
+mod turn_order;

@@ -1,0 +1,109 @@
+#!/usr/bin/env python3
+"""Draws the crates of crates.txt in their layers, between the two marks of docs/ARCHITECTURE.md.
+
+    tools/layers.py           writes the drawing
+    tools/layers.py --check   writes nothing; fails where the drawing is not what it would write
+
+Which layer a crate belongs to, and what the layer holds, is said here. A crate may name crates of its own layer and of those
+below; one that names a crate above, or that is in no layer, is a fault. A crate is drawn with the crates that it stands on,
+without those that it reaches through another one.
+"""
+
+import argparse
+import sys
+import textwrap
+
+sys.dont_write_bytecode = True
+from repository import ROOT, below, crates
+
+DOCUMENT = ROOT / "docs" / "ARCHITECTURE.md"
+BEGIN = "<!-- layers -->\n```\n"
+END = "```\n<!-- end -->\n"
+WIDTH = 90
+
+# From the top down: the title, what the layer holds, its crates.
+LAYERS = (
+    ("Tests and examples", "nothing of the product stands on these", (
+        "uses", "test_battles", "test_machine", "test_layout", "test_log", "test_operations", "test_generators",
+        "test_effects", "test_multiturn", "test_turn", "test_engine", "test_views", "test_commands", "test_text", "test_devices")),
+    ("Programs and C", "what opens files, prints, or is called from another language", (
+        "battle_tool", "battle_commands", "battle_input", "trace_tool", "layout_tool", "gen1_c")),
+    ("Battle", "a turn, an update, a room of two players", (
+        "gen1_room", "gen1_engine", "gen1_turn")),
+    ("Operations", "one phase of the machine each, over the 384 bytes", (
+        "gen1_requests", "gen1_multiturn", "gen1_effects", "gen1_action", "gen1_status", "gen1_hits")),
+    ("Representations", "a state as 384 bytes; events as bytes, as lines, as a watcher's view", (
+        "gen1_layout", "gen1_spectator", "gen1_printer", "gen1_events")),
+    ("Machine", "what a battle is: definitions and laws; its code is types and devices", (
+        "gen1_machine",)),
+    ("Numbers", "teams, also out of text, and stats; species, moves and types; draws", (
+        "gen1_text", "gen1_stats", "gen1_tables", "gen1_rolls")),
+)
+
+
+def faults(known):
+    """What is wrong with the layers, as the crates stand."""
+    height = {name: at for at, (_, _, names) in enumerate(reversed(LAYERS)) for name in names}
+    for name in sorted(height.keys() - known.keys()):
+        yield f"tools/layers.py has {name} in a layer, and crates.txt does not name it"
+    for name in sorted(known.keys() - height.keys()):
+        yield f"{name} is in no layer; tools/layers.py says which crate is in which"
+    for name, used in known.items():
+        for it in used:
+            if name in height and it in height and height[it] > height[name]:
+                yield f"{name} names {it}, which is in a layer above its own"
+
+
+def nearest(name, known):
+    """The crates that a crate names, but for those that it reaches through another of them."""
+    return [it for it in known[name] if not any(it in below([other], known)[:-1] for other in known[name] if other != it)]
+
+
+def rows(names, known):
+    """The crates of a layer as lines, each with what it stands on."""
+    wide = max(map(len, names))
+    for name in names:
+        used = " ".join(nearest(name, known))
+        yield f"|  {name:{wide}}  on  {used}" if used else f"|  {name}"
+
+
+def box(title, holds, names, known):
+    """A layer as lines; of the highest, which nothing stands on, the names alone."""
+    yield f"+-- {title}: {holds}"
+    if (title, holds, names) == LAYERS[0]:
+        yield from textwrap.wrap(", ".join(names), WIDTH, initial_indent="|  ", subsequent_indent="|  ")
+    else:
+        yield from rows(names, known)
+
+
+def drawing(known):
+    boxes = ["\n".join(box(*layer, known)) for layer in LAYERS]
+    return "\n|\n".join(boxes) + "\n"
+
+
+def written(known):
+    """The text of the document with the drawing in it."""
+    text = DOCUMENT.read_text()
+    if text.count(BEGIN) != 1 or text.count(END) != 1:
+        sys.exit(f"{DOCUMENT.relative_to(ROOT)} has no place for the layers, or several: {BEGIN!r} and then {END!r}")
+    before, rest = text.split(BEGIN)
+    return before + BEGIN + drawing(known) + END + rest.split(END)[1]
+
+
+def main():
+    parser = argparse.ArgumentParser(description=__doc__, formatter_class=argparse.RawDescriptionHelpFormatter)
+    parser.add_argument("--check", action="store_true", help="write nothing; fail where the drawing differs")
+    check, known = parser.parse_args().check, crates()
+    if found := [*faults(known)]:
+        sys.exit("\n".join(found))
+    text = written(known)
+    if DOCUMENT.read_text() == text:
+        return
+    if check:
+        sys.exit("the drawing of docs/ARCHITECTURE.md is not that of crates.txt; run tools/layers.py")
+    DOCUMENT.write_text(text)
+    print("docs/ARCHITECTURE.md")
+
+
+if __name__ == "__main__":
+    main()
