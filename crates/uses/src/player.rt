@@ -48,6 +48,7 @@ fn pick<R: Rolls>(choices: &Choices, random: &mut R) -> Choice
 mod tests {
     use super::*;
     use arrayvec::ArrayVec;
+    use gen1_machine::Outcome;
     use gen1_rolls::LinkRandom;
     use gen1_stats::{MemberSpec, Team};
     use gen1_tables::{MoveId, Species};
