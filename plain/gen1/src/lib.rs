@@ -54,6 +54,7 @@ extern crate std;
 mod battle;
 mod damage;
 mod lines;
+mod room;
 #[cfg(feature = "serde")]
 mod serde_impls;
 mod state;
@@ -71,7 +72,30 @@ pub use gen1_machine::{
     Request, Rules, Side, TurnLimit, UnknownText, Volatile, Who,
 };
 #[doc(inline)]
-pub use gen1_room::{Reply, Room, RoomRefusal, Submitted};
+pub use gen1_room::{Reply, RoomRefusal, Submitted};
+/// # Example
+///
+/// The log of a battle comes in pieces, cut anywhere:
+///
+/// ```
+/// use gen1::{Battle, Choice, LogReader, Side, Spectator, Team, member};
+///
+/// # fn main() -> Result<(), Box<dyn std::error::Error>> {
+/// let one = Team::new(&[member("Tauros", &["Strength"])?])?;
+/// let two = Team::new(&[member("Alakazam", &["Psychic"])?])?;
+/// let mut battle = Battle::new(&one, &two, [1, 36, 255, 7, 31, 100, 179, 254, 127, 10]);
+/// let mut spectator = Spectator::new(&one, &two);
+/// let mut reader = LogReader::new();
+/// for piece in battle.update(Choice::Pass, Choice::Pass)?.log().chunks(3) {
+///     spectator.follow(&mut reader, piece)?;
+/// }
+/// reader.finish()?;
+/// assert_eq!(spectator.turn(), 1);
+/// assert_eq!(spectator.place(Side::Two), 1);
+/// assert_eq!(spectator.hp(Side::Two, 1), two.members()[0].max_hp());
+/// # Ok(())
+/// # }
+/// ```
 #[doc(inline)]
 pub use gen1_spectator::View as Spectator;
 #[doc(inline)]
@@ -79,6 +103,7 @@ pub use gen1_stats::{KnownMove, Member, MemberSpec, Status, Team, TeamRefusal};
 #[doc(inline)]
 pub use gen1_tables::{Effect, Element, MoveId, Species, Stat, UnknownName};
 pub use lines::{Events, Line, Lines, events_of};
+pub use room::Room;
 pub use state::{MemberState, SideState, State};
 pub use teams::{MemberFault, member};
 

@@ -117,7 +117,7 @@ fn damages(one: &Team, two: &Team, id: MoveId, critical: bool) -> Result<[u16; 3
 /// `room`
 pub fn room(input: &[u8]) -> Result<(), Fault> {
     let (battle, submissions) = sheet_of(input, "submissions", submission_of)?;
-    let mut room = Room::new(battle.into());
+    let mut room = Room::new(battle);
     put(&lines_of(room.log())?)?;
     for (side, number, byte) in submissions {
         let answer = match room.submit(side, number, byte) {
