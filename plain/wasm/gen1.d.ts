@@ -77,6 +77,8 @@ export class Battle {
 export class Gen1 {
   /** Whether the module has a 64-bit memory. */
   readonly is64: boolean;
+  /** Which module runs, by the name that it was loaded under; null where it had none. */
+  readonly build: "proved" | "plain" | null;
   /** Throws TeamError; RangeError for a number or a name that has no place in a team's bytes. */
   battle(terms: Terms): Battle;
   /** Throws LoadError. */
@@ -87,7 +89,12 @@ export class Gen1 {
   lines(log: Uint8Array): string[];
 }
 
-export function load(source: URL | string | BufferSource): Promise<Gen1>;
+export type Source = URL | string | BufferSource;
+
+/** The library of a module; of two, that of the proved one where this host has 64-bit memories, else that of the plain one. */
+export function load(source: Source | { proved?: Source; plain: Source }): Promise<Gen1>;
+/** Whether this host has 64-bit memories. */
+export const HAS_LONG_MEMORIES: boolean;
 export function byteOf(choice: Choice): number;
 export function choiceOf(byte: number): Choice;
 export const LOG_ROOM: 512;

@@ -104,7 +104,11 @@ export class Gen1 {
   #begin;
   #long;
 
-  constructor(instance) {
+  /** Which module runs: "proved" or "plain", by the name that it was loaded under; null where it had none. */
+  build;
+
+  constructor(instance, build = null) {
+    this.build = build;
     this.#calls = instance.exports;
     this.#begin = Number(this.#calls.__heap_base.value);
     this.#long = typeof this.#calls.__heap_base.value === "bigint";
@@ -298,10 +302,18 @@ async function bytesOf(source) {
   return source;
 }
 
-/** The library of a module: its URL, or its bytes. */
+/** Whether this host runs modules with a 64-bit memory, as the proved one is: it takes the smallest of them. */
+export const HAS_LONG_MEMORIES = WebAssembly.validate(Uint8Array.of(0, 0x61, 0x73, 0x6d, 1, 0, 0, 0, 5, 3, 1, 4, 1));
+
+/**
+ * The library of a module: its URL, or its bytes. Of two, `{ proved, plain }`, it takes the proved one where the host can run it,
+ * and the plain one elsewhere; `build` says which.
+ */
 export async function load(source) {
-  const { instance } = await WebAssembly.instantiate(await bytesOf(source), {});
-  return new Gen1(instance);
+  const isNamed = source.proved !== undefined || source.plain !== undefined;
+  const build = !isNamed ? null : source.proved !== undefined && HAS_LONG_MEMORIES ? "proved" : "plain";
+  const { instance } = await WebAssembly.instantiate(await bytesOf(build ? source[build] : source), {});
+  return new Gen1(instance, build);
 }
 
 export { MOVES, SPECIES };
