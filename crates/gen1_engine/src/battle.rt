@@ -107,7 +107,8 @@ impl Battle {
         }
     }
 
-    /// The 384 bytes (docs/LAYOUT.md), in the form of version 3.
+    /// The 384 bytes (docs/LAYOUT.md), in the form of version 3. They are lent as a slice, which `load` and writers take; that
+    /// there are 384 is said by the clause and not by the type.
     pub fn bytes(&self) -> &[u8]
         ensures stands { (s : State) → Stands self.now s → result.now ≡ bytes_of s }
         ensures len { length result.now ≡ 384 }
@@ -146,7 +147,7 @@ impl Battle {
     }
 
     /// An update by a choice of each side. An accepted pair leaves its log bytes in the buffer (docs/MECHANICS.md, "Log bytes"),
-    /// and nothing else: at most 512 bytes of at most 64 events, after at most 4,700 draws.
+    /// and nothing else: at most 512 bytes of at most 64 events. The machine's update of such a pair takes at most 4,700 draws.
     ///
     /// # Errors
     ///

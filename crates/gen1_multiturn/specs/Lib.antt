@@ -1,5 +1,7 @@
 -- What Bide lets out.
 pub mod Bide
+-- A use of a trapping or a thrashing move.
+pub mod GoingOn
 -- What a call shows that stands for itself and draws nothing.
 pub mod Anyway
 -- What Counter deals.

@@ -4,6 +4,7 @@ pub mod bide;
 pub mod charging;
 pub mod counter;
 pub mod fixed_damage;
+mod going_on;
 pub mod one_hit_moves;
 pub mod rage;
 pub mod substitute;

@@ -3,6 +3,8 @@ mod Reports
 mod WorkedBattles
 mod WorkedBounds
 mod WorkedConditions
+mod WorkedCorners
+mod WorkedEffects
 mod WorkedEvents
 mod WorkedTeams
 -- Recorded battles, made by tools/evaluate.py.

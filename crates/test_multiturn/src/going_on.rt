@@ -7,7 +7,7 @@ use gen1_action::{Known, hit_or_miss};
 use gen1_hits::{land, numbers, type_steps};
 use gen1_layout::{Conditions, Packed};
 use gen1_machine::{Event, EventList, Volatile};
-use gen1_multiturn::{thrash_knowing, trap, trap_knowing};
+use gen1_multiturn::{thrash, thrash_knowing, trap, trap_knowing};
 use gen1_rolls::{LinkRandom, Rolls, Sweep};
 use gen1_tables::{Effect, Element};
 use std::test::Fail;
@@ -87,6 +87,43 @@ fn thrashing_ends_in_confusion(rt: HostRuntime) -> Result<(), Fail> {
         let told = [Event::Start(battle.who(USER), Volatile::Confusion)];
         assert_same(&rt, (events.as_slice(), link.index()), (told.as_slice(), 1));
     }
+    Ok(())
+}
+
+// By the bytes alone: a second use goes on, with no draw.
+#[test]
+fn a_trap_that_is_on_goes_on(rt: HostRuntime) -> Result<(), Fail> {
+    for (turns, left) in [(4, 3), (1, 0), (0, 0)] {
+        let mut battle = two_tauros()?;
+        battle.put_flag(FOE, Conditions::RECHARGE, true);
+        let before = bytes_of(&battle);
+        battle.put_trapping(USER, turns);
+        let mut sweep = Sweep::new(7);
+        trap(&mut battle, USER, &mut sweep);
+        assert_bytes(&rt, &battle, with(before, &[(FLAGS, 4), (TURNS, left)]));
+        assert_same(&rt, sweep.draw(), 7);
+    }
+    Ok(())
+}
+
+// By the bytes alone: 1 draws three turns, of which each use takes one, and the draw behind it the confusion's count.
+#[test]
+fn thrashing_that_is_on_goes_on(rt: HostRuntime) -> Result<(), Fail> {
+    let mut battle = two_tauros()?;
+    let before = bytes_of(&battle);
+    let mut events = EventList::new();
+    let mut sweep = Sweep::new(1);
+    for left in [3, 2, 1] {
+        thrash(&mut battle, USER, &mut sweep, &mut events);
+        let now = with(before, &[(FLAGS, 2), (TURNS, left), (KEPT, 255)]);
+        assert_bytes(&rt, &battle, now);
+        assert_same(&rt, events.len(), 0);
+    }
+    thrash(&mut battle, USER, &mut sweep, &mut events);
+    let ended = with(before, &[(FLAGS, 64), (FLAGS + 5, 4), (KEPT, 255)]);
+    assert_bytes(&rt, &battle, ended);
+    let told = [Event::Start(battle.who(USER), Volatile::Confusion)];
+    assert_same(&rt, (events.as_slice(), sweep.draw()), (told.as_slice(), 3));
     Ok(())
 }
 

@@ -9,7 +9,9 @@ ghost use Rattle.gen1_machine.specs.GoingOn.{thrash_about, thrash_for, thrash_le
 ghost use Rattle.gen1_machine.specs.Progress.{underway};
 ghost use Rattle.gen1_action.specs.Alone.{DoesAloneAt};
 ghost use Rattle.gen1_action.specs.Planned.{DoesAt};
+ghost use Rattle.gen1_multiturn.specs.GoingOn.{use_thrash};
 
+use crate::moves::going_on::seen_going_on;
 use gen1_action::{Known, confuse};
 use gen1_layout::Packed;
 use gen1_machine::{EventList, Side};
@@ -19,27 +21,23 @@ use gen1_tables::MoveId;
 // The accuracy byte of Thrash and of Petal Dance.
 const ACCURACY: u8 = 255;
 
-/// Begins the thrashing of `side`, which uses Thrash or Petal Dance: for two or three turns more, of one draw, with the accuracy
-/// byte of these moves, 255, kept for them. Nothing else changes, and no event is written (docs/MECHANICS.md, "Going on").
+/// Uses Thrash or Petal Dance: where `side` is not thrashing yet, it begins to, for two or three turns more, of one draw, with
+/// the accuracy byte of these moves, 255, kept for them; where it is, a turn less is left, and after the last the user is
+/// confused, by a draw, with `Start`. A place in `events` is to be free for that. Nothing else changes (docs/MECHANICS.md,
+/// "Going on").
 pub fn thrash<R: Rolls>(battle: &mut Packed, side: Side, random: &mut R, events: &mut EventList)
     requires room { HasRoom 1 events.old }
     ensures left { (move : Move) → accuracy_byte move ≡ 255
         → DoesAloneAt R.byte R.next R.SPAN side Thrash battle.old events.old.items random.old
-        battle.new events.new.items random.new (λ r. thrash_about side move) }
+        battle.new events.new.items random.new (λ r. use_thrash side move) }
     ensures room { AddsAtMost 1 events.old events.new }
 {
-    thrash_with(
-        battle,
-        side,
-        ACCURACY,
-        &Known::new().begun(side),
-        random,
-        events,
-    );
+    let known = seen_going_on(battle, side);
+    thrash_with(battle, side, ACCURACY, &known, random, events);
 }
 
-/// The same for a move that thrashes, in an action of which something is known: where it goes on, a turn less is left, and after
-/// the last the user is confused, by a draw, and a place in `events` is to be free for the `Start` (docs/MECHANICS.md, "Going on").
+/// The same for a move that thrashes, in an action of which something is known, which says whether it goes on
+/// (docs/MECHANICS.md, "Going on").
 pub fn thrash_knowing<R: Rolls>(
     battle: &mut Packed,
     side: Side,

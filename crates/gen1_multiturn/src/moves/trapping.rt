@@ -9,23 +9,27 @@ ghost use Rattle.gen1_machine.specs.GoingOn.{draw_count, trap, trap_for};
 ghost use Rattle.gen1_machine.specs.Progress.{on_conditions, underway};
 ghost use Rattle.gen1_action.specs.Alone.{DoesAloneAt};
 ghost use Rattle.gen1_action.specs.Planned.{DoesAt};
+ghost use Rattle.gen1_multiturn.specs.GoingOn.{use_trap};
 
+use crate::moves::going_on::seen_going_on;
 use gen1_action::{Known, draw_count};
 use gen1_layout::{Conditions, Packed};
 use gen1_machine::Side;
 use gen1_rolls::Rolls;
 
-/// Begins the Trapping of `side`, which uses a move that traps: the foe's Recharge is cleared, and for two to five turns of one
-/// draw or two the foe can do nothing. Nothing else changes, and no event is written (docs/MECHANICS.md, "Going on").
+/// Uses a move that traps: where `side` is not trapping yet, the foe's Recharge is cleared, and for two to five turns of one
+/// draw or two the foe can do nothing; where it is, its Trapping goes on, a turn less is left, and nothing is drawn. Nothing
+/// else changes, and no event is written (docs/MECHANICS.md, "Going on").
 pub fn trap<R: Rolls>(battle: &mut Packed, side: Side, random: &mut R)
     ensures left { (events : List Event)
         → DoesAloneAt R.byte R.next R.SPAN side Trapping battle.old events random.old battle.new
-        events random.new (λ r. trap side) }
+        events random.new (λ r. use_trap side) }
 {
-    trap_knowing(battle, side, &Known::new().begun(side), random);
+    let known = seen_going_on(battle, side);
+    trap_knowing(battle, side, &known, random);
 }
 
-/// The same in an action of which something is known: where it goes on, a turn less is left, and nothing is drawn
+/// The same in an action of which something is known, which says whether it goes on
 /// (docs/MECHANICS.md, "Going on").
 pub fn trap_knowing<R: Rolls>(battle: &mut Packed, side: Side, known: &Known, random: &mut R)
     ensures shown { (events : List Event) (effect : Effect) → traps effect ≡ true

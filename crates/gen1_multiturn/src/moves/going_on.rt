@@ -1,0 +1,34 @@
+//! Whether the move of a side goes on, by what is on (docs/MECHANICS.md, "Going on").
+ghost use Rattle.gen1_layout.specs.Words.{Event, List, Reads, false, underway_in};
+ghost use Rattle.gen1_machine.specs.declared.picks.Pick.TheVariants.{Continue};
+ghost use Rattle.gen1_machine.specs.Action.{keeps_going, see_if_going_on};
+ghost use Rattle.gen1_action.specs.Alone.{just_begun};
+ghost use Rattle.gen1_action.specs.Knowing.{DoesKnowing};
+
+use gen1_action::Known;
+use gen1_layout::{Conditions, Packed};
+use gen1_machine::Side;
+
+// What is known of an action of `side` that has just begun, where the bytes alone say whether it goes on.
+pub(crate) fn seen_going_on(battle: &Packed, side: Side) -> Known
+    ensures shown { (events : List Event)
+        → DoesKnowing battle.now events (just_begun side) battle.now events result false
+        (see_if_going_on side Continue) }
+{
+    Known {
+        going_on: keeps_going(battle, side),
+        ..Known::new().begun(side)
+    }
+}
+
+fn keeps_going(battle: &Packed, side: Side) -> bool
+    ensures { Reads battle.now result λ f. keeps_going (underway_in side f) }
+{
+    if battle.is_on(side, Conditions::THRASH) {
+        return true;
+    }
+    if battle.is_on(side, Conditions::TRAPPING) {
+        return true;
+    }
+    battle.is_on(side, Conditions::RAGE)
+}

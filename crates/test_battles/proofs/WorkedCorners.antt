@@ -1,0 +1,301 @@
+-- Worked examples of corners: whole updates in which rules meet that seldom do, computed (docs/CORNERS.md).
+use Rattle.std.proofs.Common.{List, None, Option, Some, [], false, map, refl, replicate, true, ℕ, ◌++◌, ◌-◌, ◌∷◌, ◌≡◌}
+use Rattle.gen1_stats.specs.declared.status.Status.{Status}
+use Rattle.gen1_stats.specs.declared.status.Status.TheVariants.{Healthy, Asleep, Burned, Paralysed}
+use Rattle.gen1_machine.specs.declared.side.Side.{Side}
+use Rattle.gen1_machine.specs.declared.side.Side.TheVariants.{One, Two}
+use Rattle.gen1_machine.specs.declared.terms.Outcome.TheVariants as outcomes
+use Rattle.gen1_machine.specs.declared.terms.Request.TheVariants as requests
+use Rattle.gen1_machine.specs.declared.health.Kind.TheVariants as kinds
+use Rattle.gen1_machine.specs.declared.event.CantReason.TheVariants as reasons
+use Rattle.gen1_machine.specs.declared.event.DamageSource.TheVariants as sources
+use Rattle.gen1_machine.specs.declared.event.Volatile.TheVariants as volatiles
+use Rattle.gen1_machine.specs.declared.event.Event.{Event}
+use Rattle.gen1_machine.specs.declared.event.Event.TheVariants as events
+use Rattle.gen1_machine.specs.declared.picks.UsedMove.TheVariants.{Slot}
+use Rattle.gen1_machine.specs.declared.choice.Choice.TheVariants as choices
+use Rattle.gen1_rolls.specs.Streams.{Link, Stream}
+use Rattle.gen1_stats.specs.Members.{Member}
+use Rattle.gen1_machine.specs.Rules.{rules_of}
+use Rattle.gen1_machine.specs.Sides.{other}
+use Rattle.gen1_machine.specs.Conditions.{with_charging, with_confusion, with_invulnerability, with_recharge, with_seed, with_thrash, ActiveConditions}
+use Rattle.gen1_machine.specs.State.{known_in, party, usual_terms, with_party, Active}
+use Rattle.gen1_machine.specs.Progress.{conditions, is_invulnerable, member, set_last_damage, status_of, underway, Progress}
+use Rattle.gen1_machine.specs.Ruling.{ruling_of, Ruling}
+use Rattle.gen1_machine.specs.Step.{update}
+use Rattle.gen1_machine.proofs.Computing.{computing}
+use Rattle.gen1_machine.proofs.WorkedRules.{tauros, knowing, facing, as_is, set, hp_of, usual}
+use Rattle.gen1_machine.proofs.WorkedHits.{tauros_of, healthy_at, hurt, left_with, drawing}
+
+-- side 2 is a little slower, so side 1 is first, without a draw
+
+abbrev pub slower : Member → Member
+slower m = record m { speed = 317 }
+
+abbrev idler : Member
+idler = slower (knowing 150 10)
+
+abbrev joined_by : Side → Member → Progress → Progress
+joined_by s m p = record p { field = with_party s (record (party s p.field) { members = (party s p.field).members ++ m ∷ [] }) p.field }
+
+-- a side that is in the middle of its only move
+abbrev amid : (ActiveConditions → ActiveConditions) → Active → Active
+amid change a = record a { current_move = Slot 1; picked_move = Slot 1; conditions = change a.conditions }
+
+-- an update in which side 1 chooses anew, or goes on; side 2 chooses its move
+
+abbrev both_choose : Progress → Progress
+both_choose p = update usual (choices.Move 1) (choices.Move 1) p
+
+abbrev one_goes_on : Progress → Progress
+one_goes_on p = update usual (choices.Move 0) (choices.Move 1) p
+
+abbrev pub two_goes_on : Ruling → Progress → Progress
+two_goes_on r p = update r (choices.Move 1) (choices.Move 0) p
+
+abbrev moves_by : Side → ℕ → Event
+moves_by s move = events.Move (tauros_of s) move (tauros_of (other s))
+
+abbrev splashes : Side → List Event
+splashes s = moves_by s 150 ∷ events.Activate (tauros_of s) volatiles.Splash ∷ []
+
+-- side 2 splashes, and the next turn begins
+abbrev then_idles : List Event
+then_idles = splashes Two ++ events.Turn 2 ∷ []
+
+abbrev pp_of : Side → Progress → ℕ
+pp_of s p = (known_in 1 (member s p).moves).pp
+
+-- Hyper Beam used anew (docs/MECHANICS.md, "Action"). Its power of 150: 42 * 150 * 74 / 72 is 6475, / 50 is 129, + 2 is 131, with the
+-- own type 196, which leaves 157 of 353. Its user, side 2, chose to recharge
+
+abbrev recharging : Member → ℕ → Stream → Progress
+recharging user pp_left stream = facing user as_is (slower (knowing 63 pp_left)) (amid with_recharge) stream
+
+abbrev beamed_anew : List Event
+beamed_anew = moves_by Two 63 ∷ hurt One 157 ∷ events.MustRecharge (tauros_of Two) ∷ events.Turn 2 ∷ []
+
+-- a sleep move cleared Recharge and then failed by the sleep clause: draws 255, 255 and 0 are no critical hit, the factor 255 and a
+-- hit. It costs one PP of five
+
+abbrev sleep_clause_only : Ruling
+sleep_clause_only = ruling_of (record usual_terms { rules = rules_of 1 })
+
+abbrev clause_holds : Progress
+clause_holds = two_goes_on sleep_clause_only (joined_by Two (record tauros { status = Asleep 3 true })
+    (recharging (knowing 147 15) 5 (drawing 255 255 0 0 0)))
+
+beam_anew_by_the_clause : (clause_holds.events ≡ moves_by One 147 ∷ events.Fail (tauros_of One) ∷ beamed_anew)
+    × (clause_holds.drawn ∷ pp_of Two clause_holds ∷ [] ≡ 3 ∷ 4 ∷ []) × ((underway Two clause_holds).recharge ≡ true)
+    × (status_of Two clause_holds ≡ Healthy)
+unfolding computing
+beam_anew_by_the_clause = (refl, refl, refl, refl)
+
+-- a trapping move cleared Recharge and then missed: Wrap draws the count 0, 255 and 255 for its damage, and at 255 misses. Of 0 PP
+-- one less is 63
+
+abbrev wrap_misses : Progress
+wrap_misses = two_goes_on usual (recharging (knowing 35 20) 0 (Link (0 ∷ replicate 5 255 ++ replicate 4 0)))
+
+beam_anew_by_a_miss : (wrap_misses.events ≡ moves_by One 35 ∷ events.Miss (tauros_of One) ∷ beamed_anew)
+    × (wrap_misses.drawn ∷ pp_of Two wrap_misses ∷ [] ≡ 7 ∷ 63 ∷ []) × ((underway One wrap_misses).trapping ≡ None)
+    × ((underway Two wrap_misses).recharge ≡ true)
+unfolding computing
+beam_anew_by_a_miss = (refl, refl, refl, refl)
+
+-- Rest (docs/MECHANICS.md, "Early effects") at a maximum of 703: a loss of 255 or of 511 can't be healed, and neither sleep nor HP
+-- come; one HP more or less can
+
+abbrev rests : ℕ → Progress
+rests lost = both_choose (facing (record (knowing 156 10) { max = 703; hp = 703 - lost }) as_is idler as_is (drawing 9 9 9 9 9))
+
+abbrev rest_fails : List Event
+rest_fails = moves_by One 156 ∷ events.Fail (tauros_of One) ∷ then_idles
+
+abbrev rested : List Event
+rested = moves_by One 156 ∷ events.Status (tauros_of One) kinds.Sleep
+    ∷ events.Heal (tauros_of One) (record { hp = 703; max = 703; kind = Some kinds.Sleep }) ∷ then_idles
+
+rest_at_255 : ((rests 255).events ≡ rest_fails) × (status_of One (rests 255) ≡ Healthy) × (hp_of One (rests 255) ∷ (rests 255).drawn ∷ [] ≡ 448 ∷ 0 ∷ [])
+    × ((rests 254).events ≡ rested) × ((rests 256).events ≡ rested) × (status_of One (rests 256) ≡ Asleep 2 false)
+unfolding computing
+rest_at_255 = (refl, refl, refl, refl, refl, refl)
+
+rest_at_511 : ((rests 511).events ≡ rest_fails) × (status_of One (rests 511) ≡ Healthy) × (hp_of One (rests 511) ∷ (rests 511).drawn ∷ [] ≡ 192 ∷ 0 ∷ [])
+    × ((rests 510).events ≡ rested) × ((rests 512).events ≡ rested) × (status_of One (rests 512) ≡ Asleep 2 false)
+unfolding computing
+rest_at_511 = (refl, refl, refl, refl, refl, refl)
+
+-- Bide (docs/MECHANICS.md, "Going on"): the sum is one of 16 bits. 65535 and 3 are 2, which is stored, or let out as 4; 65535 and 1
+-- are 0, a miss; and twice 32769 is 2
+
+abbrev storing : ℕ → ℕ → ActiveConditions → ActiveConditions
+storing turns energy c = record c { underway = record c.underway { bide = Some (record { turns = turns; energy = energy }) } }
+
+abbrev bides_at : (Active → Active) → ℕ → ℕ → ℕ → Progress
+bides_at foe turns energy damage =
+    one_goes_on (set_last_damage damage (facing (knowing 117 10) (amid (storing turns energy)) idler foe (drawing 9 9 9 9 9)))
+
+abbrev bides : ℕ → ℕ → ℕ → Progress
+bides = bides_at as_is
+
+abbrev bide_ends : Event
+bide_ends = events.End (tauros_of One) volatiles.Bide
+
+sum_past_65535 : ((bides 2 65535 3).events ≡ events.Activate (tauros_of One) volatiles.Bide ∷ then_idles)
+    × ((underway One (bides 2 65535 3)).bide ≡ Some (record { turns = 1; energy = 2 }))
+    × ((bides 1 65535 3).events ≡ bide_ends ∷ hurt Two 349 ∷ then_idles)
+    × ((bides 1 65535 1).events ≡ bide_ends ∷ events.Miss (tauros_of One) ∷ then_idles)
+    × ((bides 1 32769 0).events ≡ bide_ends ∷ hurt Two 351 ∷ then_idles)
+    × (map (λ damage. (bides 1 65535 damage).drawn) (1 ∷ 3 ∷ []) ≡ 0 ∷ 0 ∷ [])
+unfolding computing
+sum_past_65535 = (refl, refl, refl, refl, refl, refl)
+
+-- its energy lands on a foe that is Invulnerable, without a hit test: 30 and a last damage of 40 are 140. The foe, which has dug in,
+-- then strikes: 42 * 100 * 74 / 72 is 4316, / 50 is 86, + 2 is 88
+
+abbrev digging : ActiveConditions → ActiveConditions
+digging c = with_charging (with_invulnerability c)
+
+abbrev out_of_the_hole : Progress
+out_of_the_hole = update usual (choices.Move 0) (choices.Move 0)
+    (set_last_damage 40 (facing (knowing 117 10) (amid (storing 1 30)) (slower (knowing 91 10)) (amid digging) (drawing 255 255 0 0 0)))
+
+bide_on_the_invulnerable : (out_of_the_hole.events ≡ bide_ends ∷ hurt Two 213 ∷ moves_by Two 91 ∷ hurt One 265 ∷ events.Turn 2 ∷ [])
+    × (out_of_the_hole.drawn ≡ 3) × ((bides_at (set with_invulnerability) 1 30 40).events ≡ bide_ends ∷ hurt Two 213 ∷ then_idles)
+    × (is_invulnerable Two (bides_at (set with_invulnerability) 1 30 40) ≡ true)
+unfolding computing
+bide_on_the_invulnerable = (refl, refl, refl, refl)
+
+-- Counter (docs/MECHANICS.md, "Counter", "Hit on itself"): a foe that picked Strength hits itself at a draw of 128 for 42 * 40 * 74 / 72,
+-- 1726, / 50 is 34, + 2 is 36; Counter gives back 72. A foe that picked Surf, of type Water, is not countered, whatever it did
+
+abbrev countered : ℕ → Progress
+countered picked = both_choose (facing (knowing 68 20) as_is (knowing picked 10) (set (with_confusion 3)) (drawing 128 255 0 0 0))
+
+abbrev hits_itself : List Event
+hits_itself = events.Activate (tauros_of Two) volatiles.Confusion ∷ events.Damage (tauros_of Two) (healthy_at 317) sources.Confusion ∷ []
+
+counter_after_a_hit_on_itself : ((countered 70).events ≡ hits_itself ++ moves_by One 68 ∷ hurt Two 245 ∷ events.Turn 2 ∷ [])
+    × ((countered 57).events ≡ hits_itself ++ moves_by One 68 ∷ events.Miss (tauros_of One) ∷ events.Turn 2 ∷ [])
+    × ((countered 70).drawn ∷ (countered 57).drawn ∷ pp_of Two (countered 70) ∷ [] ≡ 3 ∷ 2 ∷ 10 ∷ [])
+    × ((countered 57).field.last_damage ≡ 36)
+unfolding computing
+counter_after_a_hit_on_itself = (refl, refl, refl, refl)
+
+-- charging (docs/MECHANICS.md, "Charging", "Conditions"): who was left Invulnerable begins Razor Wind, and Strength misses it; its second
+-- turn ends both, and Strength hits. Both deal 42 * 80 * 74 / 72, 3453, / 50 is 69, + 2 is 71, with the own type 106
+
+abbrev winds_up : Progress
+winds_up = both_choose (facing (knowing 13 10) (set with_invulnerability) (slower (knowing 70 10)) as_is
+    (Link (255 ∷ 255 ∷ 255 ∷ 255 ∷ 0 ∷ 255 ∷ 255 ∷ 0 ∷ 0 ∷ 0 ∷ [])))
+
+abbrev winds_on : Progress
+winds_on = one_goes_on (record winds_up { events = [] })
+
+charge_ends_an_older_invulnerability : (winds_up.events ≡ events.Prepare (tauros_of One) 13 ∷ moves_by Two 70 ∷ events.Miss (tauros_of Two) ∷ events.Turn 2 ∷ [])
+    × (winds_on.events ≡ moves_by One 13 ∷ hurt Two 247 ∷ moves_by Two 70 ∷ hurt One 247 ∷ events.Turn 3 ∷ [])
+    × (is_invulnerable One winds_up ∷ (underway One winds_up).charging ∷ is_invulnerable One winds_on ∷ (underway One winds_on).charging ∷ []
+    ≡ true ∷ true ∷ false ∷ false ∷ [])
+    × (winds_up.drawn ∷ winds_on.drawn ∷ [] ≡ 2 ∷ 8 ∷ [])
+unfolding computing
+charge_ends_an_older_invulnerability = (refl, refl, refl, refl)
+
+-- BadPoison outlasts its poison (docs/MECHANICS.md, "Residual damage", "Early effects"). From the counter 3 a sixteenth of 353, 22, becomes
+-- 88, and at the next step 110: of a seed alone, of a burn, of both; without either the counter rests
+
+abbrev outlasting : Status → (ActiveConditions → ActiveConditions) → Progress
+outlasting status change = both_choose (facing (record (knowing 150 10) { status = status }) (set λ c. change (record c { bad_poison = Some 3 }))
+    (record idler { hp = 200 }) as_is (drawing 9 9 9 9 9))
+
+abbrev as_they_are : ActiveConditions → ActiveConditions
+as_they_are c = c
+
+abbrev seed_on_the_burned : List Event
+seed_on_the_burned = events.Damage (tauros_of One) (record { hp = 155; max = 353; kind = Some kinds.Burn }) sources.LeechSeed
+    ∷ events.Heal (tauros_of Two) (healthy_at 310) ∷ []
+
+abbrev burns : Event
+burns = events.Damage (tauros_of One) (record { hp = 265; max = 353; kind = Some kinds.Burn }) sources.Burn
+
+abbrev counter_of : Progress → Option ℕ
+counter_of p = (conditions One p).bad_poison
+
+counter_without_poison : ((outlasting Healthy as_they_are).events ≡ splashes One ++ then_idles) × (counter_of (outlasting Healthy as_they_are) ≡ Some 3)
+    × ((outlasting Healthy with_seed).events ≡ splashes One ++ events.Damage (tauros_of One) (healthy_at 265) sources.LeechSeed
+    ∷ events.Heal (tauros_of Two) (healthy_at 288) ∷ then_idles)
+    × (counter_of (outlasting Healthy with_seed) ≡ Some 4)
+unfolding computing
+counter_without_poison = (refl, refl, refl, refl)
+
+counter_under_a_burn : ((outlasting Burned as_they_are).events ≡ splashes One ++ burns ∷ then_idles) × (counter_of (outlasting Burned as_they_are) ≡ Some 4)
+    × ((outlasting Burned with_seed).events ≡ splashes One ++ burns ∷ seed_on_the_burned ++ then_idles)
+    × (counter_of (outlasting Burned with_seed) ≡ Some 5)
+unfolding computing
+counter_under_a_burn = (refl, refl, refl, refl)
+
+-- Thrash ends (docs/MECHANICS.md, "Going on") for who is confused already: the gate takes a turn of the confusion, and at 127 lets it
+-- act; then 3 draws the count 5 anew, and 255, 255 and 0 the hit. Power 90: 42 * 90 * 74 / 72 is 3885, / 50 is 77, + 2 is 79, with
+-- the own type 118. Where the gate ends the confusion, it comes all the same
+
+abbrev thrashed_out : ℕ → Stream → Progress
+thrashed_out confused stream =
+    one_goes_on (facing (knowing 37 10) (λ a. record (amid (λ c. with_thrash 1 (with_confusion confused c)) a) { kept_accuracy = 255 }) idler as_is stream)
+
+abbrev confused_anew : List Event
+confused_anew = moves_by One 37 ∷ events.Start (tauros_of One) volatiles.Confusion ∷ hurt Two 235 ∷ then_idles
+
+abbrev confusion_of : Progress → Option ℕ
+confusion_of p = (conditions One p).confused
+
+confused_anew_as_thrash_ends : ((thrashed_out 4 (drawing 127 3 255 255 0)).events ≡ events.Activate (tauros_of One) volatiles.Confusion ∷ confused_anew)
+    × (confusion_of (thrashed_out 4 (drawing 127 3 255 255 0)) ≡ Some 5) × ((underway One (thrashed_out 4 (drawing 127 3 255 255 0))).thrash ≡ None)
+    × ((thrashed_out 1 (drawing 3 255 255 0 0)).events ≡ events.End (tauros_of One) volatiles.Confusion ∷ confused_anew)
+    × (confusion_of (thrashed_out 1 (drawing 3 255 255 0 0)) ≡ Some 5)
+    × ((thrashed_out 4 (drawing 127 3 255 255 0)).drawn ∷ (thrashed_out 1 (drawing 3 255 255 0 0)).drawn ∷ pp_of One (thrashed_out 1 (drawing 3 255 255 0 0)) ∷ []
+    ≡ 5 ∷ 4 ∷ 10 ∷ [])
+unfolding computing
+confused_anew_as_thrash_ends = (refl, refl, refl, refl, refl, refl)
+
+-- the turn limit (docs/MECHANICS.md, "Turn limit", "Falls and requests") in the update in which both fall, by an Explosion on 10 HP: a tie
+-- where either has others left, and no replacement; a turn earlier both are asked for one. Where one side has nobody left, the other wins
+
+abbrev blast : ℕ → (Progress → Progress) → Progress
+blast limit join = update (ruling_of (record usual_terms { limit = limit })) (choices.Move 1) (choices.Move 1)
+    (join (facing (knowing 153 5) as_is (slower (left_with 10)) as_is (drawing 255 255 0 0 0)))
+
+abbrev with_two_each : Progress → Progress
+with_two_each p = joined_by One tauros (joined_by Two tauros p)
+
+abbrev both_fell : List Event
+both_fell = moves_by One 153 ∷ hurt Two 0 ∷ events.Faint (tauros_of Two) ∷ events.Faint (tauros_of One) ∷ []
+
+limit_as_both_fall : ((blast 1 with_two_each).events ≡ both_fell ++ events.Tie ∷ []) × ((blast 1 with_two_each).field.outcome ≡ outcomes.Tie)
+    × ((blast 1 with_two_each).field.request_one ≡ requests.Pass) × ((blast 1 with_two_each).field.request_two ≡ requests.Pass)
+    × ((blast 2 with_two_each).events ≡ both_fell) × ((blast 2 with_two_each).field.request_one ≡ requests.Switch)
+    × ((blast 2 with_two_each).field.request_two ≡ requests.Switch)
+    × ((blast 1 (λ p. p)).events ≡ both_fell ++ events.Tie ∷ []) × ((blast 1 (joined_by Two tauros)).events ≡ both_fell ++ events.Win Two ∷ [])
+    × ((blast 1 with_two_each).drawn ∷ (blast 1 with_two_each).field.turn ∷ [] ≡ 3 ∷ 1 ∷ [])
+unfolding computing
+limit_as_both_fall = (refl, refl, refl, refl, refl, refl, refl, refl, refl, refl)
+
+-- sleep (docs/MECHANICS.md, "Late effects") by way of a Recharge that is cleared takes neither a test of the status nor a hit test: it
+-- comes to a foe that is paralysed and Invulnerable. 8 has low bits of 0, 13 of 5, of which the gate takes one. Without Recharge it
+-- misses, without a draw
+
+abbrev sleepy : (ActiveConditions → ActiveConditions) → Status → Progress
+sleepy change status = facing (knowing 147 15) as_is (slower (record (knowing 63 5) { status = status })) (amid change) (drawing 8 13 9 9 9)
+
+abbrev lulled : Progress
+lulled = two_goes_on usual (sleepy (λ c. with_recharge (with_invulnerability c)) Paralysed)
+
+abbrev not_lulled : Progress
+not_lulled = both_choose (sleepy with_invulnerability Healthy)
+
+sleep_by_recharge_on_the_invulnerable : (lulled.events ≡ moves_by One 147 ∷ events.Status (tauros_of Two) kinds.Sleep
+    ∷ events.Cant (tauros_of Two) reasons.Asleep ∷ events.Turn 2 ∷ [])
+    × (status_of Two lulled ≡ Asleep 4 false) × (lulled.drawn ≡ 2)
+    × (is_invulnerable Two lulled ∷ (underway Two lulled).recharge ∷ [] ≡ true ∷ false ∷ [])
+    × (map (λ p. status_of Two p) (not_lulled ∷ []) ≡ Healthy ∷ [])
+unfolding computing
+sleep_by_recharge_on_the_invulnerable = (refl, refl, refl, refl, refl)
