@@ -127,10 +127,10 @@ haze_skips_the_thawed = (refl, refl)
 abbrev dreamed : Progress
 dreamed = act usual One (Use (Slot 1)) (facing (record (knowing 138 15) { hp = 300 }) as_is (being (Asleep 3 false)) as_is (drawing 255 255 0 0 0))
 
-dream_eater_drains : of_draws dreamed ≡ (
-  moves 138 ∷ events.Damage (tauros_of Two) (record { hp = 267; max = 353; kind = Some kinds.Sleep }) sources.Direct
-      ∷ events.Heal (tauros_of One) (healthy_at 343) ∷ [],
-  3,
-)
+abbrev dreams_told : List Event
+dreams_told = moves 138 ∷ events.Damage (tauros_of Two) (record { hp = 267; max = 353; kind = Some kinds.Sleep }) sources.Direct
+    ∷ events.Heal (tauros_of One) (healthy_at 343) ∷ []
+
+dream_eater_drains : of_draws dreamed ≡ (dreams_told, 3)
 unfolding computing
 dream_eater_drains = refl
