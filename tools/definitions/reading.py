@@ -213,7 +213,8 @@ class Reader:
         items = [self.term()]
         while self.peek() == ",":
             self.take(",")
-            items.append(self.term())
+            if self.peek() != ")":  # `rt fmt` ends a tuple of several lines by a comma
+                items.append(self.term())
         self.take(")")
         inside = items[0] if len(items) == 1 else Tuple(items)
         if self.peek() and self.peek().startswith(".") and len(self.peek()) > 1:
