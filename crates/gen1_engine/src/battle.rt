@@ -235,7 +235,7 @@ impl Battle {
     /// # Errors
     ///
     /// The first pair that is refused, or whose bytes cannot all be written. The battle then stands after the pairs before it,
-    /// or after it.
+    /// or after it: no pair is played behind one whose bytes are not written.
     pub fn replay<W: Sink>(
         &mut self,
         pairs: &[(u8, u8)],

@@ -3,56 +3,31 @@ use crate::two_tauros::{assert_same, bytes_of, stands_at, two_tauros};
 use gen1_engine::{Battle, BattleResult, Refusal, ReplayFault, write_log};
 use gen1_events::LogBuf;
 use gen1_machine::{Choice, Device, EventList, MoveSlot, Outcome, Request, Side};
-use std::io;
-use std::io::Write;
 use std::test::Fail;
 
-const PAIRS: [(u8, u8); 3] = [(0x00, 0x00), (0x11, 0x11), (0x11, 0x11)];
+pub(crate) const PAIRS: [(u8, u8); 3] = [(0x00, 0x00), (0x11, 0x11), (0x11, 0x11)];
 
 // Both come out with 353 of 353 HP, and turn 1 begins.
-const START: [u8; 23] = [
+pub(crate) const START: [u8; 23] = [
     2, 1, 128, 1, 100, 97, 1, 97, 1, 0, 2, 2, 128, 1, 100, 97, 1, 97, 1, 0, 1, 1, 0,
 ];
 
 // Strength, critical, 149 left; Strength, 263 left; turn 2.
-const FIRST: [u8; 36] = [
+pub(crate) const FIRST: [u8; 36] = [
     3, 1, 128, 70, 2, 128, 7, 2, 128, 5, 2, 128, 149, 0, 97, 1, 0, 0, 3, 2, 128, 70, 1, 128, 5, 1,
     128, 7, 1, 97, 1, 0, 0, 1, 2, 0,
 ];
 
 // Strength, critical, 0 left; side 2's falls, and side 1 wins.
-const SECOND: [u8; 23] = [
+pub(crate) const SECOND: [u8; 23] = [
     3, 1, 128, 70, 2, 128, 7, 2, 128, 5, 2, 128, 0, 0, 97, 1, 0, 0, 25, 2, 128, 26, 1,
 ];
 
-const WON: BattleResult = BattleResult {
+pub(crate) const WON: BattleResult = BattleResult {
     outcome: Outcome::WinOne,
     request_one: Request::Pass,
     request_two: Request::Pass,
 };
-
-/// A writer with room for so many bytes.
-#[derive(Drop)]
-struct Narrow<'a> {
-    room: usize,
-    bytes: &'a mut Vec<u8>,
-}
-
-impl Write for Narrow<'_> {
-    fn write(&mut self, bytes: &[u8]) -> io::Result<usize> {
-        if self.room == 0 {
-            return Err(io::Error::from(io::ErrorKind::BrokenPipe));
-        }
-        let count = bytes.len().min(self.room);
-        self.bytes.extend_from_slice(&bytes[..count])?;
-        self.room -= count;
-        Ok(count)
-    }
-
-    fn flush(&mut self) -> io::Result<()> {
-        Ok(())
-    }
-}
 
 fn strength() -> Result<Choice, Fail> {
     Ok(Choice::Move(MoveSlot::new(1).ok_or("no such slot")?))
@@ -100,21 +75,6 @@ fn a_replay_writes_every_log(rt: HostRuntime) -> Result<(), Fail> {
     assert_same(&rt, stands_at(bytes.as_slice(), 0, &START), true);
     assert_same(&rt, stands_at(bytes.as_slice(), 23, &FIRST), true);
     assert_same(&rt, stands_at(bytes.as_slice(), 59, &SECOND), true);
-    Ok(())
-}
-
-#[test]
-fn a_replay_tells_a_write_that_fails(rt: HostRuntime) -> Result<(), Fail> {
-    let mut battle = two_tauros()?;
-    let mut bytes = Vec::new(rt.alloc());
-    let mut sink = Device::new(Narrow {
-        room: 30,
-        bytes: &mut bytes,
-    });
-    let result = battle.replay(&PAIRS, &mut sink);
-    assert_same(&rt, result, Err(ReplayFault::Write { done: 2 }));
-    assert_same(&rt, bytes.len(), 30);
-    assert_same(&rt, battle.bytes()[1], 2);
     Ok(())
 }
 
