@@ -1,0 +1,106 @@
+"""The calls of libgen1 (include/gen1.h) by ctypes, with their types, and where the library is found."""
+
+import ctypes
+import os
+from ctypes import POINTER, Structure, c_bool, c_char, c_size_t, c_uint8, c_uint16, c_uint32
+from ctypes.util import find_library
+from pathlib import Path
+from typing import Any
+
+from gen1.errors import LibraryMissing
+
+BATTLE_BYTES = 384
+LOG_ROOM = 512
+LINE_ROOM = 96
+NO_SIDE = 255
+LOG_END = 4
+DAMAGES = 39
+
+BattleBytes = c_uint8 * BATTLE_BYTES
+SeedBytes = c_uint8 * 10
+
+
+class MemberStruct(Structure):
+    """gen1_member."""
+
+    _fields_ = [
+        ("species", c_uint8),
+        ("level", c_uint8),
+        ("dvs", c_uint8 * 4),
+        ("moves", c_uint8 * 4),
+        ("pp_ups", c_uint8 * 4),
+        ("exp", c_uint16 * 5),
+    ]
+
+
+class TeamStruct(Structure):
+    """gen1_team."""
+
+    _fields_ = [("members", MemberStruct * 6), ("count", c_uint8)]
+
+
+class EventStruct(Structure):
+    """gen1_event."""
+
+    _fields_ = [
+        ("tag", c_uint8),
+        ("side", c_uint8),
+        ("species", c_uint8),
+        ("move", c_uint8),
+        ("target_side", c_uint8),
+        ("target_species", c_uint8),
+        ("place", c_uint8),
+        ("level", c_uint8),
+        ("status", c_uint8),
+        ("detail", c_uint8),
+        ("amount", c_uint8),
+        ("hp", c_uint16),
+        ("max_hp", c_uint16),
+        ("turn", c_uint16),
+    ]
+
+
+def _found() -> str:
+    """The shared library: what GEN1_LIBRARY names, the one that the package carries, or one that is installed."""
+    named = os.environ.get("GEN1_LIBRARY")
+    if named:
+        if not Path(named).is_file():
+            raise LibraryMissing(f"GEN1_LIBRARY names {named}, which is no file")
+        return str(Path(named).resolve())
+    carried = Path(__file__).with_name("libgen1.so")
+    found = str(carried) if carried.is_file() else find_library("gen1")
+    if not found:
+        raise LibraryMissing(f"there is no {carried}; install the wheel, or let GEN1_LIBRARY name a libgen1.so")
+    return found
+
+
+def _loaded(path: str) -> ctypes.CDLL:
+    try:
+        return ctypes.CDLL(path)
+    except OSError as fault:
+        raise LibraryMissing(f"{path} cannot be loaded: {fault}") from fault
+
+
+PATH = _found()
+CALLS = _loaded(PATH)
+
+
+def bind(name: str, answer: Any, *takes: Any) -> Any:
+    """A call of the library with its types."""
+    try:
+        call = getattr(CALLS, name)
+    except AttributeError:
+        raise LibraryMissing(f"{PATH} has no {name}; it is older than this package") from None
+    call.restype, call.argtypes = answer, takes
+    return call
+
+
+_BATTLE, _SIZES, _BYTES = POINTER(BattleBytes), POINTER(c_size_t), ctypes.c_char_p
+new = bind("gen1_new", c_uint32, _BATTLE, POINTER(TeamStruct), POINTER(TeamStruct), SeedBytes, c_uint8, c_uint16)
+load = bind("gen1_load", c_uint8, _BATTLE, _BYTES, c_size_t)
+choices = bind("gen1_choices", c_uint8, _BATTLE, c_uint8, c_uint8 * 9)
+update = bind("gen1_update", c_uint8, _BATTLE, c_uint8, c_uint8, ctypes.c_void_p, c_size_t, _SIZES)
+result = bind("gen1_result", c_uint8, _BATTLE)
+next_event = bind("gen1_next_event", c_uint8, _BYTES, c_size_t, _SIZES, POINTER(EventStruct))
+next_line = bind("gen1_next_line", c_uint8, _BYTES, c_size_t, _SIZES, POINTER(c_char), c_size_t, _SIZES)
+damage = bind("gen1_damage", c_uint8, _BATTLE, c_uint8, c_uint8, c_bool, c_uint16 * DAMAGES)

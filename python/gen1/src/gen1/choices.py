@@ -1,0 +1,95 @@
+"""Sides, rules and choices (docs/MECHANICS.md, "Offered choices")."""
+
+from enum import IntFlag
+
+from gen1._check import whole, within
+from gen1.errors import BadArgument
+from gen1.names import Named
+
+
+class Side(Named):
+    """A side of a battle."""
+
+    ONE = 1, "side 1"
+    TWO = 2, "side 2"
+
+    @property
+    def foe(self) -> "Side":
+        """The other side."""
+        return Side(3 - self)
+
+
+class Rules(IntFlag):
+    """Rules that a battle is begun with, to be added up (docs/MECHANICS.md, "Rules (sleep clause, freeze clause)")."""
+
+    NONE = 0
+    SLEEP_CLAUSE = 1
+    FREEZE_CLAUSE = 2
+
+
+class Choice(Named):
+    """What a side decides for an update, with the number that stands for it.
+
+    `MOVE_0` is what is left where no slot can be chosen. A number that is none of these is refused as not offered.
+    """
+
+    PASS = 0x00, "pass"
+    MOVE_0 = 0x10, "move 0"
+    MOVE_1 = 0x11, "move 1"
+    MOVE_2 = 0x12, "move 2"
+    MOVE_3 = 0x13, "move 3"
+    MOVE_4 = 0x14, "move 4"
+    SWITCH_1 = 0x21, "switch 1"
+    SWITCH_2 = 0x22, "switch 2"
+    SWITCH_3 = 0x23, "switch 3"
+    SWITCH_4 = 0x24, "switch 4"
+    SWITCH_5 = 0x25, "switch 5"
+    SWITCH_6 = 0x26, "switch 6"
+
+    @classmethod
+    def move(cls, slot: int) -> "Choice":
+        """The move in a slot, 1 to 4, or `MOVE_0` of 0."""
+        return cls(0x10 + within(slot, "slot", 0, 4))
+
+    @classmethod
+    def switch(cls, place: int) -> "Choice":
+        """The member at a place, 1 to 6."""
+        return cls(0x20 + within(place, "place", 1, 6))
+
+    @property
+    def is_move(self) -> bool:
+        """Whether it is one of `MOVE_0` to `MOVE_4`."""
+        return 0x10 <= self < 0x20
+
+    @property
+    def is_switch(self) -> bool:
+        """Whether it is one of `SWITCH_1` to `SWITCH_6`."""
+        return self > 0x20
+
+    @property
+    def slot(self) -> int:
+        """The slot of a move, 0 to 4, or the place of a switch, 1 to 6; 0 of `PASS`."""
+        return self & 0x0F
+
+
+def a_side(value: object) -> int:
+    """A side, 1 or 2."""
+    number = whole(value, "side")
+    if number not in (1, 2):
+        raise BadArgument(f"side must be 1 or 2, not {number}")
+    return number
+
+
+def a_choice(value: object, side: int) -> int:
+    """A byte of a choice, be it offered or not."""
+    if type(value) is Choice:
+        return int(value)
+    return within(value, f"side {side}'s choice", 0, 255)
+
+
+def choice_text(byte: int) -> str:
+    """A byte as a choice, or as the number that it is where it is none."""
+    try:
+        return Choice(byte).label
+    except ValueError:
+        return f"{byte}, which is no choice"

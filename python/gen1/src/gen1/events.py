@@ -1,0 +1,342 @@
+"""The events of a log as dataclasses (docs/MECHANICS.md, "Events"), and its lines."""
+
+from ctypes import byref, c_size_t, create_string_buffer
+from dataclasses import dataclass
+from typing import ClassVar
+
+from gen1 import _library
+from gen1._check import octets
+from gen1.choices import Side
+from gen1.errors import BadLog
+from gen1.names import EventKind, LogFault, Move, Reason, Source, Species, Stat, Status, Volatile
+
+
+@dataclass(frozen=True)
+class Who:
+    """The member of a side that is out."""
+
+    side: Side
+    species: Species
+
+    def __str__(self) -> str:
+        return f"{self.side.label}'s {self.species.label}"
+
+
+@dataclass(frozen=True)
+class Health:
+    """HP, 0 to `max_hp`; the maximum, 11 to 999; and the kind of status."""
+
+    hp: int
+    max_hp: int
+    status: Status
+
+
+@dataclass(frozen=True)
+class Event:
+    """What all events have: their kind."""
+
+    kind: ClassVar[EventKind]
+
+
+@dataclass(frozen=True)
+class OfOne(Event):
+    """An event about `who`."""
+
+    who: Who
+
+
+@dataclass(frozen=True)
+class TurnEvent(Event):
+    """A turn begins, 1 to 9,999."""
+
+    kind = EventKind.TURN
+    turn: int
+
+
+@dataclass(frozen=True)
+class SwitchEvent(OfOne):
+    """`who` is sent out from its place, 1 to 6, at its level."""
+
+    kind = EventKind.SWITCHED
+    place: int
+    level: int
+    health: Health
+
+
+@dataclass(frozen=True)
+class MoveEvent(OfOne):
+    """`who` uses a move; `foe` is the active of the other side, whomever the move is for."""
+
+    kind = EventKind.MOVED
+    move: Move
+    foe: Who
+
+
+@dataclass(frozen=True)
+class CantEvent(OfOne):
+    """`who` cannot act."""
+
+    kind = EventKind.CANT
+    reason: Reason
+
+
+@dataclass(frozen=True)
+class DamageEvent(OfOne):
+    """`who` lost HP; the health after it."""
+
+    kind = EventKind.DAMAGE
+    health: Health
+    source: Source
+
+
+@dataclass(frozen=True)
+class HealEvent(OfOne):
+    """`who` gained HP; the health after it."""
+
+    kind = EventKind.HEAL
+    health: Health
+
+
+@dataclass(frozen=True)
+class CritEvent(OfOne):
+    """The hit on `who` is critical."""
+
+    kind = EventKind.CRIT
+
+
+@dataclass(frozen=True)
+class SuperEffectiveEvent(OfOne):
+    """The hit on `who` is super effective."""
+
+    kind = EventKind.SUPER_EFFECTIVE
+
+
+@dataclass(frozen=True)
+class ResistedEvent(OfOne):
+    """`who` resists the hit."""
+
+    kind = EventKind.RESISTED
+
+
+@dataclass(frozen=True)
+class ImmuneEvent(OfOne):
+    """`who` is immune."""
+
+    kind = EventKind.IMMUNE
+
+
+@dataclass(frozen=True)
+class MissEvent(OfOne):
+    """`who` missed."""
+
+    kind = EventKind.MISS
+
+
+@dataclass(frozen=True)
+class FailEvent(OfOne):
+    """What `who` did fails."""
+
+    kind = EventKind.FAIL
+
+
+@dataclass(frozen=True)
+class StatusEvent(OfOne):
+    """`who` gets a status."""
+
+    kind = EventKind.STATUS
+    status: Status
+
+
+@dataclass(frozen=True)
+class CureEvent(OfOne):
+    """`who` loses a status."""
+
+    kind = EventKind.CURE
+    status: Status
+
+
+@dataclass(frozen=True)
+class BoostEvent(OfOne):
+    """A stat of `who` rises by 1 or 2 stages."""
+
+    kind = EventKind.BOOST
+    stat: Stat
+    stages: int
+
+
+@dataclass(frozen=True)
+class UnboostEvent(OfOne):
+    """A stat of `who` falls by 1 or 2 stages."""
+
+    kind = EventKind.UNBOOST
+    stat: Stat
+    stages: int
+
+
+@dataclass(frozen=True)
+class ClearAllEvent(Event):
+    """Haze: the stages of both sides go."""
+
+    kind = EventKind.CLEAR_ALL
+
+
+@dataclass(frozen=True)
+class StartEvent(OfOne):
+    """A condition of `who` begins."""
+
+    kind = EventKind.START
+    volatile: Volatile
+
+
+@dataclass(frozen=True)
+class EndEvent(OfOne):
+    """A condition of `who` ends."""
+
+    kind = EventKind.END
+    volatile: Volatile
+
+
+@dataclass(frozen=True)
+class ActivateEvent(OfOne):
+    """A condition of `who` shows."""
+
+    kind = EventKind.ACTIVATE
+    volatile: Volatile
+
+
+@dataclass(frozen=True)
+class PrepareEvent(OfOne):
+    """`who` charges a move."""
+
+    kind = EventKind.PREPARE
+    move: Move
+
+
+@dataclass(frozen=True)
+class MustRechargeEvent(OfOne):
+    """`who` loses its next turn."""
+
+    kind = EventKind.MUST_RECHARGE
+
+
+@dataclass(frozen=True)
+class HitCountEvent(OfOne):
+    """`who` was hit 1 to 5 times."""
+
+    kind = EventKind.HIT_COUNT
+    hits: int
+
+
+@dataclass(frozen=True)
+class OneHitEvent(Event):
+    """A one-hit move landed."""
+
+    kind = EventKind.ONE_HIT
+
+
+@dataclass(frozen=True)
+class FaintEvent(OfOne):
+    """`who` faints."""
+
+    kind = EventKind.FAINT
+
+
+@dataclass(frozen=True)
+class WinEvent(Event):
+    """A side wins."""
+
+    kind = EventKind.WIN
+    side: Side
+
+
+@dataclass(frozen=True)
+class TieEvent(Event):
+    """Nobody wins."""
+
+    kind = EventKind.TIED
+
+
+@dataclass(frozen=True)
+class FaultEvent(Event):
+    """The battle ends by a fault, 1 or 2."""
+
+    kind = EventKind.FAULT
+    fault: int
+
+
+def _event(of: _library.EventStruct) -> Event:
+    """The event that a struct holds."""
+    kind = EventKind(of.tag)
+    if kind is EventKind.TURN:
+        return TurnEvent(of.turn)
+    if kind is EventKind.WIN:
+        return WinEvent(Side(of.side))
+    if kind is EventKind.FAULT:
+        return FaultEvent(of.detail)
+    if kind in _ALONE:
+        return _ALONE[kind]()
+    who = Who(Side(of.side), Species(of.species))
+    return _OF_ONE[kind](who) if kind in _OF_ONE else _more(kind, who, of)
+
+
+def _more(kind: EventKind, who: Who, of: _library.EventStruct) -> Event:
+    """An event about somebody with more fields."""
+    if kind in _VOLATILE:
+        return _VOLATILE[kind](who, Volatile(of.detail))
+    if kind in _STAGES:
+        return _STAGES[kind](who, Stat(of.detail), of.amount)
+    if kind is EventKind.MOVED:
+        return MoveEvent(who, Move(of.move), Who(Side(of.target_side), Species(of.target_species)))
+    if kind is EventKind.CANT:
+        return CantEvent(who, Reason(of.detail))
+    if kind is EventKind.PREPARE:
+        return PrepareEvent(who, Move(of.move))
+    if kind is EventKind.HIT_COUNT:
+        return HitCountEvent(who, of.amount)
+    if kind in _STATUS:
+        return _STATUS[kind](who, Status(of.status))
+    health = Health(of.hp, of.max_hp, Status(of.status))
+    if kind is EventKind.SWITCHED:
+        return SwitchEvent(who, of.place, of.level, health)
+    return HealEvent(who, health) if kind is EventKind.HEAL else DamageEvent(who, health, Source(of.detail))
+
+
+_ALONE = {it.kind: it for it in (ClearAllEvent, OneHitEvent, TieEvent)}
+_OF_ONE = {
+    it.kind: it
+    for it in (
+        CritEvent,
+        SuperEffectiveEvent,
+        ResistedEvent,
+        ImmuneEvent,
+        MissEvent,
+        FailEvent,
+        MustRechargeEvent,
+        FaintEvent,
+    )
+}
+_VOLATILE = {it.kind: it for it in (StartEvent, EndEvent, ActivateEvent)}
+_STAGES = {it.kind: it for it in (BoostEvent, UnboostEvent)}
+_STATUS = {it.kind: it for it in (StatusEvent, CureEvent)}
+
+
+def events(log: bytes) -> tuple[Event, ...]:
+    """The events of a log, be it of one update or of several, one after the other. Raises `BadLog`."""
+    given, at, of = octets(log, "log"), c_size_t(0), _library.EventStruct()
+    found: list[Event] = []
+    while (code := _library.next_event(given, len(given), byref(at), byref(of))) == 0:
+        found.append(_event(of))
+    if code != _library.LOG_END:
+        raise BadLog(LogFault(code), at.value)
+    return tuple(found)
+
+
+def lines(log: bytes) -> list[str]:
+    """The line of each event of a log (docs/MECHANICS.md, "Lines"), without line feeds. Raises `BadLog`."""
+    given, at, length = octets(log, "log"), c_size_t(0), c_size_t(0)
+    text, found = create_string_buffer(_library.LINE_ROOM), []
+    while (code := _library.next_line(given, len(given), byref(at), text, _library.LINE_ROOM, byref(length))) == 0:
+        found.append(text.raw[: length.value - 1].decode("ascii"))
+    if code != _library.LOG_END:
+        raise BadLog(LogFault(code), at.value)
+    return found

@@ -1,0 +1,182 @@
+"""Members and teams (docs/MECHANICS.md, "Teams"), from dicts and back. What makes a team is the library's to say."""
+
+from collections.abc import Iterable, Mapping
+from ctypes import byref
+from dataclasses import dataclass, field
+from typing import Any
+
+from gen1 import _library
+from gen1._check import listed, move, shown, whole
+from gen1._check import species as a_species
+from gen1.errors import BadTeam, BadType
+from gen1.names import Move, NewFault, Species
+
+KEYS = ("species", "level", "dvs", "exp", "moves")
+FIELDS = {
+    NewFault.LEVEL: "level",
+    NewFault.DV: "dvs",
+    NewFault.PP_UPS: "pp_ups",
+    NewFault.NO_SUCH_SPECIES: "species",
+    NewFault.EMPTY: "members",
+    NewFault.TOO_MANY: "members",
+}
+
+
+@dataclass(frozen=True, init=False)
+class Member:
+    """A member of a team. Every way to make one tests it by the rules of teams, and raises `BadTeam` or `BadType`.
+
+    `species` 1 to 151; `moves` one to four, no two the same; `level` 1 to 100; `dvs` four numbers from 0 to 15: Attack,
+    Defense, Speed, Special; `exp` five from 0 to 65,535: HP, Attack, Defense, Speed, Special; `pp_ups` for each move 0 to 3.
+    """
+
+    species: Species
+    moves: tuple[Move, ...]
+    level: int
+    dvs: tuple[int, int, int, int]
+    exp: tuple[int, int, int, int, int]
+    pp_ups: tuple[int, ...]
+
+    def __init__(
+        self,
+        species: Species | str | int,
+        moves: Iterable[Move | str | int],
+        level: int = 100,
+        dvs: Iterable[int] = (15, 15, 15, 15),
+        exp: Iterable[int] = (65535, 65535, 65535, 65535, 65535),
+        pp_ups: Iterable[int] | None = None,
+    ) -> None:
+        known = tuple(move(it, f"moves[{at}]") for at, it in enumerate(listed(moves, "moves")))
+        if len(known) > 4:
+            raise BadTeam(f"a member has at most 4 moves, not {len(known)}", field="moves")
+        ups = (3,) * len(known) if pp_ups is None else numbers(pp_ups, "pp_ups", len(known))
+        values = (a_species(species), known, whole(level, "level"), numbers(dvs, "dvs", 4), numbers(exp, "exp", 5), ups)
+        for name, value in zip(("species", "moves", "level", "dvs", "exp", "pp_ups"), values):
+            object.__setattr__(self, name, value)
+        for at, it in enumerate(self.exp):
+            if not 0 <= it <= 65535:
+                raise BadTeam(f"exp[{at}] must be 0 to 65,535, not {it}", field="exp")
+        _test([self])
+
+    @classmethod
+    def from_dict(cls, given: Mapping[str, Any]) -> "Member":
+        """The member that an object of docs/PROGRAM.md, "Input" describes: each move is a pair of a name and its PP ups."""
+        if not isinstance(given, Mapping):
+            raise BadType(f"a member must be a dict, not {shown(given)}")
+        for key in KEYS:
+            if key not in given:
+                raise BadTeam(f"there is no {key!r}; a member has {', '.join(KEYS)}", field=key)
+        pairs = [listed(pair, f"moves[{at}]") for at, pair in enumerate(listed(given["moves"], "moves"))]
+        for at, pair in enumerate(pairs):
+            if len(pair) != 2:
+                raise BadTeam(f"moves[{at}] must be a move and its PP ups, not {pair}", field="moves")
+        moves: list[Any] = [name for name, _ in pairs]
+        ups: list[Any] = [it for _, it in pairs]
+        return cls(given["species"], moves, given["level"], given["dvs"], given["exp"], ups)
+
+    def to_dict(self) -> dict[str, Any]:
+        """The dict that `from_dict` makes this member of; it can be written as JSON."""
+        moves = [[it.label, ups] for it, ups in zip(self.moves, self.pp_ups)]
+        return {
+            "species": self.species.label,
+            "level": self.level,
+            "dvs": list(self.dvs),
+            "exp": list(self.exp),
+            "moves": moves,
+        }
+
+    def _value(self, name: str) -> object:
+        found = getattr(self, name)
+        return [it.label for it in found] if name == "moves" else found
+
+
+@dataclass(frozen=True, init=False)
+class Team:
+    """One to six members. Every way to make one tests it by the rules of teams, and raises `BadTeam` or `BadType`."""
+
+    members: tuple[Member, ...]
+    _struct: _library.TeamStruct = field(repr=False, compare=False)
+
+    def __init__(self, members: Iterable[Member | Mapping[str, Any]]) -> None:
+        given = listed(members, "a team")
+        _test_count(len(given))
+        found = tuple(_member(at, it) for at, it in enumerate(given, 1))
+        object.__setattr__(self, "members", found)
+        object.__setattr__(self, "_struct", _struct_of(found))
+
+    @classmethod
+    def from_dicts(cls, given: Iterable[Mapping[str, Any]]) -> "Team":
+        """The team of these dicts, each as in `Member.from_dict`."""
+        return cls(given)
+
+    def to_dicts(self) -> list[dict[str, Any]]:
+        """The dicts of the members, which can be written as JSON."""
+        return [it.to_dict() for it in self.members]
+
+    def __len__(self) -> int:
+        return len(self.members)
+
+    def __getitem__(self, at: int) -> Member:
+        return self.members[at]
+
+    def __reduce__(self) -> tuple[Any, ...]:
+        return Team, (self.members,)
+
+
+def as_team(given: "Team | Iterable[Member | Mapping[str, Any]]") -> Team:
+    """A team, or the team of these members or dicts."""
+    return given if isinstance(given, Team) else Team(given)
+
+
+def numbers(value: object, what: str, count: int) -> tuple[Any, ...]:
+    """So many whole numbers, of any size."""
+    found = tuple(whole(it, f"{what}[{at}]") for at, it in enumerate(listed(value, what)))
+    if len(found) != count:
+        raise BadTeam(f"{what} must be {count} numbers, not {len(found)}", field=what)
+    return found
+
+
+def _member(at: int, given: object) -> Member:
+    """The member at a place of a team."""
+    try:
+        return given if isinstance(given, Member) else Member.from_dict(given)  # type: ignore[arg-type]
+    except BadTeam as fault:
+        raise fault.at(at) from None
+
+
+def _byte(number: int) -> int:
+    """A number as a byte; one that is none as 255, which the library refuses in each of these fields."""
+    return number if 0 <= number <= 255 else 255
+
+
+def _struct_of(members: Iterable[Member]) -> _library.TeamStruct:
+    made = _library.TeamStruct()
+    for it in members:
+        to = made.members[made.count]
+        to.species, to.level = it.species, _byte(it.level)
+        to.dvs[:], to.exp[:] = [_byte(dv) for dv in it.dvs], it.exp
+        to.moves[: len(it.moves)] = it.moves
+        to.pp_ups[: len(it.moves)] = [_byte(ups) for ups in it.pp_ups]
+        made.count += 1
+    return made
+
+
+def _fault_of(team: _library.TeamStruct) -> NewFault | None:
+    """What the library refuses in a team."""
+    scratch = _library.BattleBytes()
+    answer = _library.new(byref(scratch), byref(team), byref(team), _library.SeedBytes(), 0, 1000)
+    return NewFault(answer & 0xFF) if answer else None
+
+
+def _test_count(count: int) -> None:
+    """Tests the number of members, of which the library says what is too few and too many."""
+    fault = _fault_of(_library.TeamStruct(count=_byte(count)))
+    if fault in (NewFault.EMPTY, NewFault.TOO_MANY):
+        raise BadTeam(f"{fault.label}: {count} given, and a team has 1 to 6 members", field="members", code=fault)
+
+
+def _test(members: list[Member]) -> None:
+    fault = _fault_of(_struct_of(members))
+    if fault is not None:
+        name = FIELDS.get(fault, "moves")
+        raise BadTeam(f"{fault.label}: {name} is {members[0]._value(name)}", field=name, code=fault)

@@ -1,0 +1,49 @@
+"""What the tests share: the recorded battles of the repository, teams, and battles that are played at random."""
+
+import random
+import sys
+from pathlib import Path
+
+import pytest
+from gen1 import Battle, Choice, Member, Move, Species, Team
+
+ROOT = Path(__file__).resolve().parents[3]
+RECORDED = ROOT / "tests" / "battles"
+LEFT_OUT = {Move.MIMIC, Move.METRONOME, Move.MIRROR_MOVE, Move.TRANSFORM, Move.STRUGGLE}
+sys.path.insert(0, str(ROOT / "tools"))
+
+recorded_only = pytest.mark.skipif(not RECORDED.is_dir(), reason="the recorded battles are not here")
+
+
+@pytest.fixture
+def tauros():
+    return Member("Tauros", ["Body Slam", "Hyper Beam", "Earthquake", "Blizzard"])
+
+
+@pytest.fixture
+def team(tauros):
+    return Team([tauros, Member("Gengar", ["Hypnosis", "Night Shade"], level=73)])
+
+
+@pytest.fixture
+def battle(team):
+    """A battle after its start."""
+    made = Battle(team, team, seed=range(10))
+    made.update(Choice.PASS, Choice.PASS)
+    return made
+
+
+def random_member(dice: random.Random) -> Member:
+    moves = dice.sample([it for it in Move if it not in LEFT_OUT], dice.randint(1, 4))
+    return Member(
+        dice.choice(list(Species)),
+        moves,
+        level=dice.randint(1, 100),
+        dvs=[dice.randint(0, 15) for _ in range(4)],
+        exp=[dice.choice((0, 65535, dice.randint(0, 65535))) for _ in range(5)],
+        pp_ups=[dice.randint(0, 3) for _ in moves],
+    )
+
+
+def random_team(dice: random.Random) -> Team:
+    return Team([random_member(dice) for _ in range(dice.randint(1, 6))])

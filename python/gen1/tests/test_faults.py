@@ -1,0 +1,291 @@
+"""Every bad argument: an exception with a sentence, and nothing changed. The faults of the earlier example, each as a test."""
+
+import copy
+import pickle
+from decimal import Decimal
+
+import gen1
+import pytest
+from gen1 import BadArgument, BadBytes, BadLog, BadTeam, BadType, Battle, Choice, Member, Move, NoDamage, Refused, Species, Team
+from gen1.names import DamageFault, LoadFault, NewFault, Refusal
+
+NO_NUMBERS = (None, 1.0, "1", b"\x01", True, False, [1], Decimal(1), object())
+BIG = (-1, 256, 257, 300, 65536, 1 << 32, 1 << 64, -(1 << 70))
+
+
+def said(fault):
+    """The sentence of an exception of the package, which names what was wrong."""
+    assert isinstance(fault.value, gen1.Error)
+    text = str(fault.value)
+    assert len(text) > 10 and "\n" not in text
+    return text
+
+
+# What was found faulty in the earlier example.
+
+
+def test_a_species_is_not_cut_to_a_byte():
+    with pytest.raises(BadTeam) as fault:
+        Member(300, ["Pound"])
+    assert fault.value.field == "species" and "1 to 151" in said(fault) and "300" in said(fault)
+
+
+def test_a_choice_is_not_cut_to_a_byte(team):
+    battle = Battle(team, team, range(10))
+    before = battle.bytes
+    for pair in ((256, 0), (0, 256), (512, 256), (-256, 0)):
+        with pytest.raises(BadArgument) as fault:
+            battle.update(*pair)
+        assert "0 to 255" in said(fault) and battle.bytes == before
+
+
+def test_the_number_of_members_is_not_cut_to_a_byte(tauros):
+    for count in (7, 255, 256, 257, 262, 1000):
+        with pytest.raises(BadTeam) as fault:
+            Team([tauros] * count)
+        assert (fault.value.code, fault.value.member) == (NewFault.TOO_MANY, 0) and str(count) in said(fault)
+
+
+@pytest.mark.parametrize("copied", [copy.copy, copy.deepcopy, Battle.copy, lambda it: pickle.loads(pickle.dumps(it))])
+def test_a_copy_has_bytes_of_its_own(battle, copied):
+    other, before = copied(battle), battle.bytes
+    assert other == battle and other is not battle and hash(other) == hash(battle)
+    other.update(Choice.MOVE_1, Choice.MOVE_1)
+    assert battle.bytes == before != other.bytes and other != battle
+
+
+def test_damage_is_numbers_or_an_exception(battle):
+    assert len(battle.damage(1, "Body Slam")) == 39
+    before = battle.bytes
+    with pytest.raises(NoDamage) as fault:
+        battle.damage(1, "Splash")
+    assert fault.value.code is DamageFault.UNUSUAL and "Splash" in said(fault) and battle.bytes == before
+
+
+# Arguments out of range, of a wrong type, too many.
+
+
+@pytest.mark.parametrize("side", [0, 3, *BIG])
+def test_sides_out_of_range(battle, side):
+    for call in (battle.choices, lambda it: battle.damage(it, "Pound")):
+        with pytest.raises(BadArgument) as fault:
+            call(side)
+        assert "1 or 2" in said(fault)
+
+
+@pytest.mark.parametrize("it", NO_NUMBERS)
+def test_no_numbers(battle, team, it):
+    before = battle.bytes
+    calls = (
+        lambda: battle.choices(it),
+        lambda: battle.update(it, Choice.MOVE_1),
+        lambda: battle.play(Choice.MOVE_1, it),
+        lambda: Battle(team, team, range(10), rules=it),
+        lambda: Battle(team, team, range(10), limit=it),
+        lambda: Battle(team, team, [it] * 10),
+        lambda: Member("Tauros", ["Pound"], level=it),
+        lambda: Member("Tauros", ["Pound"], dvs=[it] * 4),
+        lambda: Member("Tauros", ["Pound"], exp=[it] * 5),
+        lambda: Choice.move(it),
+        lambda: Choice.switch(it),
+    )
+    for call in calls:
+        with pytest.raises(BadType) as fault:
+            call()
+        assert "whole number" in said(fault)
+    assert battle.bytes == before
+
+
+def test_pp_ups_of_a_wrong_type():
+    for it in NO_NUMBERS[1:]:
+        with pytest.raises(BadType):
+            Member("Tauros", ["Pound"], pp_ups=[it])
+
+
+@pytest.mark.parametrize("choice", [it for it in range(256) if it not in (0x11, 0x12, 0x13, 0x14, 0x22)])
+def test_choices_that_are_not_offered(battle, choice):
+    before = battle.bytes
+    for side, pair in ((1, (choice, 0x11)), (2, (0x11, choice))):
+        for call in (battle.update, battle.play):
+            with pytest.raises(Refused) as fault:
+                call(*pair)
+            it = fault.value
+            assert (it.code, it.side, it.choice) == (Refusal(side + 1), side, choice) and it.offered == battle.choices(side)
+            assert f"side {side}" in said(fault) and "move 1" in said(fault) and battle.bytes == before
+
+
+def test_a_battle_that_is_over(team):
+    battle = Battle(team, team, range(10), limit=1)
+    battle.update(0, 0)
+    while not battle.result.is_over:
+        battle.update(battle.choices(1)[0], battle.choices(2)[0])
+    before = battle.bytes
+    with pytest.raises(Refused) as fault:
+        battle.update(17, 17)
+    assert fault.value.code is Refusal.OVER and "over" in said(fault) and battle.bytes == before
+    assert battle.choices(1) == battle.choices(2) == ()
+
+
+@pytest.mark.parametrize("rules", [4, *BIG])
+def test_rules_out_of_range(team, rules):
+    with pytest.raises(BadArgument) as fault:
+        Battle(team, team, range(10), rules=rules)
+    assert str(rules) in said(fault)
+
+
+@pytest.mark.parametrize("limit", [0, -1, 10_000, 65536, 65537, 1 << 64])
+def test_limits_out_of_range(team, limit):
+    with pytest.raises(BadArgument) as fault:
+        Battle(team, team, range(10), limit=limit)
+    assert "9,999" in said(fault) and str(limit) in said(fault)
+
+
+@pytest.mark.parametrize("seed", [b"", bytes(9), bytes(11), [1] * 9, [], [256] + [0] * 9, [-1] * 10])
+def test_seeds_out_of_range(team, seed):
+    with pytest.raises(BadArgument) as fault:
+        Battle(team, team, seed)
+    assert "seed" in said(fault)
+
+
+@pytest.mark.parametrize("seed", [None, 5, "0123456789", 1.5])
+def test_seeds_of_a_wrong_type(team, seed):
+    with pytest.raises(BadType) as fault:
+        Battle(team, team, seed)
+    assert "seed" in said(fault)
+
+
+MEMBER_FAULTS = (
+    (dict(species=0), "species", NewFault.NO_SUCH_SPECIES),
+    (dict(species=152), "species", NewFault.NO_SUCH_SPECIES),
+    (dict(species="Taurus"), "species", NewFault.NO_SUCH_SPECIES),
+    (dict(species="tauros"), "species", NewFault.NO_SUCH_SPECIES),
+    (dict(moves=[0]), "moves[0]", NewFault.NO_SUCH_MOVE),
+    (dict(moves=["Pound", 166]), "moves[1]", NewFault.NO_SUCH_MOVE),
+    (dict(moves=[1 << 40]), "moves[0]", NewFault.NO_SUCH_MOVE),
+    (dict(moves=["Pond"]), "moves[0]", NewFault.NO_SUCH_MOVE),
+    (dict(moves=[]), "moves", NewFault.NO_MOVE),
+    (dict(moves=[1, 2, 3, 4, 5]), "moves", None),
+    (dict(moves=["Pound", "Pound"]), "moves", NewFault.REPEATED_MOVE),
+    (dict(moves=["Struggle"]), "moves", NewFault.STRUGGLE),
+    *((dict(moves=[name]), "moves", NewFault.MOVE_LEFT_OUT) for name in ("Mimic", "Metronome", "Mirror Move", "Transform")),
+    *((dict(level=level), "level", NewFault.LEVEL) for level in (0, 101, 255, *BIG)),
+    *((dict(dvs=[15, dv, 15, 15]), "dvs", NewFault.DV) for dv in (16, 255, *BIG)),
+    (dict(dvs=[15] * 3), "dvs", None),
+    (dict(dvs=[15] * 5), "dvs", None),
+    *((dict(exp=[0, 0, exp, 0, 0]), "exp", None) for exp in (-1, 65536, 1 << 32, 1 << 64)),
+    (dict(exp=[0] * 4), "exp", None),
+    (dict(exp=[0] * 6), "exp", None),
+    *((dict(pp_ups=[ups]), "pp_ups", NewFault.PP_UPS) for ups in (4, 255, *BIG)),
+    (dict(pp_ups=[3, 3]), "pp_ups", None),
+)
+
+
+@pytest.mark.parametrize("changed, field, code", MEMBER_FAULTS)
+def test_members(tauros, changed, field, code):
+    """Each field of a member, alone and as the second of a team from dicts."""
+    with pytest.raises(BadTeam) as fault:
+        Member(**{"species": "Tauros", "moves": ["Pound"], **changed})
+    assert (fault.value.field, fault.value.code, fault.value.member) == (field, code, 0)
+    assert field.partition("[")[0] in said(fault)
+    if "pp_ups" in changed or len(changed.get("moves", [])) == 5:
+        return
+    given = {"species": "Tauros", "level": 100, "dvs": [15] * 4, "exp": [0] * 5, "moves": [["Pound", 3]]}
+    given |= {key: [[it, 3] for it in value] if key == "moves" else value for key, value in changed.items()}
+    with pytest.raises(BadTeam) as fault:
+        Battle([tauros], [tauros.to_dict(), given], range(10))
+    assert (fault.value.side, fault.value.member, fault.value.field, fault.value.code) == (2, 2, field, code)
+    assert said(fault).startswith("side 2, member 2: ")
+
+
+@pytest.mark.parametrize("given", [None, 5, "Tauros", b"Tauros", [None], [5], ["Tauros"], [["Tauros"]]])
+def test_teams_of_a_wrong_type(given):
+    with pytest.raises(BadType):
+        Team(given)
+
+
+@pytest.mark.parametrize("left_out", ["species", "level", "dvs", "exp", "moves"])
+def test_dicts_without_a_key(tauros, left_out):
+    given = tauros.to_dict()
+    del given[left_out]
+    with pytest.raises(BadTeam) as fault:
+        Team([given])
+    assert (fault.value.member, fault.value.field) == (1, left_out) and left_out in said(fault)
+
+
+def test_moves_that_are_no_pairs(tauros):
+    for moves, kind in (([["Pound"]], BadTeam), ([["Pound", 3, 3]], BadTeam), (["Pound"], BadType), ("Pound", BadType), (5, BadType)):
+        with pytest.raises(kind):
+            Team([tauros.to_dict() | {"moves": moves}])
+
+
+def test_an_empty_team():
+    with pytest.raises(BadTeam) as fault:
+        Team([])
+    assert fault.value.code is NewFault.EMPTY and "1 to 6" in said(fault)
+
+
+@pytest.mark.parametrize(
+    "given, code",
+    [(b"", LoadFault.LENGTH), (bytes(383), LoadFault.LENGTH), (bytes(385), LoadFault.LENGTH), (bytes(384), LoadFault.VERSION)],
+)
+def test_bytes_that_are_no_battle(given, code):
+    with pytest.raises(BadBytes) as fault:
+        Battle.load(given)
+    assert fault.value.code is code and said(fault)
+
+
+@pytest.mark.parametrize("given", [None, "a battle", 384, [0] * 384])
+def test_no_bytes(given):
+    for call in (Battle.load, gen1.lines, gen1.events):
+        with pytest.raises(BadType) as fault:
+            call(given)
+        assert "bytes" in said(fault)
+
+
+def test_logs_with_a_fault():
+    good = bytes([0x1A, 1])
+    for given, code, at in ((good + b"\0", 1, 2), (good + b"\x1d", 1, 2), (good + b"\x1a\x03", 2, 2), (good + b"\x1a", 3, 2)):
+        for call in (gen1.lines, gen1.events):
+            with pytest.raises(BadLog) as fault:
+                call(given)
+            assert (fault.value.code, fault.value.at) == (code, at) and f"byte {at}" in said(fault)
+
+
+def test_damages_out_of_range(battle, team, tauros):
+    for move in (0, 166, *BIG, "Pond", "body slam"):
+        with pytest.raises(BadTeam) as fault:
+            battle.damage(1, move)
+        assert fault.value.field == "move" and said(fault)
+    for critical in (None, 1, 0, "yes"):
+        with pytest.raises(BadType) as fault:
+            battle.damage(1, "Pound", critical)
+        assert "critical" in said(fault)
+    with pytest.raises(NoDamage) as fault:
+        Battle(team, team, range(10)).damage(1, "Pound")
+    assert fault.value.code is DamageFault.NOBODY
+    with pytest.raises(BadType):
+        gen1.damage(tauros, None, "Pound")
+
+
+def test_choices_by_slot():
+    for slot in (-1, 5, *BIG):
+        with pytest.raises(BadArgument):
+            Choice.move(slot)
+    for place in (-1, 0, 7, *BIG):
+        with pytest.raises(BadArgument):
+            Choice.switch(place)
+
+
+def test_a_battle_is_frozen_where_it_should_be(tauros, team, battle):
+    for it, name in ((tauros, "level"), (team, "members"), (battle.result, "outcome"), (battle.update(17, 17), "log")):
+        with pytest.raises(AttributeError):
+            setattr(it, name, None)
+    for it, name in ((battle, "bytes"), (battle, "result"), (battle, "unknown")):
+        with pytest.raises(AttributeError):
+            setattr(it, name, None)
+
+
+def test_names_are_those_of_the_tables():
+    assert (Species(128).label, str(Move(34)), Move["BODY_SLAM"]) == ("Tauros", "Body Slam", 34)
+    with pytest.raises(ValueError):
+        Species(152)

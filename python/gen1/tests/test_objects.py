@@ -1,0 +1,76 @@
+"""What the objects do: how they compare, hash, are copied, pickled and shown, and what their parts hold."""
+
+import dataclasses
+import pickle
+import random
+
+import gen1
+import pytest
+from conftest import random_team
+from gen1 import Battle, Choice, EventKind, Member, Move, Outcome, Request, Result, Rules, Side, Species, Team, Update
+
+
+def test_choices_and_their_bytes():
+    assert [int(it) for it in Choice] == [0, 16, 17, 18, 19, 20, 33, 34, 35, 36, 37, 38]
+    for slot in range(5):
+        assert Choice.move(slot) == 0x10 + slot and Choice.move(slot).is_move and not Choice.move(slot).is_switch
+        assert Choice.move(slot).slot == slot
+    for place in range(1, 7):
+        assert Choice.switch(place) == 0x20 + place and Choice.switch(place).is_switch and Choice.switch(place).slot == place
+    assert not Choice.PASS.is_move and not Choice.PASS.is_switch and Choice.PASS.slot == 0
+    assert str(Choice.MOVE_2) == "move 2"
+
+
+def test_sides():
+    assert Side.ONE.foe is Side.TWO and Side.TWO.foe is Side.ONE
+
+
+def test_enums_are_pickled_and_kept():
+    for kind in (Species, Move, Choice, Outcome, Request, EventKind, Side):
+        for it in kind:
+            assert pickle.loads(pickle.dumps(it)) is it and kind(int(it)) is it and it.label
+
+
+def test_the_first_update(team):
+    battle = Battle.new(team, team, bytes(10), Rules.SLEEP_CLAUSE | Rules.FREEZE_CLAUSE, 500)
+    assert battle.result == Result(Outcome.ONGOING, (Request.NOTHING, Request.NOTHING)) and not battle.result.is_over
+    assert battle.choices(Side.ONE) == battle.choices(2) == (Choice.PASS,)
+    update = battle.update(Choice.PASS, Choice.PASS)
+    assert isinstance(update, Update) and update.result.requests == (Request.MOVE, Request.MOVE)
+    assert [type(it).__name__ for it in update.events] == ["SwitchEvent", "SwitchEvent", "TurnEvent"]
+    assert update.lines == gen1.lines(update.log) and update.events == gen1.events(update.log)
+    assert update.events[0].health.hp == update.events[0].health.max_hp == 353
+    assert (battle.bytes[19], battle.bytes[20] + 256 * battle.bytes[21]) == (3, 500)
+
+
+def test_battles_as_keys(battle):
+    same, other = battle.copy(), battle.copy()
+    other.update(17, 17)
+    assert {battle, same, other} == {battle, other} and battle != "a battle" and battle != battle.bytes
+    assert {battle: 1}[same] == 1
+
+
+def test_a_battle_shows_itself(battle):
+    assert repr(battle) == "<Battle, ongoing, asked move and move>"
+
+
+def test_members_and_teams(tauros, team):
+    assert Member("Tauros", ["Pound"]) == Member(Species.TAUROS, [Move.POUND]) == Member(128, [1], 100)
+    assert tauros.pp_ups == (3, 3, 3, 3) and dataclasses.replace(tauros, level=50).level == 50
+    with pytest.raises(gen1.BadTeam):
+        dataclasses.replace(tauros, level=101)
+    assert len(team) == 2 and team[1].species is Species.GENGAR and hash(Team(team.members)) == hash(team)
+    assert pickle.loads(pickle.dumps(team)) == team and pickle.loads(pickle.dumps(tauros)) == tauros
+    assert [it.species.label for it in team] == ["Tauros", "Gengar"]
+
+
+def test_random_teams_to_dicts_and_back():
+    dice = random.Random(1)
+    for _ in range(300):
+        team = random_team(dice)
+        assert Team.from_dicts(team.to_dicts()) == team == eval(repr(team), vars(gen1) | vars(gen1.names))
+
+
+def test_everything_that_is_exported_is_there():
+    for name in gen1.__all__:
+        assert getattr(gen1, name).__doc__, name

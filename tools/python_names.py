@@ -1,0 +1,151 @@
+#!/usr/bin/env python3
+"""Writes the enums of python/gen1 from docs/TABLES.md, docs/MECHANICS.md and include/gen1.h.
+
+    tools/python_names.py           writes python/gen1/src/gen1/names.py
+    tools/python_names.py --check   writes nothing; fails where the file is not what it would write
+
+Species, moves and types are the rows of TABLES; the kinds of statuses, stats, reasons, sources and volatiles the numbers of
+MECHANICS, "Events"; all codes the enums of the header, with the comment behind each as its text.
+"""
+
+import argparse
+import re
+import sys
+
+sys.dont_write_bytecode = True
+from repository import ROOT
+from tables import element_names, table
+
+OUT = ROOT / "python" / "gen1" / "src" / "gen1" / "names.py"
+
+HEAD = '''"""Species, moves, types and codes by name. Made by tools/python_names.py; change docs/TABLES.md or include/gen1.h, not this."""
+
+from enum import IntEnum
+
+
+class Named(IntEnum):
+    """A number of the library with a text for people.
+
+    `label` is the name as lines and tables print it ("Mr. Mime"), of a code what it says ("the level is not 1 to 100").
+    """
+
+    label: str
+
+    def __new__(cls, number: int, label: str = "") -> "Named":
+        made = int.__new__(cls, number)
+        made._value_ = number
+        made.label = label
+        return made
+
+    def __repr__(self) -> str:
+        return f"{type(self).__name__}.{self.name}"
+
+    def __str__(self) -> str:
+        return self.label
+'''
+
+# Of the header: the class, what it is, the first and the last name, and what its names begin with.
+CODES = (
+    ("Outcome", "How a battle stands, of `Result.outcome`.", "ONGOING", "FAULT_TWO", ""),
+    ("Request", "What a side is asked for the next update, of `Result.requests`.", "ASKED_NOTHING", "ASKED_SWITCH", "ASKED_"),
+    ("NewFault", "Why there is no battle or no team, of `BadTeam.code`.", "EMPTY", "TURN_LIMIT", ""),
+    ("LoadFault", 'The first test that bytes fail (docs/LAYOUT.md, "Loading"), of `BadBytes.code`.', "LOAD_LENGTH", "LOAD_REQUEST", "LOAD_"),
+    ("Refusal", "Why an update was refused, of `Refused.code`.", "OVER", "NOT_OFFERED_TWO", ""),
+    ("EventKind", "Which event of a log, of `Event.kind`.", "TURN", "FAULT", ""),
+    ("LogFault", "Why bytes are no log, of `BadLog.code`.", "LOG_TAG", "LOG_CUT", "LOG_"),
+    ("DamageFault", "Why there are no damages, of `NoDamage.code`.", "DAMAGE_SIDE", "DAMAGE_DIVISOR", "DAMAGE_"),
+)
+# Of MECHANICS, "Events": the class, what it is, its heading, and the heading of its names.
+KINDS = (
+    ("Stat", "A stat with stages.", "Number", "Stat"),
+    ("Reason", "Why a member could not act, of `CantEvent`.", "Number", "Reason of Cant"),
+    ("Source", "What dealt damage, of `DamageEvent`.", "Number", "Source of Damage"),
+    ("Volatile", "What started, ended or was activated.", "Number", "Volatile"),
+)
+
+
+def constant(name):
+    """A name as Python writes a constant: `Mr. Mime` is MR_MIME, `LightScreen` LIGHT_SCREEN."""
+    return re.sub(r"[^A-Z0-9]+", "_", re.sub(r"(?<=[a-z])(?=[A-Z])", "_", name).upper()).strip("_")
+
+
+def enum_class(name, doc, rows):
+    """The class of an enum whose rows are a number, a name and a label."""
+    lines = [f'    {constant(it)} = {number}, "{label}"' for number, it, label in rows]
+    return f'\n\nclass {name}(Named):\n    """{doc}"""\n\n' + "\n".join(lines) + "\n"
+
+
+def header_enums(text):
+    """Each enum of the header, as rows of a number, a name without GEN1_, and the comment behind it."""
+    for body in re.findall(r"\benum \{(.*?)\};", text, re.S):
+        rows, number = [], -1
+        for name, given, comment in re.findall(r"GEN1_(\w+)(?: = (\d+))?,?[ \t]*(?:/\* (.*?) \*/)?", body, re.S):
+            number = int(given) if given else number + 1
+            rows.append((number, name, re.sub(r"\s+", " ", comment)))
+        yield rows
+
+
+def code_classes(text):
+    """The classes of the header's codes."""
+    enums = list(header_enums(text))
+    for name, doc, first, last, start in CODES:
+        found = [rows for rows in enums if first in [it for _, it, _ in rows]]
+        if len(found) != 1:
+            sys.exit(f"include/gen1.h: {len(found)} enums with GEN1_{first}")
+        names = [it for _, it, _ in found[0]]
+        rows = found[0][names.index(first):names.index(last) + 1]
+        yield enum_class(name, doc, [(number, it.removeprefix(start), label or words(it.removeprefix(start))) for number, it, label in rows])
+
+
+def words(name):
+    """A constant's name in words."""
+    return name.replace("_", " ").lower()
+
+
+def kind_rows(text, heading):
+    """The numbers and names of the column with this heading in the tables of "Events", with what is printed."""
+    section = re.search(r"^## Events\n(.*?)(?=^## )", text, re.M | re.S)[1]
+    for block in re.findall(r"(?:^\|.*\n)+", section, re.M):
+        rows = [[cell.strip() for cell in re.split(r"(?<!\\)\|", line.strip("|"))] for line in block.splitlines()]
+        for at, cell in enumerate(rows[0]):
+            if cell == heading:
+                number = max(place for place in range(at) if rows[0][place] == "Number")
+                yield from ((int(row[number]), re.sub(r" *\(.*", "", row[at])) for row in rows[2:] if row[at])
+
+
+def made():
+    """The text of names.py."""
+    tables = (ROOT / "docs" / "TABLES.md").read_text()
+    rules = (ROOT / "docs" / "MECHANICS.md").read_text()
+    parts = [HEAD]
+    for name, doc, heading in (
+        ("Species", 'A species, 1 to 151 (docs/TABLES.md, "Species").', "Species"),
+        ("Move", 'A move, 1 to 165 (docs/TABLES.md, "Moves").', "Moves"),
+    ):
+        rows = [(int(number), it, it) for number, it, *_ in table(tables, heading)]
+        parts.append(enum_class(name, doc, rows))
+    parts.append(enum_class("Type", "A type, 0 to 14.", [(number, it, it) for number, it in enumerate(element_names(tables))]))
+    kinds = sorted(kind_rows(rules, "Kind"))
+    parts.append(enum_class("Status", "What ails a member; 0 is nothing.", [(0, "None_", "none"), *((n, it, it.lower()) for n, it in kinds)]).replace("NONE_", "NONE"))
+    for name, doc, _, heading in KINDS:
+        parts.append(enum_class(name, doc, [(n, it, re.sub(r"(?<=[a-z])(?=[A-Z])", " ", it)) for n, it in sorted(kind_rows(rules, heading))]))
+    parts += code_classes((ROOT / "include" / "gen1.h").read_text())
+    return "".join(parts)
+
+
+def main():
+    parser = argparse.ArgumentParser(description=__doc__, formatter_class=argparse.RawDescriptionHelpFormatter)
+    parser.add_argument("--check", action="store_true")
+    check, text = parser.parse_args().check, made()
+    if OUT.exists() and OUT.read_text() == text:
+        return 0
+    if check:
+        print(f"{OUT.relative_to(ROOT)} is not what tools/python_names.py writes")
+        return 1
+    OUT.write_text(text)
+    print(f"{OUT.relative_to(ROOT)} written")
+    return 0
+
+
+if __name__ == "__main__":
+    sys.exit(main())
