@@ -289,3 +289,15 @@ def test_names_are_those_of_the_tables():
     assert (Species(128).label, str(Move(34)), Move["BODY_SLAM"]) == ("Tauros", "Body Slam", 34)
     with pytest.raises(ValueError):
         Species(152)
+
+
+def test_seeds_and_indexes_to_reseed(battle):
+    before = battle.bytes
+    for seed, index in ((bytes(9), 0), (bytes(11), 0), (bytes(10), 9), (bytes(10), -1), ([256] * 10, 0)):
+        with pytest.raises(BadArgument) as fault:
+            battle.reseed(seed, index)
+        assert said(fault) and battle.bytes == before
+    for seed, index in ((None, 0), ("0123456789", 0), (bytes(10), None), (bytes(10), True)):
+        with pytest.raises(BadType):
+            battle.reseed(seed, index)
+        assert battle.bytes == before

@@ -74,3 +74,15 @@ def test_random_teams_to_dicts_and_back():
 def test_everything_that_is_exported_is_there():
     for name in gen1.__all__:
         assert getattr(gen1, name).__doc__, name
+
+
+def test_reseed_changes_the_numbers_and_nothing_else(battle, team):
+    """The bytes of docs/LAYOUT.md, "Header": the index and the ten numbers."""
+    other = battle.copy()
+    other.reseed(range(20, 30), 3)
+    assert other.bytes[5:16] == bytes([3, *range(20, 30)])
+    assert other.bytes[:5] + other.bytes[16:] == battle.bytes[:5] + battle.bytes[16:]
+    assert Battle.load(other.bytes) == other and (battle.place(1), battle.place(2)) == (1, 1)
+    one, two = Battle(team, team, range(10)), Battle(team, team, bytes(10))
+    two.reseed(range(10))
+    assert one == two and one.place(Side.ONE) == 0

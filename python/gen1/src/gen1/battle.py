@@ -7,7 +7,7 @@ from functools import cached_property
 from typing import Any, TypeAlias
 
 from gen1 import _library
-from gen1._check import octets, seed_bytes, whole
+from gen1._check import octets, seed_bytes, whole, within
 from gen1._check import move as a_move
 from gen1.choices import Choice, Rules, Side, a_choice, a_side, choice_text
 from gen1.errors import BadArgument, BadBytes, BadTeam, BadType, NoDamage, Refused
@@ -125,6 +125,10 @@ class Battle:
         """How the battle stands."""
         return _RESULTS[_library.result(byref(self._held))]
 
+    def place(self, side: Side | int) -> int:
+        """The place of the member of a side that is out, 1 to 6; 0 before the first update."""
+        return self._held[168 if a_side(side) == 1 else 348]
+
     def choices(self, side: Side | int) -> tuple[Choice, ...]:
         """What a side may choose, in rising order: none where the battle is over, and at most nine."""
         room = _CHOICES()
@@ -151,6 +155,14 @@ class Battle:
         if code:
             raise self._refused(Refusal(code), pair)
         return self.result
+
+    def reseed(self, seed: SeedLike, index: int = 0) -> None:
+        """Gives the battle other numbers to draw: ten bytes, and the place, 0 to 8, of the one that is drawn next.
+
+        Nothing else changes. A copy knows the numbers that its battle will draw; so a search reseeds each copy that it plays out.
+        """
+        numbers, place = seed_bytes(seed), within(index, "index", 0, 8)
+        self._held[5:16] = [place, *numbers]
 
     def damage(self, side: Side | int, move: Move | str | int, critical: bool = False) -> tuple[int, ...]:
         """The damage of a hit by a move of a side on the foe that is out, as both are now: 39 numbers.

@@ -1,0 +1,100 @@
+"""Which numbers an update drew (docs/MECHANICS.md, "Link numbers"), and what each of them decided.
+
+What a draw decided is found by trying, and by no rule of battle: a copy of the battle with each other byte in its place is
+updated by the same choices, and what comes out otherwise is told.
+"""
+
+from collections import defaultdict
+from collections.abc import Iterator
+from dataclasses import dataclass
+from itertools import groupby
+
+from gen1.battle import Battle
+from gen1.errors import Refused
+from gen1.events import DamageEvent, Event, HealEvent
+from gen1.sentences import sentence
+
+# Where the index and the nine numbers stand in the bytes (docs/LAYOUT.md, "Header").
+INDEX, NUMBERS, MOST = 5, slice(6, 15), 4700
+
+
+@dataclass(frozen=True)
+class Draw:
+    """A draw: its number in its update from 1, the byte that was drawn, and what other bytes would have decided.
+
+    `others` are ranges of bytes, each with the sentence of the first thing that would have come otherwise; empty where no byte changes
+    what the update tells. `again` where the draw uses a byte that an earlier draw of the update stood for, so that it can't be changed
+    alone.
+    """
+
+    number: int
+    byte: int
+    others: tuple[tuple[str, str], ...]
+    again: bool
+
+
+def drawn(before: Battle, after: Battle) -> bytes:
+    """The bytes that were drawn from one battle to another, which is the same after one update."""
+    numbers, index = bytearray(before.bytes[NUMBERS]), before.bytes[INDEX]
+    goal, found = (after.bytes[INDEX], after.bytes[NUMBERS]), bytearray()
+    while (index, bytes(numbers)) != goal and len(found) <= MOST:
+        found.append(numbers[index])
+        index += 1
+        if index == len(numbers):
+            index, numbers = 0, bytearray((5 * it + 1) % 256 for it in numbers)
+    return bytes(found)
+
+
+def explained(before: Battle, one: int, two: int) -> tuple[Battle, list[Event], list[Draw]]:
+    """The battle after an update by two choices, its events, and its draws. Raises `Refused`."""
+    after = before.copy()
+    told = list(after.update(one, two).events)
+    numbers = drawn(before, after)
+    draws = []
+    for at, byte in enumerate(numbers):
+        others = () if at >= 9 else tuple(_others(before, one, two, at, told))
+        draws.append(Draw(at + 1, byte, others, at >= 9))
+    return after, told, draws
+
+
+def _others(before: Battle, one: int, two: int, at: int, told: list[Event]) -> Iterator[tuple[str, str]]:
+    """What other bytes at a draw would have decided, by ranges."""
+    place = (before.bytes[INDEX] + at) % 9
+    seed = bytearray(before.bytes[6:16])
+    # The draws after the ninth number are renewed ones: the byte that becomes this one there.
+    renewed = before.bytes[INDEX] + at >= 9
+    ways = defaultdict(list)
+    for byte in range(256):
+        seed[place] = (byte - 1) * 205 % 256 if renewed else byte
+        copy = before.copy()
+        copy.reseed(bytes(seed), before.bytes[INDEX])
+        try:
+            ways[_difference(told, list(copy.update(one, two).events))].append(byte)
+        except Refused:
+            ways["the update is refused"].append(byte)
+    for said, found in ways.items():
+        if said:
+            yield ranges(found), said
+
+
+def _difference(told: list[Event], other: list[Event]) -> str:
+    """The first thing that two lists of events tell otherwise; nothing where they are the same."""
+    for one, two in zip(told, other):
+        if one != two:
+            if isinstance(one, (DamageEvent, HealEvent)) and isinstance(two, (DamageEvent, HealEvent)) and one.who == two.who:
+                return f"{one.who} has other HP"
+            return f"instead of {sentence(one)!r}: {sentence(two)}"
+    if len(told) == len(other):
+        return ""
+    longer = told if len(told) > len(other) else other
+    after = sentence(longer[min(len(told), len(other))])
+    return f"without {after!r}" if longer is told else f"then also: {after}"
+
+
+def ranges(numbers: list[int]) -> str:
+    """Numbers in rising order as ranges, "0-56, 60"; of many ranges the first few."""
+    runs = [[it for _, it in run] for _, run in groupby(enumerate(numbers), lambda it: it[1] - it[0])]
+    texts = [f"{run[0]}-{run[-1]}" if len(run) > 1 else str(run[0]) for run in runs]
+    return ", ".join(texts) if len(texts) <= 8 else f"{', '.join(texts[:4])}, .. ({len(numbers)} of 256)"
+
+

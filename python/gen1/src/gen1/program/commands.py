@@ -1,0 +1,111 @@
+"""The command line of `python -m gen1`: its words, its help and its exit statuses."""
+
+import argparse
+import os
+import sys
+from collections.abc import Callable, Sequence
+
+from gen1.battle import damage
+from gen1.choices import choice_text
+from gen1.draws import Draw, explained
+from gen1.errors import Error, Refused
+from gen1.program.inputs import Fault, a_battle, a_member, an_object, pairs, read
+from gen1.program.playing import play
+from gen1.progress import progress
+from gen1.sentences import sentence
+
+EPILOG = """The inputs are those of battle_tool (docs/PROGRAM.md). FILE is a file, or - for standard input, which is read where no file is named.
+
+Exit status: 0 done; 1 the input is refused, with a sentence on standard error; 2 the command line is wrong; 3 a file cannot be read or
+written; 130 ended from the keyboard."""
+
+
+def run(asked: argparse.Namespace) -> None:
+    """Plays the battle of a JSON object, and prints its lines."""
+    given = an_object(read(asked.file), "seed", "one", "two", "choices")
+    battle, all_pairs = a_battle(given), pairs(given)
+    for at, pair in enumerate(progress(all_pairs, len(all_pairs), "updates")):
+        try:
+            update = battle.update(*pair)
+        except Refused as fault:
+            raise Fault(f"pair {at}: {fault}") from None
+        print("".join(f"{line}\n" for line in update.lines), end="")
+
+
+def explain(asked: argparse.Namespace) -> None:
+    """Tells the battle of a JSON object in sentences, with each draw and what other bytes in its place would have decided."""
+    given = an_object(read(asked.file), "seed", "one", "two", "choices")
+    battle, all_pairs = a_battle(given), pairs(given)
+    for at, pair in enumerate(progress(all_pairs, len(all_pairs), "updates")):
+        try:
+            after, told, draws = explained(battle, *pair)
+        except Refused as fault:
+            raise Fault(f"pair {at}: {fault}") from None
+        print(f"Update {at}: side 1 {choice_text(pair[0])}, side 2 {choice_text(pair[1])}.")
+        print("".join(f"  {sentence(it)}\n" for it in told) + "".join(map(_draw, draws)))
+        battle = after
+
+
+def calc(asked: argparse.Namespace) -> None:
+    """Prints the 39 damage numbers of a move of a JSON object."""
+    given = an_object(read(asked.file), "attacker", "defender", "move", "critical")
+    members = [a_member(given, key) for key in ("attacker", "defender")]
+    print(*damage(members[0], members[1], given["move"], given["critical"]))
+
+
+def _draw(of: Draw) -> str:
+    text = f"    draw {of.number} is {of.byte}"
+    if of.again:
+        return f"{text}: a number of this update once more, renewed\n"
+    if not of.others:
+        return f"{text}: no other byte would have changed what is told\n"
+    return f"{text}; with another byte:\n" + "".join(f"      {bytes_}: {said}\n" for bytes_, said in of.others)
+
+
+COMMANDS: tuple[tuple[Callable[[argparse.Namespace], None], str], ...] = (
+    (run, "the lines of a battle"),
+    (explain, "a battle in sentences, with each draw and what it decided"),
+    (calc, "the damage numbers of a move"),
+)
+
+
+def parser() -> argparse.ArgumentParser:
+    """The words of the command line."""
+    made = argparse.ArgumentParser(
+        prog="gen1",
+        description="First-generation Pokemon link battles.",
+        epilog=EPILOG,
+        formatter_class=argparse.RawDescriptionHelpFormatter,
+    )
+    subcommands = made.add_subparsers(required=True, metavar="SUBCOMMAND")
+    for command, said in COMMANDS:
+        words = subcommands.add_parser(command.__name__, help=said, description=command.__doc__)
+        words.add_argument("file", nargs="?", default="-", metavar="FILE", help="the input as JSON; - or nothing is standard input")
+        words.set_defaults(command=command)
+    words = subcommands.add_parser("play", help="a battle against a player that chooses at random, or by damage", description=play.__doc__)
+    words.add_argument("file", nargs="?", metavar="FILE", help="an object of `run`, of which the choices are left out; else two teams of three")
+    words.add_argument("--against", choices=("random", "greedy"), default="greedy", help="how side 2 chooses (%(default)s)")
+    words.add_argument("--seed", type=int, metavar="N", help="a number from 0 on, so that the battle can be had again; else one by chance")
+    words.set_defaults(command=play)
+    return made
+
+
+def main(words: Sequence[str] | None = None) -> int:
+    """Runs the program, and answers its exit status."""
+    asked = parser().parse_args(words)
+    try:
+        asked.command(asked)
+        sys.stdout.flush()
+    except (Fault, Error) as fault:
+        sys.stdout.flush()
+        print(f"error: {fault}", file=sys.stderr)
+        return fault.status if isinstance(fault, Fault) else 1
+    except BrokenPipeError:
+        os.dup2(os.open(os.devnull, os.O_WRONLY), 1)
+        return 3
+    except OSError as fault:
+        print(f"error: {fault}", file=sys.stderr)
+        return 3
+    except KeyboardInterrupt:
+        return 130
+    return 0

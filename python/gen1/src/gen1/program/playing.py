@@ -1,0 +1,84 @@
+"""`python -m gen1 play`: a battle at the terminal, one side by the keyboard."""
+
+import argparse
+import random
+import sys
+
+from gen1.battle import Battle
+from gen1.choices import Choice, Side
+from gen1.errors import NoDamage
+from gen1.program.inputs import Fault, a_battle, an_object, read
+from gen1.sentences import sentence
+from gen1.teams import Member, Team
+
+TEAM = Team(
+    [
+        Member("Starmie", ["Surf", "Thunderbolt", "Thunder Wave", "Recover"]),
+        Member("Snorlax", ["Body Slam", "Reflect", "Rest", "Ice Beam"]),
+        Member("Tauros", ["Body Slam", "Hyper Beam", "Blizzard", "Earthquake"]),
+    ]
+)
+
+
+def play(asked: argparse.Namespace) -> None:
+    """Plays side 1 by the keyboard: at each update the offered choices are shown with their numbers; q ends the battle."""
+    if asked.seed is not None and asked.seed < 0:
+        raise Fault(f"--seed must be 0 or more, not {asked.seed}", 2)
+    dice = random.Random(asked.seed)
+    teams, battle = (TEAM, TEAM), Battle(TEAM, TEAM, dice.randbytes(10))
+    if asked.file is not None:
+        given = an_object(read(asked.file), "seed", "one", "two")
+        teams, battle = (Team(given["one"]), Team(given["two"])), a_battle(given)
+    pair: tuple[Choice, Choice] | None = (Choice.PASS, Choice.PASS)
+    while pair is not None:
+        update = battle.update(*pair)
+        for event in update.events:
+            print(sentence(event))
+        pair = None if update.result.is_over else _pair(battle, teams, asked.against, dice)
+
+
+def _pair(battle: Battle, teams: tuple[Team, Team], against: str, dice: random.Random) -> tuple[Choice, Choice] | None:
+    offered = battle.choices(Side.ONE)
+    mine = offered[0] if offered == (Choice.PASS,) else _asked(battle, teams[0], offered)
+    if mine is None:
+        return None
+    theirs = battle.choices(Side.TWO)
+    return mine, dice.choice(theirs) if against == "random" else greedy(battle, Side.TWO, teams[1], dice)
+
+
+def _asked(battle: Battle, team: Team, offered: tuple[Choice, ...]) -> Choice | None:
+    """What is chosen at the keyboard; None at the end of the input, or by q."""
+    out = battle.place(Side.ONE)
+    for at, it in enumerate(offered, 1):
+        print(f"  {at}  {choice_words(it, team, out)}")
+    while True:
+        print(f"choose 1 to {len(offered)}: ", end="", flush=True)
+        line = sys.stdin.readline()
+        word = line.strip()
+        if not line or word == "q":
+            print()
+            return None
+        if word.isascii() and word.isdigit() and 1 <= int(word) <= len(offered):
+            return offered[int(word) - 1]
+        print(f"{word!r} is none of 1 to {len(offered)}, or q to end")
+
+
+def choice_words(choice: Choice, team: Team, out: int) -> str:
+    """A choice in words, with the move of the member at the place that is out, or the species."""
+    if choice.is_switch:
+        return f"{choice.label} {team[choice.slot - 1].species}"
+    return f"{choice.label} {team[out - 1].moves[choice.slot - 1]}" if choice.is_move and choice.slot else choice.label
+
+
+def greedy(battle: Battle, side: Side, team: Team, dice: random.Random) -> Choice:
+    """The move that deals most on average if it hits; where none deals damage or none is offered, one of the choices by chance."""
+    out = battle.place(side)
+    best, most, offered = None, 0, battle.choices(side)
+    for it in offered:
+        if it.is_move and it.slot:
+            try:
+                dealt = sum(battle.damage(side, team[out - 1].moves[it.slot - 1]))
+            except NoDamage:
+                continue
+            best, most = (it, dealt) if dealt > most else (best, most)
+    return dice.choice(offered) if best is None else best

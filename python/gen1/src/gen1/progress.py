@@ -1,0 +1,36 @@
+"""How far a long work is: a bar by rich on a terminal, else a plain line now and then. It goes to standard error."""
+
+import sys
+import time
+from collections.abc import Iterable, Iterator
+from importlib.util import find_spec
+from typing import TextIO, TypeVar
+
+T = TypeVar("T")
+SECONDS = 10.0
+
+
+def progress(items: Iterable[T], total: int, what: str, to: TextIO | None = None) -> Iterator[T]:
+    """The items, of which there are `total`, as they are taken.
+
+    A plain line is written every ten seconds and at the end, so that a log is not filled; nothing for what takes less than a second.
+    """
+    stream = sys.stderr if to is None else to
+    if stream.isatty() and find_spec("rich"):
+        yield from _bar(items, total, what, stream)
+        return
+    begun = told = time.monotonic()
+    done = 0
+    for item in items:
+        yield item
+        done, now = done + 1, time.monotonic()
+        if now - told >= SECONDS or (done == total and now - begun >= 1):
+            told = now
+            print(f"{what}: {done} of {total}, {now - begun:.0f} s", file=stream, flush=True)
+
+
+def _bar(items: Iterable[T], total: int, what: str, stream: TextIO) -> Iterator[T]:
+    from rich.console import Console
+    from rich.progress import track
+
+    yield from track(items, what, total, console=Console(file=stream), transient=True)
