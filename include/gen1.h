@@ -1,7 +1,8 @@
 /*
  * gen1.h - first-generation link battles, for C and languages that call C.
  *
- * The library is crates/gen1_c/out/libgen1_c.a. It needs nothing but memcpy, memmove and memset of the C library.
+ * The library is libgen1.so or libgen1_c.a. It needs nothing but memcpy, memmove and memset of the C library.
+ * packaging/README.md says how to install it, and how a program is built with it.
  * The rules of battle are docs/MECHANICS.md, the numbers of species, moves and types docs/TABLES.md, the 384 bytes
  * docs/LAYOUT.md. crates/gen1_c/CALLING.md says what to call when, and which clause of a proved contract promises what.
  *
@@ -29,7 +30,7 @@ extern "C" {
 
 /* A battle (docs/LAYOUT.md). */
 typedef struct gen1_battle {
-    uint8_t bytes[384];
+    uint8_t bytes[384]; /* all of it: as docs/LAYOUT.md says, and to be stored or sent as they are */
 } gen1_battle;
 
 /* A member as the caller describes it (docs/MECHANICS.md, "Teams"). */
@@ -44,8 +45,8 @@ typedef struct gen1_member {
 
 /* A team: the first `count` of the members, from 1 to 6. The others are ignored. */
 typedef struct gen1_team {
-    gen1_member members[6];
-    uint8_t count;
+    gen1_member members[6]; /* by their places from 1 on */
+    uint8_t count;          /* 1 to 6 */
 } gen1_team;
 
 /* Room for the log of any update, whatever the bytes of its battle are. */
@@ -126,7 +127,7 @@ enum {
  */
 uint8_t gen1_choices(const gen1_battle *battle, uint8_t side, uint8_t choices[9]);
 
-#define GEN1_NO_SIDE 255
+#define GEN1_NO_SIDE 255 /* what gen1_choices answers for a side that is neither 1 nor 2 */
 
 /*
  * An update by a choice of each side. The first update of a battle is GEN1_PASS and GEN1_PASS, and sends out both first
@@ -151,9 +152,9 @@ enum {
 /* The outcome so far, and what each side is asked for the next update: one byte; take it apart with these macros. */
 uint8_t gen1_result(const gen1_battle *battle);
 
-#define GEN1_OUTCOME(result) ((result) & 7)
-#define GEN1_REQUEST_ONE(result) ((result) >> 3 & 3)
-#define GEN1_REQUEST_TWO(result) ((result) >> 5 & 3)
+#define GEN1_OUTCOME(result) ((result) & 7)          /* GEN1_ONGOING to GEN1_FAULT_TWO */
+#define GEN1_REQUEST_ONE(result) ((result) >> 3 & 3) /* GEN1_ASKED_NOTHING to GEN1_ASKED_SWITCH, of side 1 */
+#define GEN1_REQUEST_TWO(result) ((result) >> 5 & 3) /* the same, of side 2 */
 
 enum { GEN1_ONGOING, GEN1_WIN_ONE, GEN1_WIN_TWO, GEN1_TIE, GEN1_FAULT_ONE, GEN1_FAULT_TWO };
 enum { GEN1_ASKED_NOTHING, GEN1_ASKED_MOVE, GEN1_ASKED_SWITCH };
@@ -170,15 +171,15 @@ typedef struct gen1_event {
     uint8_t species;        /* the species of whom it is about, 1 to 151 */
     uint8_t move;           /* Move and Prepare: 1 to 165 */
     uint8_t target_side;    /* Move: the foe */
-    uint8_t target_species;
+    uint8_t target_species; /* the foe's species, 1 to 151 */
     uint8_t place;          /* Switch: 1 to 6 */
     uint8_t level;          /* Switch: 1 to 100 */
     uint8_t status;         /* of the health, and of Status and Cure: the kind of status, 1 to 5 */
     uint8_t detail;         /* the reason of Cant, the source of Damage, the volatile of Start, End and Activate, the stat of
                                Boost and Unboost, the code of Fault */
     uint8_t amount;         /* the stages of Boost and Unboost, the hits of HitCount */
-    uint16_t hp;            /* the health of Switch, Damage and Heal */
-    uint16_t max_hp;
+    uint16_t hp;            /* the health of Switch, Damage and Heal: 0 to max_hp */
+    uint16_t max_hp;        /* 11 to 999 */
     uint16_t turn;          /* Turn: 1 to 9,999 */
 } gen1_event;
 

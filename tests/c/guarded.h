@@ -1,0 +1,46 @@
+/*
+ * guarded.h - memory for calls that are tried: blocks between pages that may not be touched, and what of them has changed.
+ *
+ * A block stands at the very beginning or the very end of a page, so that a call that reads or writes one byte too far is ended by
+ * the machine itself; the rest of the page holds a pattern, which is compared after the call, as everything is that must not change.
+ */
+#ifndef GUARDED_H
+#define GUARDED_H
+
+#include <stdbool.h>
+#include <stddef.h>
+#include <stdint.h>
+
+enum { BLOCKS = 8, PAGES = 2, PAGE = 4096, GUARDED_ROOM = PAGES * PAGE };
+
+/* Numbers that are the same in each run. */
+uint32_t draw(uint32_t bound);
+bool one_in(uint32_t many);
+
+/* Any byte, often one of the first or the last. */
+uint8_t any_byte(void);
+
+/* Takes the pages; the numbers begin by the seed. */
+void begin_guarded(uint64_t seed);
+
+/* A block of `size` bytes, at most GUARDED_ROOM, for the argument of this number, from 0; its bytes are drawn. */
+void *block(int number, size_t size);
+
+/* The same block with these bytes. */
+void *block_of(int number, const void *bytes, size_t size);
+
+/* Keeps what all blocks hold, before a call. */
+void note(void);
+
+/* After a call: whether nothing has changed since `note`; or nothing but a block's first `size` bytes. */
+bool unchanged(void);
+bool changed_only(int number, size_t size);
+bool changed_only_two(int number, size_t size, int other, size_t other_size);
+
+/* Counts a call, and tells the first few that were not answered as they have to be. */
+void tell(const char *call, bool as_it_has_to_be, long got, long want);
+
+/* Prints how many calls of each name there were, and the line of counts; the status of the program. */
+int end_guarded(void);
+
+#endif

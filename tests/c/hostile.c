@@ -1,0 +1,393 @@
+/*
+ * Calls each function of the library with arguments out of their ranges, and holds the code that is answered, and all memory, against
+ * what include/gen1.h says.
+ *
+ *     cc -I include -I tests/c tests/c/hostile.c tests/c/guarded.c crates/gen1_c/out/libgen1_c.a -o hostile
+ *     ./hostile CALLS SEED      CALLS of each function
+ *
+ * Which code is due is worked out here, from the header's words. A battle is a lawful one on its way, or one that is over, or one that
+ * has not begun, or any 384 bytes: then the code is whatever it is, but no memory beside the battle's may have changed, and at
+ * a code none at all. Status 0 where every call was answered as it has to be, 1 where one was not, 2 where the words are wrong.
+ */
+#include "gen1.h"
+#include "guarded.h"
+
+#include <stdio.h>
+#include <stdlib.h>
+#include <string.h>
+
+enum { MET = 64 };
+
+/* Battles and logs that lawful play came upon, for calls to begin with. */
+static gen1_battle met[MET];
+static uint8_t met_log[MET][GEN1_LOG_ROOM];
+static size_t met_length[MET];
+
+/* ---- lawful play ---- */
+
+static gen1_member lawful_member(void)
+{
+    gen1_member it;
+    memset(&it, 0, sizeof it);
+    it.species = (uint8_t)(1 + draw(151));
+    it.level = (uint8_t)(1 + draw(100));
+    for (int at = 0; at < 4; at++) {
+        it.dvs[at] = (uint8_t)draw(16);
+        it.moves[at] = (uint8_t)(1 + at * 25 + (int)draw(25)); /* none twice, and none that is left out */
+        it.pp_ups[at] = (uint8_t)draw(4);
+    }
+    for (int at = 0; at < 5; at++)
+        it.exp[at] = (uint16_t)draw(65536);
+    return it;
+}
+
+static gen1_team lawful_team(void)
+{
+    gen1_team team;
+    memset(&team, 0, sizeof team);
+    team.count = (uint8_t)(1 + draw(6));
+    for (int at = 0; at < 6; at++)
+        team.members[at] = lawful_member();
+    return team;
+}
+
+static uint8_t offered(const gen1_battle *battle, uint8_t side)
+{
+    uint8_t choices[9];
+    uint8_t count = gen1_choices(battle, side, choices);
+    return count == 0 ? GEN1_PASS : choices[draw(count)];
+}
+
+/* Plays some updates of a new battle, and keeps where it has come to. */
+static void meet(int place)
+{
+    gen1_team one = lawful_team(), two = lawful_team();
+    uint8_t seed[10];
+    size_t length = 0;
+    for (int at = 0; at < 10; at++)
+        seed[at] = (uint8_t)draw(256);
+    if (gen1_new(&met[place], &one, &two, seed, (uint8_t)draw(4), GEN1_LIMIT) != 0)
+        abort();
+    met_length[place] = 0;
+    for (uint32_t updates = one_in(8) ? 0 : 1 + draw(one_in(8) ? 2000 : 40); updates > 0; updates--) {
+        uint8_t first = offered(&met[place], GEN1_ONE), second = offered(&met[place], GEN1_TWO);
+        if (gen1_update(&met[place], first, second, met_log[place], GEN1_LOG_ROOM, &length) != 0)
+            return;
+        met_length[place] = length;
+    }
+}
+
+/* A battle that was met, or any bytes: then `*is_valid` is false. */
+static gen1_battle some_battle(bool *is_valid)
+{
+    gen1_battle battle = met[draw(MET)];
+    *is_valid = !one_in(4);
+    for (uint32_t changes = *is_valid ? 0 : 1 + draw(one_in(2) ? 4 : 400); changes > 0; changes--)
+        battle.bytes[draw(384)] = any_byte();
+    return battle;
+}
+
+/* ---- gen1_new ---- */
+
+/* What is at fault in a member by itself, before the rules of teams: its species or a move is no number of one. */
+static uint32_t fault_of_numbers(const gen1_member *it)
+{
+    if (it->species < 1 || it->species > 151)
+        return GEN1_NO_SUCH_SPECIES;
+    for (int at = 0; at < 4; at++)
+        if (it->moves[at] > 165)
+            return GEN1_NO_SUCH_MOVE;
+    return 0;
+}
+
+static bool is_left_out(uint8_t move)
+{
+    return move == 102 || move == 118 || move == 119 || move == 144;
+}
+
+/* Whether a move stands at two places. */
+static bool has_repeated_move(const gen1_member *it)
+{
+    for (int at = 0; at < 4; at++)
+        for (int other = 0; other < at; other++)
+            if (it->moves[at] != 0 && it->moves[at] == it->moves[other])
+                return true;
+    return false;
+}
+
+/* The first of the rules of teams that a member breaks (docs/MECHANICS.md, "Teams"). */
+static uint32_t fault_of_rules(const gen1_member *it)
+{
+    bool has_high_dv = false, has_move = false, has_left_out = false, has_struggle = false, has_many_ups = false;
+    for (int at = 0; at < 4; at++) {
+        bool is_move = it->moves[at] != 0;
+        has_high_dv |= it->dvs[at] > 15;
+        has_move |= is_move;
+        has_left_out |= is_left_out(it->moves[at]);
+        has_struggle |= it->moves[at] == 165;
+        has_many_ups |= is_move && it->pp_ups[at] > 3;
+    }
+    return it->level < 1 || it->level > 100 ? GEN1_LEVEL
+        : has_high_dv                       ? GEN1_DV
+        : !has_move                         ? GEN1_NO_MOVE
+        : has_left_out                      ? GEN1_MOVE_LEFT_OUT
+        : has_struggle                      ? GEN1_STRUGGLE
+        : has_repeated_move(it)             ? GEN1_REPEATED_MOVE
+        : has_many_ups                      ? GEN1_PP_UPS
+                                            : 0;
+}
+
+/* The code of a team, with 256 for each place up to that of the member at fault. */
+static uint32_t fault_of_team(const gen1_team *team)
+{
+    if (team->count > 6)
+        return GEN1_TOO_MANY;
+    for (uint32_t place = 1; place <= team->count; place++)
+        if (fault_of_numbers(&team->members[place - 1]) != 0)
+            return fault_of_numbers(&team->members[place - 1]) + 256 * place;
+    for (uint32_t place = 1; place <= team->count; place++)
+        if (fault_of_rules(&team->members[place - 1]) != 0)
+            return fault_of_rules(&team->members[place - 1]) + 256 * place;
+    return team->count == 0 ? GEN1_EMPTY : 0;
+}
+
+static uint32_t fault_of_new(const gen1_team *one, const gen1_team *two, uint8_t rules, uint16_t limit)
+{
+    if (rules > 3)
+        return GEN1_RULES;
+    if (limit < 1 || limit > 9999)
+        return GEN1_TURN_LIMIT;
+    if (fault_of_team(one) != 0)
+        return 65536 + fault_of_team(one);
+    return fault_of_team(two) != 0 ? 2 * 65536 + fault_of_team(two) : 0;
+}
+
+/* Puts a number that may be out of its range into a team. */
+static void spoil(gen1_team *team)
+{
+    gen1_member *it = &team->members[draw(6)];
+    switch (draw(7)) {
+    case 0: team->count = any_byte(); break;
+    case 1: it->species = one_in(2) ? 152 : any_byte(); break;
+    case 2: it->level = one_in(2) ? 101 : any_byte(); break;
+    case 3: it->dvs[draw(4)] = one_in(2) ? 16 : any_byte(); break;
+    case 4: it->moves[draw(4)] = one_in(2) ? (uint8_t)(100 + draw(68)) : any_byte(); break;
+    case 5: it->moves[draw(4)] = one_in(2) ? it->moves[draw(4)] : 0; break;
+    default: it->pp_ups[draw(4)] = one_in(2) ? 4 : any_byte(); break;
+    }
+}
+
+static void try_new(void)
+{
+    gen1_team one = lawful_team(), two = lawful_team();
+    for (uint32_t times = draw(4); times > 0; times--)
+        spoil(one_in(2) ? &one : &two);
+    uint8_t rules = one_in(8) ? any_byte() : (uint8_t)draw(4);
+    uint16_t limit = (uint16_t)(one_in(8) ? (one_in(2) ? 10000 : draw(65536)) : 1 + draw(9999));
+    uint32_t want = fault_of_new(&one, &two, rules, limit);
+    gen1_battle *battle = block(0, sizeof *battle);
+    const gen1_team *first = block_of(1, &one, sizeof one), *second = block_of(2, &two, sizeof two);
+    const uint8_t *seed = block(3, 10);
+    note();
+    uint32_t got = gen1_new(battle, first, second, seed, rules, limit);
+    tell("gen1_new", got == want && (want == 0 ? changed_only(0, sizeof *battle) : unchanged()), got, want);
+}
+
+/* ---- gen1_load ---- */
+
+static void try_load(void)
+{
+    bool is_valid;
+    gen1_battle from = some_battle(&is_valid);
+    size_t count = one_in(3) ? draw(GUARDED_ROOM) : 384;
+    gen1_battle *battle = block(0, sizeof *battle);
+    uint8_t *bytes = block(1, count);
+    memcpy(bytes, from.bytes, count < 384 ? count : 384);
+    note();
+    uint8_t got = gen1_load(battle, count == 0 ? NULL : bytes, count);
+    uint8_t version = from.bytes[0];
+    uint8_t want = count != 384 ? GEN1_LOAD_LENGTH : version < 1 || version > 3 ? GEN1_LOAD_VERSION : is_valid ? 0 : got;
+    bool is_kept = got != 0 ? unchanged() : changed_only(0, sizeof *battle);
+    bool is_loaded = got != 0 || version != 3 || memcmp(battle, &from, sizeof from) == 0;
+    tell("gen1_load", got == want && got <= GEN1_LOAD_REQUEST && is_kept && is_loaded, got, want);
+}
+
+/* ---- gen1_choices, gen1_result ---- */
+
+static void try_choices(void)
+{
+    bool is_valid;
+    gen1_battle from = some_battle(&is_valid);
+    uint8_t side = one_in(2) ? (uint8_t)(1 + draw(2)) : any_byte();
+    const gen1_battle *battle = block_of(0, &from, sizeof from);
+    uint8_t *choices = block(1, 9);
+    note();
+    uint8_t got = gen1_choices(battle, side, choices);
+    bool is_side = side == GEN1_ONE || side == GEN1_TWO, is_kept = is_side && got <= 9 ? changed_only(1, got) : unchanged();
+    for (int at = 0; is_side && got <= 9 && at < got; at++) /* in rising order, and each of them a choice */
+        is_kept &= (at == 0 || choices[at - 1] < choices[at]) && choices[at] <= GEN1_SWITCH(6);
+    tell("gen1_choices", is_side ? got <= 9 && is_kept : got == GEN1_NO_SIDE && is_kept, got, is_side ? got : GEN1_NO_SIDE);
+}
+
+static void try_result(void)
+{
+    bool is_valid;
+    gen1_battle from = some_battle(&is_valid);
+    const gen1_battle *battle = block_of(0, &from, sizeof from);
+    note();
+    uint8_t got = gen1_result(battle);
+    bool is_one = GEN1_OUTCOME(got) <= GEN1_FAULT_TWO && GEN1_REQUEST_ONE(got) <= GEN1_ASKED_SWITCH
+        && GEN1_REQUEST_TWO(got) <= GEN1_ASKED_SWITCH;
+    tell("gen1_result", (is_one || !is_valid) && unchanged(), got, got);
+}
+
+/* ---- gen1_update ---- */
+
+static bool is_offered(const gen1_battle *battle, uint8_t side, uint8_t choice)
+{
+    uint8_t choices[9];
+    uint8_t count = gen1_choices(battle, side, choices);
+    return count <= 9 && memchr(choices, choice, count) != NULL;
+}
+
+/* The code of an update of a valid battle. */
+static uint8_t fault_of_update(const gen1_battle *battle, uint8_t one, uint8_t two, size_t room)
+{
+    if (room != 0 && room < GEN1_LOG_ROOM)
+        return GEN1_SMALL_LOG;
+    if (GEN1_OUTCOME(gen1_result(battle)) != GEN1_ONGOING)
+        return GEN1_OVER;
+    if (!is_offered(battle, GEN1_ONE, one))
+        return GEN1_NOT_OFFERED_ONE;
+    return is_offered(battle, GEN1_TWO, two) ? 0 : GEN1_NOT_OFFERED_TWO;
+}
+
+static void try_update(void)
+{
+    bool is_valid;
+    gen1_battle from = some_battle(&is_valid);
+    uint8_t one = one_in(2) ? offered(&from, GEN1_ONE) : any_byte(), two = one_in(2) ? offered(&from, GEN1_TWO) : any_byte();
+    size_t room = one_in(4) ? draw(GEN1_LOG_ROOM) : one_in(4) ? 0 : GEN1_LOG_ROOM + draw(3) * 100;
+    gen1_battle *battle = block_of(0, &from, sizeof from);
+    uint8_t *log = block(1, room);
+    size_t *length = block(2, sizeof *length);
+    note();
+    uint8_t got = gen1_update(battle, one, two, room == 0 ? NULL : log, room, length);
+    uint8_t want = is_valid || (room != 0 && room < GEN1_LOG_ROOM) ? fault_of_update(&from, one, two, room) : got;
+    bool is_kept = unchanged();
+    if (got == 0) {
+        gen1_battle after = *battle;
+        is_kept = *length <= room && *length <= GEN1_LOG_ROOM;
+        memcpy(battle, &from, sizeof from);
+        is_kept &= changed_only_two(1, *length <= room ? *length : 0, 2, sizeof *length);
+        is_kept &= !is_valid || gen1_load(&from, after.bytes, sizeof after.bytes) == 0;
+    }
+    tell("gen1_update", got == want && is_kept, got, want);
+}
+
+/* ---- gen1_next_event, gen1_next_line ---- */
+
+/* A log that was met, some of its bytes changed, or any bytes; in the block 0. */
+static const uint8_t *some_log(size_t *count)
+{
+    int which = (int)draw(MET);
+    *count = one_in(4) ? draw(GEN1_LOG_ROOM + 1) : met_length[which];
+    uint8_t *log = block(0, *count);
+    if (!one_in(8))
+        memcpy(log, met_log[which], *count);
+    for (uint32_t changes = *count == 0 ? 0 : draw(4); changes > 0; changes--)
+        log[draw((uint32_t)*count)] = any_byte();
+    return log;
+}
+
+/* A place in a log, or behind it, or far behind it. */
+static size_t some_place(size_t count)
+{
+    return one_in(4) ? SIZE_MAX - draw(3) : one_in(4) ? count + draw(3) : one_in(2) || count == 0 ? 0 : draw((uint32_t)count);
+}
+
+/* The code that is due at a place, where it can be seen from the tag's byte alone; else `otherwise`. */
+static uint8_t fault_of_place(const uint8_t *log, size_t count, size_t at, uint8_t otherwise)
+{
+    return at >= count ? GEN1_LOG_END : log[at] < 1 || log[at] > GEN1_FAULT ? GEN1_LOG_TAG : otherwise;
+}
+
+static void try_next_event(void)
+{
+    size_t count;
+    const uint8_t *log = some_log(&count);
+    size_t from = some_place(count);
+    size_t *at = block_of(1, &from, sizeof from);
+    gen1_event *event = block(2, sizeof *event);
+    note();
+    uint8_t got = gen1_next_event(count == 0 ? NULL : log, count, at, event);
+    uint8_t want = fault_of_place(log, count, from, got);
+    bool is_kept = got != 0 ? unchanged()
+        : changed_only_two(1, sizeof *at, 2, sizeof *event) && *at > from && *at <= count && event->tag == log[from];
+    tell("gen1_next_event", got == want && got <= GEN1_LOG_END && is_kept, got, want);
+}
+
+static void try_next_line(void)
+{
+    size_t count, length = 0;
+    const uint8_t *log = some_log(&count);
+    size_t from = some_place(count), end = from, room = one_in(2) ? draw(GEN1_LINE_ROOM) : GEN1_LINE_ROOM;
+    char line[GEN1_LINE_ROOM];
+    uint8_t whole = gen1_next_line(log, count, &end, line, sizeof line, &length);
+    size_t *at = block_of(1, &from, sizeof from), *written = block(3, sizeof *written);
+    char *text = block(2, room);
+    note();
+    uint8_t got = gen1_next_line(count == 0 ? NULL : log, count, at, room == 0 ? NULL : text, room, written);
+    uint8_t want = fault_of_place(log, count, from, whole == 0 && length > room ? GEN1_SMALL_TEXT : whole);
+    bool is_kept = unchanged();
+    if (got == 0) {
+        is_kept = *at == end && *written == length && memcmp(text, line, length) == 0;
+        memcpy(at, &from, sizeof from);
+        is_kept &= changed_only_two(2, length, 3, sizeof *written);
+    }
+    tell("gen1_next_line", got == want && is_kept, got, want);
+}
+
+/* ---- gen1_damage ---- */
+
+static void try_damage(void)
+{
+    bool is_valid;
+    gen1_battle from = some_battle(&is_valid);
+    uint8_t side = one_in(2) ? any_byte() : (uint8_t)(1 + draw(2)), move = one_in(2) ? any_byte() : (uint8_t)(1 + draw(165));
+    bool is_out = GEN1_REQUEST_ONE(gen1_result(&from)) != GEN1_ASKED_NOTHING || GEN1_REQUEST_TWO(gen1_result(&from)) != GEN1_ASKED_NOTHING;
+    const gen1_battle *battle = block_of(0, &from, sizeof from);
+    uint16_t *damages = block(1, 39 * sizeof *damages);
+    note();
+    uint8_t got = gen1_damage(battle, side, move, one_in(2), damages);
+    uint8_t want = side != GEN1_ONE && side != GEN1_TWO ? GEN1_DAMAGE_SIDE : move < 1 || move > 165 ? GEN1_DAMAGE_MOVE : got;
+    bool is_kept = got != 0 ? unchanged() : changed_only(1, 39 * sizeof *damages);
+    for (int at = 1; got == 0 && at < 39; at++)
+        is_kept &= damages[at - 1] <= damages[at];
+    is_kept &= !is_valid || got != GEN1_DAMAGE_NOBODY || !is_out;
+    tell("gen1_damage", got == want && got <= GEN1_DAMAGE_DIVISOR && is_kept, got, want);
+}
+
+/* ---- all of them ---- */
+
+static void (*const tries[])(void) = {
+    try_new, try_load, try_choices, try_result, try_update, try_next_event, try_next_line, try_damage,
+};
+
+int main(int count, char **words)
+{
+    if (count != 3) {
+        fprintf(stderr, "usage: hostile CALLS SEED\n");
+        return 2;
+    }
+    long calls = strtol(words[1], NULL, 10);
+    begin_guarded(strtoull(words[2], NULL, 10));
+    for (int place = 0; place < MET; place++)
+        meet(place);
+    for (long call = 0; call < calls; call++) {
+        meet((int)draw(MET));
+        for (size_t at = 0; at < sizeof tries / sizeof tries[0]; at++)
+            tries[at]();
+    }
+    return end_guarded();
+}

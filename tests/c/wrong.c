@@ -1,0 +1,81 @@
+/*
+ * Wrong libraries, by which tools/c_gate tries whether tests/c/hostile.c would find a fault: WRONG says which, and the linker's --wrap puts
+ * these calls before those of the library.
+ */
+#include "gen1.h"
+
+#include <string.h>
+
+uint32_t __real_gen1_new(gen1_battle *, const gen1_team *, const gen1_team *, const uint8_t[10], uint8_t, uint16_t);
+uint8_t __real_gen1_load(gen1_battle *, const uint8_t *, size_t);
+uint8_t __real_gen1_choices(const gen1_battle *, uint8_t, uint8_t[9]);
+uint8_t __real_gen1_update(gen1_battle *, uint8_t, uint8_t, uint8_t *, size_t, size_t *);
+uint8_t __real_gen1_next_event(const uint8_t *, size_t, size_t *, gen1_event *);
+uint8_t __real_gen1_next_line(const uint8_t *, size_t, size_t *, char *, size_t, size_t *);
+uint8_t __real_gen1_damage(const gen1_battle *, uint8_t, uint8_t, bool, uint16_t[39]);
+
+/* 1: a DV of 16 is taken as 15, so that its team is no longer refused. 2: a refused battle is emptied. */
+uint32_t __wrap_gen1_new(gen1_battle *battle, const gen1_team *one, const gen1_team *two, const uint8_t seed[10], uint8_t rules,
+                         uint16_t limit)
+{
+    gen1_team lenient = *one;
+    for (int at = 0; at < 6; at++)
+        if (lenient.members[at].dvs[0] == 16)
+            lenient.members[at].dvs[0] = 15;
+    uint32_t answer = __real_gen1_new(battle, WRONG == 1 ? &lenient : one, two, seed, rules, limit);
+    if (WRONG == 2 && answer != 0)
+        memset(battle, 0, sizeof *battle);
+    return answer;
+}
+
+/* 3: one byte more than a battle has is allowed. */
+uint8_t __wrap_gen1_load(gen1_battle *battle, const uint8_t *bytes, size_t count)
+{
+    return __real_gen1_load(battle, bytes, WRONG == 3 && count > 384 ? 384 : count);
+}
+
+/* 4: a choice is written behind the last. */
+uint8_t __wrap_gen1_choices(const gen1_battle *battle, uint8_t side, uint8_t choices[9])
+{
+    uint8_t count = __real_gen1_choices(battle, side, choices);
+    if (WRONG == 4 && count < 9)
+        choices[count] ^= 1;
+    return count;
+}
+
+/* 5: a byte is written behind the log. 6: the length is set at a refusal. 7: a battle that is over answers what is not offered. */
+uint8_t __wrap_gen1_update(gen1_battle *battle, uint8_t one, uint8_t two, uint8_t *log, size_t room, size_t *length)
+{
+    uint8_t answer = __real_gen1_update(battle, one, two, log, room, length);
+    if (WRONG == 5 && answer == 0 && *length < room)
+        log[*length] ^= 1;
+    if (WRONG == 6 && answer != 0)
+        *length = 0;
+    return WRONG == 7 && answer == GEN1_OVER ? GEN1_NOT_OFFERED_ONE : answer;
+}
+
+/* 8: the byte behind the log is looked at. 9: the place goes on at a fault. */
+uint8_t __wrap_gen1_next_event(const uint8_t *log, size_t count, size_t *at, gen1_event *event)
+{
+    if (WRONG == 8 && count > 0 && *(const volatile uint8_t *)(log + count) == 0)
+        return __real_gen1_next_event(log, count, at, event);
+    uint8_t answer = __real_gen1_next_event(log, count, at, event);
+    if (WRONG == 9 && answer != 0)
+        *at += 1;
+    return answer;
+}
+
+/* 10: a zero is written behind the line. */
+uint8_t __wrap_gen1_next_line(const uint8_t *log, size_t count, size_t *at, char *text, size_t room, size_t *length)
+{
+    uint8_t answer = __real_gen1_next_line(log, count, at, text, room, length);
+    if (WRONG == 10 && answer == 0 && *length < room)
+        text[*length] = 0;
+    return answer;
+}
+
+/* 11: side 3 is taken as side 1. */
+uint8_t __wrap_gen1_damage(const gen1_battle *battle, uint8_t side, uint8_t move, bool critical, uint16_t damages[39])
+{
+    return __real_gen1_damage(battle, WRONG == 11 && side == 3 ? 1 : side, move, critical, damages);
+}

@@ -1,0 +1,186 @@
+"""What tools/c_gate tries of an installation by tools/install: what it puts, programs that are built over it, pages, taking it away."""
+
+import os
+import re
+import shutil
+import subprocess
+import sys
+from pathlib import Path
+
+sys.dont_write_bytecode = True
+from c_library import Unbuilt, calls, needed, ran, shown
+from repository import ROOT
+
+# What the library may want of the C library; abort only where it is of plain Rust.
+OF_THE_C_LIBRARY = {"memcpy", "memmove", "memset", "memcmp", "abort"}
+INPUT = ROOT / "examples" / "tauros.txt"
+LINES = ROOT / "crates" / "battle_tool" / "stdout"
+STRICT = ["-O2", "-Wall", "-Wextra", "-pedantic", "-Werror"]
+
+
+def installed(*words, library=None, **variables):
+    """Runs tools/install with variables."""
+    given = [f"{name}={value}" for name, value in variables.items()]
+    return ran(ROOT / "tools" / "install", *words, *(["--library", library] if library else []), *given)
+
+
+def plays(program, folder):
+    """What is wrong with what a program prints of the battle of two Tauros; it finds the shared library in a folder."""
+    done = subprocess.run([program], stdin=open(INPUT), capture_output=True, text=True, env={**os.environ, "LD_LIBRARY_PATH": str(folder)})
+    if done.returncode or done.stderr:
+        return f"status {done.returncode}: {done.stderr}"
+    return None if done.stdout == LINES.read_text() else f"it printed {done.stdout[:400]}"
+
+
+class Tried:
+    """An installation that is tried."""
+
+    def __init__(self, gate):
+        self.gate, self.prefix = gate, gate.work / "prefix"
+        self.lib = self.prefix / "lib"
+        self.environment = {**os.environ, "PKG_CONFIG_PATH": str(self.lib / "pkgconfig")}
+
+    def try_out(self, name, check, *needs):
+        """Runs a check, which answers what is wrong; it is skipped where a program that it needs is missing."""
+        lacks = next((tool for tool in needs if not shutil.which(tool)), None)
+        if lacks:
+            return self.gate.skip(f"install, {name}", lacks)
+        try:
+            self.gate.tell(f"install, {name}", check())
+        except Unbuilt as fault:
+            self.gate.tell(f"install, {name}", fault)
+
+    def files(self):
+        """Every file is there, and nothing else."""
+        found = sorted(str(path.relative_to(self.prefix)) for path in self.prefix.rglob("*") if not path.is_dir())
+        want = ["include/gen1.h", "lib/libgen1.a", "lib/libgen1.so", "lib/libgen1.so.1", "lib/libgen1.so.1.0.0", "lib/libgen1_c.a",
+                "lib/pkgconfig/gen1.pc", "lib/cmake/gen1/gen1Config.cmake", "lib/cmake/gen1/gen1ConfigVersion.cmake",
+                "share/doc/gen1/LICENSE", *(f"share/man/man3/{name}.3" for name in ["gen1", *calls()])]
+        return None if found == sorted(want) else f"there are {found}"
+
+    def names(self):
+        """The shared library shows the documented names and nothing else, and wants no more than it says."""
+        shows, wants = shown(self.lib / "libgen1.so"), needed(self.lib / "libgen1.so")
+        if shows != set(calls()):
+            return f"it shows {sorted(shows ^ set(calls()))} otherwise than the header"
+        return f"it wants {sorted(wants)}" if not wants <= OF_THE_C_LIBRARY else None
+
+    def soname(self):
+        dynamic = ran("readelf", "-d", self.lib / "libgen1.so")
+        found = re.search(r"\(SONAME\).*\[(.*)\]", dynamic)
+        return None if found and found[1] == "libgen1.so.1" and "(TEXTREL)" not in dynamic else dynamic
+
+    def archive(self):
+        """The static library is the very one that was given."""
+        return None if (self.lib / "libgen1_c.a").read_bytes() == self.gate.library.read_bytes() else "it is another library"
+
+    def flags(self, *words):
+        return ran("pkg-config", *words, "gen1", env=self.environment).split()
+
+    def built(self, compiler, name, *words):
+        """Builds a program by a compiler, and plays the battle by it."""
+        program = self.gate.work / name
+        ran(compiler, *STRICT, *words, "-o", program)
+        return plays(program, self.lib)
+
+    def shared(self):
+        fault = self.built("cc", "by_pkg_config", "examples/c/play.c", *self.flags("--cflags", "--libs"))
+        wants = ran("readelf", "-d", self.gate.work / "by_pkg_config")
+        return fault or (None if "[libgen1.so.1]" in wants else "it does not want libgen1.so.1")
+
+    def static(self):
+        fault = self.built("cc", "by_pkg_config_static", "-static", "examples/c/play.c", *self.flags("--static", "--cflags", "--libs"))
+        return fault or plays(self.gate.work / "by_pkg_config_static", "/nowhere")
+
+    def in_cpp(self, compiler):
+        return self.built(compiler, f"lines_{compiler}", "-std=c++17", "tests/c/lines.cpp", *self.flags("--cflags", "--libs"))
+
+    def versions(self):
+        """pkg-config knows the version that the header has."""
+        found = self.flags("--modversion")
+        return None if found == ["1.0.0"] else f"version {found}"
+
+    def by_cmake(self):
+        """Programs over both targets, and one in C++17."""
+        build = self.gate.work / "cmake"
+        shutil.rmtree(build, ignore_errors=True)
+        ran("cmake", "-S", "tests/c/find_package", "-B", build, f"-DCMAKE_PREFIX_PATH={self.prefix}")
+        ran("cmake", "--build", build)
+        return next((f"{name}: {fault}" for name in ("shared", "static", "lines") if (fault := plays(build / name, "/nowhere"))), None)
+
+    def cmake_refuses(self):
+        """A project that wants another major version is told so."""
+        build = self.gate.work / "cmake_other"
+        shutil.rmtree(build, ignore_errors=True)
+        try:
+            ran("cmake", "-S", "tests/c/find_package", "-B", build, f"-DCMAKE_PREFIX_PATH={self.prefix}", "-DWANTED=2.0")
+        except Unbuilt as fault:
+            return None if "gen1Config.cmake, version: 1.0.0" in str(fault) else fault
+        return "version 2.0 was found"
+
+    def manual(self):
+        """The pages are read without a warning, and name every call."""
+        man = self.prefix / "share" / "man"
+        done = subprocess.run(["man", "--warnings", "-E", "ascii", "-l", man / "man3" / "gen1.3"], capture_output=True, text=True,
+                              env={**os.environ, "MANWIDTH": "100", "MANPAGER": "cat"})
+        lacks = [name for name in calls() if f"{name}(" not in done.stdout]
+        found = ran("man", "-M", man, "-w", "3", calls()[0]).strip()
+        return done.stderr or (f"it lacks {lacks}" if lacks else None) or (None if found.endswith("gen1.3") or calls()[0] in found else found)
+
+    def doxygen(self):
+        """Pages of the header, without a warning."""
+        ran("doxygen", "packaging/Doxyfile")
+        return None if (ROOT / "out" / "doxygen" / "index.html").is_file() else "there is no index.html"
+
+    def staged(self):
+        """Below DESTDIR everything says that it stands below PREFIX; other folders are taken too."""
+        to = self.gate.work / "staged"
+        shutil.rmtree(to, ignore_errors=True)
+        given = {"PREFIX": "/opt/gen1", "LIBDIR": "/opt/gen1/lib/x86_64-linux-gnu", "DESTDIR": to}
+        installed(library=self.gate.library, **given)
+        said = [path for path in to.rglob("*") if path.is_file() and not path.is_symlink() and str(to).encode() in path.read_bytes()]
+        pc = (to / "opt/gen1/lib/x86_64-linux-gnu/pkgconfig/gen1.pc").read_text()
+        installed("--uninstall", **given)
+        left = [path for path in to.rglob("*") if not path.is_dir()]
+        right = "libdir=/opt/gen1/lib/x86_64-linux-gnu\n" in pc
+        return None if right and not said and not left else f"{said} say DESTDIR; {left} are left; {pc}"
+
+    def refuses(self):
+        """Words that mean nothing are refused, and nothing is put anywhere."""
+        for words in (["PREFIX=here"], ["PREFX=/tmp"], ["--library", "/nowhere.a", f"PREFIX={self.gate.work}/not"], ["--uninstall", "--plain"]):
+            done = subprocess.run([ROOT / "tools" / "install", *words], capture_output=True, text=True)
+            if done.returncode == 0 or "tools/install" not in done.stderr and "install: error" not in done.stderr:
+                return f"{words}: status {done.returncode}: {done.stderr}"
+        return "it put something" if (self.gate.work / "not").exists() else None
+
+    def taken_away(self):
+        installed("--uninstall", PREFIX=self.prefix)
+        left = [str(path) for path in self.prefix.rglob("*") if not path.is_dir()]
+        left += [str(path) for path in (self.lib / "cmake" / "gen1", self.prefix / "share" / "doc" / "gen1") if path.exists()]
+        return f"{left} are left" if left else None
+
+
+def compare_install(gate):
+    """Installs the library of the gate, twice, and tries everything of it."""
+    it = Tried(gate)
+    shutil.rmtree(it.prefix, ignore_errors=True)
+    if not shutil.which("cc"):
+        return gate.skip("install", "cc")
+    try:
+        for _ in range(2):
+            installed(library=gate.library, PREFIX=it.prefix)
+    except Unbuilt as fault:
+        return gate.tell("install", fault)
+    for check in (it.files, it.archive, it.staged, it.refuses):
+        it.try_out(check.__name__, check)
+    it.try_out("nm -D", it.names, "nm")
+    it.try_out("soname", it.soname, "readelf")
+    for check in (it.versions, it.shared, it.static):
+        it.try_out(f"pkg-config, {check.__name__}", check, "pkg-config")
+    for compiler in ("g++", "clang++"):
+        it.try_out(f"C++17, {compiler}", lambda compiler=compiler: it.in_cpp(compiler), "pkg-config", compiler)
+    for check in (it.by_cmake, it.cmake_refuses):
+        it.try_out(check.__name__, check, "cmake", "c++")
+    it.try_out("manual", it.manual, "man")
+    it.try_out("doxygen", it.doxygen, "doxygen")
+    it.try_out("taken away", it.taken_away)
