@@ -1,0 +1,172 @@
+//! The door, from the side of the page: what is written to the input, and what is read of the output. Tests take one lock, since
+//! the rooms are one.
+use crate::*;
+use std::string::String;
+use std::sync::{Mutex, MutexGuard};
+use std::vec::Vec;
+
+static ALONE: Mutex<()> = Mutex::new(());
+
+fn alone() -> MutexGuard<'static, ()> {
+    ALONE.lock().unwrap_or_else(|held| held.into_inner())
+}
+
+fn put(bytes: &[u8]) {
+    assert!(bytes.len() <= page_room());
+    // SAFETY: the input has so much room, and the lock is held.
+    unsafe { core::ptr::copy_nonoverlapping(bytes.as_ptr(), page_input(), bytes.len()) }
+}
+
+fn got(length: usize) -> Vec<u8> {
+    // SAFETY: the output is longer than anything that is written, and the lock is held.
+    unsafe { core::slice::from_raw_parts(page_output(), length) }.to_vec()
+}
+
+fn text(length: usize) -> String {
+    String::from_utf8(got(length)).unwrap()
+}
+
+/// A Tauros with full DVs, experience and one move.
+fn tauros(id: u8) -> [u8; 24] {
+    let mut bytes = [0; 24];
+    bytes[..7].copy_from_slice(&[128, 100, 15, 15, 15, 15, id]);
+    bytes[10] = 3;
+    bytes[14..].fill(255);
+    bytes
+}
+
+fn team(id: u8, count: u8) -> Vec<u8> {
+    let mut bytes = tauros(id).to_vec();
+    bytes.resize(146, 0);
+    bytes[144] = count;
+    bytes
+}
+
+const STRENGTH: u8 = 70;
+const SEED: [u8; 10] = [1, 36, 255, 7, 31, 100, 179, 254, 127, 10];
+
+/// The battle of two Tauros of docs/PROGRAM.md.
+fn begin() -> Vec<u8> {
+    let mut asked = [team(STRENGTH, 1), team(STRENGTH, 1), SEED.to_vec()].concat();
+    asked.extend([0, 0xe8, 3]);
+    put(&asked);
+    assert_eq!(page_begin(), 0);
+    got(384)
+}
+
+fn updated(battle: &[u8], one: u8, two: u8) -> (Vec<u8>, Vec<u8>) {
+    put(battle);
+    assert_eq!(page_update(one, two), 0);
+    let told = got(384 + 2 + 512);
+    let length = usize::from(told[384]) + 256 * usize::from(told[385]);
+    (told[..384].to_vec(), told[386..][..length].to_vec())
+}
+
+#[test]
+fn a_battle_tells_the_lines_of_the_documents() {
+    let _alone = alone();
+    let (battle, log) = updated(&begin(), 0, 0);
+    put(&log);
+    let told = text(page_events(0, log.len()));
+    assert!(
+        told.contains(r#"[2,1,1,10,"|switch|p1a: Tauros|Tauros|353/353"]"#),
+        "{told}"
+    );
+    assert!(
+        told.contains(r#"[1,0,0,3,"|turn|1"]],"next":23}"#),
+        "{told}"
+    );
+    let (_, log) = updated(&battle, 17, 17);
+    put(&log);
+    assert!(text(page_events(0, log.len())).contains("|-damage|p2a: Tauros|149/353"));
+}
+
+#[test]
+fn what_is_wrong_is_said() {
+    let _alone = alone();
+    put(&[
+        team(STRENGTH, 0),
+        team(STRENGTH, 1),
+        SEED.to_vec(),
+        [0, 0xe8, 3].to_vec(),
+    ]
+    .concat());
+    assert!(text(page_begin()).contains(r#""side":1,"place":0,"number":1}"#));
+    put(b"Tauros\n- Body Slap");
+    assert_eq!(
+        text(page_team(18)),
+        r#"{"fault":"line 2: expected the name of a move of the first generation"}"#
+    );
+    put(&[26, 1, 99]);
+    assert!(text(page_events(0, 3)).contains(r#""next":2,"fault":{"text""#));
+    let (battle, _) = updated(&begin(), 0, 0);
+    put(&battle);
+    assert_eq!(page_update(17, 18), 3);
+    put(&[0; 384]);
+    assert_eq!(page_load(), 2);
+}
+
+#[test]
+fn members_stand_as_they_are_made_to() {
+    let _alone = alone();
+    let level = [6, 6, 6, 6, 6, 6, 0, 0, 0, 0];
+    let ask = |one: [u8; 10], two: [u8; 10]| {
+        // Strength is known, and Body Slam asked for beside it.
+        put(&[&tauros(STRENGTH)[..], &one, &tauros(STRENGTH), &two, &[34]].concat());
+        text(page_calculate())
+    };
+    let plain = ask(level, level);
+    assert!(
+        plain.contains(r#""move":34,"damage":[95,95,96,"#) && plain.contains(",111,111,112],"),
+        "{plain}"
+    );
+    assert!(plain.contains(r#""hit":[255,1]"#), "{plain}");
+    let burned = ask([6, 6, 6, 6, 6, 6, 16, 0, 0, 0], level);
+    assert!(
+        burned.contains(r#""own":[298,288,318,238],"stats":[149,288,318,238]"#),
+        "{burned}"
+    );
+    let raised = ask(
+        [8, 6, 6, 6, 6, 6, 0, 0, 0, 0],
+        [6, 6, 6, 6, 6, 6, 64, 1, 0, 0],
+    );
+    assert!(
+        raised.contains(r#""stats":[596,288,318,238]"#)
+            && raised.contains(r#""stats":[298,288,79,238]"#),
+        "{raised}"
+    );
+    assert!(ask([13, 6, 6, 6, 6, 6, 0, 0, 0, 0], level).contains("a stage is not -6 to 6"));
+}
+
+#[test]
+fn a_watcher_knows_what_was_told() {
+    let _alone = alone();
+    put(&[team(STRENGTH, 1), team(STRENGTH, 1)].concat());
+    assert_eq!(page_watch_begin(), 0);
+    let (battle, first) = updated(&begin(), 0, 0);
+    let (_, second) = updated(&battle, 17, 17);
+    let log = [first, second].concat();
+    put(&log);
+    let known = text(page_watch(log.len()));
+    assert!(
+        known.starts_with(r#"{"turn":2,"outcome":"ongoing","sides":[{"active":1,"#),
+        "{known}"
+    );
+    assert!(
+        known.contains(r#"{"hp":263,"status":""}"#) && known.contains(r#"{"hp":149,"status":""}"#),
+        "{known}"
+    );
+}
+
+#[test]
+fn the_computer_chooses_what_is_offered() {
+    let _alone = alone();
+    let (battle, _) = updated(&begin(), 0, 0);
+    put(&battle);
+    assert_eq!(page_greedy(1), 17);
+    put(&battle);
+    assert_eq!(page_playouts(1, 50, 7), 1);
+    let told = got(5);
+    assert_eq!(told[0], 17);
+    assert!(u32::from_le_bytes([told[1], told[2], told[3], told[4]]) <= 100);
+}

@@ -1,0 +1,143 @@
+"""What everyone needs: names for a screen reader, contrast, keys alone, a phone's width, a quick start, and no network."""
+from selenium.webdriver.common.keys import Keys
+
+from checks.browser import SIZES
+
+# Roles that a person acts upon or that hold a value: each has a name.
+NAMED = {"button", "checkbox", "combobox", "group", "image", "link", "log", "meter", "region", "slider", "spinbutton", "tab", "tablist", "tabpanel", "textbox"}
+PLACES = {
+    "replay": ("#replay", "document.getElementById('replay-example').click(); for (let i = 0; i < 8; i++) document.getElementById('replay-forward').click();"
+               "document.getElementById('replay-whole').open = true"),
+    "teams": ("#play", ""),
+    "play": ("#play", "document.getElementById('play-start').click()"),
+    "calculator": ("#calculator", "document.querySelectorAll('#panel-calculator details').forEach((it) => (it.open = true));"
+                   "document.querySelector('#calc-results button').click()"),
+    "message": ("#replay?b=zzzz", ""),
+}
+
+# The texts that are seen and whose contrast to what is behind them is too low (WCAG 2.1, AA).
+CONTRAST = """
+const parsed = (color) => (color.match(/[\\d.]+/g) ?? []).map(Number);
+const light = (rgb) => rgb.slice(0, 3).map((it) => it / 255).map((it) => (it <= .03928 ? it / 12.92 : ((it + .055) / 1.055) ** 2.4))
+  .reduce((sum, it, at) => sum + it * [.2126, .7152, .0722][at], 0);
+const behind = (element) => {
+  for (let it = element; it; it = it.parentElement) {
+    const color = parsed(getComputedStyle(it).backgroundColor);
+    if (color.length === 3 || color[3] === 1) return color;
+  }
+  return [255, 255, 255];
+};
+const low = [];
+const walker = document.createTreeWalker(document.body, NodeFilter.SHOW_TEXT);
+let count = 0;
+while (walker.nextNode()) {
+  const element = walker.currentNode.parentElement;
+  if (!walker.currentNode.data.trim() || !element.checkVisibility() || element.closest('.unseen, script, option, datalist, :disabled')) continue;
+  const style = getComputedStyle(element);
+  const [one, two] = [light(parsed(style.color)), light(behind(element))].sort((a, b) => b - a);
+  const size = parseFloat(style.fontSize);
+  const wanted = size >= 24 || (size >= 18.66 && Number(style.fontWeight) >= 700) ? 3 : 4.5;
+  count++;
+  if ((one + .05) / (two + .05) < wanted) low.push(`${walker.currentNode.data.trim().slice(0, 30)}: ${((one + .05) / (two + .05)).toFixed(2)}`);
+}
+return { count, low };
+"""
+
+REACHED = """
+return [...document.querySelectorAll('button, input, select, textarea, summary, [tabindex="0"]')]
+  .filter((it) => it.checkVisibility() && !it.disabled && it.tabIndex >= 0).length;
+"""
+
+
+def go(browser, name):
+    address, script = PLACES[name]
+    browser.open(address)
+    browser.run(script)
+
+
+def all_has_a_name(browser):
+    for name in PLACES:
+        go(browser, name)
+        nodes = browser.tree()
+        assert len(nodes) > 20, nodes
+        lacking = [role for role, text in nodes if role in NAMED and not text.strip() and role != "group"]
+        assert not lacking, (name, lacking)
+        assert browser.run("const ids = [...document.querySelectorAll('[id]')].map((it) => it.id); return ids.length === new Set(ids).size")
+        assert browser.run("return [...document.querySelectorAll('label')].every((it) => it.control)"), name
+
+
+def lines_are_read_out(browser):
+    go(browser, "replay")
+    roles = [role for role, _ in browser.tree()]
+    assert "log" in roles and "meter" in roles and "tabpanel" in roles
+    assert browser.run("return document.getElementById('replay-lines').getAttribute('aria-live')") == "polite"
+    go(browser, "message")
+    assert "alert" in [role for role, _ in browser.tree()]
+
+
+def contrast_is_enough(browser):
+    for scheme in ("light", "dark"):
+        browser.look(*SIZES["wide"], scheme)
+        for name in PLACES:
+            go(browser, name)
+            found = browser.run(CONTRAST)
+            assert found["count"] > 10 and not found["low"], (scheme, name, found)
+    browser.look(*SIZES["wide"], "light")
+
+
+def a_theme_can_be_chosen(browser):
+    browser.look(*SIZES["wide"], "light")
+    browser.open()
+    ground = "return getComputedStyle(document.body).backgroundColor"
+    light = browser.run(ground)
+    browser.fill("#theme", "dark")
+    dark = browser.run(ground)
+    browser.open()
+    assert light != dark and browser.run(ground) == dark
+    browser.fill("#theme", "system")
+    assert browser.run(ground) == light
+
+
+def keys_alone_reach_all(browser):
+    for name in PLACES:
+        go(browser, name)
+        browser.run("document.activeElement.blur(); window.scrollTo(0, 0)")
+        wanted, reached = browser.run(REACHED), set()
+        for _ in range(wanted + 12):
+            browser.press(Keys.TAB)
+            mark = browser.run("const it = document.activeElement; if (it === document.body) return ''; it.dataset.reached ??= String(Math.random()); return it.dataset.reached")
+            if mark in reached and len(reached) >= wanted:
+                break
+            reached.add(mark)
+        reached.discard("")
+        assert len(reached) >= wanted, (name, len(reached), wanted)
+
+
+def a_phone_is_wide_enough(browser):
+    for name in PLACES:
+        browser.look(*SIZES["narrow"], "light")
+        go(browser, name)
+        width = browser.run("return document.documentElement.scrollWidth")
+        assert width <= SIZES["narrow"][0], (name, width)
+    browser.look(*SIZES["wide"], "light")
+
+
+def it_is_painted_within_a_second(browser):
+    browser.open()
+    paint = browser.wait("return performance.getEntriesByName('first-contentful-paint')[0]?.startTime")
+    ready = browser.run("return performance.now()")
+    print(f"    first paint after {paint:.0f} ms, ready after {ready:.0f} ms at most")
+    assert paint < 1000
+
+
+def nothing_is_fetched_and_nothing_is_wrong(browser):
+    browser.gather()
+    foreign = [url for url in browser.requested if not url.startswith(("file:", "blob:", "data:", "about:"))]
+    assert browser.requested and not foreign, foreign
+    assert not browser.said, browser.said
+
+
+CHECKS = [
+    all_has_a_name, lines_are_read_out, contrast_is_enough, a_theme_can_be_chosen, keys_alone_reach_all, a_phone_is_wide_enough,
+    it_is_painted_within_a_second, nothing_is_fetched_and_nothing_is_wrong,
+]

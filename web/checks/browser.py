@@ -1,0 +1,118 @@
+"""A headless Chromium with the page in it, by Debian's chromedriver."""
+import json
+import time
+from pathlib import Path
+
+from selenium import webdriver
+from selenium.webdriver.common.action_chains import ActionChains
+from selenium.webdriver.chrome.service import Service
+from selenium.webdriver.common.by import By
+
+# As a colour scheme says it to the page; the width and height of a desk's screen and of a phone's.
+SIZES = {"wide": (1280, 960), "narrow": (360, 740)}
+
+
+class Browser:
+    """The page, as a person has it before them."""
+
+    def __init__(self, page, folder):
+        self.page, self.folder = Path(page).resolve().as_uri(), folder
+        options = webdriver.ChromeOptions()
+        for word in ("--headless=new", "--no-sandbox", "--disable-gpu", "--disable-dev-shm-usage", "--window-size=1280,960"):
+            options.add_argument(word)
+        options.binary_location = "/usr/bin/chromium"
+        options.set_capability("goog:loggingPrefs", {"browser": "ALL", "performance": "ALL"})
+        self.driver = webdriver.Chrome(service=Service("/usr/bin/chromedriver"), options=options)
+        self.driver.execute_cdp_cmd("Browser.setDownloadBehavior", {"behavior": "allow", "downloadPath": str(folder)})
+        self.said, self.requested = [], []
+
+    def close(self):
+        self.driver.quit()
+
+    def open(self, address="", page=None):
+        """Opens the page anew at an address, and waits until it is ready."""
+        self.gather()
+        self.driver.get("about:blank")
+        self.driver.get((page or self.page) + address)
+        self.wait("return document.documentElement.dataset.ready === 'true'")
+
+    def run(self, script, *words):
+        return self.driver.execute_script(script, *words)
+
+    def wait(self, script, seconds=15):
+        """Waits until a script answers something true, and answers it."""
+        end = time.monotonic() + seconds
+        while time.monotonic() < end:
+            answer = self.run(script)
+            if answer:
+                return answer
+            time.sleep(0.02)
+        raise AssertionError(f"after {seconds} seconds still not: {script}")
+
+    def find(self, selector):
+        return self.driver.find_element(By.CSS_SELECTOR, selector)
+
+    def click(self, selector):
+        self.find(selector).click()
+
+    def text(self, selector):
+        return self.run("return document.querySelector(arguments[0]).textContent", selector)
+
+    def fill(self, selector, value):
+        """Writes into a field as one that types there does."""
+        self.run(
+            "const it = document.querySelector(arguments[0]); it.value = arguments[1];"
+            "it.dispatchEvent(new Event('input', {bubbles: true})); it.dispatchEvent(new Event('change', {bubbles: true}));",
+            selector, value,
+        )
+
+    def file(self, name, content):
+        """Opens a file with some content by the page's own field."""
+        path = self.folder / name
+        path.write_bytes(content if isinstance(content, bytes) else content.encode())
+        self.find("#replay-file").send_keys(str(path))
+
+    def press(self, key):
+        """Presses a key, wherever the focus is."""
+        ActionChains(self.driver, duration=0).send_keys(key).perform()
+
+    def lines(self, selector):
+        """The lines of a list, as the program prints them."""
+        return self.run("return [...document.querySelectorAll(arguments[0] + ' [data-line]')].map((it) => it.dataset.line)", selector)
+
+    def notice(self):
+        """The message that is shown; empty where there is none."""
+        return self.run("const it = document.getElementById('notice'); return it.hidden ? '' : document.getElementById('notice-text').textContent")
+
+    def saved(self, selector, name):
+        """The bytes of the file that a button hands out."""
+        path = self.folder / name
+        path.unlink(missing_ok=True)
+        self.click(selector)
+        end = time.monotonic() + 10
+        while time.monotonic() < end:
+            if path.exists() and not list(self.folder.glob("*.crdownload")):
+                return path.read_bytes()
+            time.sleep(0.02)
+        raise AssertionError(f"{name} was not saved")
+
+    def look(self, width, height, scheme):
+        """Sets the size of the page, and whether the system is light or dark."""
+        self.driver.execute_cdp_cmd(
+            "Emulation.setDeviceMetricsOverride", {"width": width, "height": height, "deviceScaleFactor": 1, "mobile": width < 600}
+        )
+        self.driver.execute_cdp_cmd("Emulation.setEmulatedMedia", {"features": [{"name": "prefers-color-scheme", "value": scheme}]})
+
+    def tree(self):
+        """The nodes of the accessibility tree that are not left out, as (role, name)."""
+        nodes = self.driver.execute_cdp_cmd("Accessibility.getFullAXTree", {})["nodes"]
+        value = lambda node, key: node.get(key, {}).get("value", "")
+        return [(value(node, "role"), value(node, "name")) for node in nodes if not node.get("ignored")]
+
+    def gather(self):
+        """Keeps what was said on the console and requested so far."""
+        self.said += [entry for entry in self.driver.get_log("browser") if entry["level"] in ("SEVERE", "WARNING")]
+        for entry in self.driver.get_log("performance"):
+            message = json.loads(entry["message"])["message"]
+            if message["method"] == "Network.requestWillBeSent":
+                self.requested.append(message["params"]["request"]["url"])

@@ -1,0 +1,94 @@
+"""The calculator: recorded calculations, typed into its fields."""
+import json
+from itertools import islice
+
+from checks.cases import cases
+
+STATS = ("Attack", "Defense", "Speed", "Special")
+COUNT = 10
+
+
+def type_member(browser, side, member):
+    form = f"#calc-member-{side}"
+    browser.fill(f"{form} [name=species]", member["species"])
+    browser.fill(f"{form} [name=level]", str(member["level"]))
+    for name, value in zip(STATS, member["dvs"]):
+        browser.fill(f"{form} [name='dv-{name}']", str(value))
+    for name, value in zip(("HP", *STATS), member["exp"]):
+        browser.fill(f"{form} [name='exp-{name}']", str(value))
+    for slot, (name, _) in enumerate(member["moves"] + [("", 0)] * (4 - len(member["moves"])), 1):
+        browser.fill(f"{form} [name=move-{slot}]", name)
+
+
+def recorded_calculations_come_out(browser):
+    browser.open("#calculator")
+    lawful = (case for case in cases("calc") if case["status"] == 0)
+    for case in islice(lawful, COUNT):
+        asked = json.loads(case["input"])
+        type_member(browser, 1, asked["attacker"])
+        type_member(browser, 2, asked["defender"])
+        browser.fill("#calc-extra", asked["move"])
+        row = f"#calc-results-1 tr[data-move=\"{asked['move']}\"]"
+        kind = 2 if asked["critical"] else 1
+        shown = browser.run("return document.querySelector(arguments[0]).nextElementSibling.querySelector(arguments[1]).textContent", row, f"p:nth-of-type({kind})")
+        assert shown.partition(":")[2].split() == case["stdout"].split(), (case["name"], shown)
+        numbers = case["stdout"].split()
+        cell = browser.text(f"{row} td:nth-of-type({4 if asked['critical'] else 1})")
+        assert cell.split("–") == sorted({numbers[0], numbers[-1]}, key=int), (case["name"], cell)
+
+
+def a_text_is_taken(browser):
+    browser.open("#calculator")
+    browser.fill("#calc-member-2 textarea", "Bob (Tauros) (M)\nLevel: 88\nIVs: 0 Atk\n- Body Slam\n- Fly")
+    browser.run("document.querySelector('#calc-member-2 details button').click()")
+    value = lambda name: browser.run("return document.querySelector('#calc-member-2 [name=\"' + arguments[0] + '\"]').value", name)
+    assert [value(name) for name in ("species", "level", "dv-Attack", "move-1", "move-2", "move-3")] == ["Tauros", "88", "0", "Body Slam", "Fly", ""]
+
+
+def stages_status_and_screens_count(browser):
+    """Values of docs/MECHANICS.md: two Tauros, whose Attack is 298, Defense 288, Speed 318 and Special 238."""
+    browser.open("#calculator")
+    member = {"species": "Tauros", "level": 100, "dvs": [15] * 4, "exp": [65535] * 5, "moves": [["Body Slam", 3]]}
+    for side in (1, 2):
+        type_member(browser, side, member)
+    damage = lambda: browser.text("#calc-results-1 tr[data-move='Body Slam'] td")
+    assert damage() == "95–112"
+    browser.fill("#calc-member-1 [name=status]", "16")
+    assert "Attack 149 (own 298)" in browser.text("#calc-results-1")
+    browser.fill("#calc-member-1 [name=status]", "0")
+    browser.fill("#calc-member-1 [name=stage-Attack]", "2")
+    assert "Attack 596 (own 298)" in browser.text("#calc-results-1")
+    browser.fill("#calc-member-1 [name=stage-Attack]", "0")
+    browser.run("document.querySelector(\"#calc-member-2 [name='Reflect']\").click()")
+    assert damage() not in ("95–112", "")
+    browser.run("document.querySelector(\"#calc-member-2 [name='Reflect']\").click()")
+    browser.fill("#calc-member-1 [name=stage-Accuracy]", "-6")
+    browser.fill("#calc-member-1 [name=move-1]", "Guillotine")
+    browser.wait("return document.querySelector(\"#calc-results-1 tr[data-move='Guillotine']\")")
+    assert "19 of 256" in browser.text("#calc-results-1 tr[data-move='Guillotine']")
+
+
+def an_address_is_a_calculation(browser):
+    browser.open("#calculator")
+    browser.fill("#calc-member-1 [name=level]", "50")
+    browser.fill("#calc-member-2 [name=stage-Defense]", "-3")
+    browser.wait("return location.hash.includes('c=')")
+    shown = browser.text("#calc-results")
+    browser.wait("return document.getElementById('calc-fault').textContent === ''")
+    browser.run("return new Promise((done) => setTimeout(done, 250))")
+    address = browser.run("return location.hash")
+    browser.open(address)
+    assert browser.text("#calc-results") == shown
+
+
+def a_wrong_field_is_said(browser):
+    browser.open("#calculator")
+    for field, value, word in (("species", "Missingno.", "Missingno."), ("level", "101", "level"), ("move-1", "Body Slap", "Body Slap"), ("dv-Attack", "", "DV of Attack")):
+        kept = browser.run(f"return document.querySelector('#calc-member-1 [name={field}]').value")
+        browser.fill(f"#calc-member-1 [name={field}]", value)
+        assert word in browser.text("#calc-fault"), (field, browser.text("#calc-fault"))
+        browser.fill(f"#calc-member-1 [name={field}]", kept)
+        assert not browser.text("#calc-fault")
+
+
+CHECKS = [recorded_calculations_come_out, a_text_is_taken, stages_status_and_screens_count, an_address_is_a_calculation, a_wrong_field_is_said]

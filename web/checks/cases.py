@@ -1,0 +1,47 @@
+"""Recorded cases as the page takes them: what they ask for, and what has to come out (tests/battles)."""
+import base64
+import json
+import re
+import sys
+from pathlib import Path
+
+ROOT = Path(__file__).resolve().parent.parent.parent
+sys.path.insert(0, str(ROOT / "tools"))
+
+import battles  # noqa: E402
+
+
+def cases(name):
+    return battles.cases(battles.recorded(f"{name}.jsonl"))
+
+
+def traces():
+    return battles.traces(battles.recorded("traces.jsonl"))
+
+
+def lines_of(case):
+    return case["stdout"].splitlines()
+
+
+def names(heading):
+    """The names of docs/TABLES.md under a heading, by their numbers from 1."""
+    section = re.search(rf"^## {heading}\n(.*?)(?=^## |\Z)", (ROOT / "docs" / "TABLES.md").read_text(), re.M | re.S)[1]
+    return [name.strip() for name in re.findall(r"^\| *\d+ *\|([^|]*)\|", section, re.M)]
+
+
+def member_bytes(member):
+    species, moves = names("Species"), names("Moves")
+    known = [(moves.index(name) + 1, ups) for name, ups in member["moves"]] + [(0, 0)] * (4 - len(member["moves"]))
+    exp = b"".join(value.to_bytes(2, "little") for value in member["exp"])
+    head = [species.index(member["species"]) + 1, member["level"], *member["dvs"]]
+    return bytes(head + [number for number, _ in known] + [ups for _, ups in known]) + exp
+
+
+def address_of(asked, pairs):
+    """An input with its first pairs as an address holds it."""
+    limit = asked.get("limit", 1000)
+    code = bytes(asked["seed"]) + bytes([asked.get("rules", 0), limit & 255, limit >> 8])
+    for side in ("one", "two"):
+        code += bytes([len(asked[side])]) + b"".join(map(member_bytes, asked[side]))
+    code += bytes(choice for pair in asked["choices"][:pairs] for choice in pair)
+    return "i" + base64.urlsafe_b64encode(code).decode().rstrip("=")

@@ -1,0 +1,73 @@
+"""Bad input: each gets a message, and the page goes on."""
+import json
+
+from checks.cases import cases
+from checks.replay import battle
+
+
+def goes_on(browser):
+    """Whether the page still shows a battle."""
+    browser.click("#tab-replay")
+    browser.click("#replay-example")
+    assert not browser.notice() and "update 1 of 34" in browser.text("#replay-now")
+
+
+def said(browser, name, content, word):
+    browser.run("document.getElementById('notice-close').click()")
+    browser.file(name, content)
+    message = browser.wait("const it = document.getElementById('notice'); return !it.hidden && it.textContent")
+    assert word in message, (name, message)
+
+
+def damaged_logs_are_refused(browser):
+    browser.open()
+    for case in [it for it in cases("print") if it["stderr"]][:8]:
+        said(browser, "battle.log", bytes.fromhex(case["hex"]), "no log of a battle")
+    said(browser, "battle.log", bytes.fromhex("1a0163"), "at byte 2")
+    goes_on(browser)
+
+
+def files_that_are_no_battles_are_refused(browser):
+    browser.open()
+    asked = json.loads(battle(5, 10)["input"])
+    said(browser, "long.json", b" " * 10_000_000, "10,000,000 bytes")
+    said(browser, "empty.json", b"", "empty")
+    said(browser, "cut.json", json.dumps(asked)[:200], "no JSON")
+    said(browser, "team.json", json.dumps({**asked, "one": []}), "side 1: the team has no member")
+    said(browser, "name.json", json.dumps({**asked, "two": [{**asked["two"][0], "species": "Missingno."}]}), "two[0].species")
+    said(browser, "seed.json", json.dumps({**asked, "seed": [1, 2]}), "seed has 2 items, not 10")
+    said(browser, "page.html", "<!doctype html><p>nothing", "holds no battle")
+    goes_on(browser)
+
+
+def what_was_shown_stays(browser):
+    browser.open()
+    browser.click("#replay-example")
+    shown = browser.text("#replay-stage")
+    said(browser, "damaged.log", b"\xff", "no log of a battle")
+    assert browser.text("#replay-stage") == shown
+
+
+def damaged_addresses_are_refused(browser):
+    for address in ("#replay?b=iAAAA", "#replay?b=l!!", "#replay?b=zzzz", "#play?b=lAAAA", "#calculator?c=AAAA"):
+        browser.open(address)
+        assert "damaged" in browser.notice() or "log" in browser.notice(), (address, browser.notice())
+        goes_on(browser)
+
+
+def teams_and_seeds_are_tested(browser):
+    browser.open("#play")
+    for field, value, word in (
+        ("play-team-1", "", "no member"), ("play-team-2", "Tauros\n- Body Slap", "line 2"), ("play-seed", "1 2 3", "ten whole numbers"),
+        ("play-team-1", "Tauros", "move"), ("play-limit", "0", "limit"), ("play-team-2", "Mew\n- Metronome", "side 2, member 1"),
+    ):
+        kept = browser.run("return document.getElementById(arguments[0]).value", field)
+        browser.fill(f"#{field}", value)
+        browser.click("#play-start")
+        assert word in browser.notice(), (field, value, browser.notice())
+        browser.fill(f"#{field}", kept)
+    browser.click("#play-start")
+    assert not browser.notice() and "Turn 1" in browser.text("#play-now")
+
+
+CHECKS = [damaged_logs_are_refused, files_that_are_no_battles_are_refused, what_was_shown_stays, damaged_addresses_are_refused, teams_and_seeds_are_tested]

@@ -1,0 +1,154 @@
+"""Replay: recorded battles watched to their ends, by every way in, and handed on."""
+import base64
+import json
+from pathlib import Path
+
+from selenium.webdriver.common.keys import Keys
+
+from checks.cases import cases, lines_of
+
+
+def battle(least, most):
+    """A recorded battle without a fault, of so many pairs."""
+    return next(case for case in cases("battles") if not case["stderr"] and least <= len(json.loads(case["input"])["choices"]) <= most)
+
+
+def steps(browser):
+    """Goes forward to the end, and gathers the lines of each update."""
+    return browser.run("""
+        const found = [];
+        const forward = document.getElementById('replay-forward');
+        for (;;) {
+          for (const it of document.querySelectorAll('#replay-lines [data-line]')) found.push(it.dataset.line);
+          if (forward.getAttribute('aria-disabled') === 'true') return found;
+          forward.click();
+        }""")
+
+
+def shown(browser, content, name="battle.json"):
+    """Opens the page with a file."""
+    browser.open()
+    browser.file(name, content)
+    browser.wait("return !document.getElementById('replay-stage').hidden")
+
+
+def a_recorded_battle_is_replayed_by_clicks(browser):
+    case = battle(25, 40)
+    shown(browser, case["input"])
+    found = browser.lines("#replay-lines")
+    while browser.run("return document.getElementById('replay-forward').getAttribute('aria-disabled')") == "false":
+        browser.click("#replay-forward")
+        found += browser.lines("#replay-lines")
+    assert found == lines_of(case)
+    outcome = {"|win|p1": "Side 1 has won", "|win|p2": "Side 2 has won", "|tie": "A tie"}.get(lines_of(case)[-1], "update")
+    assert outcome in browser.text("#replay-now"), browser.text("#replay-now")
+
+
+def the_longest_recorded_battle_is_whole_at_its_end(browser):
+    case = max((it for it in cases("battles") if not it["stderr"]), key=lambda it: len(it["stdout"]))
+    shown(browser, case["input"])
+    browser.click("#replay-last")
+    browser.click("#replay-whole summary")
+    browser.wait("return document.querySelector('#replay-whole-lines [data-line]')")
+    assert browser.lines("#replay-whole-lines") == lines_of(case)
+
+
+def a_refused_pair_is_said_and_the_rest_is_shown(browser):
+    case = next(it for it in cases("battles") if "refused" in it["stderr"])
+    shown(browser, case["input"])
+    number = case["stderr"].split()[2]
+    assert f"Pair {number} " in browser.text("#replay-fault")
+    assert steps(browser) == lines_of(case)
+
+
+def a_recorded_log_is_replayed(browser):
+    for case in [it for it in cases("print") if it["status"] == 0 and it["stdout"].startswith("|switch")][:6]:
+        shown(browser, bytes.fromhex(case["hex"]), "battle.log")
+        assert steps(browser) == lines_of(case), case["name"]
+
+
+def a_dropped_file_is_shown(browser):
+    case = battle(5, 10)
+    browser.open("#play")
+    browser.run(
+        "const moved = new DataTransfer(); moved.items.add(new File([arguments[0]], 'battle.json'));"
+        "document.body.dispatchEvent(new DragEvent('drop', {dataTransfer: moved, bubbles: true, cancelable: true}));", case["input"],
+    )
+    browser.wait("return !document.getElementById('replay-stage').hidden && !document.getElementById('panel-replay').hidden")
+    assert steps(browser) == lines_of(case)
+
+
+def keys_go_through_a_battle(browser):
+    case = battle(20, 40)
+    shown(browser, case["input"])
+    at = lambda: int(browser.run("return document.getElementById('replay-slider').value"))
+    last = len(json.loads(case["input"])["choices"])
+    for key, place in ((Keys.END, last), (Keys.HOME, 0), (Keys.RIGHT, 1), (Keys.RIGHT, 2), (Keys.LEFT, 1)):
+        browser.press(key)
+        assert at() == place, (key, at(), place)
+    browser.fill("#replay-turn", "3")
+    assert browser.text("#replay-now").startswith("Turn 3,"), browser.text("#replay-now")
+    browser.find("#replay-speed").send_keys("20 a")
+    browser.run("document.activeElement.blur()")
+    browser.press(" ")
+    browser.wait(f"return document.getElementById('replay-slider').value === '{last}'")
+    assert browser.text("#replay-play") == "Play"
+
+
+def an_address_is_a_position(browser):
+    case = battle(20, 40)
+    shown(browser, case["input"])
+    browser.fill("#replay-slider", "7")
+    browser.fill("#replay-see", "watcher")
+    browser.wait("return location.hash.includes('u=7') && location.hash.includes('see=watcher')")
+    address, text = browser.run("return location.hash"), browser.text("#replay-stage")
+    browser.open(address)
+    assert browser.text("#replay-stage") == text and "update 7 of" in text
+
+
+def a_watcher_sees_less(browser):
+    case = battle(20, 40)
+    shown(browser, case["input"])
+    assert " PP" in browser.text("#replay-side-1")
+    browser.fill("#replay-see", "watcher")
+    assert " PP" not in browser.text("#replay-side-1") and "HP" not in browser.text("#replay-side-1 .moves, #replay-side-1 .members")
+
+
+def a_saved_page_holds_its_battle(browser):
+    case = battle(20, 40)
+    shown(browser, case["input"])
+    page = browser.saved("#replay-share [data-share=page]", "battle.html")
+    browser.open(page=(browser.folder / "battle.html").as_uri())
+    assert steps(browser) == lines_of(case)
+    # The page that a page saved is a page like any other, and is read as a file too.
+    shown(browser, page, "saved.html")
+    assert steps(browser) == lines_of(case)
+
+
+def a_page_is_filled_by_others(browser):
+    case = battle(5, 10)
+    source = Path(browser.page.removeprefix("file://")).read_text()
+    place = '<script id="battle" type="application/json">null</script>'
+    assert source.count(place) == 1
+    filled = source.replace(place, place.replace("null", case["input"].replace("<", "\\u003c")))
+    (browser.folder / "filled.html").write_text(filled)
+    browser.open(page=(browser.folder / "filled.html").as_uri())
+    assert steps(browser) == lines_of(case)
+
+
+def what_is_saved_is_what_was_opened(browser):
+    case = battle(5, 10)
+    shown(browser, case["input"])
+    asked = json.loads(case["input"])
+    saved = json.loads(browser.saved("#replay-input", "battle.json"))
+    assert all(saved[key] == asked[key] for key in ("seed", "one", "two", "choices")), saved
+    log = browser.saved("#replay-share [data-share=log]", "battle.log")
+    browser.open(f"#replay?b=l{base64.urlsafe_b64encode(log).decode().rstrip('=')}&u=1")
+    assert steps(browser) == lines_of(case)
+
+
+CHECKS = [
+    a_recorded_battle_is_replayed_by_clicks, the_longest_recorded_battle_is_whole_at_its_end, a_refused_pair_is_said_and_the_rest_is_shown,
+    a_recorded_log_is_replayed, a_dropped_file_is_shown, keys_go_through_a_battle, an_address_is_a_position, a_watcher_sees_less,
+    a_saved_page_holds_its_battle, a_page_is_filled_by_others, what_is_saved_is_what_was_opened,
+]

@@ -1,0 +1,157 @@
+// The calculator: the moves of two members upon each other, with the engine's damage numbers and the bytes that decide the rest.
+import { find, make, Problem } from "./dom.js";
+import { setAddress } from "./address.js";
+import { joined } from "./engine.js";
+import { decoded, encoded } from "./inputs.js";
+import { MemberForm, moveCalled } from "./member_form.js";
+import { badge } from "./sides.js";
+
+/**
+ * @typedef {import("./engine.js").Odds} Odds
+ * @typedef {import("./engine.js").Calculated} Calculated
+ */
+
+const HEADS = ["Move", "Damage", "Of its HP", "Hits to fall", "Critical damage", "Critical: hits to fall", "Bytes that hit", "Bytes that are critical", "All numbers"];
+const STATS = ["Attack", "Defense", "Speed", "Special"];
+
+/**
+ * How many hits of so much damage take so many HP.
+ * @param {number} damage
+ * @param {number} hp
+ */
+function hits(damage, hp) {
+  return damage ? String(Math.ceil(hp / damage)) : "never";
+}
+
+/** @param {number} damage @param {number} hp */
+function percent(damage, hp) {
+  return String(Math.floor((100 * damage) / hp));
+}
+
+/** @param {string} one @param {string} two */
+function span(one, two) {
+  return one === two ? one : `${one}–${two}`;
+}
+
+/** @param {number[] | null} list @param {number} hp */
+function hitsText(list, hp) {
+  return list ? span(hits(list[38], hp), hits(list[0], hp)) : "—";
+}
+
+/** @param {number[] | null} list */
+function damageText(list) {
+  return list ? span(String(list[0]), String(list[38])) : "—";
+}
+
+/** @param {number} bytes */
+function chance(bytes) {
+  return `${bytes} of 256 (${((100 * bytes) / 256).toFixed(1)}%)`;
+}
+
+/** @param {Odds} odds */
+function hitText(odds) {
+  if (!odds.hit) return "no hit test";
+  if (!odds.hit[1]) return odds.hit[0] ? "hits without a draw" : "misses without a draw";
+  return chance(odds.hit[0]);
+}
+
+/** The part of the page that calculates. */
+export class Calculator {
+  /** @param {import("./engine.js").Engine} engine */
+  constructor(engine) {
+    this.engine = engine;
+    const { tables } = engine;
+    const changed = () => this.calculate();
+    this.forms = [1, 2].map((side) => new MemberForm(side, engine, changed));
+    this.forms[0].set(engine.team("Tauros\n- Body Slam\n- Hyper Beam\n- Blizzard\n- Earthquake")[0]);
+    this.forms[1].set(engine.team("Alakazam\n- Psychic\n- Seismic Toss\n- Thunder Wave\n- Recover")[0]);
+    this.extra = find("calc-extra", HTMLInputElement);
+    this.extra.addEventListener("input", changed);
+    find("calc-swap", HTMLButtonElement).addEventListener("click", () => this.swap());
+    find("calc-members", HTMLElement).replaceChildren(...this.forms.map((form) => form.element));
+    find("species-names", HTMLDataListElement).replaceChildren(...tables.species.map((it) => make("option", { value: it.name })));
+    find("move-names", HTMLDataListElement).replaceChildren(...tables.moves.map((it) => make("option", { value: it.name })));
+    this.code = "";
+    this.isShown = false;
+  }
+
+  /**
+   * What an address says.
+   * @param {URLSearchParams} values
+   */
+  route(values) {
+    this.isShown = true;
+    const code = values.get("c") ?? "";
+    if (code && code !== this.code) {
+      const bytes = decoded(code);
+      if (bytes.length !== 69) throw new Problem("The address is damaged: it holds no two members.");
+      this.forms.forEach((form, at) => form.setBytes(bytes.subarray(34 * at, 34 * at + 34)));
+      this.extra.value = this.engine.tables.moves[bytes[68] - 1]?.name ?? "";
+    }
+    this.calculate();
+  }
+
+  swap() {
+    const [one, two] = this.forms.map((form) => form.bytes());
+    this.forms[0].setBytes(two);
+    this.forms[1].setBytes(one);
+    this.calculate();
+  }
+
+  /** Shows the numbers, or what is missing for them. */
+  calculate() {
+    if (!this.isShown) return;
+    const fault = find("calc-fault", HTMLElement);
+    try {
+      const extra = this.extra.value.trim() ? moveCalled(this.engine.tables, this.extra.value, 1) : 0;
+      const asked = joined(...this.forms.map((form) => form.bytes()), [extra]);
+      const { sides } = this.engine.calculate(asked);
+      fault.textContent = "";
+      find("calc-results", HTMLElement).replaceChildren(...sides.map((_, at) => this.results(sides, at)));
+      this.code = encoded(asked);
+      setAddress("calculator", { c: this.code });
+    } catch (error) {
+      if (!(error instanceof Problem)) throw error;
+      fault.textContent = error.message;
+    }
+  }
+
+  /** @param {Calculated[]} sides @param {number} at the side from 0 that uses its moves */
+  results(sides, at) {
+    const [user, foe] = [sides[at], sides[1 - at]];
+    const [name, other] = [this.forms[at].species.value, this.forms[1 - at].species.value];
+    const open = new Set([...document.querySelectorAll(`#calc-results-${at + 1} [aria-expanded="true"]`)].map((it) => it.getAttribute("data-move")));
+    const rows = user.moves.flatMap((odds) => this.rows(odds, foe, at + 1, open.has(`${odds.slot}-${odds.move}`)));
+    const stats = user.stats.map((value, stat) => `${STATS[stat]} ${value}${value === user.own[stat] ? "" : ` (own ${user.own[stat]})`}`).join(" · ");
+    return make("section", { class: `side side-${at + 1}`, id: `calc-results-${at + 1}` },
+      make("h3", {}, `${name} (side ${at + 1}) on ${other} (side ${2 - at})`),
+      make("p", { class: "quiet" }, `${name}: ${stats}. ${other}: ${foe.hp} of ${foe.max} HP.`),
+      make("div", { class: "scroll", tabindex: 0, role: "region", "aria-label": `Moves of ${name}, side ${at + 1}` },
+        make("table", {}, make("thead", {}, make("tr", {}, ...HEADS.map((head) => make("th", { scope: "col" }, head)))), make("tbody", {}, ...rows))));
+  }
+
+  /** @param {Odds} odds @param {Calculated} foe @param {number} side @param {boolean} isOpen */
+  rows(odds, foe, side, isOpen) {
+    const { tables } = this.engine;
+    const move = tables.moves[odds.move - 1];
+    const share = odds.damage ? `${span(percent(odds.damage[0], foe.hp), percent(odds.damage[38], foe.hp))}%` : "—";
+    const id = `calc-all-${side}-${odds.slot}-${odds.move}`;
+    const all = make("tr", { class: "all", id, hidden: !isOpen }, make("td", { colspan: HEADS.length },
+      make("p", {}, make("strong", {}, "At the factors 217 to 255: "), odds.damage?.join(" ") ?? ""),
+      make("p", {}, make("strong", {}, "Critical: "), odds.critical?.join(" ") ?? "")));
+    const button = make("button", {
+      type: "button", class: "small", "aria-expanded": String(isOpen), "aria-controls": id, "data-move": `${odds.slot}-${odds.move}`,
+      click: (/** @type {MouseEvent} */ event) => {
+        all.hidden = !all.hidden;
+        /** @type {HTMLElement} */ (event.currentTarget).setAttribute("aria-expanded", String(!all.hidden));
+      },
+    }, "39", make("span", { class: "unseen" }, ` numbers of ${move.name}`));
+    const cells = odds.damage
+      ? [damageText(odds.damage), share, hitsText(odds.damage, foe.hp), damageText(odds.critical), hitsText(odds.critical, foe.hp)]
+      : [move.power || move.effect === "FixedDamage" || move.effect === "SuperFang" || move.effect === "OneHitKnockOut" ? "not by the formula" : "none", "—", "—", "—", "—"];
+    const row = make("tr", { "data-move": move.name },
+      make("th", { scope: "row" }, move.name, " ", badge(tables, move.type)), ...cells.map((text) => make("td", {}, text)),
+      make("td", {}, hitText(odds)), make("td", {}, odds.bound === null ? "—" : chance(odds.bound)), make("td", {}, odds.damage ? button : "—"));
+    return odds.damage ? [row, all] : [row];
+  }
+}

@@ -1,0 +1,306 @@
+// Play: two at one screen, or against the computer. What can be pressed is what the engine offers.
+import { find, guarded, make, Problem } from "./dom.js";
+import { setAddress } from "./address.js";
+import { joined } from "./engine.js";
+import { ofAddress, toAddress } from "./inputs.js";
+import { lineItems } from "./replay.js";
+import { randomSeed, randomTeam } from "./random.js";
+import { shareButtons } from "./share.js";
+import { badge, showSide, whole } from "./sides.js";
+import { OUTCOMES } from "./words.js";
+
+/**
+ * @typedef {import("./engine.js").State} State
+ * @typedef {{ battle: Uint8Array, log: Uint8Array, events: import("./engine.js").GameEvent[], pair: number[] }} Step what stands
+ *   after a pair of choices
+ */
+
+const SIDES = [1, 2];
+const KEYS = ["123456789", "qwertyuio"];
+const PLAYERS = ["person", "random", "greedy", "playouts"];
+
+/** @param {string} text */
+function seedOf(text) {
+  const numbers = text.trim().split(/[\s,]+/).map(Number);
+  if (numbers.length !== 10 || numbers.some((it) => !Number.isInteger(it) || it < 0 || it > 255))
+    throw new Problem("The seed is to be ten whole numbers from 0 to 255, with spaces between them.");
+  return numbers;
+}
+
+/** @param {number} least @param {number} most @param {number} hp */
+function damageText(least, most, hp) {
+  const share = hp ? ` (${Math.floor((100 * least) / hp)}–${Math.ceil((100 * most) / hp)}% of its HP)` : "";
+  return `${least === most ? least : `${least}–${most}`}${share}`;
+}
+
+/** The part of the page that plays. */
+export class Play {
+  /**
+   * @param {import("./engine.js").Engine} engine
+   * @param {import("./inputs.js").Inputs} inputs
+   * @param {import("./players.js").Players} players
+   * @param {(recorded: import("./inputs.js").Recorded, at: number) => void} watch shows a battle as a replay
+   */
+  constructor(engine, inputs, players, watch) {
+    this.engine = engine;
+    this.inputs = inputs;
+    this.players = players;
+    this.watch = watch;
+    /** @type {import("./engine.js").Terms | null} */
+    this.terms = null;
+    /** @type {Step[]} */
+    this.steps = [];
+    /** @type {(number | null)[]} */
+    this.chosen = [null, null];
+    this.who = ["person", "playouts"];
+    this.asked = 0;
+    this.code = "";
+    this.listen();
+  }
+
+  listen() {
+    find("play-setup", HTMLFormElement).addEventListener("submit", (event) => {
+      event.preventDefault();
+      void guarded(() => this.start());
+    });
+    for (const side of SIDES)
+      find(`play-random-${side}`, HTMLButtonElement).addEventListener("click", () => {
+        const count = Number(find("play-members", HTMLSelectElement).value);
+        find(`play-team-${side}`, HTMLTextAreaElement).value = randomTeam(this.engine.tables, count);
+      });
+    const click = (/** @type {string} */ id, /** @type {() => void} */ work) => find(id, HTMLButtonElement).addEventListener("click", () => void guarded(work));
+    click("play-new-seed", () => void (find("play-seed", HTMLInputElement).value = randomSeed().join(" ")));
+    click("play-undo", () => this.undo());
+    click("play-on", () => this.goOn());
+    click("play-again", () => this.leave());
+    click("play-watch", () => this.watch({ input: this.input() }, this.steps.length));
+    find("play-seed", HTMLInputElement).value = randomSeed().join(" ");
+    for (const side of SIDES) find(`play-random-${side}`, HTMLButtonElement).click();
+    shareButtons(find("play-share", HTMLElement), () => ({
+      recorded: { input: this.input() }, log: joined(...this.steps.map((step) => step.log)), inputs: this.inputs,
+    }));
+  }
+
+  /** @returns {import("./inputs.js").Input} */
+  input() {
+    if (!this.terms) throw new Problem("There is no battle yet.");
+    return { ...this.terms, choices: this.steps.map((step) => step.pair) };
+  }
+
+  /** @param {number} side */
+  team(side) {
+    const members = this.engine.team(find(`play-team-${side}`, HTMLTextAreaElement).value);
+    if (!members.length) throw new Problem(`Side ${side}'s team has no member.`);
+    return members;
+  }
+
+  /** Begins the battle that is asked for. */
+  start() {
+    const checked = (/** @type {string} */ id) => (find(id, HTMLInputElement).checked ? 1 : 0);
+    const terms = {
+      one: this.team(1), two: this.team(2), seed: seedOf(find("play-seed", HTMLInputElement).value),
+      rules: checked("play-sleep") + 2 * checked("play-freeze"), limit: Number(find("play-limit", HTMLInputElement).value),
+    };
+    this.who = SIDES.map((side) => find(`play-who-${side}`, HTMLSelectElement).value);
+    this.begin(terms, [[0, 0]]);
+    find("play-now", HTMLElement).focus();
+  }
+
+  /** @param {import("./engine.js").Terms} terms @param {number[][]} pairs */
+  begin(terms, pairs) {
+    let battle = this.engine.begin(terms);
+    /** @type {Step[]} */
+    const steps = [];
+    for (const pair of pairs) {
+      const step = this.stepOf(battle, pair);
+      steps.push(step);
+      battle = step.battle;
+    }
+    this.terms = terms;
+    this.steps = steps;
+    find("play-setup", HTMLElement).hidden = true;
+    find("play-game", HTMLElement).hidden = false;
+    this.next();
+  }
+
+  /** @param {Uint8Array} battle @param {number[]} pair @returns {Step} */
+  stepOf(battle, pair) {
+    const update = this.engine.update(battle, pair[0], pair[1]);
+    if (update.refused) throw new Problem(`The choices ${pair.join(" and ")} are refused: the battle goes no further.`);
+    return { battle: update.battle, log: update.log, events: this.engine.events(update.log), pair };
+  }
+
+  get battle() {
+    return this.steps[this.steps.length - 1].battle;
+  }
+
+  /**
+   * What an address says.
+   * @param {URLSearchParams} values
+   */
+  route(values) {
+    const code = values.get("b") ?? "";
+    if (!code || code === this.code) return;
+    const recorded = ofAddress(code, this.inputs);
+    if (!("input" in recorded)) throw new Problem("The address is damaged: a log cannot be played on.");
+    this.who = ["p1", "p2"].map((key, at) => (PLAYERS.includes(values.get(key) ?? "") ? String(values.get(key)) : this.who[at]));
+    const { choices, ...terms } = recorded.input;
+    this.begin(terms, choices.length ? choices : [[0, 0]]);
+  }
+
+  /**
+   * Whether a person has to press something.
+   * @param {State} state
+   * @param {number} at the side from 0
+   */
+  isAsked(state, at) {
+    const { choices } = state.sides[at];
+    return this.who[at] === "person" && choices.length > 0 && choices[0] !== 0;
+  }
+
+  /** Asks for the next pair. */
+  next() {
+    this.asked++;
+    const state = this.engine.state(this.battle);
+    this.chosen = [null, null];
+    this.draw(state);
+    const isOver = state.outcome !== "ongoing";
+    const isWatched = !this.who.includes("person");
+    find("play-on", HTMLElement).hidden = isOver || !isWatched;
+    if (!isOver && !isWatched && !SIDES.some((_, at) => this.isAsked(state, at))) void guarded(() => this.goOn());
+    this.toAddress();
+  }
+
+  /** @param {number} at the side from 0 @param {number} choice */
+  choose(at, choice) {
+    const state = this.engine.state(this.battle);
+    if (!state.sides[at].choices.includes(choice)) return;
+    this.chosen[at] = choice;
+    this.drawChoices(state);
+    if (SIDES.every((_, side) => !this.isAsked(state, side) || this.chosen[side] !== null)) void guarded(() => this.goOn());
+  }
+
+  /** Has the computer choose where a person does not, and updates the battle. */
+  async goOn() {
+    const asked = ++this.asked;
+    const state = this.engine.state(this.battle);
+    const battle = this.battle;
+    const pair = await Promise.all(SIDES.map((side, at) => {
+      const chosen = this.chosen[at];
+      if (chosen !== null) return chosen;
+      if (state.sides[at].choices.length < 2) return state.sides[at].choices[0];
+      find("play-wait", HTMLElement).textContent = `Side ${side} is thinking.`;
+      return this.players.choice(battle, side, this.who[at], randomSeed().reduce((sum, byte) => (sum * 256 + byte) % 0x7fffffff, 1));
+    }));
+    // A choice that comes after the battle was left or taken back is late.
+    if (asked !== this.asked) return;
+    find("play-wait", HTMLElement).textContent = "";
+    this.steps.push(this.stepOf(battle, pair));
+    this.next();
+  }
+
+  /** Takes back what happened since a person last had a choice. */
+  undo() {
+    do {
+      if (this.steps.length < 2) break;
+      this.steps.pop();
+    } while (this.who.includes("person") && !SIDES.some((_, at) => this.isAsked(this.engine.state(this.battle), at)));
+    find("play-wait", HTMLElement).textContent = "";
+    this.next();
+  }
+
+  /** Back to the teams. */
+  leave() {
+    this.asked++;
+    this.code = "";
+    this.terms = null;
+    find("play-setup", HTMLElement).hidden = false;
+    find("play-game", HTMLElement).hidden = true;
+    setAddress("play", {});
+  }
+
+  /** @param {State} state */
+  draw(state) {
+    const { tables } = this.engine;
+    for (const side of SIDES) showSide(find(`play-side-${side}`, HTMLElement), side, tables, whole(tables, state.sides[side - 1]));
+    const outcome = OUTCOMES[state.outcome];
+    find("play-now", HTMLElement).textContent = `Turn ${state.turn} of at most ${state.limit}${outcome ? `. ${outcome}.` : ""}`;
+    find("play-terms", HTMLElement).textContent = `Seed ${this.terms?.seed.join(" ")}. Next link number: ${state.numbers[state.index]}.`;
+    const events = this.steps[this.steps.length - 1].events;
+    find("play-lines", HTMLElement).replaceChildren(...lineItems(events, false));
+    find("play-undo", HTMLButtonElement).disabled = this.steps.length < 2;
+    this.drawChoices(state);
+  }
+
+  /** @param {State} state */
+  drawChoices(state) {
+    for (const [at, side] of SIDES.entries()) {
+      const place = find(`play-choices-${side}`, HTMLElement);
+      const hadFocus = place.contains(document.activeElement);
+      place.replaceChildren(make("h3", {}, `Side ${side} chooses`), ...this.choiceItems(state, at));
+      if (hadFocus) /** @type {HTMLElement | null} */ (place.querySelector("button[aria-pressed='true'], button"))?.focus();
+    }
+  }
+
+  /** @param {State} state @param {number} at the side from 0 */
+  choiceItems(state, at) {
+    if (state.outcome !== "ongoing") return [make("p", { class: "quiet" }, "The battle is over.")];
+    if (!this.isAsked(state, at)) return [make("p", { class: "quiet" }, state.requests[at] === "pass" ? "It waits." : `The computer (${this.who[at]}) chooses.`)];
+    const odds = this.engine.odds(this.battle, at + 1);
+    return state.sides[at].choices.map((choice, place) => {
+      const key = this.keysOf(at)[place];
+      return make("button", {
+        type: "button", class: "choice", "data-choice": choice, "aria-pressed": String(this.chosen[at] === choice),
+        "aria-keyshortcuts": key, click: () => this.choose(at, choice),
+      }, make("kbd", { "aria-hidden": "true" }, key), ...this.choiceWords(state, at, choice, odds));
+    });
+  }
+
+  /**
+   * The keys of a side's choices: digits where one person plays.
+   * @param {number} at
+   */
+  keysOf(at) {
+    return KEYS[at === 1 && this.who[0] === "person" ? 1 : 0];
+  }
+
+  /** @param {State} state @param {number} at @param {number} choice @param {import("./engine.js").Odds[]} odds */
+  choiceWords(state, at, choice, odds) {
+    const side = state.sides[at];
+    const { tables } = this.engine;
+    if (choice > 0x20) {
+      const member = side.members[choice - 0x21];
+      return [make("strong", {}, `Switch to ${tables.species[member.species - 1].name}`), make("span", { class: "quiet" }, `${member.hp}/${member.max} HP ${member.status}`)];
+    }
+    if (choice === 0x10) return [make("strong", {}, side.going ? `Go on with ${tables.moves[side.going - 1].name}` : "Do what is left to do")];
+    const [id, pp] = side.members[side.active - 1].moves[choice - 0x11];
+    const found = odds.find((it) => it.slot === choice - 0x10);
+    const foe = state.sides[1 - at];
+    const hp = foe.active ? foe.members[foe.active - 1].hp : 0;
+    const damage = found?.damage ? `damage ${damageText(found.damage[0], found.damage[38], hp)}` : "no damage by the formula";
+    const hit = found?.hit ? (found.hit[1] ? `hits with ${found.hit[0]} of 256 bytes` : found.hit[0] ? "hits for sure" : "misses for sure") : "needs no hit test";
+    const critical = found?.bound === null || found?.bound === undefined ? "" : `; critical with ${found.bound} of 256`;
+    return [make("strong", {}, tables.moves[id - 1].name), badge(tables, tables.moves[id - 1].type),
+      make("span", { class: "quiet" }, `${pp} PP`), make("span", { class: "odds" }, `${damage}; ${hit}${critical}`)];
+  }
+
+  toAddress() {
+    if (!this.terms) return;
+    this.code = toAddress({ input: this.input() });
+    setAddress("play", { b: this.code, p1: this.who[0], p2: this.who[1] });
+  }
+
+  /**
+   * A key that no element has taken.
+   * @param {KeyboardEvent} event
+   */
+  key(event) {
+    if (!this.terms || event.ctrlKey || event.metaKey || event.altKey) return;
+    const state = this.engine.state(this.battle);
+    if (event.key === "Backspace") return this.undo();
+    for (const at of [0, 1]) {
+      const place = this.keysOf(at).indexOf(event.key);
+      if (place >= 0 && this.isAsked(state, at) && place < state.sides[at].choices.length) return this.choose(at, state.sides[at].choices[place]);
+    }
+  }
+}

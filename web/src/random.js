@@ -1,0 +1,29 @@
+// Seeds and teams that are drawn. A battle draws its own numbers, from its seed.
+
+/**
+ * A whole number from 0 up to a bound.
+ * @param {number} bound
+ */
+export function below(bound) {
+  return crypto.getRandomValues(new Uint32Array(1))[0] % bound;
+}
+
+/** The ten numbers of a seed. */
+export function randomSeed() {
+  return [...crypto.getRandomValues(new Uint8Array(10))];
+}
+
+/**
+ * A team as the text of a team builder: members with four moves that a team may have.
+ * @param {import("./engine.js").Tables} tables
+ * @param {number} count
+ */
+export function randomTeam(tables, count) {
+  const moves = tables.moves.filter((it) => it.known);
+  const members = Array.from({ length: count }, () => {
+    const chosen = new Set();
+    while (chosen.size < 4) chosen.add(moves[below(moves.length)].name);
+    return [tables.species[below(tables.species.length)].name, ...[...chosen].map((name) => `- ${name}`)].join("\n");
+  });
+  return members.join("\n\n");
+}

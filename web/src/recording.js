@@ -1,0 +1,140 @@
+// A battle that is watched: what stands after each update, from an input or from log bytes.
+import { Problem } from "./dom.js";
+
+/**
+ * @typedef {import("./engine.js").Engine} Engine
+ * @typedef {import("./engine.js").GameEvent} GameEvent
+ * @typedef {import("./engine.js").Member} Member
+ * @typedef {import("./inputs.js").Recorded} Recorded
+ * @typedef {{ log: Uint8Array, events: GameEvent[], battle: Uint8Array | null, view: import("./engine.js").View }} Frame after an
+ *   update; the first stands before all of them
+ * @typedef {{ species: string, level: number, max: number, since: number }} Known a member as a switch tells of it,
+ *   and the frame that first did
+ */
+
+const TURN = 1;
+const SWITCH = 2;
+const FAINT = 0x19;
+const ENDS = [TURN, 0x1a, 0x1b, 0x1c];
+
+/**
+ * The events of each update of a log: one ends with a turn, an outcome, or with those that fainted.
+ * @param {GameEvent[]} events
+ */
+function updatesOf(events) {
+  /** @type {GameEvent[][]} */
+  const updates = [];
+  let begun = 0;
+  events.forEach((event, place) => {
+    const next = events[place + 1]?.tag;
+    const falls = event.tag === FAINT && next !== FAINT && !ENDS.includes(next);
+    if (ENDS.includes(event.tag) || falls || next === undefined) {
+      updates.push(events.slice(begun, place + 1));
+      begun = place + 1;
+    }
+  });
+  return updates;
+}
+
+/**
+ * What a switch in a frame tells.
+ * @param {string} line
+ * @param {number} since
+ * @returns {Known}
+ */
+function toldBy(line, since) {
+  const [, , , name, health] = line.split("|");
+  const [species, level] = name.split(", L");
+  return { species, level: Number(level ?? 100), max: Number(health.split(" ")[0].split("/")[1] ?? 0), since };
+}
+
+/** A battle with all its frames. */
+export class Recording {
+  /** @param {Engine} engine @param {Recorded} recorded */
+  constructor(engine, recorded) {
+    this.engine = engine;
+    this.recorded = recorded;
+    /** @type {Frame[]} */
+    this.frames = [];
+    /** What ended the recording before its end. */
+    this.fault = "";
+    /** @type {Map<string, Known>} the members that a switch tells of, by "side place" */
+    this.told = new Map();
+    if ("log" in recorded) this.follow(recorded.log);
+    else this.play(recorded.input);
+  }
+
+  get last() {
+    return this.frames.length - 1;
+  }
+
+  /** @param {import("./inputs.js").Input} input */
+  play(input) {
+    let battle = this.engine.begin(input);
+    this.engine.watchBegin(input.one, input.two);
+    this.frames.push({ log: new Uint8Array(), events: [], battle, view: this.engine.watch(new Uint8Array()) });
+    for (const [number, [one, two]] of input.choices.entries()) {
+      const update = this.engine.update(battle, one, two);
+      if (update.refused) {
+        const why = ["", "the battle is over", "side 1's choice is not offered", "side 2's choice is not offered"][update.refused];
+        this.fault = `Pair ${number} of the choices (${one}, ${two}) is refused: ${why}. The battle is shown up to there.`;
+        return;
+      }
+      battle = update.battle;
+      this.add(update.log, this.engine.events(update.log), battle);
+    }
+  }
+
+  /** @param {Uint8Array} log */
+  follow(log) {
+    const updates = updatesOf(this.engine.events(log));
+    // Who is in the teams is not told: members that stand for those who come out.
+    const some = Array.from({ length: 6 }, () => ({ species: 1, level: 100, dvs: [0, 0, 0, 0], exp: [0, 0, 0, 0, 0], moves: [[1, 0]] }));
+    this.engine.watchBegin(some, some);
+    this.frames.push({ log: new Uint8Array(), events: [], battle: null, view: this.engine.watch(new Uint8Array()) });
+    let at = 0;
+    for (const events of updates) {
+      const length = events.reduce((sum, event) => sum + event.length, 0);
+      this.add(log.slice(at, at + length), events, null);
+      at += length;
+    }
+    if (!this.told.size) throw new Problem("The log begins in the middle of a battle: nobody is sent out in it.");
+  }
+
+  /** @param {Uint8Array} log @param {GameEvent[]} events @param {Uint8Array | null} battle */
+  add(log, events, battle) {
+    for (const event of events) {
+      const key = `${event.side} ${event.place}`;
+      if (event.tag === SWITCH && !this.told.has(key)) this.told.set(key, toldBy(event.line, this.frames.length));
+    }
+    this.frames.push({ log, events, battle, view: this.engine.watch(log) });
+  }
+
+  /**
+   * The turn that has begun after an update.
+   * @param {number} update
+   */
+  turn(update) {
+    return this.frames[update].view.turn;
+  }
+
+  /**
+   * The first update after which a turn has begun, or the last.
+   * @param {number} turn
+   */
+  updateOf(turn) {
+    const found = this.frames.findIndex((frame) => frame.view.turn >= turn);
+    return found < 0 ? this.last : found;
+  }
+
+  /** The log of all updates. */
+  wholeLog() {
+    const whole = new Uint8Array(this.frames.reduce((sum, frame) => sum + frame.log.length, 0));
+    let at = 0;
+    for (const { log } of this.frames) {
+      whole.set(log, at);
+      at += log.length;
+    }
+    return whole;
+  }
+}

@@ -1,0 +1,214 @@
+// Replay: a battle that is watched, forward and back by update and by turn.
+import { find, guarded, make, Problem } from "./dom.js";
+import { setAddress } from "./address.js";
+import { ofAddress, toAddress } from "./inputs.js";
+import { Recording } from "./recording.js";
+import { shareButtons } from "./share.js";
+import { showSide, watched, whole } from "./sides.js";
+import { inWords, OUTCOMES, sideOf } from "./words.js";
+
+/**
+ * @param {import("./engine.js").GameEvent[]} events
+ * @param {boolean} raw whether lines are shown as the program prints them
+ */
+export function lineItems(events, raw) {
+  return events.map((event) => make("li", { class: `line side-${sideOf(event.line)}${event.tag === 1 ? " turn" : ""}`, "data-line": event.line },
+    raw ? event.line : inWords(event.line)));
+}
+
+/** The part of the page that replays. */
+export class Replay {
+  /** @param {import("./engine.js").Engine} engine @param {import("./inputs.js").Inputs} inputs */
+  constructor(engine, inputs) {
+    this.engine = engine;
+    this.inputs = inputs;
+    /** @type {Recording | null} */
+    this.recording = null;
+    this.at = 0;
+    this.timer = 0;
+    this.code = "";
+    this.isHeld = false;
+    this.see = find("replay-see", HTMLSelectElement);
+    this.raw = find("replay-raw", HTMLSelectElement);
+    this.slider = find("replay-slider", HTMLInputElement);
+    this.turn = find("replay-turn", HTMLInputElement);
+    this.listen();
+  }
+
+  listen() {
+    const click = (/** @type {string} */ id, /** @type {() => void} */ work) => find(id, HTMLButtonElement).addEventListener("click", work);
+    click("replay-first", () => this.go(0));
+    click("replay-turn-back", () => this.goTurns(-1));
+    click("replay-back", () => this.go(this.at - 1));
+    click("replay-play", () => this.playOrPause());
+    click("replay-forward", () => this.go(this.at + 1));
+    click("replay-turn-forward", () => this.goTurns(1));
+    click("replay-last", () => this.go(Infinity));
+    click("replay-example", () => void guarded(() => this.show(this.inputs.parse(find("example", HTMLScriptElement).text), { at: 1 })));
+    click("replay-read", () => void guarded(() => this.show(this.inputs.parse(find("replay-text", HTMLTextAreaElement).value), { at: 1 })));
+    this.slider.addEventListener("input", () => this.go(Number(this.slider.value)));
+    this.turn.addEventListener("change", () => this.go(this.recording?.updateOf(Number(this.turn.value)) ?? 0));
+    for (const select of [this.see, this.raw]) select.addEventListener("change", () => this.draw());
+    find("replay-whole", HTMLDetailsElement).addEventListener("toggle", () => this.drawWhole());
+    const file = find("replay-file", HTMLInputElement);
+    file.addEventListener("change", () => void guarded(async () => {
+      const chosen = file.files?.[0];
+      file.value = "";
+      if (chosen) await this.open(chosen);
+    }));
+    shareButtons(find("replay-share", HTMLElement), () => {
+      if (!this.recording) throw new Problem("There is no battle yet.");
+      return { recorded: this.recording.recorded, log: this.recording.wholeLog(), inputs: this.inputs };
+    });
+  }
+
+  /**
+   * A file of a person.
+   * @param {File} file
+   */
+  async open(file) {
+    if (file.size > this.engine.most) throw new Problem(`The file has ${file.size.toLocaleString("en")} bytes; at most ${this.engine.most.toLocaleString("en")} are read.`);
+    this.show(this.inputs.read(new Uint8Array(await file.arrayBuffer())), { at: 1 });
+  }
+
+  /**
+   * Shows a battle. Where it cannot be shown, what was there stays.
+   * @param {import("./inputs.js").Recorded} recorded
+   * @param {{ at: number, code?: string, isHeld?: boolean }} how the update that is shown first, the battle's text in an address,
+   *   and whether the page's file holds the battle
+   */
+  show(recorded, how) {
+    this.recording = new Recording(this.engine, recorded);
+    this.code = how.code ?? toAddress(recorded);
+    this.isHeld = Boolean(how.isHeld);
+    this.pause();
+    const isLog = "log" in recorded;
+    this.see.options[0].disabled = isLog;
+    if (isLog) this.see.value = "watcher";
+    find("replay-stage", HTMLElement).hidden = false;
+    find("replay-fault", HTMLElement).textContent = this.recording.fault;
+    find("replay-input", HTMLButtonElement).textContent = isLog ? "Save as JSON" : "Save the input";
+    this.slider.max = String(this.recording.last);
+    this.turn.max = String(this.recording.turn(this.recording.last));
+    this.go(how.at);
+  }
+
+  /**
+   * What an address says.
+   * @param {URLSearchParams} values
+   * @param {string} held the JSON that the page holds
+   */
+  route(values, held) {
+    const code = values.get("b") ?? "";
+    if (this.see.options[0].disabled === false) this.see.value = values.get("see") === "watcher" ? "watcher" : "all";
+    this.raw.value = values.get("lines") === "raw" ? "raw" : "words";
+    const at = Number(values.get("u") ?? 1);
+    if (code && code !== this.code) this.show(ofAddress(code, this.inputs), { at, code });
+    else if (!code && held && !this.recording) this.show(this.inputs.parse(held), { at, code: "", isHeld: true });
+    else if (this.recording) this.go(at);
+  }
+
+  /** @param {number} at */
+  go(at) {
+    if (!this.recording) return;
+    this.at = Math.max(0, Math.min(this.recording.last, Math.trunc(at) || (at > 0 ? this.recording.last : 0)));
+    if (this.at === this.recording.last) this.pause();
+    this.draw();
+  }
+
+  /** @param {number} turns */
+  goTurns(turns) {
+    if (!this.recording) return;
+    const turn = this.recording.turn(this.at) + turns;
+    if (turn < 0) this.go(0);
+    else this.go(turns < 0 ? Math.min(this.recording.updateOf(turn), this.at - 1) : Math.max(this.recording.updateOf(turn), this.at + 1));
+  }
+
+  playOrPause() {
+    if (this.timer || !this.recording) return this.pause();
+    if (this.at === this.recording.last) this.go(0);
+    find("replay-play", HTMLButtonElement).textContent = "Pause";
+    const step = () => {
+      this.timer = window.setTimeout(step, 1000 / Number(find("replay-speed", HTMLSelectElement).value));
+      this.go(this.at + 1);
+    };
+    this.timer = window.setTimeout(step, 1);
+  }
+
+  pause() {
+    window.clearTimeout(this.timer);
+    this.timer = 0;
+    find("replay-play", HTMLButtonElement).textContent = "Play";
+  }
+
+  /**
+   * What is shown of a side.
+   * @param {number} side
+   */
+  shown(side) {
+    const { frames, recorded, told } = /** @type {Recording} */ (this.recording);
+    const { battle, view } = frames[this.at];
+    const { tables } = this.engine;
+    if (battle && this.see.value === "all") return whole(tables, this.engine.state(battle).sides[side - 1]);
+    if ("input" in recorded && frames[0].battle) {
+      // Both teams are told as the battle begins.
+      const members = this.engine.state(frames[0].battle).sides[side - 1].members;
+      return watched(tables, view.sides[side - 1], members.map((it) => ({ species: tables.species[it.species - 1].name, level: it.level, max: it.max })));
+    }
+    const places = Math.max(0, ...[...told.keys()].filter((key) => key[0] === String(side)).map((key) => Number(key[2])));
+    return watched(tables, view.sides[side - 1], Array.from({ length: places }, (_, place) => {
+      const known = told.get(`${side} ${place + 1}`);
+      return known && known.since <= this.at ? known : null;
+    }));
+  }
+
+  draw() {
+    if (!this.recording) return;
+    const { frames, last } = this.recording;
+    const frame = frames[this.at];
+    for (const side of [1, 2]) showSide(find(`replay-side-${side}`, HTMLElement), side, this.engine.tables, this.shown(side));
+    const outcome = OUTCOMES[frame.view.outcome];
+    find("replay-now", HTMLElement).textContent = `${this.at ? `Turn ${frame.view.turn}` : "Before the battle"}, update ${this.at} of ${last}${outcome ? `. ${outcome}.` : ""}`;
+    this.slider.value = String(this.at);
+    this.slider.setAttribute("aria-valuetext", `update ${this.at} of ${last}`);
+    this.turn.value = String(frame.view.turn);
+    for (const id of ["first", "turn-back", "back"]) find(`replay-${id}`, HTMLButtonElement).setAttribute("aria-disabled", String(this.at === 0));
+    for (const id of ["last", "turn-forward", "forward"]) find(`replay-${id}`, HTMLButtonElement).setAttribute("aria-disabled", String(this.at === last));
+    const items = lineItems(frame.events, this.raw.value === "raw");
+    find("replay-lines", HTMLElement).replaceChildren(...(items.length ? items : [make("li", { class: "quiet" }, "Nobody has been sent out.")]));
+    this.drawWhole();
+    this.toAddress();
+  }
+
+  /** All lines so far, while they are looked at. */
+  drawWhole() {
+    const details = find("replay-whole", HTMLDetailsElement);
+    if (!details.open || !this.recording) return;
+    const events = this.recording.frames.slice(0, this.at + 1).flatMap((frame) => frame.events);
+    find("replay-whole-lines", HTMLElement).replaceChildren(...lineItems(events, this.raw.value === "raw"));
+  }
+
+  toAddress() {
+    setAddress("replay", {
+      b: this.isHeld ? "" : this.code, u: this.at, see: this.see.value === "watcher" ? "watcher" : "", lines: this.raw.value === "raw" ? "raw" : "",
+    });
+  }
+
+  /**
+   * A key that no element has taken.
+   * @param {KeyboardEvent} event
+   */
+  key(event) {
+    /** @type {Record<string, () => void>} */
+    const keys = {
+      ArrowLeft: () => (event.shiftKey ? this.goTurns(-1) : this.go(this.at - 1)),
+      ArrowRight: () => (event.shiftKey ? this.goTurns(1) : this.go(this.at + 1)),
+      Home: () => this.go(0),
+      End: () => this.go(Infinity),
+      " ": () => this.playOrPause(),
+    };
+    if (!this.recording || !keys[event.key]) return;
+    event.preventDefault();
+    keys[event.key]();
+  }
+}

@@ -1,0 +1,37 @@
+// Handing a battle on: as a page that holds it, as a link, as an input and as log bytes.
+import { copy, save } from "./dom.js";
+import { link } from "./address.js";
+
+// The page as it was loaded, taken before anything of it changes.
+const SOURCE = `<!doctype html>\n${document.documentElement.outerHTML}`;
+
+/** The JSON of the battle that the page was saved with; empty where there is none. */
+export function heldBattle() {
+  const text = document.getElementById("battle")?.textContent?.trim() ?? "";
+  return text === "null" ? "" : text;
+}
+
+/**
+ * The page with a battle in it. The first element with the id is the one in the head (web/README.md).
+ * @param {string} battle JSON
+ */
+export function pageWith(battle) {
+  const held = battle.replaceAll("<", "\\u003c");
+  return SOURCE.replace(/(id="battle"[^>]*>)[^<]*(?=<)/, (_, begin) => begin + held);
+}
+
+/**
+ * The buttons that hand on what is shown.
+ * @param {HTMLElement} place
+ * @param {() => { recorded: import("./inputs.js").Recorded, log: Uint8Array, inputs: import("./inputs.js").Inputs }} shown
+ */
+export function shareButtons(place, shown) {
+  const actions = {
+    page: () => save("battle.html", pageWith(shown().inputs.text(shown().recorded)), "text/html"),
+    link: () => copy(link(), "The link is copied."),
+    input: () => save("battle.json", shown().inputs.text(shown().recorded), "application/json"),
+    log: () => save("battle.log", shown().log, "application/octet-stream"),
+  };
+  for (const [name, action] of Object.entries(actions))
+    place.querySelector(`[data-share="${name}"]`)?.addEventListener("click", () => void action());
+}
