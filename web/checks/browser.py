@@ -66,6 +66,13 @@ class Browser:
             selector, value,
         )
 
+    def fill_all(self, values):
+        """Writes into many fields, each by its selector."""
+        self.run(
+            "for (const [selector, value] of Object.entries(arguments[0])) {"
+            "  const it = document.querySelector(selector); it.value = value; it.dispatchEvent(new Event('input', {bubbles: true})); }", values,
+        )
+
     def file(self, name, content):
         """Opens a file with some content by the page's own field."""
         path = self.folder / name

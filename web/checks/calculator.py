@@ -10,14 +10,11 @@ COUNT = 10
 
 def type_member(browser, side, member):
     form = f"#calc-member-{side}"
-    browser.fill(f"{form} [name=species]", member["species"])
-    browser.fill(f"{form} [name=level]", str(member["level"]))
-    for name, value in zip(STATS, member["dvs"]):
-        browser.fill(f"{form} [name='dv-{name}']", str(value))
-    for name, value in zip(("HP", *STATS), member["exp"]):
-        browser.fill(f"{form} [name='exp-{name}']", str(value))
-    for slot, (name, _) in enumerate(member["moves"] + [("", 0)] * (4 - len(member["moves"])), 1):
-        browser.fill(f"{form} [name=move-{slot}]", name)
+    values = {f"{form} [name=species]": member["species"], f"{form} [name=level]": str(member["level"])}
+    values |= {f"{form} [name='dv-{name}']": str(value) for name, value in zip(STATS, member["dvs"])}
+    values |= {f"{form} [name='exp-{name}']": str(value) for name, value in zip(("HP", *STATS), member["exp"])}
+    moves = [name for name, _ in member["moves"]] + [""] * 4
+    browser.fill_all(values | {f"{form} [name=move-{slot}]": moves[slot - 1] for slot in range(1, 5)})
 
 
 def recorded_calculations_come_out(browser):

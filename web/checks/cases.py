@@ -3,6 +3,7 @@ import base64
 import json
 import re
 import sys
+from functools import cache
 from pathlib import Path
 
 ROOT = Path(__file__).resolve().parent.parent.parent
@@ -11,10 +12,12 @@ sys.path.insert(0, str(ROOT / "tools"))
 import battles  # noqa: E402
 
 
+@cache
 def cases(name):
     return battles.cases(battles.recorded(f"{name}.jsonl"))
 
 
+@cache
 def traces():
     return battles.traces(battles.recorded("traces.jsonl"))
 
@@ -23,6 +26,7 @@ def lines_of(case):
     return case["stdout"].splitlines()
 
 
+@cache
 def names(heading):
     """The names of docs/TABLES.md under a heading, by their numbers from 1."""
     section = re.search(rf"^## {heading}\n(.*?)(?=^## |\Z)", (ROOT / "docs" / "TABLES.md").read_text(), re.M | re.S)[1]

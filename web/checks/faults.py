@@ -8,6 +8,7 @@ from checks.replay import battle
 def goes_on(browser):
     """Whether the page still shows a battle."""
     browser.click("#tab-replay")
+    browser.run("document.getElementById('replay-open').open = true")
     browser.click("#replay-example")
     assert not browser.notice() and "update 1 of 34" in browser.text("#replay-now")
 

@@ -86,6 +86,7 @@ export class Replay {
     this.see.options[0].disabled = isLog;
     if (isLog) this.see.value = "watcher";
     find("replay-stage", HTMLElement).hidden = false;
+    find("replay-open", HTMLDetailsElement).open = false;
     find("replay-fault", HTMLElement).textContent = this.recording.fault;
     find("replay-input", HTMLButtonElement).textContent = isLog ? "Save as JSON" : "Save the input";
     this.slider.max = String(this.recording.last);

@@ -130,8 +130,20 @@ function out(tables, shown) {
   const types = [...new Set(shown.types)].map((type) => badge(tables, type));
   return make("div", { class: "out" },
     make("p", { class: "head" }, make("strong", {}, member.species), ` level ${member.level} `, ...types, " ", status(member)),
-    make("p", { class: "health" }, bar(member), hp(member)),
-    chips(shown), stats(shown), moves(tables, member));
+    make("p", { class: "health" }, bar(member), hp(member)), chips(shown));
+}
+
+/**
+ * What a phone has no room for at first.
+ * @param {number} number
+ * @param {Tables} tables
+ * @param {Shown} shown
+ */
+function more(number, tables, shown) {
+  const member = shown.members[shown.active - 1];
+  return make("details", { class: "more" }, make("summary", {}, "Stats, moves, members", make("span", { class: "unseen" }, ` of side ${number}`)),
+    stats(shown), member ? moves(tables, member) : null,
+    make("ol", { class: "members", "aria-label": `Members of side ${number}` }, ...shown.members.map((it, at) => behind(tables, it, at + 1 === shown.active))));
 }
 
 /** @param {Tables} tables @param {ShownMember} member @param {boolean} isOut */
@@ -151,9 +163,8 @@ function behind(tables, member, isOut) {
  * @param {Shown} shown
  */
 export function showSide(place, number, tables, shown) {
-  const open = new Set([...place.querySelectorAll("details")].flatMap((it, at) => (it.open ? [at] : [])));
-  place.replaceChildren(
-    make("h3", {}, `Side ${number}`), out(tables, shown),
-    make("ol", { class: "members", "aria-label": `Members of side ${number}` }, ...shown.members.map((it, at) => behind(tables, it, at + 1 === shown.active))));
-  place.querySelectorAll("details").forEach((it, at) => (it.open = open.has(at)));
+  const before = [...place.querySelectorAll("details")].map((it) => it.open);
+  if (!before.length) before.push(window.matchMedia("(min-width: 44.01rem)").matches);
+  place.replaceChildren(make("h3", {}, `Side ${number}`), out(tables, shown), more(number, tables, shown));
+  place.querySelectorAll("details").forEach((it, at) => (it.open = before[at] ?? false));
 }

@@ -1,7 +1,7 @@
 //! A battle as it is looked at: all that its bytes say (docs/LAYOUT.md).
 use crate::battles::{BATTLE, battle_of};
 use crate::json::Out;
-use gen1::{Battle, Outcome, Request, Side, Stat, Status};
+use gen1::{Battle, Kind, Outcome, Request, Side, Stat, Status};
 use gen1_layout::{Conditions, Packed};
 use gen1_machine::UsedMove;
 
@@ -22,6 +22,18 @@ pub fn outcome_word(outcome: Outcome) -> &'static str {
         Outcome::Tie => "tie",
         Outcome::Fault(1) => "fault 1",
         Outcome::Fault(_) => "fault 2",
+    }
+}
+
+/// A status as the lines print it; empty without one.
+pub fn status_word(kind: Option<Kind>) -> &'static str {
+    match kind {
+        None => "",
+        Some(Kind::Sleep) => "slp",
+        Some(Kind::Poison) => "psn",
+        Some(Kind::Burn) => "brn",
+        Some(Kind::Freeze) => "frz",
+        Some(Kind::Paralysis) => "par",
     }
 }
 
@@ -169,10 +181,7 @@ fn write_member(packed: &Packed, side: Side, place: u8, out: &mut Out<'_>) {
         .health_from(side, place)
         .and_then(|health| health.kind());
     out.raw(",\"status\":");
-    match kind {
-        Some(kind) => out.text(kind),
-        None => out.raw("\"\""),
-    }
+    out.text(status_word(kind));
     if let Status::Asleep { turns, .. } = packed.status_at(side, place) {
         out.field("sleep", turns);
     }

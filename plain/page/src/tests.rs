@@ -159,6 +159,28 @@ fn a_watcher_knows_what_was_told() {
 }
 
 #[test]
+fn a_status_is_told_as_the_lines_print_it() {
+    let _alone = alone();
+    let mut battle = updated(&begin(), 0, 0).0;
+    // The status of side 1's first member (docs/LAYOUT.md, "Member").
+    for (byte, word) in [
+        (1, "slp"),
+        (8, "psn"),
+        (16, "brn"),
+        (32, "frz"),
+        (64, "par"),
+    ] {
+        battle[24 + 14] = byte;
+        put(&battle);
+        let told = text(page_state());
+        assert!(
+            told.contains(&["\"status\":\"", word, "\""].concat()),
+            "{told}"
+        );
+    }
+}
+
+#[test]
 fn the_computer_chooses_what_is_offered() {
     let _alone = alone();
     let (battle, _) = updated(&begin(), 0, 0);

@@ -1,6 +1,6 @@
 //! What a watcher knows who is told the events alone (docs/MECHANICS.md, "Spectator's view").
 use crate::json::Out;
-use crate::state::{STATS, outcome_word};
+use crate::state::{STATS, outcome_word, status_word};
 use crate::teams::{TEAM, team_of, write_fault};
 use gen1::{Side, Spectator, events_of};
 
@@ -59,10 +59,7 @@ fn write_side(view: &Spectator, side: Side, out: &mut Out<'_>) {
         out.raw("{\"hp\":");
         out.number(view.hp(side, place));
         out.raw(",\"status\":");
-        match view.status(side, place) {
-            Some(kind) => out.text(kind),
-            None => out.raw("\"\""),
-        }
+        out.text(status_word(view.status(side, place)));
         out.raw("}");
     });
     out.raw("}");
