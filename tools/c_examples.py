@@ -1,7 +1,9 @@
 """What tools/c_gate compares of each example of examples/c: its output on recorded cases, against what was recorded."""
 
 import json
+import math
 import os
+import re
 import subprocess
 import sys
 from concurrent.futures import ThreadPoolExecutor
@@ -25,18 +27,19 @@ def tool(name):
     return module
 
 
-as_numbers = tool("examples").as_numbers
+EXAMPLES_OF_LANGUAGES = tool("examples")
+as_numbers, SPECIES, MOVES = (getattr(EXAMPLES_OF_LANGUAGES, name) for name in ("as_numbers", "SPECIES", "MOVES"))
 
 
 @dataclass
 class Case:
-    """A run of a program: its words and input, and what it has to print to standard output and error, with which status."""
+    """A run of a program: its words and input, and what it has to print, as bytes or as a pattern, with which status."""
 
     name: str
     words: tuple
     given: bytes
-    stdout: bytes
-    stderr: bytes
+    stdout: bytes | re.Pattern
+    stderr: bytes | re.Pattern
     status: int
 
 
@@ -61,8 +64,74 @@ def of_play(folder):
             yield recorded_case(case, (), as_numbers(json.loads(case["input"])).encode())
 
 
+def of_look(_folder):
+    """It has no input, and compares by itself."""
+    yield Case("status", (), b"", re.compile(b"(.*\n)+outcome [12]\n(.*\n)+"), b"", 0)
+
+
+def of_replay(folder):
+    """Every recorded log, with its faults."""
+    for case in cases(recorded("print.jsonl", folder)):
+        it = recorded_case(case, (), bytes.fromhex(case["hex"]))
+        if it.status:
+            it.stderr = re.compile(re.escape(it.stderr.strip()) + rb" at byte \d+\n")
+        yield it
+
+
+def base_hp():
+    """The base HP of each species, by docs/TABLES.md."""
+    rows = re.findall(r"(?m)^\| *\d+ *\| *([^|]*?) *\|[^|]*\|[^|]*\| *(\d+) *\|", (ROOT / "docs" / "TABLES.md").read_text().split("## Species")[1])
+    return {name: int(number) for name, number in rows}
+
+
+BASE_HP = base_hp()
+
+
+def hp_of(member):
+    """A member's maximum HP (docs/MECHANICS.md, "Stats")."""
+    dv = sum((value & 1) << bit for value, bit in zip(member["dvs"], (3, 2, 1, 0)))
+    root = min(255, math.isqrt(max(0, member["exp"][0] - 1)) + 1 if member["exp"][0] else 0)
+    points = ((BASE_HP[member["species"]] + dv) * 2 + root // 4) * member["level"] // 100
+    return min(999, points + member["level"] + 10)
+
+
+def of_damage(folder):
+    """Every recorded hit by a move that a member may know: the attacker has it for its only one."""
+    for case in cases(recorded("calc.jsonl", folder)):
+        if "error: json" in case.get("stderr", ""):
+            continue
+        asked = json.loads(case["input"])
+        one, two = dict(asked["attacker"], moves=[[asked["move"], 0]]), asked["defender"]
+        if asked["move"] in ("Metronome", "Mimic", "Mirror Move", "Transform", "Struggle"):
+            continue
+        given = as_numbers({"seed": [0] * 10, "one": [one], "two": [two], "choices": []}).encode()
+        if "error: team" in case["stderr"]:
+            yield Case(case["name"], (), given, b"", case["stderr"].encode(), 1)
+            continue
+        head = "species %d at level %d on species %d at level %d, %d HP\n  move %3d: " % (
+            SPECIES[one["species"]], one["level"], SPECIES[two["species"]], two["level"], hp_of(two), MOVES[asked["move"]])
+        row = "no usual damage (code 3)" if case["stderr"] else damage_row(case["stdout"], hp_of(two), asked["critical"])
+        pattern = re.escape(head) + (re.escape(row) if case["stderr"] else row) + r"\n"
+        yield Case(case["name"], (), given, re.compile(pattern.encode()), b"", 0)
+
+
+def damage_row(recorded_line, hp, is_critical):
+    """A pattern of the row of a move, with the numbers of the hit that was recorded: the usual one, or the critical one."""
+    damages = list(map(int, recorded_line.split()))
+    least, most = min(damages), max(damages)
+    numbers = re.escape("%3d to %3d, %3d to %3d%%" % (least, most, least * 100 // hp, most * 100 // hp))
+    any_numbers = r"[^;]*"
+    hits = r"no number of hits is enough|\d+ hits"
+    if is_critical:
+        return rf"{any_numbers}; critical {numbers}; ({hits})"
+    return rf"{numbers}; critical {any_numbers}; " + (re.escape(f"{-(-hp // least)} hits") if least else "no number of hits is enough")
+
+
 EXAMPLES = (
     Example("play", ("examples/c/play.c",), of_play),
+    Example("look", ("examples/c/look.c",), of_look),
+    Example("replay", ("examples/c/replay/replay.c",), of_replay),
+    Example("damage", ("-Iexamples/c/common", "examples/c/damage/damage.c", "examples/c/common/battle_file.c"), of_damage),
 )
 
 
@@ -71,7 +140,7 @@ def fault_of(program, case):
     done = subprocess.run([program, *case.words], input=case.given, capture_output=True, timeout=120)
     for what, found, want in (("standard error", done.stderr, case.stderr), ("status", done.returncode, case.status),
                               ("standard output", done.stdout, case.stdout)):
-        if found != want:
+        if not want.fullmatch(found) if isinstance(want, re.Pattern) else found != want:
             return f"{what} is {found!r:.600}, not {want!r:.600}"
     return None
 

@@ -1,0 +1,59 @@
+/* A battle as decimal numbers (battle_file.h). */
+#include "battle_file.h"
+
+#include <string.h>
+
+/* The next number, where there is one from 0 up to `most`; else `*is_read` becomes false. */
+static uint16_t next(FILE *from, int most, bool *is_read)
+{
+    int value;
+    if (*is_read && fscanf(from, "%d", &value) == 1 && value >= 0 && value <= most)
+        return (uint16_t)value;
+    *is_read = false;
+    return 0;
+}
+
+static uint8_t next_byte(FILE *from, bool *is_read)
+{
+    return (uint8_t)next(from, 255, is_read);
+}
+
+static void read_member(FILE *from, gen1_member *member, bool *is_read)
+{
+    member->species = next_byte(from, is_read);
+    member->level = next_byte(from, is_read);
+    for (int at = 0; at < 4; at++)
+        member->dvs[at] = next_byte(from, is_read);
+    for (int at = 0; at < 5; at++)
+        member->exp[at] = next(from, 65535, is_read);
+    for (int at = 0; at < 4; at++) {
+        member->moves[at] = next_byte(from, is_read);
+        member->pp_ups[at] = next_byte(from, is_read);
+    }
+}
+
+static void read_team(FILE *from, gen1_team *team, bool *is_read)
+{
+    memset(team, 0, sizeof *team);
+    team->count = (uint8_t)next(from, 6, is_read);
+    for (int at = 0; at < team->count; at++)
+        read_member(from, &team->members[at], is_read);
+}
+
+bool read_battle(FILE *from, battle_file *to)
+{
+    bool is_read = true;
+    to->rules = next_byte(from, &is_read);
+    to->limit = next(from, 65535, &is_read);
+    for (int at = 0; at < 10; at++)
+        to->seed[at] = next_byte(from, &is_read);
+    read_team(from, &to->one, &is_read);
+    read_team(from, &to->two, &is_read);
+    return is_read;
+}
+
+void print_team_fault(uint32_t fault)
+{
+    fprintf(stderr, "error: team %u place %u refusal %u\n", (unsigned)GEN1_SIDE(fault), (unsigned)GEN1_PLACE(fault),
+            (unsigned)GEN1_CODE(fault));
+}
