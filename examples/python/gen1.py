@@ -1,4 +1,4 @@
-"""The library for Python: include/gen1.h by ctypes, over a shared library.
+"""The calls of include/gen1.h by ctypes, one by one. A program takes the package python/gen1, which checks and explains more.
 
     cc -shared -o libgen1.so -Wl,--whole-archive crates/gen1_c/out/libgen1_c.a -Wl,--no-whole-archive
 """
@@ -50,17 +50,29 @@ class LogFault(Exception):
     """Bytes are no log: the number of the fault."""
 
 
+class DamageFault(Exception):
+    """There are no damages: the code."""
+
+
+def within(number, most):
+    """A number from 0 to `most`. ctypes would cut another one to its lowest bits without a word."""
+    if not 0 <= number <= most:
+        raise ValueError(f"{number} is not 0 to {most}")
+    return number
+
+
 def member(species, level, dvs, exp, moves):
     """A member; `moves` are pairs of a move's number and its PP ups, at most four."""
-    made = Member(species=species, level=level, dvs=tuple(dvs), exp=tuple(exp))
+    made = Member(species=within(species, 255), level=within(level, 255), dvs=tuple(within(dv, 255) for dv in dvs))
+    made.exp[:] = [within(it, 65535) for it in exp]
     for place, (number, ups) in enumerate(moves):
-        made.moves[place], made.pp_ups[place] = number, ups
+        made.moves[place], made.pp_ups[place] = within(number, 255), within(ups, 255)
     return made
 
 
 def team(members):
     """A team. A count above six is the library's to refuse."""
-    return Team(members=tuple(members[:6]), count=len(members))
+    return Team(members=tuple(members[:6]), count=min(len(members), 255))
 
 
 class Library:
@@ -84,8 +96,9 @@ class Library:
 
     def battle(self, one, two, seed, rules=0, limit=1000):
         """A battle of two teams."""
-        made = Battle(self)
-        fault = self.calls.gen1_new(byref(made.held), byref(one), byref(two), (c_uint8 * 10)(*seed), rules, limit)
+        made, numbers = Battle(self), (c_uint8 * 10)(*[within(it, 255) for it in seed])
+        terms = within(rules, 255), within(limit, 65535)
+        fault = self.calls.gen1_new(byref(made.held), byref(one), byref(two), numbers, *terms)
         if fault:
             raise TeamFault(fault >> 16, fault >> 8 & 0xff, fault & 0xff)
         return made
@@ -129,7 +142,12 @@ class Battle:
     """A battle, all of which is its bytes."""
 
     def __init__(self, library):
-        self.calls, self.held = library.calls, BattleBytes()
+        self.library, self.calls, self.held = library, library.calls, BattleBytes()
+
+    def __copy__(self):
+        made = Battle(self.library)
+        made.held.bytes[:] = self.held.bytes
+        return made
 
     @property
     def bytes(self):
@@ -138,7 +156,7 @@ class Battle:
     def choices(self, side):
         """What a side, 1 or 2, may choose."""
         choices = (c_uint8 * 9)()
-        count = self.calls.gen1_choices(byref(self.held), side, choices)
+        count = self.calls.gen1_choices(byref(self.held), within(side, 255), choices)
         if count == NO_SIDE:
             raise ValueError(side)
         return list(choices[:count])
@@ -146,7 +164,7 @@ class Battle:
     def update(self, one, two):
         """An update by a choice of each side; its log."""
         log, length = (c_uint8 * LOG_ROOM)(), c_size_t(0)
-        refused = self.calls.gen1_update(byref(self.held), one, two, log, LOG_ROOM, byref(length))
+        refused = self.calls.gen1_update(byref(self.held), within(one, 255), within(two, 255), log, LOG_ROOM, byref(length))
         if refused:
             raise Refused(refused)
         return bytes(log[:length.value])
@@ -157,7 +175,9 @@ class Battle:
         return result & 7, result >> 3 & 3, result >> 5 & 3
 
     def damage(self, side, number, critical=False):
-        """The damage of a hit by a move of a side, at each factor; or a code."""
+        """The damage of a hit by a move of a side, at each factor."""
         damages = (c_uint16 * 39)()
-        code = self.calls.gen1_damage(byref(self.held), side, number, critical, damages)
-        return list(damages) if code == 0 else code
+        code = self.calls.gen1_damage(byref(self.held), within(side, 255), within(number, 255), critical, damages)
+        if code:
+            raise DamageFault(code)
+        return list(damages)

@@ -1,0 +1,49 @@
+"""A bot against random choice: it tries each of its choices on copies with other numbers to draw, and plays these out.
+
+    python3 examples/python/notebooks/bot.py
+
+A notebook as a script: editors that know the cells below (# %%) run them one by one.
+"""
+
+# %% Two teams
+import random
+
+from gen1 import Battle, Choice, Member, Outcome, Side
+
+dice = random.Random(1)
+team = [
+    Member("Starmie", ["Surf", "Thunderbolt", "Thunder Wave", "Recover"]),
+    Member("Snorlax", ["Body Slam", "Reflect", "Rest", "Ice Beam"]),
+    Member("Tauros", ["Body Slam", "Hyper Beam", "Blizzard", "Earthquake"]),
+]
+
+
+# %% The bot
+def ends_well(battle, choice):
+    """Whether side 1 wins a copy of the battle in which it takes a choice, and then both sides play by chance.
+
+    A copy would draw the numbers that the battle itself will draw. So it is reseeded: a player does not know these.
+    """
+    copy = battle.copy()
+    copy.reseed(dice.randbytes(10))
+    result = copy.play(choice, dice.choice(copy.choices(Side.TWO)))
+    while not result.is_over:
+        result = copy.play(*(dice.choice(copy.choices(side)) for side in Side))
+    return result.outcome is Outcome.WIN_ONE
+
+
+def bot(battle, rounds=8):
+    """The choice of side 1 that wins most of so many playouts."""
+    return max(battle.choices(Side.ONE), key=lambda it: sum(ends_well(battle, it) for _ in range(rounds)))
+
+
+# %% Twenty battles
+wins = 0
+for _ in range(20):
+    battle = Battle(team, team, dice.randbytes(10))
+    result = battle.play(Choice.PASS, Choice.PASS)
+    while not result.is_over:
+        result = battle.play(bot(battle), dice.choice(battle.choices(Side.TWO)))
+    wins += result.outcome is Outcome.WIN_ONE
+print(f"the bot won {wins} of 20")
+assert wins >= 15

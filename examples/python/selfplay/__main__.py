@@ -1,0 +1,106 @@
+#!/usr/bin/env python3
+"""Battles of players against each other in great numbers: a table of wins, and a data set of logs.
+
+    python3 examples/python/selfplay --battles 200 --out results
+    python3 examples/python/selfplay --players greedy playouts --battles 10000 --workers 4 --out results
+    python3 examples/python/selfplay --battles 10000 --dask tcp://HOST:8786 --out results
+
+OUT becomes a folder with table.csv, table.json and logs.npz (results.py says what is in it). The battles are cut into jobs by their
+seeds. A job that is lost with its worker is played again and comes out the same; so the files are the same, byte for byte, for any
+number of workers. How far it is goes to standard error.
+"""
+
+import argparse
+import sys
+import time
+from importlib.util import find_spec
+from itertools import combinations
+from pathlib import Path
+
+import arena
+import results
+import workers
+from gen1.progress import progress
+
+
+def at_least(least):
+    """A whole number from `least` on, for argparse."""
+
+    def number(text):
+        value = int(text)
+        if value < least:
+            raise argparse.ArgumentTypeError(f"must be {least} or more, not {value}")
+        return value
+
+    return number
+
+
+def parser():
+    made = argparse.ArgumentParser(prog="selfplay", description=__doc__, formatter_class=argparse.RawDescriptionHelpFormatter)
+    names = sorted(arena.PLAYERS)
+    made.add_argument("--players", nargs="+", choices=names, default=list(arena.PLAYERS), metavar="NAME", help=f"two or more of {', '.join(names)}")
+    made.add_argument("--battles", type=at_least(1), default=200, metavar="N", help="battles of each pair (%(default)s)")
+    made.add_argument("--job", type=at_least(1), default=100, metavar="N", help="battles of a job (%(default)s)")
+    made.add_argument("--seed", type=int, default=1, metavar="N", help="another seed gives other battles (%(default)s)")
+    made.add_argument("--workers", type=at_least(1), default=1, metavar="N", help="processes of this machine (%(default)s)")
+    made.add_argument("--dask", metavar="ADDRESS", help="the scheduler of Dask workers, in the place of processes")
+    made.add_argument("--out", type=Path, metavar="OUT", help="the folder for the files; none is written without it")
+    made.add_argument("--format", choices=("npz", "parquet"), default="npz", help="of the data set (%(default)s); parquet takes pyarrow")
+    return made
+
+
+def jobs_of(pairs, asked):
+    """All jobs, pair by pair."""
+    for at, names in enumerate(pairs):
+        for first in range(0, asked.battles, asked.job):
+            yield arena.Job(at, names, first, min(asked.job, asked.battles - first), asked.seed)
+
+
+def played(jobs, asked):
+    """The records of all jobs, in the order in which they are done."""
+    if asked.dask:
+        done = workers.by_dask(jobs, asked.dask)
+    else:
+        done = workers.here(jobs) if asked.workers == 1 else workers.by_processes(jobs, asked.workers)
+    return [record for _, records in progress(done, len(jobs), "jobs") for record in records]
+
+
+def write(rows, records, asked):
+    """The files, each of which is there whole or not at all."""
+    asked.out.mkdir(parents=True, exist_ok=True)
+    about = {"players": asked.players, "battles": asked.battles, "seed": asked.seed, "limit": arena.LIMIT, "rounds": arena.ROUNDS}
+    (asked.out / "table.csv").write_text(results.as_csv(rows))
+    (asked.out / "table.json").write_text(results.as_json(rows, **about))
+    put = results.write_parquet if asked.format == "parquet" else results.write_npz
+    room = asked.out / f"part.{asked.format}"
+    put(room, results.data_set(records))
+    room.replace(asked.out / f"logs.{asked.format}")
+
+
+def main():
+    words = parser()
+    asked = words.parse_args()
+    if len(set(asked.players)) < 2 or len(set(asked.players)) < len(asked.players):
+        words.error("--players: name two or more, none of them twice")
+    for module, named in (("distributed", asked.dask), ("pyarrow", asked.format == "parquet")):
+        if named and not find_spec(module):
+            words.error(f"there is no {module} for this Python")
+    pairs = list(combinations(asked.players, 2))
+    begun = time.monotonic()
+    try:
+        records = played(list(jobs_of(pairs, asked)), asked)
+        rows = results.table(pairs, records)
+        if asked.out:
+            write(rows, records, asked)
+    except (workers.Lost, OSError) as fault:
+        print(f"selfplay: {fault}", file=sys.stderr)
+        return 1
+    except KeyboardInterrupt:
+        return 130
+    print(results.as_text(rows))
+    print(f"{len(records)} battles in {time.monotonic() - begun:.1f} s", file=sys.stderr)
+    return 0
+
+
+if __name__ == "__main__":
+    sys.exit(main())

@@ -1,0 +1,137 @@
+"""What a worker does: players, and jobs of battles between two of them that come out the same wherever they are played.
+
+It is one file that needs the package gen1 alone, so that it can be sent to a worker on another machine.
+"""
+
+import hashlib
+import random
+from dataclasses import dataclass
+
+from gen1 import Battle, Choice, Member, NoDamage, Outcome, Side, Team
+
+TEAMS = (
+    Team(
+        [
+            Member("Starmie", ["Surf", "Thunderbolt", "Thunder Wave", "Recover"]),
+            Member("Snorlax", ["Body Slam", "Reflect", "Rest", "Ice Beam"]),
+            Member("Tauros", ["Body Slam", "Hyper Beam", "Blizzard", "Earthquake"]),
+        ]
+    ),
+    Team(
+        [
+            Member("Gengar", ["Hypnosis", "Thunderbolt", "Night Shade", "Explosion"]),
+            Member("Chansey", ["Ice Beam", "Thunder Wave", "Soft-Boiled", "Seismic Toss"]),
+            Member("Rhydon", ["Earthquake", "Rock Slide", "Body Slam", "Substitute"]),
+        ]
+    ),
+    Team(
+        [
+            Member("Jolteon", ["Thunderbolt", "Thunder Wave", "Double Kick", "Pin Missile"]),
+            Member("Exeggutor", ["Sleep Powder", "Psychic", "Mega Drain", "Explosion"]),
+            Member("Cloyster", ["Blizzard", "Clamp", "Explosion", "Rest"]),
+        ]
+    ),
+)
+ROUNDS = 4
+LIMIT = 200
+
+
+def random_player(battle, side, team, dice):
+    """One of the choices, each as likely as the others."""
+    return dice.choice(battle.choices(side))
+
+
+def greedy_player(battle, side, team, dice):
+    """The move that deals most on average where it hits; one by chance where none deals damage."""
+    known, offered = team[max(battle.place(side), 1) - 1].moves, battle.choices(side)
+    dealt = {it: average(battle, side, known[it.slot - 1]) for it in offered if it.is_move and it.slot}
+    best = max(dealt, key=dealt.get, default=None)
+    return best if best is not None and dealt[best] else dice.choice(offered)
+
+
+def average(battle, side, move):
+    try:
+        return sum(battle.damage(side, move))
+    except NoDamage:
+        return 0
+
+
+def playout_player(battle, side, team, dice):
+    """The choice after which most random battles are won. It knows both teams, but not the numbers that will be drawn."""
+    offered = battle.choices(side)
+    if len(offered) == 1:
+        return offered[0]
+    won = [sum(playout(battle, side, it, dice) for _ in range(ROUNDS)) for it in offered]
+    return offered[won.index(max(won))]
+
+
+def playout(battle, side, choice, dice):
+    """How a copy of the battle with numbers of its own ends, where the side takes this choice and then both play by chance.
+
+    2 for a win, 0 for a loss, 1 for a tie.
+    """
+    copy = battle.copy()
+    copy.reseed(dice.randbytes(10))
+    theirs = dice.choice(copy.choices(3 - side))
+    result = copy.play(*((choice, theirs) if side == 1 else (theirs, choice)))
+    while not result.is_over:
+        result = copy.play(dice.choice(copy.choices(1)), dice.choice(copy.choices(2)))
+    return {Outcome.WIN_ONE: 4 - 2 * side, Outcome.WIN_TWO: 2 * side - 2}.get(result.outcome, 1)
+
+
+PLAYERS = {"random": random_player, "greedy": greedy_player, "playouts": playout_player}
+
+
+@dataclass(frozen=True)
+class Job:
+    """Battles of two players: which pair it is, their names, the first battle, how many, and the seed of it all."""
+
+    pair: int
+    names: tuple
+    first: int
+    count: int
+    seed: int
+
+
+@dataclass(frozen=True)
+class Record:
+    """A battle: its pair and number, who was on side 1 (0 or 1 of the pair's names), the teams, the seed, and how it went."""
+
+    pair: int
+    number: int
+    first_player: int
+    teams: tuple
+    seed: bytes
+    outcome: int
+    turns: int
+    updates: int
+    log: bytes
+
+
+def drawn(job, number, what, count):
+    """Bytes for a battle that depend on nothing but the seed, the pair, the battle's number and what they are for."""
+    text = f"{job.seed} {job.pair} {number} {what}"
+    return hashlib.blake2b(text.encode(), digest_size=count).digest()
+
+
+def play_job(job):
+    """The records of a job's battles: the same each time, on each machine."""
+    return [play_battle(job, number) for number in range(job.first, job.first + job.count)]
+
+
+def play_battle(job, number):
+    """A battle. Each two in a row have the same teams and swap the players."""
+    first = number % 2
+    names = (job.names[first], job.names[1 - first])
+    teams = tuple(it % len(TEAMS) for it in drawn(job, number // 2, "teams", 2))
+    dice = [random.Random(drawn(job, number, f"player {side}", 16)) for side in (1, 2)]
+    seed = drawn(job, number, "battle", 10)
+    battle = Battle(TEAMS[teams[0]], TEAMS[teams[1]], seed, limit=LIMIT)
+    log, updates, result = [battle.update(Choice.PASS, Choice.PASS).log], 1, battle.result
+    while not result.is_over:
+        pair = [PLAYERS[names[side - 1]](battle, Side(side), TEAMS[teams[side - 1]], dice[side - 1]) for side in (1, 2)]
+        update = battle.update(*pair)
+        log.append(update.log)
+        updates, result = updates + 1, update.result
+    turns = int.from_bytes(battle.bytes[1:3], "little")
+    return Record(job.pair, number, first, teams, seed, int(result.outcome), turns, updates, b"".join(log))

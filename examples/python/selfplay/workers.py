@@ -1,0 +1,51 @@
+"""Where jobs are played: here, by processes of this machine, or by Dask's workers. What comes out is the same."""
+
+import sys
+from concurrent.futures import ProcessPoolExecutor, as_completed
+from concurrent.futures.process import BrokenProcessPool
+from pathlib import Path
+
+import arena
+
+TRIES = 10
+
+
+class Lost(Exception):
+    """Workers were lost again and again, and no job was done in between."""
+
+
+def here(jobs):
+    """Plays them one after the other."""
+    for job in jobs:
+        yield job, arena.play_job(job)
+
+
+def by_processes(jobs, count):
+    """Plays them by so many processes. Where one of these is lost, what it held is played again by new ones."""
+    left, tries = list(jobs), 0
+    while left:
+        before = len(left)
+        with ProcessPoolExecutor(count) as pool:
+            running = {pool.submit(arena.play_job, job): job for job in left}
+            try:
+                for done in as_completed(running):
+                    records = done.result()
+                    left.remove(running[done])
+                    yield running[done], records
+            except BrokenProcessPool:
+                print(f"a worker was lost; {len(left)} jobs are played again", file=sys.stderr, flush=True)
+        tries = 0 if len(left) < before else tries + 1
+        if tries == TRIES:
+            raise Lost(f"{TRIES} times in a row a worker was lost before any job was done")
+
+
+def by_dask(jobs, address):
+    """Plays them by the workers of a Dask scheduler, which plays those of a lost worker again."""
+    from distributed import Client
+    from distributed import as_completed as as_done
+
+    with Client(address) as client:
+        client.upload_file(str(Path(arena.__file__)))
+        running = {it.key: (it, job) for job in jobs for it in [client.submit(arena.play_job, job, pure=False, retries=TRIES)]}
+        for done in as_done([it for it, _ in running.values()]):
+            yield running[done.key][1], done.result()
