@@ -2,11 +2,9 @@
 
 import json
 import math
-import os
 import re
 import subprocess
 import sys
-from concurrent.futures import ThreadPoolExecutor
 from dataclasses import dataclass
 from importlib.machinery import SourceFileLoader
 from importlib.util import module_from_spec, spec_from_loader
@@ -40,7 +38,8 @@ class Case:
     given: bytes
     stdout: bytes | re.Pattern
     stderr: bytes | re.Pattern
-    status: int
+    status: int = 0
+    is_long: bool = False
 
 
 @dataclass
@@ -127,27 +126,28 @@ def damage_row(recorded_line, hp, is_critical):
     return rf"{numbers}; critical {any_numbers}; " + (re.escape(f"{-(-hp // least)} hits") if least else "no number of hits is enough")
 
 
+def of_bot(_folder):
+    """It wins at least 95 battles of 100."""
+    yield Case("100 battles", ("100", "1"), b"", re.compile(rb"bot (100|9[5-9]), random \d, ties \d\n"), b"", is_long=True)
+
+
 EXAMPLES = (
     Example("play", ("examples/c/play.c",), of_play),
     Example("look", ("examples/c/look.c",), of_look),
     Example("replay", ("examples/c/replay/replay.c",), of_replay),
+    Example("bot", ("examples/c/bot/bot.c",), of_bot),
     Example("damage", ("-Iexamples/c/common", "examples/c/damage/damage.c", "examples/c/common/battle_file.c"), of_damage),
 )
 
 
-def fault_of(program, case):
+def fault_of_case(program, case):
     """What is wrong with a run."""
-    done = subprocess.run([program, *case.words], input=case.given, capture_output=True, timeout=120)
+    try:
+        done = subprocess.run([program, *case.words], input=case.given, capture_output=True, timeout=300)
+    except subprocess.TimeoutExpired:
+        return "it did not end within 300 seconds"
     for what, found, want in (("standard error", done.stderr, case.stderr), ("status", done.returncode, case.status),
                               ("standard output", done.stdout, case.stdout)):
         if not want.fullmatch(found) if isinstance(want, re.Pattern) else found != want:
             return f"{what} is {found!r:.600}, not {want!r:.600}"
     return None
-
-
-def compare_example(gate, name, example, program):
-    """Runs an example on each of its cases."""
-    tried = list(example.cases(gate.cases))
-    with ThreadPoolExecutor(os.cpu_count()) as pool:
-        for case, fault in zip(tried, pool.map(lambda case: fault_of(program, case), tried)):
-            gate.tell(f"{name}, {case.name}", fault)

@@ -1,0 +1,153 @@
+/*
+ * Plays battles of a bot that tries each of its choices in forks of the battle, against one that chooses at random.
+ *
+ *     cc -O2 bot.c $(pkg-config --cflags --libs gen1) -o bot
+ *     ./bot [BATTLES [SEED]]
+ *
+ * Side 1 is the bot. For each choice that it is offered it copies the battle, gives the copy other numbers to draw, plays it to
+ * its end with random choices, some times over, and takes the choice that won most. Both sides have the same four members, so that
+ * choices and luck alone decide. Prints how many battles each side has won; the same words give the same battles.
+ */
+#include "gen1.h"
+
+#include <stdio.h>
+#include <stdlib.h>
+#include <string.h>
+
+/* How often each choice is played to the end; how many members a side has; and how many there are to be drawn. */
+enum { PLAYOUTS = 32, MEMBERS_OF_A_SIDE = 4, MEMBERS = 12 };
+
+/* Who may be drawn: species, and four moves. */
+static const uint8_t members[MEMBERS][5] = {
+    {6, 53, 163, 43, 45},    /* Charizard: Flamethrower, Slash, Leer, Growl */
+    {9, 57, 58, 110, 39},    /* Blastoise: Surf, Ice Beam, Withdraw, Tail Whip */
+    {3, 75, 34, 74, 45},     /* Venusaur: Razor Leaf, Body Slam, Growth, Growl */
+    {18, 17, 98, 28, 16},    /* Pidgeot: Wing Attack, Quick Attack, Sand Attack, Gust */
+    {26, 85, 98, 45, 39},    /* Raichu: Thunderbolt, Quick Attack, Growl, Tail Whip */
+    {34, 89, 37, 43, 30},    /* Nidoking: Earthquake, Thrash, Leer, Horn Attack */
+    {65, 94, 115, 100, 134}, /* Alakazam: Psychic, Reflect, Teleport, Kinesis */
+    {68, 66, 67, 43, 116},   /* Machamp: Submission, Low Kick, Leer, Focus Energy */
+    {76, 157, 89, 106, 111}, /* Golem: Rock Slide, Earthquake, Harden, Defense Curl */
+    {94, 101, 85, 122, 109}, /* Gengar: Night Shade, Thunderbolt, Lick, Confuse Ray */
+    {128, 34, 23, 39, 43},   /* Tauros: Body Slam, Stomp, Tail Whip, Leer */
+    {131, 58, 57, 54, 45},   /* Lapras: Ice Beam, Surf, Mist, Growl */
+};
+
+/* Numbers of the bots' own, which have nothing to do with what a battle draws. */
+static uint64_t state;
+
+static uint32_t draw(uint32_t bound)
+{
+    state = state * 6364136223846793005u + 1442695040888963407u;
+    return (uint32_t)(state >> 32) % bound;
+}
+
+static void draw_seed(uint8_t seed[10])
+{
+    for (int at = 0; at < 10; at++)
+        seed[at] = (uint8_t)draw(256);
+}
+
+static gen1_team draw_team(void)
+{
+    gen1_team team = {.count = MEMBERS_OF_A_SIDE};
+    uint32_t first = draw(MEMBERS);
+    for (int at = 0; at < team.count; at++) {
+        const uint8_t *drawn = members[(first + (uint32_t)at * 5) % MEMBERS];
+        gen1_member *it = &team.members[at];
+        it->species = drawn[0];
+        it->level = 100;
+        memset(it->dvs, 15, sizeof it->dvs);
+        memcpy(it->moves, drawn + 1, sizeof it->moves);
+        memset(it->exp, 0xff, sizeof it->exp);
+    }
+    return team;
+}
+
+static uint8_t outcome(const gen1_battle *battle)
+{
+    return GEN1_OUTCOME(gen1_result(battle));
+}
+
+static uint8_t random_choice(const gen1_battle *battle, uint8_t side)
+{
+    uint8_t choices[9];
+    uint8_t count = gen1_choices(battle, side, choices);
+    return count == 0 ? GEN1_PASS : choices[draw(count)];
+}
+
+static void update(gen1_battle *battle, uint8_t one, uint8_t two)
+{
+    size_t length;
+    uint8_t refusal = gen1_update(battle, one, two, NULL, 0, &length);
+    if (refusal != 0) {
+        fprintf(stderr, "error: refused %d\n", refusal);
+        exit(1);
+    }
+}
+
+/* A copy that does not draw what the battle itself will draw: else the bot would know its dice (docs/LAYOUT.md, "Header"). */
+static gen1_battle fork_of(const gen1_battle *battle)
+{
+    gen1_battle fork = *battle, reseeded;
+    draw_seed(fork.bytes + 6);
+    return gen1_load(&reseeded, fork.bytes, sizeof fork.bytes) == 0 ? reseeded : *battle;
+}
+
+/* What a fork comes to for side 1, after its choice and random ones up to the end: 2 for a win, 1 for a tie. */
+static int played_out(gen1_battle fork, uint8_t choice)
+{
+    update(&fork, choice, random_choice(&fork, GEN1_TWO));
+    while (outcome(&fork) == GEN1_ONGOING) {
+        uint8_t one = random_choice(&fork, GEN1_ONE);
+        update(&fork, one, random_choice(&fork, GEN1_TWO));
+    }
+    return outcome(&fork) == GEN1_WIN_ONE ? 2 : outcome(&fork) == GEN1_TIE ? 1 : 0;
+}
+
+/* The choice of side 1 that comes to most in its forks. */
+static uint8_t best_choice(const gen1_battle *battle)
+{
+    uint8_t choices[9], best = GEN1_PASS;
+    uint8_t count = gen1_choices(battle, GEN1_ONE, choices);
+    int most = -1;
+    for (int at = 0; at < count; at++) {
+        int sum = 0;
+        for (int times = 0; times < PLAYOUTS && count > 1; times++)
+            sum += played_out(fork_of(battle), choices[at]);
+        if (sum > most) {
+            most = sum;
+            best = choices[at];
+        }
+    }
+    return best;
+}
+
+/* Plays a battle, and answers its outcome. */
+static uint8_t played(void)
+{
+    gen1_team team = draw_team();
+    gen1_battle battle;
+    uint8_t seed[10];
+    draw_seed(seed);
+    uint32_t fault = gen1_new(&battle, &team, &team, seed, GEN1_SLEEP_CLAUSE | GEN1_FREEZE_CLAUSE, GEN1_LIMIT);
+    if (fault != 0) {
+        fprintf(stderr, "error: code %u\n", (unsigned)GEN1_CODE(fault));
+        exit(1);
+    }
+    while (outcome(&battle) == GEN1_ONGOING) {
+        uint8_t best = best_choice(&battle);
+        update(&battle, best, random_choice(&battle, GEN1_TWO));
+    }
+    return outcome(&battle);
+}
+
+int main(int count, char **words)
+{
+    int battles = count > 1 ? atoi(words[1]) : 100, ended[6] = {0};
+    state = count > 2 ? strtoull(words[2], NULL, 10) : 1;
+    for (int battle = 0; battle < battles; battle++)
+        ended[played()]++;
+    printf("bot %d, random %d, ties %d\n", ended[GEN1_WIN_ONE], ended[GEN1_WIN_TWO], battles - ended[GEN1_WIN_ONE] - ended[GEN1_WIN_TWO]);
+    return 0;
+}
