@@ -106,20 +106,26 @@ fn a_trap_that_is_on_goes_on(rt: HostRuntime) -> Result<(), Fail> {
     Ok(())
 }
 
-// By the bytes alone: 1 draws three turns, of which each use takes one, and the draw behind it the confusion's count.
+// What a use of Thrash tells, by the bytes alone.
+fn thrashed<R: Rolls>(battle: &mut Packed, random: &mut R) -> EventList {
+    let mut events = EventList::new();
+    thrash(battle, USER, random, &mut events);
+    events
+}
+
+// 1 draws three turns, of which each use takes one, and the draw behind it the confusion's count.
 #[test]
 fn thrashing_that_is_on_goes_on(rt: HostRuntime) -> Result<(), Fail> {
     let mut battle = two_tauros()?;
     let before = bytes_of(&battle);
-    let mut events = EventList::new();
     let mut sweep = Sweep::new(1);
     for left in [3, 2, 1] {
-        thrash(&mut battle, USER, &mut sweep, &mut events);
+        let events = thrashed(&mut battle, &mut sweep);
         let now = with(before, &[(FLAGS, 2), (TURNS, left), (KEPT, 255)]);
         assert_bytes(&rt, &battle, now);
         assert_same(&rt, events.len(), 0);
     }
-    thrash(&mut battle, USER, &mut sweep, &mut events);
+    let events = thrashed(&mut battle, &mut sweep);
     let ended = with(before, &[(FLAGS, 64), (FLAGS + 5, 4), (KEPT, 255)]);
     assert_bytes(&rt, &battle, ended);
     let told = [Event::Start(battle.who(USER), Volatile::Confusion)];
