@@ -4,3 +4,5 @@ pub mod Update
 pub mod Replay
 -- What any calls come to.
 pub mod Calls
+-- What a side may choose, as a number.
+pub mod OfferedMask

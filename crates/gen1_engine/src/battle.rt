@@ -7,10 +7,12 @@ ghost use Rattle.gen1_machine.specs.State.{State, first_state, usual_terms};
 ghost use Rattle.gen1_layout.specs.Loading.{IsLoadedAs};
 ghost use Rattle.gen1_layout.specs.LoadingMeaning.{IsBattle, StandsForSome};
 ghost use Rattle.gen1_layout.specs.Within.{Stands};
+ghost use Rattle.gen1_engine.specs.OfferedMask.{offered_mask};
 ghost use Rattle.gen1_engine.specs.Replay.{AnswersBytes, LogsBytes, Replays, TellsBytes, is_write_fault};
 ghost use Rattle.gen1_engine.specs.Update.{Answers, IsBounded, Logs, Tells, result_of};
 
 use crate::choice_bytes::{update_by_bytes, update_events_by_bytes};
+use crate::offered_mask::offered_mask;
 use crate::replay::{ReplayFault, replay};
 use crate::result::{BattleResult, Refusal};
 use crate::update::{result, update, update_events};
@@ -121,6 +123,14 @@ impl Battle {
         ensures { (s : State) → Stands self.now s → result.items ≡ offered side s.field }
     {
         offered(&self.packed, side)
+    }
+
+    /// The same as a number of twelve binary digits, from the lowest on: Pass, Move with slot 0 to 4, Switch to place 1 to 6.
+    /// It is 0 once the battle is over.
+    pub fn offered_mask(&self, side: Side) -> u16
+        ensures { (s : State) → Stands self.now s → result ≡ offered_mask s side }
+    {
+        offered_mask(&self.packed, side)
     }
 
     /// How the battle stands, and what is asked of each side.

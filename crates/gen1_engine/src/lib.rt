@@ -5,6 +5,7 @@
 //! - `packed`: updates of a `Packed` that a caller keeps
 //! - `update`: an update, by what is asked of the sides
 //! - `choice_bytes`: the same by the bytes of choices
+//! - `offered_mask`: what a side may choose, as a number
 //! - `replay`: many updates, one after the other
 //! - `result`: what a battle answers to an update
 //! - `log`: the log bytes of an update
@@ -15,6 +16,7 @@ mod battle;
 mod choice_bytes;
 pub mod laws;
 mod log;
+mod offered_mask;
 pub mod packed;
 mod replay;
 mod result;
