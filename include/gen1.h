@@ -130,6 +130,20 @@ uint8_t gen1_choices(const gen1_battle *battle, uint8_t side, uint8_t choices[9]
 #define GEN1_NO_SIDE 255 /* what gen1_choices answers for a side that is neither 1 nor 2 */
 
 /*
+ * What a side may choose, as a mask of twelve bits: bit GEN1_BIT(choice) is 1 exactly if gen1_choices lists the choice. The bits
+ * stand in the order of the choices' bytes: bit 0 GEN1_PASS, bits 1 to 5 GEN1_MOVE(0) to GEN1_MOVE(4), bits 6 to 11
+ * GEN1_SWITCH(1) to GEN1_SWITCH(6). The mask of a battle that is over is 0. For a side that is neither 1 nor 2 it answers
+ * GEN1_NO_MASK.
+ */
+uint16_t gen1_offered(const gen1_battle *battle, uint8_t side);
+
+#define GEN1_NO_MASK 0xffff
+
+/* The bit of a choice's byte, and the byte of a bit from 0 to 11. */
+#define GEN1_BIT(choice) ((choice) == 0 ? 0 : (choice) < 0x20 ? (choice) - 0x0f : (choice) - 0x1b)
+#define GEN1_CHOICE(bit) ((bit) == 0 ? 0 : (bit) < 6 ? (bit) + 0x0f : (bit) + 0x1b)
+
+/*
  * An update by a choice of each side. The first update of a battle is GEN1_PASS and GEN1_PASS, and sends out both first
  * members.
  *
@@ -224,6 +238,48 @@ enum {
     GEN1_DAMAGE_UNUSUAL = 3, /* it does not have the usual damage: no power, or a damage rule of its own */
     GEN1_DAMAGE_NOBODY = 4,  /* nobody is out: the battle is before its first update */
     GEN1_DAMAGE_DIVISOR = 5  /* the defense that counts in this hit is 0, and the damage would be divided by it */
+};
+
+/* ---- teams out of text ---- */
+
+/* Where a text is at fault, and what was expected there. */
+typedef struct gen1_text_fault {
+    size_t line;   /* of a text: the line, from 1; 0 if it is no single line */
+    size_t member; /* of a packed line, and where the members are no team: the member, from 1; 0 if it is no single member */
+    size_t field;  /* of a packed line: the field of the member, 1 to 12; 0 if it is no single field */
+    uint8_t code;  /* what was expected: one of those below */
+    uint8_t rule;  /* with GEN1_TEXT_TEAM why the members are no team, from GEN1_EMPTY to GEN1_PP_UPS; otherwise 0 */
+} gen1_text_fault;
+
+/*
+ * The team that a text of `count` bytes tells of, as Pokemon Showdown's team builder exports it (docs/TEAM_TEXT.md): a first line
+ * with the species, then "Level: 50", "EVs: 252 HP / 4 Atk", "IVs: 0 Atk", "- Body Slam", ..; an empty line parts members. What is
+ * not said is as in the games: level 100, all DVs 15, all experience 63,504; each move has three PP ups. The text needs no zero
+ * at its end.
+ *
+ * Answers 0: `team` is the team, members behind the last are zeros, and `fault` is as it was. gen1_new takes such a team.
+ * Otherwise it answers the code of the first fault, `fault` says where, and `team` is as it was.
+ */
+uint8_t gen1_team_from_text(const char *text, size_t count, gen1_team *team, gen1_text_fault *fault);
+
+/* The same of a packed line of the team builder: twelve fields of a member with `|` between them, members with `]` between them. */
+uint8_t gen1_team_from_packed(const char *text, size_t count, gen1_team *team, gen1_text_fault *fault);
+
+enum {
+    GEN1_TEXT_SPECIES = 1,        /* the name of a species of the first generation */
+    GEN1_TEXT_ITEM = 2,           /* no item: the first generation has none */
+    GEN1_TEXT_SEVENTH_MEMBER = 3, /* at most six members */
+    GEN1_TEXT_LEVEL = 4,          /* a level from 1 to 100 */
+    GEN1_TEXT_EVS = 5,            /* EVs from 0 to 255, as "252 HP / 4 Atk", or packed as "252,4,,,," */
+    GEN1_TEXT_SPECIAL_EVS = 6,    /* the same EVs for SpA and SpD: the first generation has one Special */
+    GEN1_TEXT_IVS = 7,            /* IVs from 0 to 31, as "14 HP / 0 Atk", or packed as "14,0,,,," */
+    GEN1_TEXT_SPECIAL_IVS = 8,    /* the same IVs for SpA and SpD */
+    GEN1_TEXT_HP_IV = 9,          /* the HP IV that follows from the others, or none */
+    GEN1_TEXT_MOVE = 10,          /* the name of a move of the first generation */
+    GEN1_TEXT_FIFTH_MOVE = 11,    /* at most four moves */
+    GEN1_TEXT_LINE = 12,          /* a line of a member, as "Level: 50", "EVs: 252 HP", "IVs: 0 Atk" or "- Body Slam" */
+    GEN1_TEXT_FIELDS = 13,        /* packed: twelve fields with `|` between them */
+    GEN1_TEXT_TEAM = 14           /* members that are a team: `rule` says why they are none, and `member` who is at fault */
 };
 
 #ifdef __cplusplus

@@ -12,3 +12,5 @@ pub mod Events
 pub mod Logs
 -- The damage of a hit.
 pub mod Damage
+-- Teams out of text.
+pub mod TeamText

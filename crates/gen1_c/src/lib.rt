@@ -4,6 +4,8 @@
 //! - `battle`: battles of two teams, and of bytes
 //! - `teams`: teams as plain structs
 //! - `update`: updates, offered choices and the result
+//! - `masks`: what may be chosen as a mask
+//! - `team_text`: teams out of text
 //! - `events`: the events of a log
 //! - `lines`: the lines of a log's events
 //! - `damage`: the damage of a hit
@@ -15,8 +17,11 @@ pub mod damage;
 pub mod events;
 mod fronts;
 pub mod lines;
+pub mod masks;
+pub mod team_text;
 mod teams;
 pub mod update;
 
 pub use events::EventFields;
+pub use team_text::TextFaultForm;
 pub use teams::{MemberForm, TeamForm};

@@ -9,6 +9,7 @@ use gen1_stats::{MemberSpec, Team, TeamRefusal};
 use gen1_tables::{MoveId, Species};
 
 /// A member as it is asked for. A place for a move that holds 0 is passed over.
+#[derive(Drop)]
 #[repr(C)]
 pub struct MemberForm {
     /// 1 to 151.
@@ -26,6 +27,7 @@ pub struct MemberForm {
 }
 
 /// A team: the first of the members, as many as are counted, at most six.
+#[derive(Drop)]
 #[repr(C)]
 pub struct TeamForm {
     pub members: [MemberForm; 6],

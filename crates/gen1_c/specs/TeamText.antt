@@ -1,0 +1,97 @@
+-- Teams out of text as plain structs, and where a text is at fault (include/gen1.h, "teams out of text"; docs/TEAM_TEXT.md).
+use Rattle.std.specs.Prelude.{Err, List, None, Ok, Option, Result, Some, [], length, map, replicate, slice_index_or, ℕ, ◌≡◌, ◌∷◌}
+use Rattle.gen1_stats.specs.Refusals.{number_of as rule_of, place_of}
+use Rattle.gen1_stats.specs.Sheets.{Sheet}
+use Rattle.gen1_stats.specs.Teams.{team_refusal}
+use Rattle.gen1_stats.specs.declared.refusal.TeamRefusal.{TeamRefusal}
+use Rattle.gen1_text.specs.declared.fault.MemberFault.{MemberFault}
+use Rattle.gen1_text.specs.declared.fault.MemberFault.TheVariants as expects
+use Rattle.gen1_text.specs.declared.fault.PackedFault.{PackedFault}
+use Rattle.gen1_text.specs.declared.fault.PackedFault.TheVariants as packed
+use Rattle.gen1_text.specs.declared.fault.TextFault.{TextFault}
+use Rattle.gen1_text.specs.declared.fault.TextFault.TheVariants as texts
+use Rattle.gen1_c.specs.declared.team_text.TextFaultForm.{TextFaultForm}
+use Rattle.gen1_c.specs.declared.teams.MemberForm.{MemberForm}
+use Rattle.gen1_c.specs.declared.teams.TeamForm.{TeamForm}
+
+-- faults
+
+abbrev pub expected : ℕ → TextFaultForm
+expected code = record { line = 0; member = 0; field = 0; code = code; rule = 0 }
+
+abbrev pub code_of : MemberFault → ℕ
+code_of expects.Species = 1
+code_of expects.Item = 2
+code_of expects.SeventhMember = 3
+code_of expects.Level = 4
+code_of expects.Evs = 5
+code_of expects.SpecialEvs = 6
+code_of expects.Ivs = 7
+code_of expects.SpecialIvs = 8
+code_of expects.HpIv = 9
+code_of expects.Move = 10
+code_of expects.FifthMove = 11
+code_of expects.UnknownLine = 12
+
+abbrev pub of_team : TeamRefusal → TextFaultForm
+of_team refusal = record (expected 14) { member = place_of refusal; rule = rule_of refusal }
+
+abbrev pub of_text : TextFault → TextFaultForm
+of_text (texts.Line line fault) = record (expected (code_of fault)) { line = line }
+of_text (texts.Team refusal) = of_team refusal
+
+abbrev pub of_packed : PackedFault → TextFaultForm
+of_packed (packed.Fields member) = record (expected 13) { member = member }
+of_packed (packed.Field member field fault) = record (expected (code_of fault)) { member = member; field = field }
+of_packed packed.SeventhMember = expected 3
+of_packed (packed.Team refusal) = of_team refusal
+
+-- the struct: zeros behind the last move, and behind the last member
+
+abbrev pub move_at : List (ℕ × ℕ) → ℕ → ℕ × ℕ
+move_at moves k = slice_index_or moves k (0, 0)
+
+abbrev pub no_member : MemberForm
+no_member = record { species = 0; level = 0; dvs = replicate 4 0; moves = replicate 4 0; pp_ups = replicate 4 0; exp = replicate 5 0 }
+
+abbrev pub member_of : Sheet → MemberForm
+member_of s = record {
+  species = s.species;
+  level = s.level;
+  dvs = s.dvs;
+  moves = (move_at s.moves 0).0 ∷ (move_at s.moves 1).0 ∷ (move_at s.moves 2).0 ∷ (move_at s.moves 3).0 ∷ [];
+  pp_ups = (move_at s.moves 0).1 ∷ (move_at s.moves 1).1 ∷ (move_at s.moves 2).1 ∷ (move_at s.moves 3).1 ∷ [];
+  exp = s.exp;
+}
+
+abbrev pub member_at : List Sheet → ℕ → MemberForm
+member_at sheets k = slice_index_or (map member_of sheets) k no_member
+
+abbrev pub form_of : List Sheet → TeamForm
+form_of sheets = record {
+  members = member_at sheets 0 ∷ member_at sheets 1 ∷ member_at sheets 2 ∷ member_at sheets 3 ∷ member_at sheets 4 ∷ member_at sheets 5 ∷ [];
+  count = length sheets;
+}
+
+-- what is due: the sheets that are told, if they are a team, or the first fault
+
+abbrev pub team_due : List Sheet → Result (List Sheet) TextFaultForm
+team_due sheets = elim (team_refusal sheets) [ None ↦ Ok sheets | Some refusal ↦ Err (of_team refusal) ]
+
+abbrev pub text_due : Result (List Sheet) TextFault → Result (List Sheet) TextFaultForm
+text_due (Ok sheets) = team_due sheets
+text_due (Err fault) = Err (of_text fault)
+
+abbrev pub packed_due : Result (List Sheet) PackedFault → Result (List Sheet) TextFaultForm
+packed_due (Ok sheets) = team_due sheets
+packed_due (Err fault) = Err (of_packed fault)
+
+-- what a caller lends: the team and the fault
+pub record Lent : Type 0 where
+  pub team : TeamForm
+  pub fault : TextFaultForm
+
+-- the team is put there, and the fault stays; or the fault is told, and the team stays
+abbrev pub TellsTeam : Result (List Sheet) TextFaultForm → Lent → Lent → ℕ → Type 0
+TellsTeam (Ok sheets) old new code = (code ≡ 0) × (new ≡ record { team = form_of sheets; fault = old.fault })
+TellsTeam (Err why) old new code = (code ≡ why.code) × (new ≡ record { team = old.team; fault = why })

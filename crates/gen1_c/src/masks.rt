@@ -1,0 +1,27 @@
+//! What may be chosen as a mask (include/gen1.h, "playing").
+ghost use Rattle.std.specs.Prelude.{◌≡◌};
+ghost use Rattle.gen1_machine.specs.Numbers.{side_number};
+ghost use Rattle.gen1_machine.specs.State.{State};
+ghost use Rattle.gen1_machine.specs.declared.side.Side.{Side};
+ghost use Rattle.gen1_layout.specs.Within.{Stands};
+ghost use Rattle.gen1_engine.specs.OfferedMask.{offered_mask};
+ghost use Rattle.gen1_c.specs.Update.{IsNoSide};
+
+use gen1_engine::packed::offered_mask;
+use gen1_layout::Packed;
+use gen1_machine::Side;
+
+const NO_MASK: u16 = 65535;
+
+/// What a side may choose, as a mask: from the lowest bit on, of Pass, Move 0 to 4 and Switch 1 to 6, whether it is offered.
+#[unsafe(no_mangle)]
+pub extern "C" fn gen1_offered(battle: &Packed, side: u8) -> u16
+    ensures offers { (s : State) (which : Side) → Stands battle.now s → side ≡ side_number which
+        → result ≡ offered_mask s which }
+    ensures no_side { IsNoSide side → result ≡ 65535 }
+{
+    match Side::from_number(side) {
+        Some(side) => offered_mask(battle, side),
+        None => NO_MASK,
+    }
+}

@@ -1,0 +1,221 @@
+//! Teams out of text, as plain structs (include/gen1.h, "teams out of text"; docs/TEAM_TEXT.md).
+ghost use Rattle.std.specs.Prelude.{length, ◌<◌, ◌≡◌, ◌≤◌};
+ghost use Rattle.arrayvec.specs.ArrayVec.{array_vec_len};
+ghost use Rattle.gen1_text.specs.Packed.{members_packed};
+ghost use Rattle.gen1_text.specs.Texts.{members_told};
+ghost use Rattle.gen1_c.specs.TeamText.{TellsTeam, code_of, expected, form_of, member_at, member_of, move_at, of_packed, of_team, of_text, packed_due, team_due, text_due};
+
+use crate::teams::{MemberForm, TeamForm};
+use arrayvec::ArrayVec;
+use gen1_stats::{MemberSpec, Team, TeamRefusal};
+use gen1_tables::MoveId;
+use gen1_text::{MemberFault, PackedFault, TextFault, members_in_packed, members_in_text};
+
+/// Where a text is at fault, and what was expected there.
+#[repr(C)]
+#[derive(Clone, Copy)]
+pub struct TextFaultForm {
+    /// The line, from 1; 0 where it is no single line.
+    pub line: usize,
+    /// The member, from 1; 0 where it is no single member.
+    pub member: usize,
+    /// The field of a packed line, from 1; 0 where it is no single field.
+    pub field: usize,
+    /// What was expected.
+    pub code: u8,
+    /// Why the members are no team.
+    pub rule: u8,
+}
+
+/// The team that the export text of a team builder tells of.
+#[unsafe(no_mangle)]
+pub extern "C" fn gen1_team_from_text(
+    text: &[u8],
+    team: &mut TeamForm,
+    fault: &mut TextFaultForm,
+) -> u8
+    ensures tells { TellsTeam (text_due (members_told text.now))
+        (record { team = team.old; fault = fault.old }) (record { team = team.new; fault = fault.new }) result }
+{
+    match members_in_text(text) {
+        Ok(specs) => put_team(&specs, team, fault),
+        Err(found) => put_fault(of_text(found), fault),
+    }
+}
+
+/// The team that a packed line tells of.
+#[unsafe(no_mangle)]
+pub extern "C" fn gen1_team_from_packed(
+    text: &[u8],
+    team: &mut TeamForm,
+    fault: &mut TextFaultForm,
+) -> u8
+    ensures tells { TellsTeam (packed_due (members_packed text.now))
+        (record { team = team.old; fault = fault.old }) (record { team = team.new; fault = fault.new }) result }
+{
+    match members_in_packed(text) {
+        Ok(specs) => put_team(&specs, team, fault),
+        Err(found) => put_fault(of_packed(found), fault),
+    }
+}
+
+// The members are put into the struct, if they are a team.
+fn put_team(specs: &ArrayVec<MemberSpec, 6>, team: &mut TeamForm, fault: &mut TextFaultForm) -> u8
+    ensures { TellsTeam (team_due specs.now.items)
+        (record { team = team.old; fault = fault.old }) (record { team = team.new; fault = fault.new }) result }
+{
+    match Team::new(specs.as_slice()) {
+        Ok(_) => {
+            *team = form_of(specs.as_slice());
+            0
+        }
+        Err(refusal) => put_fault(of_team(refusal), fault),
+    }
+}
+
+fn put_fault(found: TextFaultForm, fault: &mut TextFaultForm) -> u8
+    ensures code { result ≡ found.code }
+    ensures put { fault.new ≡ found }
+{
+    *fault = found;
+    found.code
+}
+
+// Faults.
+
+fn of_text(fault: TextFault) -> TextFaultForm
+    ensures { result ≡ of_text fault }
+{
+    match fault {
+        TextFault::Line { line, fault } => TextFaultForm {
+            line,
+            ..expected(number_of(fault))
+        },
+        TextFault::Team(refusal) => of_team(refusal),
+    }
+}
+
+fn of_packed(fault: PackedFault) -> TextFaultForm
+    ensures { result ≡ of_packed fault }
+{
+    match fault {
+        PackedFault::Fields { member } => TextFaultForm {
+            member,
+            ..expected(13)
+        },
+        PackedFault::Field {
+            member,
+            field,
+            fault,
+        } => TextFaultForm {
+            member,
+            field,
+            ..expected(number_of(fault))
+        },
+        PackedFault::SeventhMember => expected(3),
+        PackedFault::Team(refusal) => of_team(refusal),
+    }
+}
+
+fn of_team(refusal: TeamRefusal) -> TextFaultForm
+    ensures { result ≡ of_team refusal }
+{
+    TextFaultForm {
+        member: usize::from(refusal.place()),
+        rule: refusal.number(),
+        ..expected(14)
+    }
+}
+
+fn expected(code: u8) -> TextFaultForm
+    ensures { result ≡ expected code }
+{
+    TextFaultForm {
+        line: 0,
+        member: 0,
+        field: 0,
+        code,
+        rule: 0,
+    }
+}
+
+fn number_of(fault: MemberFault) -> u8
+    ensures { result ≡ code_of fault }
+{
+    match fault {
+        MemberFault::Species => 1,
+        MemberFault::Item => 2,
+        MemberFault::SeventhMember => 3,
+        MemberFault::Level => 4,
+        MemberFault::Evs => 5,
+        MemberFault::SpecialEvs => 6,
+        MemberFault::Ivs => 7,
+        MemberFault::SpecialIvs => 8,
+        MemberFault::HpIv => 9,
+        MemberFault::Move => 10,
+        MemberFault::FifthMove => 11,
+        MemberFault::UnknownLine => 12,
+    }
+}
+
+// The struct.
+
+fn form_of(specs: &[MemberSpec]) -> TeamForm
+    requires few { length specs.now ≤ 6 }
+    ensures value { result ≡ form_of specs.now }
+{
+    TeamForm {
+        members: [
+            member_at(specs, 0),
+            member_at(specs, 1),
+            member_at(specs, 2),
+            member_at(specs, 3),
+            member_at(specs, 4),
+            member_at(specs, 5),
+        ],
+        count: specs.len() as u8,
+    }
+}
+
+// The member at an index; zeros behind the last.
+fn member_at(specs: &[MemberSpec], index: usize) -> MemberForm
+    ensures { result ≡ member_at specs.now index }
+{
+    match specs.get(index) {
+        Some(spec) => member_of(spec),
+        None => MemberForm {
+            species: 0,
+            level: 0,
+            dvs: [0; 4],
+            moves: [0; 4],
+            pp_ups: [0; 4],
+            exp: [0; 5],
+        },
+    }
+}
+
+fn member_of(spec: &MemberSpec) -> MemberForm
+    ensures { result ≡ member_of spec.now }
+{
+    let moves = spec.moves.as_slice();
+    let (first, second) = (move_at(moves, 0), move_at(moves, 1));
+    let (third, fourth) = (move_at(moves, 2), move_at(moves, 3));
+    MemberForm {
+        species: spec.species.number(),
+        level: spec.level,
+        dvs: spec.dvs,
+        moves: [first.0, second.0, third.0, fourth.0],
+        pp_ups: [first.1, second.1, third.1, fourth.1],
+        exp: spec.exp,
+    }
+}
+
+// The number and the PP ups of the move at an index; zeros behind the last.
+fn move_at(moves: &[(MoveId, u8)], index: usize) -> (u8, u8)
+    ensures { result ≡ move_at moves.now index }
+{
+    match moves.get(index) {
+        Some(known) => (known.0.number(), known.1),
+        None => (0, 0),
+    }
+}
