@@ -10,3 +10,5 @@ pub mod Bytes
 pub mod Played
 -- Any calls, one after the other.
 pub mod Calls
+-- Other numbers to draw.
+pub mod Reseeded

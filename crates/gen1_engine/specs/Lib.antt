@@ -6,3 +6,5 @@ pub mod Replay
 pub mod Calls
 -- What a side may choose, as a number.
 pub mod OfferedMask
+-- Other numbers to draw.
+pub mod Reseed

@@ -9,17 +9,20 @@ ghost use Rattle.gen1_layout.specs.LoadingMeaning.{IsBattle, StandsForSome};
 ghost use Rattle.gen1_layout.specs.Within.{Stands};
 ghost use Rattle.gen1_engine.specs.OfferedMask.{offered_mask};
 ghost use Rattle.gen1_engine.specs.Replay.{AnswersBytes, LogsBytes, Replays, TellsBytes, is_write_fault};
+ghost use Rattle.gen1_engine.specs.Reseed.{reseeded};
 ghost use Rattle.gen1_engine.specs.Update.{Answers, IsBounded, Logs, Tells, result_of};
 
 use crate::choice_bytes::{update_by_bytes, update_events_by_bytes};
 use crate::offered_mask::offered_mask;
 use crate::replay::{ReplayFault, replay};
+use crate::reseed::reseed;
 use crate::result::{BattleResult, Refusal};
 use crate::update::{result, update, update_events};
 use gen1_events::LogBuf;
 use gen1_layout::{LoadFault, Packed};
 use gen1_machine::{Choice, EventList, Rules, Side, Sink, TurnLimit};
 use gen1_requests::{Choices, offered};
+use gen1_rolls::LinkRandom;
 use gen1_stats::Team;
 use std::alloc::AllocError;
 use std::marker::Model;
@@ -154,6 +157,14 @@ impl Battle {
         ensures { (s : State) → Stands self.now s → result ≡ s.terms.limit }
     {
         self.packed.limit()
+    }
+
+    /// Gives it other numbers to draw, and changes nothing else (docs/MECHANICS.md, "Link numbers"). A copy knows what the
+    /// battle will draw, so a search reseeds each copy before it plays it out.
+    pub fn reseed(&mut self, numbers: &LinkRandom)
+        ensures { (s : State) → Stands self.old s → Stands self.new (reseeded numbers.now s) }
+    {
+        reseed(&mut self.packed, numbers);
     }
 
     /// An update by a choice of each side. An accepted pair leaves its log bytes in the buffer (docs/MECHANICS.md, "Log bytes"),

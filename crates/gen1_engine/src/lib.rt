@@ -7,6 +7,7 @@
 //! - `choice_bytes`: the same by the bytes of choices
 //! - `offered_mask`: what a side may choose, as a number
 //! - `replay`: many updates, one after the other
+//! - `reseed`: other numbers to draw
 //! - `result`: what a battle answers to an update
 //! - `log`: the log bytes of an update
 //! - `laws`: what holds of all calls
@@ -19,6 +20,7 @@ mod log;
 mod offered_mask;
 pub mod packed;
 mod replay;
+mod reseed;
 mod result;
 mod update;
 

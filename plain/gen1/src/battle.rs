@@ -5,6 +5,7 @@ use crate::{
     Side, Team, TurnLimit,
 };
 use core::fmt;
+use gen1_rolls::LinkRandom;
 
 /// A battle of two teams: 384 bytes, changed in place.
 ///
@@ -91,6 +92,22 @@ impl Battle {
     #[must_use]
     pub fn limit(&self) -> u16 {
         self.inner.limit()
+    }
+
+    /// Gives the battle ten other numbers to draw, from the first of them on, and changes nothing else.
+    ///
+    /// A clone draws what the battle will draw: a search that is not to know that reseeds each clone before it plays it out.
+    ///
+    /// ```
+    /// # use gen1::{Battle, Team, member};
+    /// # let team = Team::new(&[member("Mew", &["Psychic"]).unwrap()]).unwrap();
+    /// let battle = Battle::new(&team, &team, [7; 10]);
+    /// let mut other = battle.clone();
+    /// other.reseed([8; 10]);
+    /// assert_eq!(other, Battle::new(&team, &team, [8; 10]));
+    /// ```
+    pub fn reseed(&mut self, seed: [u8; 10]) {
+        self.inner.reseed(&LinkRandom::new(seed));
     }
 
     /// Updates the battle by a choice of each side, and answers what happened.

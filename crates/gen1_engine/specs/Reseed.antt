@@ -1,0 +1,7 @@
+-- A battle with other numbers to draw (docs/MECHANICS.md, "Link numbers").
+use Rattle.gen1_rolls.specs.Link.{Ring}
+use Rattle.gen1_machine.specs.State.{State}
+
+-- the same state, which draws from these numbers, from the index on
+abbrev pub reseeded : Ring → State → State
+reseeded ring s = record s { seed = ring.numbers; drawn = ring.index }

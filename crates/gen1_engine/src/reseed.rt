@@ -1,0 +1,34 @@
+//! A battle with other numbers to draw (docs/MECHANICS.md, "Link numbers").
+ghost use Rattle.std.specs.Prelude.{drop, length, take, ◌++◌, ◌≡◌, ◌∷◌};
+ghost use Rattle.gen1_rolls.specs.Streams.{IsStream, Link};
+ghost use Rattle.gen1_machine.specs.State.{State};
+ghost use Rattle.gen1_layout.specs.LoadingMeaning.{StandsForSome};
+ghost use Rattle.gen1_layout.specs.Within.{Stands};
+ghost use Rattle.gen1_engine.specs.Reseed.{reseeded};
+
+use gen1_layout::Packed;
+use gen1_rolls::LinkRandom;
+
+/// Gives a battle other numbers to draw, and changes nothing else: its bytes then stand for the same state, whose seed are these
+/// numbers and of whose draws so many were made as their index says.
+pub fn reseed(battle: &mut Packed, numbers: &LinkRandom)
+    ensures stands { (s : State) → Stands battle.old s
+        → Stands battle.new (reseeded numbers.now s) }
+    ensures valid { StandsForSome battle.old → StandsForSome battle.new }
+{
+    let index = numbers.index();
+    let bytes = numbers.numbers();
+    let header = battle.header_mut();
+    put_numbers(header, index, &bytes);
+}
+
+// Writes to the bytes of a header the numbers to draw from, and the index of the one that is drawn next.
+fn put_numbers(header: &mut [u8], index: u8, numbers: &[u8])
+    requires header { length header.old ≡ 24 }
+    requires ten { length numbers.now ≡ 10 }
+    ensures numbers { IsStream (Link numbers.now) }
+    ensures written { header.new ≡ take 5 header.old ++ index ∷ numbers.now ++ drop 16 header.old }
+{
+    header[5] = index;
+    header[6..16].copy_from_slice(numbers);
+}
