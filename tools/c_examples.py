@@ -12,8 +12,12 @@ from typing import Callable
 
 sys.dont_write_bytecode = True
 from battles import cases, recorded
+from c_library import ran
 from repository import ROOT
 
+# How many recorded battles are played in a room.
+ROOMS = 40
+ROOM = ("-Iexamples/c/common", "examples/c/room/room.c", "examples/c/room/table.c", "examples/c/common/battle_file.c")
 PLAYED = ("battles", "rules", "limit", "first_path")
 
 
@@ -44,7 +48,7 @@ class Case:
 
 @dataclass
 class Example:
-    """An example: its name, its sources, and the cases that it is run on, of a folder of recorded cases."""
+    """An example: its name, its sources, and the cases that it is run on, by the gate."""
 
     name: str
     sources: tuple
@@ -56,21 +60,21 @@ def recorded_case(case, words, given):
     return Case(case["name"], words, given, case["stdout"].encode(), case.get("stderr", "").encode(), case.get("status", 0))
 
 
-def of_play(folder):
+def of_play(gate):
     """Every recorded battle."""
     for name in PLAYED:
-        for case in cases(recorded(f"{name}.jsonl", folder)):
+        for case in cases(recorded(f"{name}.jsonl", gate.cases)):
             yield recorded_case(case, (), as_numbers(json.loads(case["input"])).encode())
 
 
-def of_look(_folder):
+def of_look(_gate):
     """It has no input, and compares by itself."""
     yield Case("status", (), b"", re.compile(b"(.*\n)+outcome [12]\n(.*\n)+"), b"", 0)
 
 
-def of_replay(folder):
+def of_replay(gate):
     """Every recorded log, with its faults."""
-    for case in cases(recorded("print.jsonl", folder)):
+    for case in cases(recorded("print.jsonl", gate.cases)):
         it = recorded_case(case, (), bytes.fromhex(case["hex"]))
         if it.status:
             it.stderr = re.compile(re.escape(it.stderr.strip()) + rb" at byte \d+\n")
@@ -94,9 +98,9 @@ def hp_of(member):
     return min(999, points + member["level"] + 10)
 
 
-def of_damage(folder):
+def of_damage(gate):
     """Every recorded hit by a move that a member may know: the attacker has it for its only one."""
-    for case in cases(recorded("calc.jsonl", folder)):
+    for case in cases(recorded("calc.jsonl", gate.cases)):
         if "error: json" in case.get("stderr", ""):
             continue
         asked = json.loads(case["input"])
@@ -126,9 +130,50 @@ def damage_row(recorded_line, hp, is_critical):
     return rf"{numbers}; critical {any_numbers}; " + (re.escape(f"{-(-hp // least)} hits") if least else "no number of hits is enough")
 
 
-def of_bot(_folder):
+def of_bot(_gate):
     """It wins at least 95 battles of 100."""
     yield Case("100 battles", ("100", "1"), b"", re.compile(rb"bot (100|9[5-9]), random \d, ties \d\n"), b"", is_long=True)
+
+
+def choices_of(asked, side):
+    """What a side is recorded to have chosen, where it was asked: Pass is only for a side of which nothing is asked."""
+    return [pair[side] for pair in asked["choices"][1:] if pair[side] != 0]
+
+
+def refused(side, choices):
+    """How often tests/c/rude_player.py is refused as a side, by code, as the room prints it."""
+    rubbish = 7 * len(choices) + 3000
+    return "".join(f"side {side}: refused {code}: {times}\n" for code, times in ((2, len(choices)), (4, len(choices)), (5, rubbish)))
+
+
+def of_room(gate):
+    """Recorded battles to their end, between processes that choose as recorded; every other one has a player that is rude."""
+    folder, player = gate.work / "room", gate.work / "player"
+    folder.mkdir(exist_ok=True)
+    ran("cc", "-O2", "-Wall", "-Wextra", "-Werror", "examples/c/room/player.c", "-o", player)
+    rude = f"exec {sys.executable} {ROOT / 'tests' / 'c' / 'rude_player.py'}"
+    played = [case for name in PLAYED for case in cases(recorded(f"{name}.jsonl", gate.cases)) if is_whole(case)]
+    for number, case in enumerate(played[::len(played) // ROOMS + 1]):
+        asked = json.loads(case["input"])
+        file = folder / f"{number}.txt"
+        file.write_text(as_numbers(asked))
+        one, two = (choices_of(asked, side) for side in (0, 1))
+        players = [f"exec {player}", f"exec {player}"]
+        if number % 2:
+            players[number // 2 % 2] = rude
+        words = [f"{command} {' '.join(map(str, choices))}" for command, choices in zip(players, (one, two))]
+        said = "".join(refused(side, choices) for side, choices in ((1, one), (2, two)) if players[side - 1] == rude)
+        yield Case(case["name"], (file, *words, "60"), b"", case["stdout"].encode(), said.encode())
+    tauros, lines = ROOT / "examples" / "tauros.txt", (ROOT / "crates" / "battle_tool" / "stdout").read_bytes()
+    flooded = re.compile(rb"side 2: refused 5: \d+\n")
+    yield Case("a flood without an end", (tauros, f"exec {player}", "exec yes", "1"), b"", lines, flooded, is_long=True)
+    yield Case("players that leave", (tauros, "exec true", "exec false"), b"", lines, b"")
+    yield Case("a player that is silent", (tauros, f"exec {player}", "exec sleep 100", "1"), b"", lines, b"", is_long=True)
+
+
+def is_whole(case):
+    """Whether a recorded battle was played to its end, and no pair of it was refused."""
+    return case.get("status", 0) == 0 and case["stdout"].splitlines()[-1:] and case["stdout"].splitlines()[-1].startswith(("|win|", "|tie"))
 
 
 EXAMPLES = (
@@ -136,6 +181,7 @@ EXAMPLES = (
     Example("look", ("examples/c/look.c",), of_look),
     Example("replay", ("examples/c/replay/replay.c",), of_replay),
     Example("bot", ("examples/c/bot/bot.c",), of_bot),
+    Example("room", ROOM, of_room),
     Example("damage", ("-Iexamples/c/common", "examples/c/damage/damage.c", "examples/c/common/battle_file.c"), of_damage),
 )
 

@@ -21,7 +21,7 @@ from urllib.parse import unquote
 sys.dont_write_bytecode = True
 from repository import ROOT
 
-DOCUMENTS = ("*.md", "docs/*.md", "crates/*/CALLING.md", "*/README.md", "*/*/README.md")
+DOCUMENTS = ("*.md", "docs/*.md", "crates/*/CALLING.md", "*/README.md", "*/*/README.md", "*/*/*/README.md")
 FENCE = re.compile(r"^(```|~~~).*?^\1 *$", re.M | re.S)
 CODE = re.compile(r"`[^`\n]*`")
 LINK = re.compile(r"\[[^\]\n]*\]\(([^)\s]+)\)")
@@ -42,7 +42,7 @@ def documents():
 def sources():
     """The files whose comments may cite a document."""
     patterns = ("crates/*/src/**/*.rt", "crates/*/specs/*.antt", "crates/*/proofs/**/*.antt", "tools/*", "include/*.h", "bench/*",
-                "examples/*/*", ".ci/run")
+                "examples/**/*", "tests/c/**/*", "packaging/*", ".ci/run")
     return [file for where in patterns for file in sorted(ROOT.glob(where)) if file.is_file()]
 
 

@@ -1,0 +1,248 @@
+/*
+ * Plays a battle of two players, each of them a process of its own at the other end of two pipes.
+ *
+ *     cc -O2 -I ../common room.c table.c ../common/battle_file.c $(pkg-config --cflags --libs gen1) -o room
+ *     ./room ../../tauros.txt 'COMMAND OF PLAYER 1' 'COMMAND OF PLAYER 2' [SECONDS]
+ *
+ * The first word is a file with a battle as decimal numbers (../play.c); its choices are not looked at. What a player reads and writes
+ * are lines:
+ *
+ *     ask NUMBER CHOICE ..   the number of the pair that is current, and the bytes of what may be chosen for it
+ *     taken | refused CODE   what became of the player's last line (table.h has the codes)
+ *     line TEXT              a line of the battle
+ *     NUMBER CHOICE          (the player) a choice for a pair
+ *
+ * Neither sees what the other has chosen before both have. What a player sends otherwise is refused by its code, and changes nothing;
+ * one that floods the room is read no faster than the other, and what it does not read in turn is not kept for it. For a player that
+ * leaves, or lets SECONDS go by (ten, where they are not given), the room chooses what is offered first. So every battle comes to its
+ * end. Its lines are printed, and on standard error how often each player was refused, by code.
+ */
+#define _POSIX_C_SOURCE 200809L
+#include "battle_file.h"
+#include "table.h"
+
+#include <errno.h>
+#include <fcntl.h>
+#include <poll.h>
+#include <signal.h>
+#include <stdarg.h>
+#include <stdlib.h>
+#include <string.h>
+#include <sys/wait.h>
+#include <time.h>
+#include <unistd.h>
+
+enum { USUAL_PATIENCE = 10, LINE_MOST = 32, READ_AT_ONCE = 4096 };
+
+typedef struct player {
+    uint8_t side;
+    pid_t pid;
+    int to, from;         /* the room's ends of both pipes; -1 once closed */
+    char line[LINE_MOST]; /* what came of a line that is not yet whole; longer ones are cut, and so refused */
+    size_t filled;
+    long refused[TABLE_CODES];
+} player;
+
+/* ---- what goes over the pipes ---- */
+
+/* Sends a line. A player that does not read does not get it: the room never waits for one. */
+static void send(player *to, const char *format, ...)
+{
+    char text[GEN1_LINE_ROOM + 16];
+    va_list arguments;
+    va_start(arguments, format);
+    int length = vsnprintf(text, sizeof text, format, arguments);
+    va_end(arguments);
+    if (to->to >= 0 && write(to->to, text, (size_t)length) < 0 && errno == EPIPE) {
+        close(to->to);
+        to->to = -1;
+    }
+}
+
+/* Asks a player for its choice, where one is due. */
+static void ask(player *of, const table *at)
+{
+    uint8_t choices[9];
+    char words[9 * 4 + 1] = "";
+    uint8_t count = table_choices(at, of->side, choices);
+    for (int k = 0; k < count; k++)
+        snprintf(words + strlen(words), sizeof words - strlen(words), " %d", choices[k]);
+    if (count > 0)
+        send(of, "ask %lu%s\n", (unsigned long)at->number, words);
+}
+
+/* Prints the lines of the last update, and sends them to both. */
+static void tell_both(player players[2], const table *at)
+{
+    char line[GEN1_LINE_ROOM];
+    size_t place = 0, length = 0;
+    while (gen1_next_line(at->log, at->log_length, &place, line, sizeof line, &length) == 0) {
+        fwrite(line, 1, length, stdout);
+        send(&players[0], "line %.*s", (int)length, line);
+        send(&players[1], "line %.*s", (int)length, line);
+    }
+    ask(&players[0], at);
+    ask(&players[1], at);
+}
+
+/* ---- what a player says ---- */
+
+/* The two numbers of a line, if that is what it is. */
+static bool read_line(const char *line, uint32_t *number, uint8_t *choice)
+{
+    unsigned long pair;
+    unsigned byte;
+    int end = -1;
+    if (strspn(line, "0123456789 ") != strlen(line) || sscanf(line, "%10lu %3u%n", &pair, &byte, &end) != 2 || line[end] != '\0'
+        || pair > UINT32_MAX || byte > 255)
+        return false;
+    *number = (uint32_t)pair;
+    *choice = (uint8_t)byte;
+    return true;
+}
+
+/* A line has come from a player: it is taken, or refused by its code. */
+static void take_line(player players[2], player *from, table *at)
+{
+    uint32_t number, before = at->number;
+    uint8_t choice, code = TABLE_RUBBISH;
+    from->line[from->filled < LINE_MOST ? from->filled : LINE_MOST - 1] = '\0';
+    if (from->filled < LINE_MOST && strlen(from->line) == from->filled && read_line(from->line, &number, &choice))
+        code = table_submit(at, from->side, number, choice);
+    from->filled = 0;
+    from->refused[code]++;
+    if (code == 0)
+        send(from, "taken\n");
+    else
+        send(from, "refused %d\n", code);
+    if (at->number != before)
+        tell_both(players, at);
+}
+
+/* Reads what a player has sent, no more than a share at a time. */
+static void listen_to(player players[2], player *from, table *at)
+{
+    char bytes[READ_AT_ONCE];
+    ssize_t count = read(from->from, bytes, sizeof bytes);
+    if (count <= 0) {
+        close(from->from);
+        from->from = -1;
+    }
+    for (ssize_t k = 0; k < count; k++)
+        if (bytes[k] == '\n')
+            take_line(players, from, at);
+        else if (from->filled < LINE_MOST)
+            from->line[from->filled++] = bytes[k];
+}
+
+/* Chooses what is offered first for each player that has left, or, where the time is up, for each that has not chosen. */
+static void choose_for_missing(player players[2], table *at, bool is_time_up)
+{
+    uint32_t before = at->number;
+    for (int k = 0; k < 2 && at->number == before; k++) {
+        uint8_t choices[9];
+        if ((is_time_up || players[k].from < 0) && table_choices(at, players[k].side, choices) > 0)
+            table_submit(at, players[k].side, at->number, choices[0]);
+    }
+    if (at->number != before)
+        tell_both(players, at);
+}
+
+/* ---- the battle ---- */
+
+/* Waits for either player until a time, and reads what there is. */
+static void listen_to_both(player players[2], table *at, time_t until)
+{
+    struct pollfd ends[2] = {{.fd = players[0].from, .events = POLLIN}, {.fd = players[1].from, .events = POLLIN}};
+    time_t now = time(NULL);
+    if (poll(ends, 2, until > now ? (int)(until - now) * 1000 : 0) > 0)
+        for (int k = 0; k < 2; k++)
+            if (ends[k].revents != 0)
+                listen_to(players, &players[k], at);
+}
+
+static void play(player players[2], table *at, int patience)
+{
+    time_t until = time(NULL) + patience;
+    tell_both(players, at);
+    while (!table_is_over(at)) {
+        uint32_t number = at->number;
+        choose_for_missing(players, at, time(NULL) >= until);
+        if (at->number == number)
+            listen_to_both(players, at, until);
+        if (at->number != number)
+            until = time(NULL) + patience;
+    }
+}
+
+/* ---- processes ---- */
+
+static void or_stop(bool is_done, const char *what)
+{
+    if (!is_done) {
+        perror(what);
+        exit(1);
+    }
+}
+
+/* Begins a player's process, in a group of its own, with pipes that the other player does not have. */
+static player begin(uint8_t side, const char *command)
+{
+    int to[2], from[2];
+    or_stop(pipe(to) == 0 && pipe(from) == 0, "pipe");
+    fcntl(to[1], F_SETFD, FD_CLOEXEC);
+    fcntl(from[0], F_SETFD, FD_CLOEXEC);
+    fcntl(to[1], F_SETFL, O_NONBLOCK);
+    pid_t pid = fork();
+    or_stop(pid >= 0, "fork");
+    if (pid == 0) {
+        setpgid(0, 0);
+        dup2(to[0], STDIN_FILENO);
+        dup2(from[1], STDOUT_FILENO);
+        close(to[0]);
+        close(from[1]);
+        execl("/bin/sh", "sh", "-c", command, (char *)NULL);
+        _exit(127);
+    }
+    close(to[0]);
+    close(from[1]);
+    return (player){.side = side, .pid = pid, .to = to[1], .from = from[0]};
+}
+
+/* Ends a player's process, and says how often it was refused. */
+static void end(player *of)
+{
+    kill(-of->pid, SIGTERM);
+    waitpid(of->pid, NULL, 0);
+    for (int code = 1; code < TABLE_CODES; code++)
+        if (of->refused[code] > 0)
+            fprintf(stderr, "side %d: refused %d: %ld\n", of->side, code, of->refused[code]);
+}
+
+int main(int count, char **words)
+{
+    battle_file file;
+    table at;
+    int patience = count == 5 ? atoi(words[4]) : USUAL_PATIENCE;
+    if (count < 4 || count > 5 || patience < 1) {
+        fputs("usage: room BATTLE PLAYER PLAYER [SECONDS]\n", stderr);
+        return 2;
+    }
+    FILE *from = fopen(words[1], "r");
+    if (from == NULL || !read_battle(from, &file)) {
+        fprintf(stderr, "error: %s is no battle\n", words[1]);
+        return 2;
+    }
+    fclose(from);
+    uint32_t fault = table_open(&at, &file);
+    if (fault != 0) {
+        print_team_fault(fault);
+        return 1;
+    }
+    signal(SIGPIPE, SIG_IGN);
+    player players[2] = {begin(GEN1_ONE, words[2]), begin(GEN1_TWO, words[3])};
+    play(players, &at, patience);
+    end(&players[0]);
+    end(&players[1]);
+    return 0;
+}
