@@ -1,0 +1,282 @@
+/* Calls of battles, logs and damage with arguments out of their ranges (hostile.c). */
+#include "lawful.h"
+
+#include <string.h>
+
+/* ---- gen1_new ---- */
+
+/* What is at fault in a member by itself, before the rules of teams: its species or a move is no number of one. */
+static uint32_t fault_of_numbers(const gen1_member *it)
+{
+    if (it->species < 1 || it->species > 151)
+        return GEN1_NO_SUCH_SPECIES;
+    for (int at = 0; at < 4; at++)
+        if (it->moves[at] > 165)
+            return GEN1_NO_SUCH_MOVE;
+    return 0;
+}
+
+static bool is_left_out(uint8_t move)
+{
+    return move == 102 || move == 118 || move == 119 || move == 144;
+}
+
+/* Whether a move stands at two places. */
+static bool has_repeated_move(const gen1_member *it)
+{
+    for (int at = 0; at < 4; at++)
+        for (int other = 0; other < at; other++)
+            if (it->moves[at] != 0 && it->moves[at] == it->moves[other])
+                return true;
+    return false;
+}
+
+/* The first of the rules of teams that a member breaks (docs/MECHANICS.md, "Teams"). */
+static uint32_t fault_of_rules(const gen1_member *it)
+{
+    bool has_high_dv = false, has_move = false, has_left_out = false, has_struggle = false, has_many_ups = false;
+    for (int at = 0; at < 4; at++) {
+        bool is_move = it->moves[at] != 0;
+        has_high_dv |= it->dvs[at] > 15;
+        has_move |= is_move;
+        has_left_out |= is_left_out(it->moves[at]);
+        has_struggle |= it->moves[at] == 165;
+        has_many_ups |= is_move && it->pp_ups[at] > 3;
+    }
+    return it->level < 1 || it->level > 100 ? GEN1_LEVEL
+        : has_high_dv                       ? GEN1_DV
+        : !has_move                         ? GEN1_NO_MOVE
+        : has_left_out                      ? GEN1_MOVE_LEFT_OUT
+        : has_struggle                      ? GEN1_STRUGGLE
+        : has_repeated_move(it)             ? GEN1_REPEATED_MOVE
+        : has_many_ups                      ? GEN1_PP_UPS
+                                            : 0;
+}
+
+/* The code of a team, with 256 for each place up to that of the member at fault. */
+static uint32_t fault_of_team(const gen1_team *team)
+{
+    if (team->count > 6)
+        return GEN1_TOO_MANY;
+    for (uint32_t place = 1; place <= team->count; place++)
+        if (fault_of_numbers(&team->members[place - 1]) != 0)
+            return fault_of_numbers(&team->members[place - 1]) + 256 * place;
+    for (uint32_t place = 1; place <= team->count; place++)
+        if (fault_of_rules(&team->members[place - 1]) != 0)
+            return fault_of_rules(&team->members[place - 1]) + 256 * place;
+    return team->count == 0 ? GEN1_EMPTY : 0;
+}
+
+static uint32_t fault_of_new(const gen1_team *one, const gen1_team *two, uint8_t rules, uint16_t limit)
+{
+    if (rules > 3)
+        return GEN1_RULES;
+    if (limit < 1 || limit > 9999)
+        return GEN1_TURN_LIMIT;
+    if (fault_of_team(one) != 0)
+        return 65536 + fault_of_team(one);
+    return fault_of_team(two) != 0 ? 2 * 65536 + fault_of_team(two) : 0;
+}
+
+/* Puts a number that may be out of its range into a team. */
+static void spoil(gen1_team *team)
+{
+    gen1_member *it = &team->members[draw(6)];
+    switch (draw(7)) {
+    case 0: team->count = any_byte(); break;
+    case 1: it->species = one_in(2) ? 152 : any_byte(); break;
+    case 2: it->level = one_in(2) ? 101 : any_byte(); break;
+    case 3: it->dvs[draw(4)] = one_in(2) ? 16 : any_byte(); break;
+    case 4: it->moves[draw(4)] = one_in(2) ? (uint8_t)(100 + draw(68)) : any_byte(); break;
+    case 5: it->moves[draw(4)] = one_in(2) ? it->moves[draw(4)] : 0; break;
+    default: it->pp_ups[draw(4)] = one_in(2) ? 4 : any_byte(); break;
+    }
+}
+
+static void try_new(void)
+{
+    gen1_team one = lawful_team(), two = lawful_team();
+    for (uint32_t times = draw(4); times > 0; times--)
+        spoil(one_in(2) ? &one : &two);
+    uint8_t rules = one_in(8) ? any_byte() : (uint8_t)draw(4);
+    uint16_t limit = (uint16_t)(one_in(8) ? (one_in(2) ? 10000 : draw(65536)) : 1 + draw(9999));
+    uint32_t want = fault_of_new(&one, &two, rules, limit);
+    gen1_battle *battle = block(0, sizeof *battle);
+    const gen1_team *first = block_of(1, &one, sizeof one), *second = block_of(2, &two, sizeof two);
+    const uint8_t *seed = block(3, 10);
+    note();
+    uint32_t got = gen1_new(battle, first, second, seed, rules, limit);
+    tell("gen1_new", got == want && (want == 0 ? changed_only(0, sizeof *battle) : unchanged()), got, want);
+}
+
+/* ---- gen1_load ---- */
+
+static void try_load(void)
+{
+    bool is_valid;
+    gen1_battle from = some_battle(&is_valid);
+    size_t count = one_in(3) ? draw(GUARDED_ROOM) : 384;
+    gen1_battle *battle = block(0, sizeof *battle);
+    uint8_t *bytes = block(1, count);
+    memcpy(bytes, from.bytes, count < 384 ? count : 384);
+    note();
+    uint8_t got = gen1_load(battle, count == 0 ? NULL : bytes, count);
+    uint8_t version = from.bytes[0];
+    uint8_t want = count != 384 ? GEN1_LOAD_LENGTH : version < 1 || version > 3 ? GEN1_LOAD_VERSION : is_valid ? 0 : got;
+    bool is_kept = got != 0 ? unchanged() : changed_only(0, sizeof *battle);
+    bool is_loaded = got != 0 || version != 3 || memcmp(battle, &from, sizeof from) == 0;
+    tell("gen1_load", got == want && got <= GEN1_LOAD_REQUEST && is_kept && is_loaded, got, want);
+}
+
+/* ---- gen1_choices, gen1_result ---- */
+
+static void try_choices(void)
+{
+    bool is_valid;
+    gen1_battle from = some_battle(&is_valid);
+    uint8_t side = one_in(2) ? (uint8_t)(1 + draw(2)) : any_byte();
+    const gen1_battle *battle = block_of(0, &from, sizeof from);
+    uint8_t *choices = block(1, 9);
+    note();
+    uint8_t got = gen1_choices(battle, side, choices);
+    bool is_side = side == GEN1_ONE || side == GEN1_TWO, is_kept = is_side && got <= 9 ? changed_only(1, got) : unchanged();
+    for (int at = 0; is_side && got <= 9 && at < got; at++) /* in rising order, and each of them a choice */
+        is_kept &= (at == 0 || choices[at - 1] < choices[at]) && choices[at] <= GEN1_SWITCH(6);
+    tell("gen1_choices", is_side ? got <= 9 && is_kept : got == GEN1_NO_SIDE && is_kept, got, is_side ? got : GEN1_NO_SIDE);
+}
+
+static void try_result(void)
+{
+    bool is_valid;
+    gen1_battle from = some_battle(&is_valid);
+    const gen1_battle *battle = block_of(0, &from, sizeof from);
+    note();
+    uint8_t got = gen1_result(battle);
+    bool is_one = GEN1_OUTCOME(got) <= GEN1_FAULT_TWO && GEN1_REQUEST_ONE(got) <= GEN1_ASKED_SWITCH
+        && GEN1_REQUEST_TWO(got) <= GEN1_ASKED_SWITCH;
+    tell("gen1_result", (is_one || !is_valid) && unchanged(), got, got);
+}
+
+/* ---- gen1_update ---- */
+
+/* The code of an update of a valid battle. */
+static uint8_t fault_of_update(const gen1_battle *battle, uint8_t one, uint8_t two, size_t room)
+{
+    if (room != 0 && room < GEN1_LOG_ROOM)
+        return GEN1_SMALL_LOG;
+    if (GEN1_OUTCOME(gen1_result(battle)) != GEN1_ONGOING)
+        return GEN1_OVER;
+    if (!is_offered(battle, GEN1_ONE, one))
+        return GEN1_NOT_OFFERED_ONE;
+    return is_offered(battle, GEN1_TWO, two) ? 0 : GEN1_NOT_OFFERED_TWO;
+}
+
+static void try_update(void)
+{
+    bool is_valid;
+    gen1_battle from = some_battle(&is_valid);
+    uint8_t one = one_in(2) ? offered(&from, GEN1_ONE) : any_byte(), two = one_in(2) ? offered(&from, GEN1_TWO) : any_byte();
+    size_t room = one_in(4) ? draw(GEN1_LOG_ROOM) : one_in(4) ? 0 : GEN1_LOG_ROOM + draw(3) * 100;
+    gen1_battle *battle = block_of(0, &from, sizeof from);
+    uint8_t *log = block(1, room);
+    size_t *length = block(2, sizeof *length);
+    note();
+    uint8_t got = gen1_update(battle, one, two, room == 0 ? NULL : log, room, length);
+    uint8_t want = is_valid || (room != 0 && room < GEN1_LOG_ROOM) ? fault_of_update(&from, one, two, room) : got;
+    bool is_kept = unchanged();
+    if (got == 0) {
+        gen1_battle after = *battle;
+        is_kept = *length <= room && *length <= GEN1_LOG_ROOM;
+        memcpy(battle, &from, sizeof from);
+        is_kept &= changed_only_two(1, *length <= room ? *length : 0, 2, sizeof *length);
+        is_kept &= !is_valid || gen1_load(&from, after.bytes, sizeof after.bytes) == 0;
+    }
+    tell("gen1_update", got == want && is_kept, got, want);
+}
+
+/* ---- gen1_next_event, gen1_next_line ---- */
+
+/* A log that was met, some of its bytes changed, or any bytes; in the block 0. */
+static const uint8_t *some_log(size_t *count)
+{
+    int which = (int)draw(MET);
+    *count = one_in(4) ? draw(GEN1_LOG_ROOM + 1) : met_length[which];
+    uint8_t *log = block(0, *count);
+    if (!one_in(8))
+        memcpy(log, met_log[which], *count);
+    for (uint32_t changes = *count == 0 ? 0 : draw(4); changes > 0; changes--)
+        log[draw((uint32_t)*count)] = any_byte();
+    return log;
+}
+
+/* A place in a log, or behind it, or far behind it. */
+static size_t some_place(size_t count)
+{
+    return one_in(4) ? SIZE_MAX - draw(3) : one_in(4) ? count + draw(3) : one_in(2) || count == 0 ? 0 : draw((uint32_t)count);
+}
+
+/* The code that is due at a place, where it can be seen from the tag's byte alone; else `otherwise`. */
+static uint8_t fault_of_place(const uint8_t *log, size_t count, size_t at, uint8_t otherwise)
+{
+    return at >= count ? GEN1_LOG_END : log[at] < 1 || log[at] > GEN1_FAULT ? GEN1_LOG_TAG : otherwise;
+}
+
+static void try_next_event(void)
+{
+    size_t count;
+    const uint8_t *log = some_log(&count);
+    size_t from = some_place(count);
+    size_t *at = block_of(1, &from, sizeof from);
+    gen1_event *event = block(2, sizeof *event);
+    note();
+    uint8_t got = gen1_next_event(count == 0 ? NULL : log, count, at, event);
+    uint8_t want = fault_of_place(log, count, from, got);
+    bool is_kept = got != 0 ? unchanged()
+        : changed_only_two(1, sizeof *at, 2, sizeof *event) && *at > from && *at <= count && event->tag == log[from];
+    tell("gen1_next_event", got == want && got <= GEN1_LOG_END && is_kept, got, want);
+}
+
+static void try_next_line(void)
+{
+    size_t count, length = 0;
+    const uint8_t *log = some_log(&count);
+    size_t from = some_place(count), end = from, room = one_in(2) ? draw(GEN1_LINE_ROOM) : GEN1_LINE_ROOM;
+    char line[GEN1_LINE_ROOM];
+    uint8_t whole = gen1_next_line(log, count, &end, line, sizeof line, &length);
+    size_t *at = block_of(1, &from, sizeof from), *written = block(3, sizeof *written);
+    char *text = block(2, room);
+    note();
+    uint8_t got = gen1_next_line(count == 0 ? NULL : log, count, at, room == 0 ? NULL : text, room, written);
+    uint8_t want = fault_of_place(log, count, from, whole == 0 && length > room ? GEN1_SMALL_TEXT : whole);
+    bool is_kept = unchanged();
+    if (got == 0) {
+        is_kept = *at == end && *written == length && memcmp(text, line, length) == 0;
+        memcpy(at, &from, sizeof from);
+        is_kept &= changed_only_two(2, length, 3, sizeof *written);
+    }
+    tell("gen1_next_line", got == want && is_kept, got, want);
+}
+
+/* ---- gen1_damage ---- */
+
+static void try_damage(void)
+{
+    bool is_valid;
+    gen1_battle from = some_battle(&is_valid);
+    uint8_t side = one_in(2) ? any_byte() : (uint8_t)(1 + draw(2)), move = one_in(2) ? any_byte() : (uint8_t)(1 + draw(165));
+    bool is_out = GEN1_REQUEST_ONE(gen1_result(&from)) != GEN1_ASKED_NOTHING || GEN1_REQUEST_TWO(gen1_result(&from)) != GEN1_ASKED_NOTHING;
+    const gen1_battle *battle = block_of(0, &from, sizeof from);
+    uint16_t *damages = block(1, 39 * sizeof *damages);
+    note();
+    uint8_t got = gen1_damage(battle, side, move, one_in(2), damages);
+    uint8_t want = side != GEN1_ONE && side != GEN1_TWO ? GEN1_DAMAGE_SIDE : move < 1 || move > 165 ? GEN1_DAMAGE_MOVE : got;
+    bool is_kept = got != 0 ? unchanged() : changed_only(1, 39 * sizeof *damages);
+    for (int at = 1; got == 0 && at < 39; at++)
+        is_kept &= damages[at - 1] <= damages[at];
+    is_kept &= !is_valid || got != GEN1_DAMAGE_NOBODY || !is_out;
+    tell("gen1_damage", got == want && got <= GEN1_DAMAGE_DIVISOR && is_kept, got, want);
+}
+
+try_call *const tries_of_battles[] = {
+    try_new, try_load, try_choices, try_result, try_update, try_next_event, try_next_line, try_damage, NULL,
+};
