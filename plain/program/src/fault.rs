@@ -19,6 +19,8 @@ pub enum Fault {
     Log(LogFault),
     /// The move has no damage numbers.
     Calc,
+    /// The page has not one place for a battle.
+    Page,
     /// A read failed.
     Read,
     /// A write failed.
@@ -39,6 +41,7 @@ impl fmt::Display for Fault {
             Fault::Pair(number, why) => write!(f, "pair {number} refused {}", why.number()),
             Fault::Log(why) => write!(f, "log {}", why.number()),
             Fault::Calc => f.write_str("calc"),
+            Fault::Page => f.write_str("page"),
             Fault::Read => f.write_str("read"),
             Fault::Write => f.write_str("write"),
         }

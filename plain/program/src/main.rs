@@ -7,6 +7,7 @@ mod fault;
 mod input;
 mod play;
 mod random;
+mod replay;
 mod screen;
 
 use clap::{Args, Parser, Subcommand};
@@ -39,6 +40,8 @@ enum Command {
     State(Look),
     /// Plays against the computer
     Play(play::Game),
+    /// Prints a page that holds a battle, to be watched in a browser
+    Replay(replay::Replay),
     /// Plays random battles, and tells how fast
     Bench(bench::Measure),
 }
@@ -66,6 +69,7 @@ fn answer(command: Command) -> Result<(), Fault> {
         Command::Room(input) => commands::room(&input::read(input.file)?),
         Command::State(look) => commands::state(&input::read(look.input.file)?, look.bytes),
         Command::Play(game) => play::play(&game),
+        Command::Replay(asked) => replay::replay(asked),
         Command::Bench(measure) => bench::bench(&measure),
     }
 }

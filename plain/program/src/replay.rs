@@ -1,0 +1,58 @@
+//! A page that holds a battle (web/README.md, "A file that holds its battle").
+use crate::commands::put;
+use crate::fault::Fault;
+use crate::input::{Sheet, list_of, pair_of, read, value_of};
+use clap::Args;
+use gen1::events_of;
+use std::path::PathBuf;
+
+/// What stands in a page where a battle may.
+const PLACE: &str = r#"<script id="battle" type="application/json">null</script>"#;
+
+/// A battle, and the page that is to hold it.
+#[derive(Args)]
+pub struct Replay {
+    /// The object of run, or a log's bytes; without FILE it is standard input
+    file: Option<PathBuf>,
+    /// The page, as web/build makes it
+    #[arg(long, value_name = "HTML")]
+    page: PathBuf,
+}
+
+/// Prints the page with the battle in it.
+pub fn replay(asked: Replay) -> Result<(), Fault> {
+    let battle = battle_in(&read(asked.file)?)?;
+    let page = String::from_utf8(read(Some(asked.page))?).map_err(|_| Fault::Page)?;
+    put(&filled(&page, &battle).ok_or(Fault::Page)?)
+}
+
+/// The page with a battle in the one place for it.
+fn filled(page: &str, battle: &str) -> Option<String> {
+    let (before, after) = page.split_once(PLACE)?;
+    if after.contains(PLACE) {
+        return None;
+    }
+    // In JSON a bracket stands only in texts, where it may be written so; as it is it could end the element.
+    let held = battle.trim().replace('<', "\\u003c");
+    Some([before, &PLACE.replace("null", &held), after].concat())
+}
+
+/// The JSON that stands for an input: an object of run with lawful teams, or log bytes.
+fn battle_in(input: &[u8]) -> Result<String, Fault> {
+    if input.trim_ascii_start().first() != Some(&b'{') {
+        return log_in(input);
+    }
+    let value = value_of(input)?;
+    Sheet::of(&value).ok_or(Fault::Json)?.battle()?;
+    let choices = value.get("choices").ok_or(Fault::Json)?;
+    list_of(choices, pair_of).ok_or(Fault::Json)?;
+    serde_json::to_string(&value).map_err(|_| Fault::Json)
+}
+
+fn log_in(log: &[u8]) -> Result<String, Fault> {
+    if let Some(fault) = events_of(log).find_map(Result::err) {
+        return Err(Fault::Log(fault));
+    }
+    let digits: String = log.iter().map(|byte| format!("{byte:02x}")).collect();
+    Ok(format!(r#"{{"log":"{digits}"}}"#))
+}
