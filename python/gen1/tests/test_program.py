@@ -177,3 +177,38 @@ def test_random_battles_explained():
             after, told, draws = explained(battle, *pair)
             battle.play(*pair)
             assert battle == after and all(map(sentence, told)) and all(said for it in draws for _, said in it.others)
+
+
+PAGE = '<html><script id="battle" type="application/json">null</script><p>null</p></html>'
+
+
+def test_replay(monkeypatch, capsys, tmp_path):
+    """The page with the battle as JSON in its one place, and nothing else changed."""
+    page, out = tmp_path / "page.html", tmp_path / "out.html"
+    page.write_text(PAGE)
+    asked = json.loads((ROOT / "crates" / "battle_tool" / "stdin").read_text()) | {"note": "</script><b>"}
+    given = json.dumps(asked).encode()
+    text, status, err = ran(monkeypatch, capsys, given, "replay", "--page", str(page))
+    before, after = PAGE.split("null", 1)
+    assert (status, err) == (0, "") and text.startswith(before) and text.endswith(after)
+    held = text[len(before) : -len(after)]
+    assert json.loads(held) == asked and "<" not in held
+    assert ran(monkeypatch, capsys, given, "replay", "--page", str(page), "--out", str(out))[:2] == ("", 0) and out.read_text() == text
+    log = bytes([1, 1, 0, 26, 1])
+    assert '{"log": "0101001a01"}' in ran(monkeypatch, capsys, log, "replay", "--page", str(page))[0]
+
+
+def test_replays_that_are_refused(monkeypatch, capsys, tmp_path):
+    page, other, out = tmp_path / "page.html", tmp_path / "other.html", tmp_path / "out.html"
+    page.write_text(PAGE), other.write_text(PAGE + PAGE)
+    good = (ROOT / "crates" / "battle_tool" / "stdin").read_bytes()
+    for given, words, status, said in (
+        (b"\x99", ["--page", str(page)], 1, "no log"),
+        (b"{}", ["--page", str(page)], 1, "'seed'"),
+        (b'{"seed":[],"one":[],"two":[],"choices":[]}', ["--page", str(page)], 1, "seed"),
+        (good, ["--page", str(other)], 1, "2 places"),
+        (good, ["--page", "/no/such"], 3, "No such file"),
+        (good, ["--page", str(page), "--out", "/no/such/out"], 3, "cannot be written"),
+    ):
+        text, got, err = ran(monkeypatch, capsys, given, "replay", *words)
+        assert (text, got) == ("", status) and said in err and not out.exists()

@@ -9,7 +9,8 @@ from gen1.battle import damage
 from gen1.choices import choice_text
 from gen1.draws import Draw, explained
 from gen1.errors import Error, Refused
-from gen1.program.inputs import Fault, a_battle, a_member, an_object, pairs, read
+from gen1.program.inputs import Fault, a_battle, a_member, an_object, pairs, read, write
+from gen1.program.pages import page_with
 from gen1.program.playing import play
 from gen1.progress import progress
 from gen1.sentences import sentence
@@ -53,6 +54,15 @@ def calc(asked: argparse.Namespace) -> None:
     print(*damage(members[0], members[1], given["move"], given["critical"]))
 
 
+def replay(asked: argparse.Namespace) -> None:
+    """Writes a page to look at a battle with: one HTML file that holds it (web/README.md, "A file that holds its battle")."""
+    page = page_with(read(asked.file), asked.page)
+    if asked.out is None:
+        sys.stdout.write(page)
+        return
+    write(asked.out, page.encode("utf-8"))
+
+
 def _draw(of: Draw) -> str:
     text = f"    draw {of.number} is {of.byte}"
     if of.again:
@@ -82,6 +92,11 @@ def parser() -> argparse.ArgumentParser:
         words = subcommands.add_parser(command.__name__, help=said, description=command.__doc__)
         words.add_argument("file", nargs="?", default="-", metavar="FILE", help="the input as JSON; - or nothing is standard input")
         words.set_defaults(command=command)
+    words = subcommands.add_parser("replay", help="a page to look at a battle with", description=replay.__doc__)
+    words.add_argument("file", nargs="?", default="-", metavar="FILE", help="an object of `run`, or a log's bytes; - or nothing is standard input")
+    words.add_argument("--page", metavar="HTML", help="the page, as web/build makes it; else the one that the package carries")
+    words.add_argument("--out", metavar="OUT", help="the file that is written; else it goes to standard output")
+    words.set_defaults(command=replay)
     words = subcommands.add_parser("play", help="a battle against a player that chooses at random, or by damage", description=play.__doc__)
     words.add_argument("file", nargs="?", metavar="FILE", help="an object of `run`, of which the choices are left out; else two teams of three")
     words.add_argument("--against", choices=("random", "greedy"), default="greedy", help="how side 2 chooses (%(default)s)")

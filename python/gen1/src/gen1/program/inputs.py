@@ -26,6 +26,17 @@ def read(name: str) -> bytes:
         raise Fault(f"{name} cannot be read: {fault.strerror}", 3) from None
 
 
+def write(name: str, content: bytes) -> None:
+    """Writes a file, whole or not at all."""
+    part = Path(f"{name}.part")
+    try:
+        part.write_bytes(content)
+        part.replace(name)
+    except OSError as fault:
+        part.unlink(missing_ok=True)
+        raise Fault(f"{name} cannot be written: {fault.strerror}", 3) from None
+
+
 def an_object(given: bytes, *keys: str) -> dict[str, Any]:
     """The JSON object of some bytes, which has these keys."""
     try:

@@ -1,0 +1,34 @@
+"""The page of web/ with a battle in it (web/README.md, "A file that holds its battle")."""
+
+import json
+from pathlib import Path
+
+from gen1.events import events
+from gen1.program.inputs import Fault, a_battle, an_object, pairs, read
+
+PLACE = '<script id="battle" type="application/json">null</script>'
+CARRIED = Path(__file__).resolve().parents[1] / "page.html"
+
+
+def page_with(given: bytes, page: str | None) -> str:
+    """The page with the battle that an object of `run` or a log's bytes stand for."""
+    held = _battle(given).replace("<", "\\u003c")
+    if page is None and not CARRIED.is_file():
+        raise Fault("the package carries no page; name one that web/build made by --page HTML", 2)
+    try:
+        text = read(str(CARRIED) if page is None else page).decode("utf-8")
+    except UnicodeDecodeError:
+        text = ""
+    if text.count(PLACE) != 1:
+        raise Fault(f"{page or CARRIED} is no page of web/build: it has {text.count(PLACE)} places for a battle, and must have one")
+    return text.replace(PLACE, PLACE.replace("null", held))
+
+
+def _battle(given: bytes) -> str:
+    """The JSON that stands for an input, which is tested before."""
+    if not given.lstrip().startswith(b"{"):
+        events(given)
+        return json.dumps({"log": given.hex()})
+    asked = an_object(given, "seed", "one", "two", "choices")
+    a_battle(asked), pairs(asked)
+    return json.dumps(asked)
