@@ -492,7 +492,7 @@ uint8_t gen1_choices(const gen1_battle *battle, uint8_t side, uint8_t choices[9]
  */
 uint16_t gen1_offered(const gen1_battle *battle, uint8_t side);
 
-#define GEN1_NO_MASK 0xffff
+#define GEN1_NO_MASK 0xffff /* what gen1_offered answers for a side that is neither 1 nor 2 */
 
 /* The bit of a choice's byte, and the byte of a bit from 0 to 11. */
 #define GEN1_BIT(choice) ((choice) == 0 ? 0 : (choice) < 0x20 ? (choice) - 0x0f : (choice) - 0x1b)

@@ -88,12 +88,20 @@ static bool kept_behind(const guarded *it, size_t size)
     return memcmp(it->pages, it->before, begin) == 0 && memcmp(it->pages + end, it->before + end, GUARDED_ROOM - end) == 0;
 }
 
-bool changed_only_two(int number, size_t size, int other, size_t other_size)
+bool changed_only_these(const size_t sizes[BLOCKS])
 {
     for (int at = 0; at < BLOCKS; at++)
-        if (!kept_behind(&blocks[at], at == number ? size : at == other ? other_size : 0))
+        if (!kept_behind(&blocks[at], sizes[at]))
             return false;
     return true;
+}
+
+bool changed_only_two(int number, size_t size, int other, size_t other_size)
+{
+    size_t sizes[BLOCKS] = {0};
+    sizes[number] = size;
+    sizes[other] = other_size;
+    return changed_only_these(sizes);
 }
 
 bool changed_only(int number, size_t size)

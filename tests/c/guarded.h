@@ -32,10 +32,11 @@ void *block_of(int number, const void *bytes, size_t size);
 /* Keeps what all blocks hold, before a call. */
 void note(void);
 
-/* After a call: whether nothing has changed since `note`; or nothing but a block's first `size` bytes. */
+/* After a call: whether nothing has changed since `note`; or nothing but the first `size` bytes of a block, of two, or of each. */
 bool unchanged(void);
 bool changed_only(int number, size_t size);
 bool changed_only_two(int number, size_t size, int other, size_t other_size);
+bool changed_only_these(const size_t sizes[BLOCKS]);
 
 /* Counts a call, and tells the first few that were not answered as they have to be. */
 void tell(const char *call, bool as_it_has_to_be, long got, long want);

@@ -67,7 +67,7 @@ static uint32_t fault_of_team(const gen1_team *team)
     return team->count == 0 ? GEN1_EMPTY : 0;
 }
 
-static uint32_t fault_of_new(const gen1_team *one, const gen1_team *two, uint8_t rules, uint16_t limit)
+uint32_t fault_of_new(const gen1_team *one, const gen1_team *two, uint8_t rules, uint16_t limit)
 {
     if (rules > 3)
         return GEN1_RULES;
@@ -79,7 +79,7 @@ static uint32_t fault_of_new(const gen1_team *one, const gen1_team *two, uint8_t
 }
 
 /* Puts a number that may be out of its range into a team. */
-static void spoil(gen1_team *team)
+void spoil(gen1_team *team)
 {
     gen1_member *it = &team->members[draw(6)];
     switch (draw(7)) {
@@ -197,7 +197,7 @@ static void try_update(void)
 /* ---- gen1_next_event, gen1_next_line ---- */
 
 /* A log that was met, some of its bytes changed, or any bytes; in the block 0. */
-static const uint8_t *some_log(size_t *count)
+const uint8_t *some_log(size_t *count)
 {
     int which = (int)draw(MET);
     *count = one_in(4) ? draw(GEN1_LOG_ROOM + 1) : met_length[which];
@@ -210,7 +210,7 @@ static const uint8_t *some_log(size_t *count)
 }
 
 /* A place in a log, or behind it, or far behind it. */
-static size_t some_place(size_t count)
+size_t some_place(size_t count)
 {
     return one_in(4) ? SIZE_MAX - draw(3) : one_in(4) ? count + draw(3) : one_in(2) || count == 0 ? 0 : draw((uint32_t)count);
 }

@@ -25,6 +25,14 @@ void meet(int place);
 /* A battle that was met, or any bytes: then `*is_valid` is false. */
 gen1_battle some_battle(bool *is_valid);
 
+/* Puts a number that may be out of its range into a team; and what gen1_new has to answer, by the header's words. */
+void spoil(gen1_team *team);
+uint32_t fault_of_new(const gen1_team *one, const gen1_team *two, uint8_t rules, uint16_t limit);
+
+/* A log that was met, some of its bytes changed, or any bytes; in the block 0. A place in a log, or behind it, or far behind it. */
+const uint8_t *some_log(size_t *count);
+size_t some_place(size_t count);
+
 /* Functions that call one of the library's each, and tell how it went. */
 typedef void try_call(void);
 
