@@ -15,8 +15,8 @@ SIZES = {"wide": (1280, 960), "narrow": (360, 740)}
 class Browser:
     """The page, as a person has it before them."""
 
-    def __init__(self, page, folder):
-        self.page, self.folder = Path(page).resolve().as_uri(), folder
+    def __init__(self, page, folder, program=None):
+        self.page, self.folder, self.program = Path(page).resolve().as_uri(), folder, program
         options = webdriver.ChromeOptions()
         for word in ("--headless=new", "--no-sandbox", "--disable-gpu", "--disable-dev-shm-usage", "--window-size=1280,960"):
             options.add_argument(word)

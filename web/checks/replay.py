@@ -1,6 +1,7 @@
 """Replay: recorded battles watched to their ends, by every way in, and handed on."""
 import base64
 import json
+import subprocess
 from pathlib import Path
 
 from selenium.webdriver.common.keys import Keys
@@ -134,6 +135,9 @@ def a_page_is_filled_by_others(browser):
     (browser.folder / "filled.html").write_text(filled)
     browser.open(page=(browser.folder / "filled.html").as_uri())
     assert steps(browser) == lines_of(case)
+    if browser.program:
+        words = [browser.program, "replay", "--page", browser.page.removeprefix("file://")]
+        assert subprocess.run(words, input=case["input"].encode(), capture_output=True).stdout.decode() == filled
 
 
 def what_is_saved_is_what_was_opened(browser):

@@ -17,13 +17,20 @@ pub struct Replay {
     /// The page, as web/build makes it
     #[arg(long, value_name = "HTML")]
     page: PathBuf,
+    /// The file that is written; without it the page goes to standard output
+    #[arg(long, value_name = "FILE")]
+    out: Option<PathBuf>,
 }
 
-/// Prints the page with the battle in it.
+/// Writes the page with the battle in it.
 pub fn replay(asked: Replay) -> Result<(), Fault> {
     let battle = battle_in(&read(asked.file)?)?;
     let page = String::from_utf8(read(Some(asked.page))?).map_err(|_| Fault::Page)?;
-    put(&filled(&page, &battle).ok_or(Fault::Page)?)
+    let whole = filled(&page, &battle).ok_or(Fault::Page)?;
+    match asked.out {
+        Some(path) => std::fs::write(path, whole).map_err(|_| Fault::Write),
+        None => put(&whole),
+    }
 }
 
 /// The page with a battle in the one place for it.
@@ -37,7 +44,7 @@ fn filled(page: &str, battle: &str) -> Option<String> {
     Some([before, &PLACE.replace("null", &held), after].concat())
 }
 
-/// The JSON that stands for an input: an object of run with lawful teams, or log bytes.
+/// The JSON that stands for an input: the text of an object of run with lawful teams, or a log's digits.
 fn battle_in(input: &[u8]) -> Result<String, Fault> {
     if input.trim_ascii_start().first() != Some(&b'{') {
         return log_in(input);
@@ -46,7 +53,7 @@ fn battle_in(input: &[u8]) -> Result<String, Fault> {
     Sheet::of(&value).ok_or(Fault::Json)?.battle()?;
     let choices = value.get("choices").ok_or(Fault::Json)?;
     list_of(choices, pair_of).ok_or(Fault::Json)?;
-    serde_json::to_string(&value).map_err(|_| Fault::Json)
+    String::from_utf8(input.into()).map_err(|_| Fault::Json)
 }
 
 fn log_in(log: &[u8]) -> Result<String, Fault> {

@@ -43,10 +43,33 @@ fn a_page_holds_the_battle_in_its_one_place() {
         .strip_prefix(r#"<p>a</p><script id="battle" type="application/json">"#)
         .and_then(|rest| rest.strip_suffix("</script><p>b</p>"))
         .expect("nothing else of the page has changed");
-    assert!(!held.contains('<'), "{held}");
+    assert_eq!(held, INPUT.replace('<', "\\u003c"));
     let [given, found] =
         [INPUT, held].map(|text| serde_json::from_str::<serde_json::Value>(text).expect("JSON"));
     assert_eq!(given, found);
+}
+
+#[test]
+fn a_page_is_written_to_a_file() {
+    let folder = PathBuf::from(env!("CARGO_TARGET_TMPDIR"));
+    let [log, html, out] = ["out.in", "out.html", "out.made"].map(|name| folder.join(name));
+    fs::write(&log, [26, 1]).expect("the log is written");
+    fs::write(&html, PAGE).expect("the page is written");
+    let run = |out: &PathBuf| {
+        Command::new(env!("CARGO_BIN_EXE_gen1"))
+            .arg("replay")
+            .arg(&log)
+            .arg("--page")
+            .arg(&html)
+            .arg("--out")
+            .arg(out)
+            .output()
+            .expect("the program runs")
+    };
+    assert_eq!(told(&run(&out)), (0, ""));
+    let made = fs::read_to_string(&out).expect("a page");
+    assert_eq!(made, PAGE.replace("null", r#"{"log":"1a01"}"#));
+    assert_eq!(told(&run(&folder)), (3, "error: write\n"));
 }
 
 #[test]
