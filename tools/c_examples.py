@@ -98,24 +98,43 @@ def hp_of(member):
     return min(999, points + member["level"] + 10)
 
 
+NOT_FOR_TEAMS = ("Metronome", "Mimic", "Mirror Move", "Transform", "Struggle")
+
+
 def of_damage(gate):
-    """Every recorded hit by a move that a member may know: the attacker has it for its only one."""
+    """Every recorded hit by a move that a member may know: the attacker has it for its only one. As numbers, and as text where that can be."""
     for case in cases(recorded("calc.jsonl", gate.cases)):
-        if "error: json" in case.get("stderr", ""):
+        asked = {} if "error: json" in case.get("stderr", "") else json.loads(case["input"])
+        if not asked or asked["move"] in NOT_FOR_TEAMS:
             continue
-        asked = json.loads(case["input"])
         one, two = dict(asked["attacker"], moves=[[asked["move"], 0]]), asked["defender"]
-        if asked["move"] in ("Metronome", "Mimic", "Mirror Move", "Transform", "Struggle"):
-            continue
         given = as_numbers({"seed": [0] * 10, "one": [one], "two": [two], "choices": []}).encode()
         if "error: team" in case["stderr"]:
             yield Case(case["name"], (), given, b"", case["stderr"].encode(), 1)
             continue
         head = "species %d at level %d on species %d at level %d, %d HP\n  move %3d: " % (
             SPECIES[one["species"]], one["level"], SPECIES[two["species"]], two["level"], hp_of(two), MOVES[asked["move"]])
-        row = "no usual damage (code 3)" if case["stderr"] else damage_row(case["stdout"], hp_of(two), asked["critical"])
-        pattern = re.escape(head) + (re.escape(row) if case["stderr"] else row) + r"\n"
-        yield Case(case["name"], (), given, re.compile(pattern.encode()), b"", 0)
+        row = re.escape("no usual damage (code 3)") if case["stderr"] else damage_row(case["stdout"], hp_of(two), asked["critical"])
+        want = re.compile((re.escape(head) + row + r"\n").encode())
+        yield Case(case["name"], (), given, want, b"")
+        if all(member["dvs"] == [15] * 4 and member["exp"] == [65535] * 5 for member in (one, two)):
+            yield Case(case["name"] + ", as text", team_files(gate, case["name"], one, two), b"", want, b"")
+    tauros = {"species": "Tauros", "level": 100, "moves": [["Body Slam", 3]]}
+    none = dict(tauros, moves=[["Body Slam", 3], ["Budy Slam", 3]])
+    words = team_files(gate, "no move", tauros, none)
+    # GEN1_TEXT_MOVE, in the line behind species, level and the other move.
+    yield Case("no move", words, b"", b"", f"error: {words[1]}: line 4 member 0 code 10 rule 0\n".encode(), 1)
+
+
+def team_files(gate, name, *members):
+    """Files with a team of each member as text; what the text does not say comes to the same stats as DVs of 15 and experience of 65,535."""
+    folder = gate.work / "teams"
+    folder.mkdir(exist_ok=True)
+    files = [folder / f"{name}, {which}.txt" for which in ("one", "two")]
+    for file, member in zip(files, members):
+        moves = "".join(f"- {move}\n" for move, _ in member["moves"])
+        file.write_text(f"{member['species']}\nLevel: {member['level']}\n{moves}")
+    return tuple(map(str, files))
 
 
 def damage_row(recorded_line, hp, is_critical):

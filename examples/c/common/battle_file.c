@@ -1,4 +1,4 @@
-/* A battle as decimal numbers (battle_file.h). */
+/* A battle as decimal numbers, and a team as text (battle_file.h). */
 #include "battle_file.h"
 
 #include <string.h>
@@ -50,6 +50,22 @@ bool read_battle(FILE *from, battle_file *to)
     read_team(from, &to->one, &is_read);
     read_team(from, &to->two, &is_read);
     return is_read;
+}
+
+bool read_team_text(const char *path, gen1_team *team)
+{
+    char text[4096];
+    FILE *from = fopen(path, "r");
+    size_t count = from == NULL ? 0 : fread(text, 1, sizeof text, from);
+    bool is_read = from != NULL && !ferror(from) && count < sizeof text;
+    gen1_text_fault fault = {0};
+    if (from != NULL)
+        fclose(from);
+    if (!is_read)
+        fprintf(stderr, "error: %s cannot be read, or is too long for a team\n", path);
+    else if (gen1_team_from_text(text, count, team, &fault) != 0)
+        fprintf(stderr, "error: %s: line %zu member %zu code %d rule %d\n", path, fault.line, fault.member, fault.code, fault.rule);
+    return is_read && fault.code == 0;
 }
 
 void print_team_fault(uint32_t fault)

@@ -2,10 +2,11 @@
  * Prints what each move of each member of team one takes from each member of team two, as a table.
  *
  *     cc -O2 -I ../common damage.c ../common/battle_file.c $(pkg-config --cflags --libs gen1) -o damage
+ *     ./damage ours.txt theirs.txt
  *     ./damage < ../../tauros.txt
  *
- * The input is a battle as decimal numbers, as ../play.c says; its choices are not looked at. Both members are at full HP, just sent
- * out. A row has the move, the least and most damage of a usual hit with its percent of the foe's HP, the same of a critical
+ * The words are files with the teams as Pokemon Showdown's team builder exports them. Without words the input is a battle as decimal
+ * numbers, as ../play.c says; its choices are not looked at. Both members are at full HP, just sent out. A row has the move, the least and most damage of a usual hit with its percent of the foe's HP, the same of a critical
  * hit, and how many usual hits are enough at the worst.
  */
 #include "battle_file.h"
@@ -76,14 +77,24 @@ static uint32_t print_table(const gen1_member *user, const gen1_member *foe)
     return 0;
 }
 
-int main(void)
+/* Both teams, from two files of text or from standard input; what is wrong is printed. */
+static bool read_teams(int count, char **words, battle_file *to)
+{
+    *to = (battle_file){.limit = GEN1_LIMIT};
+    if (count == 3)
+        return read_team_text(words[1], &to->one) && read_team_text(words[2], &to->two);
+    bool is_read = count == 1 && read_battle(stdin, to);
+    if (!is_read)
+        fputs(count == 1 ? "error: input\n" : "usage: damage [OURS THEIRS]\n", stderr);
+    return is_read;
+}
+
+int main(int count, char **words)
 {
     battle_file file;
     gen1_battle battle;
-    if (!read_battle(stdin, &file)) {
-        fputs("error: input\n", stderr);
+    if (!read_teams(count, words, &file))
         return 1;
-    }
     /* Both teams are tested whole before anything is printed. */
     uint32_t fault = gen1_new(&battle, &file.one, &file.two, file.seed, file.rules, file.limit);
     for (int one = 0; fault == 0 && one < file.one.count; one++)
