@@ -95,6 +95,18 @@ class Tried:
     def in_cpp(self, compiler):
         return self.built(compiler, f"lines_{compiler}", "-std=c++17", "tests/c/lines.cpp", *self.flags("--cflags", "--libs"))
 
+    def as_their_readmes_say(self):
+        """Each example is built by the line of its README, over the installed library."""
+        folder = self.gate.work / "examples_c"
+        shutil.rmtree(folder, ignore_errors=True)
+        shutil.copytree(ROOT / "examples" / "c", folder)
+        built = 0
+        for readme in sorted(folder.glob("*/README.md")):
+            for line in re.findall(r"(?m)^    (cc .*)$", readme.read_text()):
+                ran("sh", "-c", line, cwd=readme.parent, env=self.environment)
+                built += 1
+        return None if built >= 5 else f"there were {built} lines to build by"
+
     def versions(self):
         """pkg-config knows the version that the header has."""
         found = self.flags("--modversion")
@@ -175,7 +187,7 @@ def compare_install(gate):
         it.try_out(check.__name__, check)
     it.try_out("nm -D", it.names, "nm")
     it.try_out("soname", it.soname, "readelf")
-    for check in (it.versions, it.shared, it.static):
+    for check in (it.versions, it.shared, it.static, it.as_their_readmes_say):
         it.try_out(f"pkg-config, {check.__name__}", check, "pkg-config")
     for compiler in ("g++", "clang++"):
         it.try_out(f"C++17, {compiler}", lambda compiler=compiler: it.in_cpp(compiler), "pkg-config", compiler)

@@ -19,18 +19,18 @@ enum { PLAYOUTS = 32, MEMBERS_OF_A_SIDE = 4, MEMBERS = 12 };
 
 /* Who may be drawn: species, and four moves. */
 static const uint8_t members[MEMBERS][5] = {
-    {6, 53, 163, 43, 45},    /* Charizard: Flamethrower, Slash, Leer, Growl */
-    {9, 57, 58, 110, 39},    /* Blastoise: Surf, Ice Beam, Withdraw, Tail Whip */
-    {3, 75, 34, 74, 45},     /* Venusaur: Razor Leaf, Body Slam, Growth, Growl */
-    {18, 17, 98, 28, 16},    /* Pidgeot: Wing Attack, Quick Attack, Sand Attack, Gust */
-    {26, 85, 98, 45, 39},    /* Raichu: Thunderbolt, Quick Attack, Growl, Tail Whip */
-    {34, 89, 37, 43, 30},    /* Nidoking: Earthquake, Thrash, Leer, Horn Attack */
-    {65, 94, 115, 100, 134}, /* Alakazam: Psychic, Reflect, Teleport, Kinesis */
-    {68, 66, 67, 43, 116},   /* Machamp: Submission, Low Kick, Leer, Focus Energy */
-    {76, 157, 89, 106, 111}, /* Golem: Rock Slide, Earthquake, Harden, Defense Curl */
-    {94, 101, 85, 122, 109}, /* Gengar: Night Shade, Thunderbolt, Lick, Confuse Ray */
-    {128, 34, 23, 39, 43},   /* Tauros: Body Slam, Stomp, Tail Whip, Leer */
-    {131, 58, 57, 54, 45},   /* Lapras: Ice Beam, Surf, Mist, Growl */
+    {GEN1_SPECIES_CHARIZARD, GEN1_MOVE_FLAMETHROWER, GEN1_MOVE_SLASH, GEN1_MOVE_LEER, GEN1_MOVE_GROWL},
+    {GEN1_SPECIES_BLASTOISE, GEN1_MOVE_SURF, GEN1_MOVE_ICE_BEAM, GEN1_MOVE_WITHDRAW, GEN1_MOVE_TAIL_WHIP},
+    {GEN1_SPECIES_VENUSAUR, GEN1_MOVE_RAZOR_LEAF, GEN1_MOVE_BODY_SLAM, GEN1_MOVE_GROWTH, GEN1_MOVE_GROWL},
+    {GEN1_SPECIES_PIDGEOT, GEN1_MOVE_WING_ATTACK, GEN1_MOVE_QUICK_ATTACK, GEN1_MOVE_SAND_ATTACK, GEN1_MOVE_GUST},
+    {GEN1_SPECIES_RAICHU, GEN1_MOVE_THUNDERBOLT, GEN1_MOVE_QUICK_ATTACK, GEN1_MOVE_GROWL, GEN1_MOVE_TAIL_WHIP},
+    {GEN1_SPECIES_NIDOKING, GEN1_MOVE_EARTHQUAKE, GEN1_MOVE_THRASH, GEN1_MOVE_LEER, GEN1_MOVE_HORN_ATTACK},
+    {GEN1_SPECIES_ALAKAZAM, GEN1_MOVE_PSYCHIC, GEN1_MOVE_REFLECT, GEN1_MOVE_TELEPORT, GEN1_MOVE_KINESIS},
+    {GEN1_SPECIES_MACHAMP, GEN1_MOVE_SUBMISSION, GEN1_MOVE_LOW_KICK, GEN1_MOVE_LEER, GEN1_MOVE_FOCUS_ENERGY},
+    {GEN1_SPECIES_GOLEM, GEN1_MOVE_ROCK_SLIDE, GEN1_MOVE_EARTHQUAKE, GEN1_MOVE_HARDEN, GEN1_MOVE_DEFENSE_CURL},
+    {GEN1_SPECIES_GENGAR, GEN1_MOVE_NIGHT_SHADE, GEN1_MOVE_THUNDERBOLT, GEN1_MOVE_LICK, GEN1_MOVE_CONFUSE_RAY},
+    {GEN1_SPECIES_TAUROS, GEN1_MOVE_BODY_SLAM, GEN1_MOVE_STOMP, GEN1_MOVE_TAIL_WHIP, GEN1_MOVE_LEER},
+    {GEN1_SPECIES_LAPRAS, GEN1_MOVE_ICE_BEAM, GEN1_MOVE_SURF, GEN1_MOVE_MIST, GEN1_MOVE_GROWL},
 };
 
 /* Numbers of the bots' own, which have nothing to do with what a battle draws. */
