@@ -28,6 +28,10 @@
 extern "C" {
 #endif
 
+/* The version of this header and its library: as text, and as 65,536 times the major number, 256 times the minor one, and the third. */
+#define GEN1_VERSION "1.0.0"
+#define GEN1_VERSION_NUMBER 0x010000
+
 /* A battle (docs/LAYOUT.md). */
 typedef struct gen1_battle {
     uint8_t bytes[384]; /* all of it: as docs/LAYOUT.md says, and to be stored or sent as they are */

@@ -83,7 +83,8 @@ def of_replay(gate):
 
 def base_hp():
     """The base HP of each species, by docs/TABLES.md."""
-    rows = re.findall(r"(?m)^\| *\d+ *\| *([^|]*?) *\|[^|]*\|[^|]*\| *(\d+) *\|", (ROOT / "docs" / "TABLES.md").read_text().split("## Species")[1])
+    text = (ROOT / "docs" / "TABLES.md").read_text().split("## Species")[1]
+    rows = re.findall(r"(?m)^\| *\d+ *\| *([^|]*?) *\|[^|]*\|[^|]*\| *(\d+) *\|", text)
     return {name: int(number) for name, number in rows}
 
 
@@ -102,7 +103,7 @@ NOT_FOR_TEAMS = ("Metronome", "Mimic", "Mirror Move", "Transform", "Struggle")
 
 
 def of_damage(gate):
-    """Every recorded hit by a move that a member may know: the attacker has it for its only one. As numbers, and as text where that can be."""
+    """Every recorded hit by a move that a member may know, which is the attacker's only one; as numbers, and as text where that can be."""
     for case in cases(recorded("calc.jsonl", gate.cases)):
         asked = {} if "error: json" in case.get("stderr", "") else json.loads(case["input"])
         if not asked or asked["move"] in NOT_FOR_TEAMS:
@@ -127,7 +128,7 @@ def of_damage(gate):
 
 
 def team_files(gate, name, *members):
-    """Files with a team of each member as text; what the text does not say comes to the same stats as DVs of 15 and experience of 65,535."""
+    """Files with a team of each member as text. What it does not say comes to the stats of DVs of 15 and experience of 65,535."""
     folder = gate.work / "teams"
     folder.mkdir(exist_ok=True)
     files = [folder / f"{name}, {which}.txt" for which in ("one", "two")]

@@ -8,7 +8,7 @@ import sys
 from pathlib import Path
 
 sys.dont_write_bytecode = True
-from c_library import Unbuilt, calls, needed, ran, shown
+from c_library import Unbuilt, calls, needed, ran, shown, version
 from repository import ROOT
 
 # What the library may want of the C library; abort only where it is of plain Rust.
@@ -110,7 +110,7 @@ class Tried:
     def versions(self):
         """pkg-config knows the version that the header has."""
         found = self.flags("--modversion")
-        return None if found == ["1.0.0"] else f"version {found}"
+        return None if found == [".".join(version())] else f"version {found}"
 
     def by_cmake(self):
         """Programs over both targets, and one in C++17."""
@@ -137,7 +137,9 @@ class Tried:
                               env={**os.environ, "MANWIDTH": "100", "MANPAGER": "cat"})
         lacks = [name for name in calls() if f"{name}(" not in done.stdout]
         found = ran("man", "-M", man, "-w", "3", calls()[0]).strip()
-        return done.stderr or (f"it lacks {lacks}" if lacks else None) or (None if found.endswith("gen1.3") or calls()[0] in found else found)
+        if done.stderr or lacks:
+            return done.stderr or f"it lacks {lacks}"
+        return None if found.endswith(".3") else f"{calls()[0]} is found as {found}"
 
     def doxygen(self):
         """Pages of the header, without a warning."""
@@ -159,7 +161,8 @@ class Tried:
 
     def refuses(self):
         """Words that mean nothing are refused, and nothing is put anywhere."""
-        for words in (["PREFIX=here"], ["PREFX=/tmp"], ["--library", "/nowhere.a", f"PREFIX={self.gate.work}/not"], ["--uninstall", "--plain"]):
+        no_library = ["--library", "/nowhere.a", f"PREFIX={self.gate.work}/not"]
+        for words in (["PREFIX=here"], ["PREFX=/tmp"], no_library, ["--uninstall", "--plain"]):
             done = subprocess.run([ROOT / "tools" / "install", *words], capture_output=True, text=True)
             if done.returncode == 0 or "tools/install" not in done.stderr and "install: error" not in done.stderr:
                 return f"{words}: status {done.returncode}: {done.stderr}"

@@ -33,8 +33,7 @@ def calls(header=HEADER):
 
 def version(header=HEADER):
     """The header's version, as three words of digits."""
-    found = VERSION.search(header.read_text())
-    return found.groups() if found else ("1", "0", "0")
+    return VERSION.search(header.read_text()).groups()
 
 
 def ran(*words, cwd=ROOT, env=None):

@@ -3,7 +3,8 @@
 
 #include <string.h>
 
-static const char team_text[] = "Tauros\nLevel: 99\nEVs: 252 HP / 4 Atk\nIVs: 0 Atk\n- Body Slam\n- Hyper Beam\n\nGengar\n- Hypnosis\n- Lick\n";
+static const char team_text[] = "Tauros\nLevel: 99\nEVs: 252 HP / 4 Atk\nIVs: 0 Atk\n- Body Slam\n- Hyper Beam\n"
+                                "\nGengar\n- Hypnosis\n- Lick\n";
 static const char team_packed[] = "Tauros||||BodySlam,HyperBeam||252,4,,,,||,0,,,,||99|]Gengar||||Hypnosis,Lick|||||||";
 
 typedef uint8_t reading(const char *text, size_t count, gen1_team *team, gen1_text_fault *fault);
@@ -14,19 +15,22 @@ static void try_team(const char *call, reading *read, const char *lawful, size_t
     size_t count = one_in(4) ? draw(sizeof text) : length;
     for (size_t at = 0; at < sizeof text; at++)
         text[at] = (char)any_byte();
-    if (!one_in(8))
+    bool is_begun = !one_in(8);
+    if (is_begun)
         memcpy(text, lawful, length);
-    for (uint32_t changes = draw(4); changes > 0; changes--)
+    uint32_t changes = draw(4);
+    bool is_lawful = is_begun && count == length && changes == 0;
+    for (; changes > 0; changes--)
         text[draw((uint32_t)length)] = (char)(one_in(2) ? "\n|],-: 0/"[draw(9)] : any_byte());
     const char *given = block_of(0, text, count);
     gen1_team *team = block(1, sizeof *team);
     gen1_text_fault *fault = block(2, sizeof *fault);
     note();
-    uint8_t got = read(count == 0 ? NULL : given, count, team, fault);
+    uint8_t got = read(count == 0 ? NULL : given, count, team, fault), want = is_lawful ? 0 : got;
     bool is_kept = got == 0 ? changed_only(1, sizeof *team) && fault_of_new(team, team, 0, 1) == 0
                             : changed_only(2, sizeof *fault) && fault->code == got && got <= GEN1_TEXT_TEAM
             && (fault->rule != 0) == (got == GEN1_TEXT_TEAM);
-    tell(call, is_kept, got, got);
+    tell(call, got == want && is_kept, got, want);
 }
 
 static void try_team_from_text(void)

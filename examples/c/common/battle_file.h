@@ -20,7 +20,7 @@ typedef struct battle_file {
 /* Reads up to the end of side 2's team; the choices behind it are left to be read. Whether every number was there and fits its field. */
 bool read_battle(FILE *from, battle_file *to);
 
-/* Reads the team of a file of text. Where there is none it prints why not, with the line and the code of include/gen1.h, and answers false. */
+/* Reads the team of a file of text. Where there is none it prints why not, with line and code of gen1.h, and answers false. */
 bool read_team_text(const char *path, gen1_team *team);
 
 /* Prints why gen1_new made no battle, as `battle_tool` does. */

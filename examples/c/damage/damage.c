@@ -6,8 +6,9 @@
  *     ./damage < ../../tauros.txt
  *
  * The words are files with the teams as Pokemon Showdown's team builder exports them. Without words the input is a battle as decimal
- * numbers, as ../play.c says; its choices are not looked at. Both members are at full HP, just sent out. A row has the move, the least and most damage of a usual hit with its percent of the foe's HP, the same of a critical
- * hit, and how many usual hits are enough at the worst.
+ * numbers, as ../play.c says; its choices are not looked at. Both members are at full HP, just sent out. A row has the move, the least
+ * and most damage of a usual hit with its percent of the foe's HP, the same of a critical hit, and how many usual hits are enough at
+ * the worst.
  */
 #include "battle_file.h"
 
