@@ -19,7 +19,7 @@ def take(browser, folder):
                 if place == "calculator":
                     browser.run("document.getElementById('calc-results').scrollIntoView()")
                 browser.run("return new Promise((done) => setTimeout(done, 300))")
-                for form, more in (("webp", {"quality": 45}), ("png", {})):
+                for form, more in (("webp", {"quality": 40}), ("png", {})):
                     shot = browser.driver.execute_cdp_cmd("Page.captureScreenshot", {"format": form, **more})
                     (folder / f"{place}_{width}_{scheme}.{form}").write_bytes(base64.b64decode(shot["data"]))
     return 0

@@ -65,6 +65,7 @@ def taking_back_and_playing_again_is_the_same(browser):
 def battles_against_the_computer_go_on(browser):
     for foe in ("random", "greedy", "playouts"):
         browser.open("#play")
+        browser.run("const Own = Worker; window.Worker = class extends Own { constructor(...words) { super(...words); window.began = true; } }")
         browser.fill("#play-who-2", foe)
         browser.fill("#play-team-1", "Tauros\n- Body Slam\n- Blizzard\n\nStarmie\n- Surf\n- Recover")
         browser.fill("#play-team-2", "Chansey\n- Ice Beam\n- Soft-Boiled\n\nSnorlax\n- Body Slam\n- Rest")
@@ -77,7 +78,7 @@ def battles_against_the_computer_go_on(browser):
                 break
             browser.click("#play-choices-1 [data-choice]")
             browser.wait(f"{count.replace('return', 'return (')}) > {before}")
-        assert press > 3, (foe, press)
+        assert press > 3 and browser.run("return window.began"), (foe, press)
         assert "Turn" in browser.text("#play-now") and not browser.notice()
 
 

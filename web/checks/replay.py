@@ -151,8 +151,17 @@ def what_is_saved_is_what_was_opened(browser):
     assert steps(browser) == lines_of(case)
 
 
+def a_log_as_long_as_may_be_is_shown(browser):
+    log = next(bytes.fromhex(case["hex"]) for case in cases("print") if case["status"] == 0 and case["stdout"].startswith("|switch"))
+    shown(browser, log * (1_048_576 // len(log)), "battle.log")
+    browser.click("#replay-last")
+    assert "b=" not in browser.run("return location.hash") and int(browser.run("return document.getElementById('replay-slider').max")) > 10_000
+    browser.click("#replay-share [data-share=link]")
+    assert "too long for an address" in browser.notice()
+
+
 CHECKS = [
     a_recorded_battle_is_replayed_by_clicks, the_longest_recorded_battle_is_whole_at_its_end, a_refused_pair_is_said_and_the_rest_is_shown,
     a_recorded_log_is_replayed, a_dropped_file_is_shown, keys_go_through_a_battle, an_address_is_a_position, a_watcher_sees_less,
-    a_saved_page_holds_its_battle, a_page_is_filled_by_others, what_is_saved_is_what_was_opened,
+    a_saved_page_holds_its_battle, a_page_is_filled_by_others, what_is_saved_is_what_was_opened, a_log_as_long_as_may_be_is_shown,
 ]

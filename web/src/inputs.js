@@ -164,6 +164,17 @@ export function decoded(text) {
   }
 }
 
+/** The longest text of a battle that goes into an address: a longer one would make each step slow. */
+const ADDRESS = 60_000;
+
+/**
+ * Whether a battle's text goes into an address.
+ * @param {string} code
+ */
+export function isShort(code) {
+  return code.length <= ADDRESS;
+}
+
 /**
  * A battle as an address holds it: i and an input (seed, rules, limit, both teams, pairs), or l and a log.
  * @param {Recorded} recorded

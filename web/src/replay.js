@@ -1,7 +1,7 @@
 // Replay: a battle that is watched, forward and back by update and by turn.
 import { find, guarded, make, Problem } from "./dom.js";
 import { setAddress } from "./address.js";
-import { ofAddress, toAddress } from "./inputs.js";
+import { isShort, ofAddress, toAddress } from "./inputs.js";
 import { Recording } from "./recording.js";
 import { shareButtons } from "./share.js";
 import { showSide, watched, whole } from "./sides.js";
@@ -191,7 +191,7 @@ export class Replay {
 
   toAddress() {
     setAddress("replay", {
-      b: this.isHeld ? "" : this.code, u: this.at, see: this.see.value === "watcher" ? "watcher" : "", lines: this.raw.value === "raw" ? "raw" : "",
+      b: this.isHeld || !isShort(this.code) ? "" : this.code, u: this.at, see: this.see.value === "watcher" ? "watcher" : "", lines: this.raw.value === "raw" ? "raw" : "",
     });
   }
 
@@ -208,6 +208,8 @@ export class Replay {
       End: () => this.go(Infinity),
       " ": () => this.playOrPause(),
     };
+    // With these a key is the browser's: a step back in the history, say.
+    if (event.altKey || event.ctrlKey || event.metaKey) return;
     if (!this.recording || !keys[event.key]) return;
     event.preventDefault();
     keys[event.key]();

@@ -1,6 +1,7 @@
 // Handing a battle on: as a page that holds it, as a link, as an input and as log bytes.
-import { copy, save } from "./dom.js";
+import { copy, guarded, Problem, save } from "./dom.js";
 import { link } from "./address.js";
+import { isShort, toAddress } from "./inputs.js";
 
 // The page as it was loaded, taken before anything of it changes.
 const SOURCE = `<!doctype html>\n${document.documentElement.outerHTML}`;
@@ -28,10 +29,13 @@ export function pageWith(battle) {
 export function shareButtons(place, shown) {
   const actions = {
     page: () => save("battle.html", pageWith(shown().inputs.text(shown().recorded)), "text/html"),
-    link: () => copy(link(), "The link is copied."),
+    link: () => {
+      if (!isShort(toAddress(shown().recorded))) throw new Problem("The battle is too long for an address: save it as a page.");
+      return copy(link(), "The link is copied.");
+    },
     input: () => save("battle.json", shown().inputs.text(shown().recorded), "application/json"),
     log: () => save("battle.log", shown().log, "application/octet-stream"),
   };
   for (const [name, action] of Object.entries(actions))
-    place.querySelector(`[data-share="${name}"]`)?.addEventListener("click", () => void action());
+    place.querySelector(`[data-share="${name}"]`)?.addEventListener("click", () => void guarded(action));
 }
