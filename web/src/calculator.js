@@ -5,6 +5,7 @@ import { joined } from "./engine.js";
 import { decoded, encoded } from "./inputs.js";
 import { MemberForm, moveCalled } from "./member_form.js";
 import { badge } from "./sides.js";
+import { hitWords } from "./words.js";
 
 /**
  * @typedef {import("./engine.js").Odds} Odds
@@ -46,13 +47,6 @@ function damageText(list) {
 /** @param {number} bytes */
 function chance(bytes) {
   return `${bytes} of 256 (${((100 * bytes) / 256).toFixed(1)}%)`;
-}
-
-/** @param {Odds} odds */
-function hitText(odds) {
-  if (!odds.hit) return "no hit test";
-  if (!odds.hit[1]) return odds.hit[0] ? "hits without a draw" : "misses without a draw";
-  return chance(odds.hit[0]);
 }
 
 /** The part of the page that calculates. */
@@ -151,7 +145,7 @@ export class Calculator {
       : [move.power || move.effect === "FixedDamage" || move.effect === "SuperFang" || move.effect === "OneHitKnockOut" ? "not by the formula" : "none", "—", "—", "—", "—"];
     const row = make("tr", { "data-move": move.name },
       make("th", { scope: "row" }, move.name, " ", badge(tables, move.type)), ...cells.map((text) => make("td", {}, text)),
-      make("td", {}, hitText(odds)), make("td", {}, odds.bound === null ? "—" : chance(odds.bound)), make("td", {}, odds.damage ? button : "—"));
+      make("td", {}, hitWords(odds, move, chance)), make("td", {}, odds.bound === null ? "—" : chance(odds.bound)), make("td", {}, odds.damage ? button : "—"));
     return odds.damage ? [row, all] : [row];
   }
 }

@@ -7,7 +7,7 @@ import { lineItems } from "./replay.js";
 import { randomSeed, randomTeam } from "./random.js";
 import { shareButtons } from "./share.js";
 import { badge, showSide, whole } from "./sides.js";
-import { OUTCOMES } from "./words.js";
+import { hitWords, OUTCOMES } from "./words.js";
 
 /**
  * @typedef {import("./engine.js").State} State
@@ -278,7 +278,7 @@ export class Play {
     const foe = state.sides[1 - at];
     const hp = foe.active ? foe.members[foe.active - 1].hp : 0;
     const damage = found?.damage ? `damage ${damageText(found.damage[0], found.damage[38], hp)}` : "no damage by the formula";
-    const hit = found?.hit ? (found.hit[1] ? `hits with ${found.hit[0]} of 256 bytes` : found.hit[0] ? "hits for sure" : "misses for sure") : "needs no hit test";
+    const hit = found ? hitWords(found, tables.moves[id - 1], (bytes) => `hits with ${bytes} of 256 bytes`) : "";
     const critical = found?.bound === null || found?.bound === undefined ? "" : `; critical with ${found.bound} of 256`;
     return [make("strong", {}, tables.moves[id - 1].name), badge(tables, tables.moves[id - 1].type),
       make("span", { class: "quiet" }, `${pp} PP`), make("span", { class: "odds" }, `${damage}; ${hit}${critical}`)];

@@ -109,3 +109,16 @@ export function sideOf(line) {
   const found = /^\|[^|]*\|p([12])a?[:|]?/.exec(line);
   return found ? Number(found[1]) : 0;
 }
+
+/**
+ * What decides whether a move hits, by the bytes of the hit test.
+ * @param {import("./engine.js").Odds} odds
+ * @param {import("./engine.js").Move} move
+ * @param {(bytes: number) => string} chance how a number of bytes is said
+ */
+export function hitWords(odds, move, chance) {
+  if (!odds.hit) return "no hit test";
+  const [bytes, isDrawn] = odds.hit;
+  if (!isDrawn) return bytes ? "hits without a draw" : "misses without a draw";
+  return `${chance(bytes)}${move.effect === "OneHitKnockOut" ? ", and none where the user is slower" : ""}`;
+}
