@@ -8,7 +8,7 @@ use gen1_layout::{Conditions, Packed};
 use gen1_rolls::Sweep;
 
 /// Whether a move takes the hit test at all (docs/MECHANICS.md, "Early effects", "Late effects").
-fn is_tested(effect: Effect) -> bool {
+pub fn is_tested(effect: Effect) -> bool {
     !matches!(
         effect,
         Effect::AlwaysFails

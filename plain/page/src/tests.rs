@@ -1,6 +1,7 @@
 //! The door, from the side of the page: what is written to the input, and what is read of the output. Tests take one lock, since
 //! the rooms are one.
 use crate::*;
+use gen1::{Battle, Effect, MoveId, Side};
 use std::string::String;
 use std::sync::{Mutex, MutexGuard};
 use std::vec::Vec;
@@ -176,6 +177,56 @@ fn a_status_is_told_as_the_lines_print_it() {
         assert!(
             told.contains(&["\"status\":\"", word, "\""].concat()),
             "{told}"
+        );
+    }
+}
+
+/// Whether the user misses in its first two updates, at the lowest accuracy against the highest evasion.
+fn misses(id: u8, seed: u8) -> bool {
+    let mut splashes = team(150, 1);
+    splashes[0] = 134;
+    let asked = [
+        team(id, 1),
+        splashes,
+        [seed; 10].to_vec(),
+        [0, 0xe8, 3].to_vec(),
+    ]
+    .concat();
+    put(&asked);
+    assert_eq!(page_begin(), 0);
+    let mut battle = updated(&got(384), 0, 0).0;
+    // Stages of accuracy and evasion (docs/LAYOUT.md, "Active block").
+    (battle[168 + 7], battle[348 + 8]) = (0, 12);
+    let mut told = String::new();
+    for _ in 0..2 {
+        let state = Battle::load(&battle).unwrap();
+        if state.is_over() {
+            break;
+        }
+        let [one, two] = Side::BOTH.map(|side| state.choices(side)[0].byte());
+        let (now, log) = updated(&battle, one, two);
+        battle = now;
+        put(&log);
+        told += &text(page_events(0, log.len()));
+    }
+    told.contains("|-miss|p1a")
+}
+
+#[test]
+fn moves_with_a_hit_test_miss_and_no_others() {
+    let _alone = alone();
+    // Vaporeon is immune to no type, and does nothing but splash.
+    let seeds = [1, 20, 77, 130, 163, 201, 240, 254];
+    for id in (1..=164).filter_map(MoveId::new) {
+        let effect = id.effect();
+        if effect == Effect::LeftOut || effect.explodes() {
+            continue;
+        }
+        let expected = odds::is_tested(effect) && effect != Effect::NeverMisses;
+        assert_eq!(
+            seeds.iter().any(|seed| misses(id.number(), *seed)),
+            expected,
+            "{id}"
         );
     }
 }
