@@ -1,10 +1,10 @@
 #!/usr/bin/env python3
-"""Writes the enums of python/gen1 from docs/TABLES.md, docs/MECHANICS.md and include/gen1.h.
+"""Writes the enums of python/gen1 from docs/TABLES.md, docs/LAYOUT.md, docs/MECHANICS.md and include/gen1.h.
 
     tools/python_names.py           writes python/gen1/src/gen1/names.py
     tools/python_names.py --check   writes nothing; fails where the file is not what it would write
 
-Species, moves and types are the rows of TABLES; the kinds of statuses, stats, reasons, sources and volatiles the numbers of
+Species, moves and types are the rows of TABLES; the conditions the bits of LAYOUT; the kinds of statuses, stats, reasons, sources and volatiles the numbers of
 MECHANICS, "Events"; all codes the enums of the header, with the comment behind each as its text.
 """
 
@@ -20,7 +20,7 @@ OUT = ROOT / "python" / "gen1" / "src" / "gen1" / "names.py"
 
 HEAD = '''"""Species, moves, types and codes by name. Made by tools/python_names.py; change docs/TABLES.md or include/gen1.h, not this."""
 
-from enum import IntEnum
+from enum import IntEnum, IntFlag
 
 
 class Named(IntEnum):
@@ -53,6 +53,7 @@ CODES = (
     ("Refusal", "Why an update was refused, of `Refused.code`.", "OVER", "NOT_OFFERED_TWO", ""),
     ("EventKind", "Which event of a log, of `Event.kind`.", "TURN", "FAULT", ""),
     ("LogFault", "Why bytes are no log, of `BadLog.code`.", "LOG_TAG", "LOG_CUT", "LOG_"),
+    ("TextFault", "What was expected in a text of a team, of `BadText.code`.", "TEXT_SPECIES", "TEXT_TEAM", "TEXT_"),
     ("DamageFault", "Why there are no damages, of `NoDamage.code`.", "DAMAGE_SIDE", "DAMAGE_DIVISOR", "DAMAGE_"),
 )
 # Of MECHANICS, "Events": the class, what it is, its heading, and the heading of its names.
@@ -69,9 +70,14 @@ def constant(name):
     return re.sub(r"[^A-Z0-9]+", "_", re.sub(r"(?<=[a-z])(?=[A-Z])", "_", name).upper()).strip("_")
 
 
+def quoted(text):
+    """A text as Python writes it, in double quotes where it has none."""
+    return f"'{text}'" if '"' in text else f'"{text}"'
+
+
 def enum_class(name, doc, rows):
     """The class of an enum whose rows are a number, a name and a label."""
-    lines = [f'    {constant(it)} = {number}, "{label}"' for number, it, label in rows]
+    lines = [f"    {constant(it)} = {number}, {quoted(label)}" for number, it, label in rows]
     return f'\n\nclass {name}(Named):\n    """{doc}"""\n\n' + "\n".join(lines) + "\n"
 
 
@@ -95,6 +101,27 @@ def code_classes(text):
         names = [it for _, it, _ in found[0]]
         rows = found[0][names.index(first):names.index(last) + 1]
         yield enum_class(name, doc, [(number, it.removeprefix(start), label or words(it.removeprefix(start))) for number, it, label in rows])
+
+
+def flags(layout):
+    """The class of the condition bits, which are added up."""
+    cells = [cell for row in table(layout, "Condition bits") if row[0].isdigit() for cell in row if cell]
+    bits = sorted((int(bit), name) for bit, name in zip(cells[::2], cells[1::2]))
+    lines = ["    NONE = 0", *(f"    {constant(name)} = {1 << bit}" for bit, name in bits)]
+    doc = 'What an active is under, added up (docs/LAYOUT.md, "Condition bits").'
+    return f'\n\nclass Conditions(IntFlag):\n    """{doc}"""\n\n' + "\n".join(lines) + "\n"
+
+
+def row_lists(text):
+    """The rows of species and moves, by their numbers from 1 on."""
+    elements = element_names(text)
+    species = [(elements.index(one), elements.index(two), *map(int, stats)) for _, _, one, two, *stats in table(text, "Species")]
+    moves = [(elements.index(kind), *map(int, more)) for _, _, kind, *more, _ in table(text, "Moves")]
+    for name, doc, rows in (
+        ("SPECIES_ROWS", "Of each species both types, and base HP, Attack, Defense, Speed, Special.", species),
+        ("MOVE_ROWS", "Of each move its type, power, accuracy in percent, and PP.", moves),
+    ):
+        yield f"\n# {doc}\n{name} = (\n" + "".join(f"    {row},\n" for row in rows) + ")\n"
 
 
 def words(name):
@@ -129,8 +156,8 @@ def made():
     parts.append(enum_class("Status", "What ails a member; 0 is nothing.", [(0, "None_", "none"), *((n, it, it.lower()) for n, it in kinds)]).replace("NONE_", "NONE"))
     for name, doc, _, heading in KINDS:
         parts.append(enum_class(name, doc, [(n, it, re.sub(r"(?<=[a-z])(?=[A-Z])", " ", it)) for n, it in sorted(kind_rows(rules, heading))]))
-    parts += code_classes((ROOT / "include" / "gen1.h").read_text())
-    return "".join(parts)
+    parts += [flags((ROOT / "docs" / "LAYOUT.md").read_text()), *code_classes((ROOT / "include" / "gen1.h").read_text())]
+    return "".join([*parts, "\n", *row_lists(tables)])
 
 
 def main():

@@ -1,13 +1,14 @@
 """What a worker does: players, and jobs of battles between two of them that come out the same wherever they are played.
 
-It is one file that needs the package gen1 alone, so that it can be sent to a worker on another machine.
+It is one file that needs gen1 and numpy alone, so that it can be sent to a worker on another machine (with the same numpy).
 """
 
 import hashlib
 import random
 from dataclasses import dataclass
 
-from gen1 import Battle, Choice, Member, NoDamage, Outcome, Side, Team
+import numpy as np
+from gen1 import Battle, BattleArray, Choice, Member, NoDamage, Side, Team
 
 TEAMS = (
     Team(
@@ -32,7 +33,7 @@ TEAMS = (
         ]
     ),
 )
-ROUNDS = 4
+ROUNDS = 16
 LIMIT = 200
 
 
@@ -57,26 +58,21 @@ def average(battle, side, move):
 
 
 def playout_player(battle, side, team, dice):
-    """The choice after which most random battles are won. It knows both teams, but not the numbers that will be drawn."""
+    """The choice after which most of some battles by chance are won, less those that are lost.
+
+    They are copies with numbers of their own to draw, all played at once: it knows both teams, but not what the battle will draw.
+    """
     offered = battle.choices(side)
     if len(offered) == 1:
         return offered[0]
-    won = [sum(playout(battle, side, it, dice) for _ in range(ROUNDS)) for it in offered]
-    return offered[won.index(max(won))]
-
-
-def playout(battle, side, choice, dice):
-    """How a copy of the battle with numbers of its own ends, where the side takes this choice and then both play by chance.
-
-    2 for a win, 0 for a loss, 1 for a tie.
-    """
-    copy = battle.copy()
-    copy.reseed(dice.randbytes(10))
-    theirs = dice.choice(copy.choices(3 - side))
-    result = copy.play(*((choice, theirs) if side == 1 else (theirs, choice)))
-    while not result.is_over:
-        result = copy.play(dice.choice(copy.choices(1)), dice.choice(copy.choices(2)))
-    return {Outcome.WIN_ONE: 4 - 2 * side, Outcome.WIN_TWO: 2 * side - 2}.get(result.outcome, 1)
+    drawn, count = np.random.default_rng(dice.getrandbits(64)), ROUNDS * len(offered)
+    copies = BattleArray(count, battle, drawn.integers(0, 256, (count, 10), np.uint8))
+    mine, theirs = np.repeat(offered, ROUNDS), drawn.choice(battle.choices(3 - side), count)
+    copies.step(*((mine, theirs) if side == 1 else (theirs, mine)))
+    while not copies.over.all():
+        copies.random_step(drawn)
+    ends = copies.outcomes.reshape(len(offered), ROUNDS)
+    return offered[int(((ends == side).sum(1) - (ends == 3 - side).sum(1)).argmax())]
 
 
 PLAYERS = {"random": random_player, "greedy": greedy_player, "playouts": playout_player}

@@ -94,6 +94,19 @@ def test_ranges():
     assert ranges(list(range(0, 40, 2))) == "0, 2, 4, 6, .. (20 of 256)"
 
 
+def test_state(monkeypatch, capsys, team):
+    battle = Battle(team, team, range(10), rules=1)
+    out, status, _ = ran(monkeypatch, capsys, battle.bytes, "state")
+    assert status == 0 and json.loads(out)["one"]["active"] is None and json.loads(out)["rules"] == ["sleep_clause"]
+    battle.update(0, 0)
+    it = json.loads(ran(monkeypatch, capsys, battle.bytes, "state")[0])
+    assert it["one"]["members"][0]["species"] == "Tauros" and it["one"]["members"][0]["moves"][0] == "Body Slam"
+    assert (it["turn"], it["outcome"], it["requests"], it["two"]["active"]["conditions"]) == (1, "ongoing", ["move", "move"], [])
+    assert it["choices"]["one"][:2] == ["move 1 Body Slam", "move 2 Hyper Beam"] and it["numbers"] == list(range(10))
+    out, status, err = ran(monkeypatch, capsys, bytes(384), "state")
+    assert (out, status) == ("", 1) and "version" in err
+
+
 def test_explain(monkeypatch, capsys):
     given = (ROOT / "crates" / "battle_tool" / "stdin").read_bytes()
     out, status, err = ran(monkeypatch, capsys, given, "explain")

@@ -9,11 +9,15 @@
 The rules are docs/MECHANICS.md of the repository; no rule of battle stands in Python.
 """
 
+from importlib.metadata import PackageNotFoundError, version
+from typing import TYPE_CHECKING, Any
+
 from gen1.battle import Battle, Result, Update, damage
 from gen1.choices import Choice, Rules, Side
-from gen1.errors import BadArgument, BadBytes, BadLog, BadTeam, BadType, Error, LibraryMissing, NoDamage, Refused
+from gen1.errors import BadArgument, BadBytes, BadLog, BadTeam, BadText, BadType, Error, LibraryMissing, NoDamage, Refused
 from gen1.events import Event, events, lines
 from gen1.names import (
+    Conditions,
     DamageFault,
     EventKind,
     LoadFault,
@@ -28,19 +32,48 @@ from gen1.names import (
     Species,
     Stat,
     Status,
+    TextFault,
     Type,
     Volatile,
 )
+from gen1.states import ActiveState, MemberState, SideState, State
+from gen1.tables import Base, MoveData, base, move_data
 from gen1.teams import Member, Team
 
+if TYPE_CHECKING:
+    from gen1.arrays import BattleArray
+    from gen1.environments import BattleEnv, TwoPlayerEnv
+
+try:
+    __version__ = version("gen1")
+except PackageNotFoundError:
+    __version__ = "0+not.installed"
+# What needs numpy is imported where it is asked for.
+_WITH_NUMPY = {"BattleArray": "gen1.arrays", "BattleEnv": "gen1.environments", "TwoPlayerEnv": "gen1.environments"}
+
+
+def __getattr__(name: str) -> Any:
+    if name not in _WITH_NUMPY:
+        raise AttributeError(f"module 'gen1' has no {name!r}")
+    from importlib import import_module
+
+    return getattr(import_module(_WITH_NUMPY[name]), name)
+
+
 __all__ = [
+    "ActiveState",
     "BadArgument",
     "BadBytes",
     "BadLog",
     "BadTeam",
+    "BadText",
     "BadType",
+    "Base",
     "Battle",
+    "BattleArray",
+    "BattleEnv",
     "Choice",
+    "Conditions",
     "DamageFault",
     "Error",
     "Event",
@@ -49,7 +82,9 @@ __all__ = [
     "LoadFault",
     "LogFault",
     "Member",
+    "MemberState",
     "Move",
+    "MoveData",
     "NewFault",
     "NoDamage",
     "Outcome",
@@ -60,15 +95,21 @@ __all__ = [
     "Result",
     "Rules",
     "Side",
+    "SideState",
     "Source",
     "Species",
     "Stat",
+    "State",
     "Status",
     "Team",
+    "TextFault",
+    "TwoPlayerEnv",
     "Type",
     "Update",
     "Volatile",
+    "base",
     "damage",
     "events",
     "lines",
+    "move_data",
 ]

@@ -13,6 +13,7 @@ from gen1.choices import Choice, Rules, Side, a_choice, a_side, choice_text
 from gen1.errors import BadArgument, BadBytes, BadTeam, BadType, NoDamage, Refused
 from gen1.events import Event, events, lines
 from gen1.names import DamageFault, LoadFault, Move, NewFault, Outcome, Refusal, Request
+from gen1.states import MemberState, State, state_of
 from gen1.teams import Member, Team, as_team
 
 TeamLike: TypeAlias = Team | Iterable[Member | Mapping[str, Any]]
@@ -155,6 +156,29 @@ class Battle:
         if code:
             raise self._refused(Refusal(code), pair)
         return self.result
+
+    @property
+    def state(self) -> State:
+        """All that the bytes stand for, as dataclasses."""
+        return state_of(self._held)
+
+    def words(self, side: Side | int, choice: Choice | int) -> str:
+        """A choice of a side in words, as the battle stands: "move 2 Body Slam", "switch 3 Gengar". It need not be offered.
+
+        Raises `BadArgument` for a slot without a move, a place without a member, and what is no choice.
+        """
+        known, state = a_side(side), self.state
+        byte, of = a_choice(choice, known), state.one if known == 1 else state.two
+        if byte not in _CHOICE:
+            raise BadArgument(f"side {known}'s choice is {choice_text(byte)}")
+        it = _CHOICE[byte]
+        if it in (Choice.PASS, Choice.MOVE_0):
+            return it.label
+        there = of.members if it.is_switch else of.members[of.active.place - 1].moves if of.active else ()
+        if it.slot > len(there):
+            raise BadArgument(f"side {known} has nothing there to choose: {it.label}")
+        named = there[it.slot - 1]
+        return f"{it.label} {named.species if isinstance(named, MemberState) else named}"
 
     def reseed(self, seed: SeedLike, index: int = 0) -> None:
         """Gives the battle other numbers to draw: ten bytes, and the place, 0 to 8, of the one that is drawn next.

@@ -1,6 +1,6 @@
 """What the package raises. Each says in a sentence what was wrong and what was expected."""
 
-from gen1.names import DamageFault, LoadFault, LogFault, NewFault, Refusal
+from gen1.names import DamageFault, LoadFault, LogFault, NewFault, Refusal, TextFault
 
 
 class Error(Exception):
@@ -77,3 +77,15 @@ class NoDamage(Error, ValueError):
     def __init__(self, code: DamageFault, said: str) -> None:
         super().__init__(said)
         self.code = code
+
+
+class BadText(BadTeam):
+    """A text that tells of no team (docs/TEAM_TEXT.md).
+
+    `line` is the line at fault from 1, 0 where it is no single one; of a packed line `member` and `column` are the member and its
+    field, from 1, else 0; `text_code` what was expected there.
+    """
+
+    def __init__(self, said: str, text_code: TextFault, *, line: int, member: int, column: int, code: NewFault | None) -> None:
+        super().__init__(said, member=member, code=code)
+        self.text_code, self.line, self.column = text_code, line, column

@@ -10,6 +10,7 @@ from gen1._check import listed, move, shown, whole
 from gen1._check import species as a_species
 from gen1.errors import BadTeam, BadType
 from gen1.names import Move, NewFault, Species
+from gen1.team_text import read_packed, read_text, written
 
 KEYS = ("species", "level", "dvs", "exp", "moves")
 FIELDS = {
@@ -112,6 +113,28 @@ class Team:
     def to_dicts(self) -> list[dict[str, Any]]:
         """The dicts of the members, which can be written as JSON."""
         return [it.to_dict() for it in self.members]
+
+    @classmethod
+    def from_text(cls, text: str) -> "Team":
+        """The team that a text of Pokemon Showdown's team builder tells of (docs/TEAM_TEXT.md).
+
+        What is not said: level 100, DVs 15, experience 63,504; each move has three PP ups. Raises `BadText` with the line, and what was
+        expected there.
+        """
+        return cls(read_text(text))
+
+    @classmethod
+    def from_packed(cls, line: str) -> "Team":
+        """The team of a packed line of the team builder. Raises `BadText` with the member and its field, from 1."""
+        return cls(read_packed(line))
+
+    def to_text(self) -> str:
+        """A text that `from_text` reads as a team with the same stats, moves and PP.
+
+        Texts have EVs for the experience, so the experience that is read may be another one; and three PP ups for each move: a team with
+        other PP ups raises `BadArgument`.
+        """
+        return written(self.to_dicts())
 
     def __len__(self) -> int:
         return len(self.members)

@@ -1,14 +1,17 @@
 """The command line of `python -m gen1`: its words, its help and its exit statuses."""
 
 import argparse
+import json
 import os
 import sys
 from collections.abc import Callable, Sequence
+from dataclasses import asdict
 
-from gen1.battle import damage
-from gen1.choices import choice_text
+from gen1.battle import Battle, damage
+from gen1.choices import Rules, choice_text
 from gen1.draws import Draw, explained
 from gen1.errors import Error, Refused
+from gen1.names import Conditions, Named
 from gen1.program.inputs import Fault, a_battle, a_member, an_object, pairs, read, write
 from gen1.program.pages import page_with
 from gen1.program.playing import play
@@ -54,6 +57,27 @@ def calc(asked: argparse.Namespace) -> None:
     print(*damage(members[0], members[1], given["move"], given["critical"]))
 
 
+def state(asked: argparse.Namespace) -> None:
+    """Prints all that the 384 bytes of a battle stand for as JSON, with the choices of both sides in words."""
+    battle = Battle.load(read(asked.file))
+    held = asdict(battle.state, dict_factory=_plain)
+    held["choices"] = {name: [battle.words(side, it) for it in battle.choices(side)] for name, side in (("one", 1), ("two", 2))}
+    print(json.dumps(held, indent=1))
+
+
+def _plain(pairs: list[tuple[str, object]]) -> dict[str, object]:
+    """Fields as JSON has them: what has a name by its name, and conditions as a list."""
+    return {name: _named(value) for name, value in pairs}
+
+
+def _named(value: object) -> object:
+    if isinstance(value, (Conditions, Rules)):
+        return [it.name.lower() for it in type(value) if it.value and it & value and it.name]
+    if isinstance(value, tuple):
+        return [_named(it) for it in value]
+    return value.label if isinstance(value, Named) else value
+
+
 def replay(asked: argparse.Namespace) -> None:
     """Writes a page to look at a battle with: one HTML file that holds it (web/README.md, "A file that holds its battle")."""
     page = page_with(read(asked.file), asked.page)
@@ -76,6 +100,7 @@ COMMANDS: tuple[tuple[Callable[[argparse.Namespace], None], str], ...] = (
     (run, "the lines of a battle"),
     (explain, "a battle in sentences, with each draw and what it decided"),
     (calc, "the damage numbers of a move"),
+    (state, "what the 384 bytes of a battle stand for"),
 )
 
 
@@ -90,7 +115,7 @@ def parser() -> argparse.ArgumentParser:
     subcommands = made.add_subparsers(required=True, metavar="SUBCOMMAND")
     for command, said in COMMANDS:
         words = subcommands.add_parser(command.__name__, help=said, description=command.__doc__)
-        words.add_argument("file", nargs="?", default="-", metavar="FILE", help="the input as JSON; - or nothing is standard input")
+        words.add_argument("file", nargs="?", default="-", metavar="FILE", help="the input; - or nothing is standard input")
         words.set_defaults(command=command)
     words = subcommands.add_parser("replay", help="a page to look at a battle with", description=replay.__doc__)
     words.add_argument("file", nargs="?", default="-", metavar="FILE", help="an object of `run`, or a log's bytes; - or nothing is standard input")

@@ -39,18 +39,17 @@ def play(asked: argparse.Namespace) -> None:
 
 def _pair(battle: Battle, teams: tuple[Team, Team], against: str, dice: random.Random) -> tuple[Choice, Choice] | None:
     offered = battle.choices(Side.ONE)
-    mine = offered[0] if offered == (Choice.PASS,) else _asked(battle, teams[0], offered)
+    mine = offered[0] if offered == (Choice.PASS,) else _asked(battle, offered)
     if mine is None:
         return None
     theirs = battle.choices(Side.TWO)
     return mine, dice.choice(theirs) if against == "random" else greedy(battle, Side.TWO, teams[1], dice)
 
 
-def _asked(battle: Battle, team: Team, offered: tuple[Choice, ...]) -> Choice | None:
+def _asked(battle: Battle, offered: tuple[Choice, ...]) -> Choice | None:
     """What is chosen at the keyboard; None at the end of the input, or by q."""
-    out = battle.place(Side.ONE)
     for at, it in enumerate(offered, 1):
-        print(f"  {at}  {choice_words(it, team, out)}")
+        print(f"  {at}  {battle.words(Side.ONE, it)}")
     while True:
         print(f"choose 1 to {len(offered)}: ", end="", flush=True)
         line = sys.stdin.readline()
@@ -61,13 +60,6 @@ def _asked(battle: Battle, team: Team, offered: tuple[Choice, ...]) -> Choice | 
         if word.isascii() and word.isdigit() and 1 <= int(word) <= len(offered):
             return offered[int(word) - 1]
         print(f"{word!r} is none of 1 to {len(offered)}, or q to end")
-
-
-def choice_words(choice: Choice, team: Team, out: int) -> str:
-    """A choice in words, with the move of the member at the place that is out, or the species."""
-    if choice.is_switch:
-        return f"{choice.label} {team[choice.slot - 1].species}"
-    return f"{choice.label} {team[out - 1].moves[choice.slot - 1]}" if choice.is_move and choice.slot else choice.label
 
 
 def greedy(battle: Battle, side: Side, team: Team, dice: random.Random) -> Choice:

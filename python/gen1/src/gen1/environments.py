@@ -1,0 +1,252 @@
+"""Environments to train in: one player against a policy by Gymnasium's API, and two players by PettingZoo's parallel API.
+
+Neither package is needed; where gymnasium is installed its spaces and its `Env` are used. An action is a number from 0 to 11: the bit of
+a choice (0 pass, 1 to 5 moves 0 to 4, 6 to 11 switches to 1 to 6). An observation is a row of `gen1.observations`.
+"""
+
+from collections.abc import Callable, Mapping
+from typing import Any, TypeAlias
+
+import numpy as np
+from numpy.typing import NDArray
+
+from gen1 import spaces
+from gen1._check import shown, within
+from gen1.arrays import ACTIONS, CHOICES, BattleArray, bits
+from gen1.battle import Battle, TeamLike
+from gen1.choices import Choice, Side
+from gen1.errors import BadArgument, BadType
+from gen1.names import Outcome, Species
+from gen1.observations import COLUMNS
+from gen1.teams import Member, as_team
+
+Row: TypeAlias = NDArray[np.float32]
+Truths: TypeAlias = NDArray[np.bool_]
+# A policy is given a copy of the battle, its side and a generator, and answers one of `battle.choices(side)`. The copy holds the numbers
+# that will be drawn: who plays it out reseeds it before.
+Policy: TypeAlias = Callable[[Battle, Side, np.random.Generator], Choice]
+
+_Discrete, _Box, _Base = spaces.made()
+DEFAULT_TEAM = (
+    Member("Starmie", ["Surf", "Thunderbolt", "Thunder Wave", "Recover"]),
+    Member("Snorlax", ["Body Slam", "Reflect", "Rest", "Ice Beam"]),
+    Member("Tauros", ["Body Slam", "Hyper Beam", "Blizzard", "Earthquake"]),
+)
+
+
+def random_policy(battle: Battle, side: Side, dice: np.random.Generator) -> Choice:
+    """One of the choices, each as likely as the others."""
+    offered = battle.choices(side)
+    return offered[int(dice.integers(len(offered)))]
+
+
+class _Table:
+    """A battle that is played: the array of one that is observed, and the teams and terms that it is begun with."""
+
+    def __init__(self, one: TeamLike, two: TeamLike, rules: int, limit: int) -> None:
+        self.teams, self.terms = [as_team(one), as_team(two)], (rules, limit)
+        self.dice = np.random.default_rng()
+        self.begin(None, None)
+
+    def begin(self, seed: int | None, options: Mapping[str, Any] | None) -> None:
+        """A new battle, after its start. With a seed the numbers that are drawn begin anew too."""
+        teams = list(self.teams)
+        for name, team in (options or {}).items():
+            if name not in ("one", "two"):
+                raise BadArgument(f"options may have 'one' and 'two', not {shown(name)}")
+            teams[name == "two"] = as_team(team)
+        if seed is not None:
+            self.dice = np.random.default_rng(within(seed, "seed", 0, (1 << 128) - 1))
+        battle = Battle(teams[0], teams[1], self.dice.bytes(10), *self.terms)
+        battle.play(Choice.PASS, Choice.PASS)
+        self.array = BattleArray(1, battle)
+
+    @property
+    def battle(self) -> Battle:
+        return self.array[0]
+
+    def mask(self, side: int) -> Truths:
+        return np.asarray(bits(self.array.masks())[side - 1, 0], bool)
+
+    def seen(self, side: int) -> Row:
+        return np.asarray(self.array.observe(side)[0], np.float32)
+
+    def update(self, pair: list[Choice]) -> None:
+        battle = self.battle
+        battle.play(*pair)
+        self.array[0] = battle
+
+    def reward(self, side: int) -> float:
+        won = {Outcome.WIN_ONE: 1, Outcome.WIN_TWO: 2}.get(self.battle.result.outcome)
+        return 0.0 if won is None else 1.0 if won == side else -1.0
+
+
+def _choice(action: object, name: str) -> Choice:
+    if isinstance(action, np.ndarray) and action.shape == ():
+        action = action.item()
+    return Choice(int(CHOICES[within(action, name, 0, ACTIONS - 1)]))
+
+
+class BattleEnv(_Base):  # type: ignore[misc, valid-type]
+    """One player, side 1, against a policy on side 2, by Gymnasium's API.
+
+    The reward is 1 for a win, -1 for a loss, and 0 otherwise; a tie at the turn limit ends the battle, as the rules have it, so no
+    episode is truncated. An action that is not offered raises `Refused`, and changes nothing: take `action_masks()` into account.
+    """
+
+    metadata: dict[str, Any] = {"render_modes": ["ansi"], "name": "gen1_v0"}
+    render_mode: str | None = None
+    spec = None
+
+    def __init__(
+        self,
+        one: TeamLike = DEFAULT_TEAM,
+        two: TeamLike = DEFAULT_TEAM,
+        policy: Policy = random_policy,
+        rules: int = 0,
+        limit: int = 1000,
+        render_mode: str | None = None,
+    ) -> None:
+        if render_mode not in (None, "ansi"):
+            raise BadArgument(f"render_mode must be None or 'ansi', not {shown(render_mode)}")
+        if not callable(policy):
+            raise BadType(f"policy must be a function, not {shown(policy)}")
+        self.render_mode, self.policy = render_mode, policy
+        self.action_space = _Discrete(ACTIONS)
+        self.observation_space = _Box(-1.0, 1.0, (len(COLUMNS),), np.float32)
+        self._table = _Table(one, two, rules, limit)
+
+    @property
+    def battle(self) -> Battle:
+        """A copy of the battle. It has everything, also what side 1 does not know."""
+        return self._table.battle
+
+    def reset(self, *, seed: int | None = None, options: Mapping[str, Any] | None = None) -> tuple[Row, dict[str, Any]]:
+        """A new battle: the observation of side 1, and what `step` tells too. `options` may have teams "one" and "two"."""
+        if _Base is not object:
+            super().reset(seed=seed)
+        self._table.begin(seed, options)
+        return self._table.seen(1), self._info()
+
+    def step(self, action: int) -> tuple[Row, float, bool, bool, dict[str, Any]]:
+        """Side 1's choice, and side 2's by the policy: observation, reward, whether it is over, False, and the mask."""
+        battle, table = self._table.battle, self._table
+        mine = _choice(action, "action")
+        theirs = self.policy(battle.copy(), Side.TWO, table.dice) if battle.choices(2) else Choice.PASS
+        table.update([mine, theirs])
+        return table.seen(1), table.reward(1), table.battle.result.is_over, False, self._info()
+
+    def action_masks(self) -> Truths:
+        """Which actions are offered, (12)."""
+        return self._table.mask(1)
+
+    def render(self) -> str | None:
+        """Who is out on both sides, in a line, with render mode "ansi"."""
+        return _sight(self._table) if self.render_mode == "ansi" else None
+
+    def close(self) -> None:
+        """Nothing is open."""
+
+    def _info(self) -> dict[str, Any]:
+        return {"action_mask": self.action_masks()}
+
+
+class TwoPlayerEnv:
+    """Two players, "one" and "two", by PettingZoo's parallel API.
+
+    Both act in each step; a side of which nothing is asked takes action 0, pass. When the battle is over both agents leave.
+    """
+
+    metadata: dict[str, Any] = {"render_modes": ["ansi"], "name": "gen1_v0", "is_parallelizable": True}
+
+    def __init__(
+        self,
+        one: TeamLike = DEFAULT_TEAM,
+        two: TeamLike = DEFAULT_TEAM,
+        rules: int = 0,
+        limit: int = 1000,
+        render_mode: str | None = None,
+    ) -> None:
+        if render_mode not in (None, "ansi"):
+            raise BadArgument(f"render_mode must be None or 'ansi', not {shown(render_mode)}")
+        self.render_mode = render_mode
+        self.possible_agents = ["one", "two"]
+        self.agents: list[str] = []
+        self.action_spaces = {it: _Discrete(ACTIONS) for it in self.possible_agents}
+        self.observation_spaces = {it: _Box(-1.0, 1.0, (len(COLUMNS),), np.float32) for it in self.possible_agents}
+        self._table = _Table(one, two, rules, limit)
+
+    @property
+    def battle(self) -> Battle:
+        """A copy of the battle. It has everything, also what no side knows."""
+        return self._table.battle
+
+    def observation_space(self, agent: str) -> Any:
+        """The space of an agent's observations, the same object each time."""
+        return self.observation_spaces[agent]
+
+    def action_space(self, agent: str) -> Any:
+        """The space of an agent's actions, the same object each time."""
+        return self.action_spaces[agent]
+
+    def reset(
+        self, seed: int | None = None, options: Mapping[str, Any] | None = None
+    ) -> tuple[dict[str, Row], dict[str, dict[str, Any]]]:
+        """A new battle: the observation of each agent, and its mask."""
+        self._table.begin(seed, options)
+        self.agents = list(self.possible_agents)
+        return self._each(self._table.seen), self._each(self._info)
+
+    def step(self, actions: Mapping[str, int]) -> tuple[dict[str, Any], ...]:
+        """Both choices: observations, rewards, terminations, truncations and infos of the agents that were there."""
+        if not self.agents:
+            return {}, {}, {}, {}, {}
+        if set(actions) != set(self.agents):
+            raise BadArgument(f"actions must be those of {' and '.join(self.agents)}, not of {sorted(map(str, actions))}")
+        self._table.update([_choice(actions[it], f"the action of {it}") for it in self.agents])
+        over = self._table.battle.result.is_over
+        told = (
+            self._each(self._table.seen),
+            self._each(self._table.reward),
+            self._each(lambda side: over),
+            self._each(lambda side: False),
+            self._each(self._info),
+        )
+        self.agents = [] if over else self.agents
+        return told
+
+    def action_masks(self, agent: str) -> Truths:
+        """Which actions an agent is offered, (12)."""
+        return self._table.mask(1 + self.possible_agents.index(agent))
+
+    def state(self) -> NDArray[np.uint8]:
+        """The 384 bytes, which are all there is of the battle."""
+        return np.array(self._table.array.bytes[0])
+
+    def render(self) -> str | None:
+        """Who is out on both sides, in a line, with render mode "ansi"."""
+        return _sight(self._table) if self.render_mode == "ansi" else None
+
+    def close(self) -> None:
+        """Nothing is open."""
+
+    @property
+    def unwrapped(self) -> "TwoPlayerEnv":
+        """This environment, which wraps no other."""
+        return self
+
+    def _each(self, what: Callable[[int], Any]) -> dict[str, Any]:
+        return {it: what(1 + self.possible_agents.index(it)) for it in self.agents}
+
+    def _info(self, side: int) -> dict[str, Any]:
+        return {"action_mask": self._table.mask(side)}
+
+
+def _sight(table: _Table) -> str:
+    """The turn, and who is out with how many HP."""
+    fields = table.array.fields[0]
+    text = []
+    for side in fields["sides"]:
+        member = side["members"][side["active"]["place"] - 1]
+        text.append(f"{Species(member['species'])} {member['hp']}/{member['max_hp']}")
+    return f"turn {fields['turn']}: {' - '.join(text)}"

@@ -1,0 +1,195 @@
+"""All that a battle's bytes stand for, as dataclasses."""
+
+from ctypes import LittleEndianStructure, c_uint8, c_uint16, c_uint32
+from dataclasses import dataclass
+from typing import Any
+
+from gen1.choices import Rules
+from gen1.names import Conditions, Move, Outcome, Request, Species, Stat, Status, Type
+
+
+class MemberBytes(LittleEndianStructure):
+    """The 24 bytes of a member (docs/LAYOUT.md, "Member")."""
+
+    _pack_ = 1
+    _fields_ = [
+        ("species", c_uint8),
+        ("level", c_uint8),
+        ("max_hp", c_uint16),
+        ("hp", c_uint16),
+        ("stats", c_uint16 * 4),
+        ("status", c_uint8),
+        ("moves", c_uint8 * 4),
+        ("pp", c_uint8 * 4),
+        ("mark", c_uint8),
+    ]
+
+
+class ActiveBytes(LittleEndianStructure):
+    """The 36 bytes of an active block (docs/LAYOUT.md, "Active block")."""
+
+    _pack_ = 1
+    _fields_ = [
+        ("place", c_uint8),
+        ("types", c_uint8 * 2),
+        ("stages", c_uint8 * 6),
+        ("stats", c_uint16 * 4),
+        ("conditions", c_uint32),
+        ("substitute", c_uint8),
+        ("confusion", c_uint8),
+        ("disabled_slot", c_uint8),
+        ("disabled_turns", c_uint8),
+        ("bad_poison", c_uint8),
+        ("turns", c_uint8),
+        ("energy", c_uint16),
+        ("current_move", c_uint8),
+        ("picked_move", c_uint8),
+        ("kept_accuracy", c_uint8),
+        ("zeros", c_uint8 * 4),
+    ]
+
+
+class SideBytes(LittleEndianStructure):
+    """The 180 bytes of a side."""
+
+    _pack_ = 1
+    _fields_ = [("members", MemberBytes * 6), ("active", ActiveBytes)]
+
+
+class StateBytes(LittleEndianStructure):
+    """The 384 bytes of a battle (docs/LAYOUT.md, "Header")."""
+
+    _pack_ = 1
+    _fields_ = [
+        ("version", c_uint8),
+        ("turn", c_uint16),
+        ("last_damage", c_uint16),
+        ("index", c_uint8),
+        ("numbers", c_uint8 * 10),
+        ("outcome", c_uint8),
+        ("requests", c_uint8 * 2),
+        ("rules", c_uint8),
+        ("limit", c_uint16),
+        ("zeros", c_uint8 * 2),
+        ("sides", SideBytes * 2),
+    ]
+
+
+# The kind of each status byte but those of sleep, which are the turns that are left.
+KINDS = {0: Status.NONE, 8: Status.POISON, 16: Status.BURN, 32: Status.FREEZE, 64: Status.PARALYSIS}
+
+
+@dataclass(frozen=True)
+class MemberState:
+    """A member as it stands.
+
+    `hp` 0 to `max_hp`; `stats` its own Attack, Defense, Speed and Special, 5 to 999; `sleep` the turns left where it is asleep, 1 to 7,
+    else 0; `marked` whether the sleep clause counts its sleep; for each move its PP.
+    """
+
+    species: Species
+    level: int
+    status: Status
+    sleep: int
+    marked: bool
+    moves: tuple[Move, ...]
+    pp: tuple[int, ...]
+    hp: int
+    max_hp: int
+    stats: tuple[int, ...]
+
+
+@dataclass(frozen=True)
+class ActiveState:
+    """The member of a side that is out, and what lasts only while it is.
+
+    `place` 1 to 6; `stats` with stages and penalties, 1 to 999; `stages` -6 to 6: Attack, Defense, Speed, Special, accuracy, evasion. The
+    move that was used and the one that was picked last are slots, 0 none, 5 Struggle. `kept_accuracy`, `substitute` (HP), `confusion`,
+    `disabled_slot`, `disabled_turns`, `bad_poison`, `turns` (of Bide, Thrash or trapping) and `energy` (of Bide) are 0 where they do not
+    apply; docs/LAYOUT.md, "Active block" has their ranges.
+    """
+
+    place: int
+    types: tuple[Type, Type]
+    stats: tuple[int, ...]
+    stages: tuple[int, ...]
+    conditions: Conditions
+    current_move: int
+    picked_move: int
+    kept_accuracy: int
+    substitute: int
+    confusion: int
+    disabled_slot: int
+    disabled_turns: int
+    bad_poison: int
+    turns: int
+    energy: int
+
+    def stage(self, stat: Stat) -> int:
+        """The stage of a stat, -6 to 6."""
+        return self.stages[stat - 1]
+
+
+@dataclass(frozen=True)
+class SideState:
+    """A side: its members by their places, and who is out, None before the first update."""
+
+    members: tuple[MemberState, ...]
+    active: ActiveState | None
+
+
+@dataclass(frozen=True)
+class State:
+    """A battle: both sides; turn (0 before the first update) and limit; the last damage, 0 to 65,535; rules, outcome, requests.
+
+    `index` is the place, 0 to 8, of the number that is drawn next among the first nine of `numbers`; the tenth is never drawn.
+    """
+
+    one: SideState
+    two: SideState
+    turn: int
+    limit: int
+    last_damage: int
+    rules: Rules
+    outcome: Outcome
+    requests: tuple[Request, Request]
+    index: int
+    numbers: tuple[int, ...]
+
+
+def state_of(held: Any) -> State:
+    """What 384 bytes of a battle stand for."""
+    of = StateBytes.from_buffer_copy(held)
+    return State(
+        one=_side(of.sides[0]),
+        two=_side(of.sides[1]),
+        turn=of.turn,
+        limit=of.limit,
+        last_damage=of.last_damage,
+        rules=Rules(of.rules),
+        outcome=Outcome(of.outcome),
+        requests=(Request(of.requests[0]), Request(of.requests[1])),
+        index=of.index,
+        numbers=tuple(of.numbers),
+    )
+
+
+def _side(of: SideBytes) -> SideState:
+    return SideState(tuple(_member(it) for it in of.members if it.species), _active(of.active))
+
+
+def _member(of: MemberBytes) -> MemberState:
+    slots = [at for at in range(4) if of.moves[at]]
+    moves, pp = tuple(Move(of.moves[at]) for at in slots), tuple(of.pp[at] for at in slots)
+    sleep = 0 if of.status in KINDS else of.status
+    ails = KINDS.get(of.status, Status.SLEEP), sleep, bool(of.mark)
+    return MemberState(Species(of.species), of.level, *ails, moves, pp, of.hp, of.max_hp, tuple(of.stats))
+
+
+def _active(of: ActiveBytes) -> ActiveState | None:
+    if not of.place:
+        return None
+    stages, types = tuple(it - 6 for it in of.stages), (Type(of.types[0]), Type(of.types[1]))
+    used = of.current_move, of.picked_move, of.kept_accuracy, of.substitute, of.confusion
+    rest = of.disabled_slot, of.disabled_turns, of.bad_poison, of.turns, of.energy
+    return ActiveState(of.place, types, tuple(of.stats), stages, Conditions(of.conditions), *used, *rest)

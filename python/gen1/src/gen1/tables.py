@@ -1,0 +1,41 @@
+"""The rows of species and moves (docs/TABLES.md)."""
+
+from dataclasses import dataclass
+
+from gen1._check import move as a_move
+from gen1._check import species as a_species
+from gen1.names import MOVE_ROWS, SPECIES_ROWS, Move, Species, Type
+
+
+@dataclass(frozen=True)
+class Base:
+    """A species: base stats from 5 to 250, and two types; one with a single type has it twice."""
+
+    hp: int
+    attack: int
+    defense: int
+    speed: int
+    special: int
+    types: tuple[Type, Type]
+
+
+@dataclass(frozen=True)
+class MoveData:
+    """A move: type; power, 0 to 170, 0 where it has no damage of its power; accuracy in percent; PP without PP ups."""
+
+    type: Type
+    power: int
+    accuracy: int
+    pp: int
+
+
+def base(species: Species | str | int) -> Base:
+    """The base stats and types of a species. Raises `BadTeam` for what is none."""
+    one, two, hp, attack, defense, speed, special = SPECIES_ROWS[a_species(species) - 1]
+    return Base(hp, attack, defense, speed, special, (Type(one), Type(two)))
+
+
+def move_data(move: Move | str | int) -> MoveData:
+    """The row of a move. Raises `BadTeam` for what is none."""
+    kind, power, accuracy, pp = MOVE_ROWS[a_move(move) - 1]
+    return MoveData(Type(kind), power, accuracy, pp)

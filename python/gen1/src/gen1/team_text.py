@@ -1,0 +1,71 @@
+"""Members out of the text of Pokemon Showdown's team builder and out of its packed line, and back to that text (docs/TEAM_TEXT.md)."""
+
+import math
+from ctypes import POINTER, Structure, byref, c_size_t, c_uint8
+from typing import Any
+
+from gen1 import _library
+from gen1._check import shown
+from gen1.errors import BadArgument, BadText, BadType
+from gen1.names import NewFault, TextFault
+
+
+class FaultStruct(Structure):
+    """gen1_text_fault."""
+
+    _fields_ = [("line", c_size_t), ("member", c_size_t), ("field", c_size_t), ("code", c_uint8), ("rule", c_uint8)]
+
+
+_TAKES = _library._BYTES, c_size_t, POINTER(_library.TeamStruct), POINTER(FaultStruct)
+_from_text = _library.bind("gen1_team_from_text", c_uint8, *_TAKES)
+_from_packed = _library.bind("gen1_team_from_packed", c_uint8, *_TAKES)
+STATS = ("HP", "Atk", "Def", "Spe", "Spc")
+
+
+def read_text(text: object) -> list[dict[str, Any]]:
+    """The members that an export text tells of, as dicts."""
+    return _members(_from_text, text)
+
+
+def read_packed(line: object) -> list[dict[str, Any]]:
+    """The members of a packed line, as dicts."""
+    return _members(_from_packed, line)
+
+
+def written(members: list[dict[str, Any]]) -> str:
+    """An export text of these members, of which each move has three PP ups."""
+    return "\n".join(_block(at, it) for at, it in enumerate(members, 1))
+
+
+def _members(call: Any, text: object) -> list[dict[str, Any]]:
+    if not isinstance(text, str):
+        raise BadType(f"text must be a str, not {shown(text)}")
+    given, made, fault = text.encode("utf-8", "surrogatepass"), _library.TeamStruct(), FaultStruct()
+    if call(given, len(given), byref(made), byref(fault)):
+        raise _fault(fault)
+    return [_member(made.members[at]) for at in range(made.count)]
+
+
+def _member(of: _library.MemberStruct) -> dict[str, Any]:
+    moves = [(of.moves[at], of.pp_ups[at]) for at in range(4) if of.moves[at]]
+    return {"species": of.species, "level": of.level, "dvs": list(of.dvs), "exp": list(of.exp), "moves": moves}
+
+
+def _fault(of: FaultStruct) -> BadText:
+    code, rule = TextFault(of.code), NewFault(of.rule) if of.rule else None
+    places = (("line", of.line), ("member", of.member), ("field", of.field))
+    where = ", ".join(f"{name} {number}" for name, number in places if number)
+    expected = rule.label if rule else f"expected: {code.label}"
+    said = f"{where}: {expected}" if where else expected
+    return BadText(said, code, line=of.line, member=of.member, column=of.field, code=rule)
+
+
+def _block(place: int, of: dict[str, Any]) -> str:
+    if any(ups != 3 for _, ups in of["moves"]):
+        raise BadArgument(f"member {place}: a text has three PP ups for each move, and these are {of['moves']}")
+    evs = [min(255, math.isqrt(it - 1) + 1 if it else 0) for it in of["exp"]]
+    lines = [of["species"]] + [f"Level: {of['level']}"] * (of["level"] != 100)
+    lines.append("EVs: " + " / ".join(f"{ev} {stat}" for ev, stat in zip(evs, STATS)))
+    low = [f"{2 * dv} {stat}" for dv, stat in zip(of["dvs"], STATS[1:]) if dv != 15]
+    lines += ["IVs: " + " / ".join(low)] * bool(low)
+    return "\n".join(lines + [f"- {name}" for name, _ in of["moves"]]) + "\n"

@@ -1,0 +1,236 @@
+"""Batches of battles against single ones, and against the library called apart from the package; what a side is shown of them."""
+
+import copy
+import ctypes
+import pickle
+import random
+import time
+
+import pytest
+from conftest import random_team
+
+np = pytest.importorskip("numpy")
+
+from gen1 import BadArgument, BadType, Battle, BattleArray, Conditions  # noqa: E402
+from gen1._library import PATH  # noqa: E402
+from gen1.arrays import ACTIONS, CHOICES, bits  # noqa: E402
+from gen1.layout import ACTIVE, BATTLE, MEMBER  # noqa: E402
+from gen1.observations import COLUMNS  # noqa: E402
+
+LIB = ctypes.CDLL(PATH)
+
+
+def random_battles(count, seed, limit=30):
+    dice = random.Random(seed)
+    return [Battle(random_team(dice), random_team(dice), dice.randbytes(10), dice.randint(0, 3), limit) for _ in range(count)]
+
+
+def test_the_array(battle):
+    array = BattleArray(5, battle)
+    assert array.bytes.shape == (5, 384) and array.bytes.ctypes.data % 64 == 0 and array.bytes.flags.c_contiguous
+    assert len(array) == 5 and array[0] == array[-1] == battle and array == BattleArray.of([battle] * 5)
+    assert (MEMBER.itemsize, ACTIVE.itemsize, BATTLE.itemsize) == (24, 36, 384)
+    array[3] = Battle.load(battle.bytes)
+    for copied in (array.copy(), copy.copy(array), copy.deepcopy(array), pickle.loads(pickle.dumps(array))):
+        assert copied == array and copied.bytes.ctypes.data != array.bytes.ctypes.data
+        copied.random_step(np.random.default_rng(1))
+        assert copied != array and array[0] == battle
+        copied.reset()
+        assert copied == array
+
+
+def test_seeds_are_those_of_new_battles(team):
+    dice = np.random.default_rng(2)
+    seeds = dice.integers(0, 256, (20, 10))
+    array = BattleArray(20, Battle(team, team, bytes(10)), seeds)
+    assert [array[at] for at in range(20)] == [Battle(team, team, bytes(it.tolist())) for it in seeds]
+    array.step(np.zeros(20, int), np.zeros(20, int))
+    other = dice.integers(0, 256, (20, 10))
+    array.reseed(other)
+    singles = [Battle(team, team, bytes(it.tolist())) for it in seeds]
+    for single, seed in zip(singles, other):
+        single.update(0, 0)
+        single.reseed(bytes(seed.tolist()))
+    assert [array[at] for at in range(20)] == singles
+
+
+def test_steps_against_single_updates():
+    """A batch of random battles, in which one choice of five is any byte: results, codes, masks and bytes."""
+    battles, dice = random_battles(200, 3), random.Random(4)
+    array = BattleArray.of(battles)
+    while not array.over.all():
+        masks = array.masks()
+        offered = [[it.choices(side) for it in battles] for side in (1, 2)]
+        for side in (0, 1):
+            assert [list(CHOICES[row]) for row in bits(masks)[side]] == [list(map(int, it)) for it in offered[side]]
+        pairs = [
+            [dice.randint(0, 255) if dice.random() < 0.2 or not it else int(dice.choice(it)) for it in both] for both in zip(*offered)
+        ]
+        ones, twos = np.array(pairs).T
+        results = array.step(ones, twos)
+        for at, (battle, pair) in enumerate(zip(battles, pairs)):
+            held = ctypes.create_string_buffer(battle.bytes, 384)
+            code = LIB.gen1_update(held, *pair, None, ctypes.c_size_t(0), ctypes.byref(ctypes.c_size_t(0))) & 0xFF
+            battles[at] = Battle.load(held.raw)
+            assert (array.codes[at], results[at]) == (code, LIB.gen1_result(held) & 0xFF)
+        assert [array[at] for at in range(len(array))] == battles
+        assert list(array.outcomes) == [it.result.outcome for it in battles]
+
+
+def test_random_steps_take_what_is_offered():
+    """Each choice that is taken is offered, each that is offered is taken, and about as often as the others."""
+    battles = random_battles(1, 5) * 4000
+    array, dice = BattleArray.of(battles), np.random.default_rng(6)
+    array.step(np.zeros(4000, np.uint8), np.zeros(4000, np.uint8))
+    offered = [array[0].choices(side) for side in (1, 2)]
+    for it, taken in zip(offered, array.random_step(dice)):
+        counts = [int((taken == choice).sum()) for choice in it]
+        assert sum(counts) == 4000 and all(abs(count - 4000 / len(it)) < 300 for count in counts)
+    assert not array.codes.any()
+
+
+def test_battles_that_are_over_stay(team):
+    array, dice = BattleArray(50, Battle(team, team, range(10), limit=3)), np.random.default_rng(7)
+    for _ in range(20):
+        array.random_step(dice)
+    assert array.over.all() and not array.masks().any()
+    before = array.copy()
+    array.random_step(dice)
+    assert array == before and (array.codes == 1).all()
+    which = np.arange(50) % 2 == 0
+    seeds = dice.integers(0, 256, (50, 10))
+    array.reset(which, seeds)
+    assert (array.outcomes[which] == 0).all() and (array.bytes[~which] == before.bytes[~which]).all()
+    assert array[2] == Battle(team, team, bytes(seeds[2].tolist()), limit=3)
+
+
+@pytest.mark.parametrize("wrong", [[0] * 4, [0] * 6, [[0] * 5], [256] * 5, [-1] * 5, [1 << 40] * 5, 0])
+def test_choices_out_of_range(battle, wrong):
+    array = BattleArray(5, battle)
+    before = array.copy()
+    for pair in ((wrong, [0x11] * 5), ([0x11] * 5, wrong)):
+        with pytest.raises(BadArgument) as fault:
+            array.step(*pair)
+        assert "must be" in str(fault.value) and array == before and (array.results == before.results).all()
+
+
+@pytest.mark.parametrize("wrong", [[0.0] * 5, [True] * 5, ["a"] * 5, [None] * 5, None])
+def test_choices_of_a_wrong_type(battle, wrong):
+    array = BattleArray(5, battle)
+    with pytest.raises(BadType):
+        array.step(wrong, [0x11] * 5)
+    assert array == BattleArray(5, battle)
+
+
+def test_other_arguments_that_are_wrong(battle):
+    array = BattleArray(5, battle)
+    calls = (
+        (lambda: BattleArray(0, battle), BadArgument),
+        (lambda: BattleArray(-1, battle), BadArgument),
+        (lambda: BattleArray(1.5, battle), BadType),
+        (lambda: BattleArray(5, battle.bytes), BadType),
+        (lambda: BattleArray(5, battle, np.zeros((5, 9), int)), BadArgument),
+        (lambda: BattleArray(5, battle, np.full((5, 10), 256)), BadArgument),
+        (lambda: BattleArray(5, battle, np.zeros((5, 10))), BadArgument),
+        (lambda: BattleArray.of([]), BadArgument),
+        (lambda: BattleArray.of([None]), BadType),
+        (lambda: array[5], BadArgument),
+        (lambda: array[-6], BadArgument),
+        (lambda: array["a"], BadType),
+        (lambda: array.__setitem__(0, None), BadType),
+        (lambda: array.reset([1] * 5), BadArgument),
+        (lambda: array.reset([True] * 4), BadArgument),
+        (lambda: array.reset(None, np.zeros((4, 10), int)), BadArgument),
+        (lambda: array.observe(3), BadArgument),
+        (lambda: array.observe(None), BadType),
+    )
+    for at, (call, kind) in enumerate(calls):
+        with pytest.raises(kind):
+            call()
+        assert array == BattleArray(5, battle), at
+
+
+def observed(seed):
+    """Random battles at some update."""
+    dice = random.Random(seed)
+    for _ in range(60):
+        battle = Battle(random_team(dice), random_team(dice), dice.randbytes(10), limit=20)
+        for _ in range(dice.randint(1, 30)):
+            if battle.result.is_over:
+                break
+            battle.play(*(dice.choice(battle.choices(side)) for side in (1, 2)))
+        yield battle
+
+
+def test_of_the_foe_a_side_sees_what_a_watcher_knows():
+    """Place, HP, kinds, stages and what is up (docs/MECHANICS.md, "Spectator's view"), and the species and levels of the team."""
+    stages = ("attack", "defense", "speed", "special", "accuracy", "evasion")
+    for battle in observed(8):
+        for side, foe in ((1, battle.state.two), (2, battle.state.one)):
+            row = dict(zip(COLUMNS, BattleArray(1, battle).observe(side)[0].tolist()))
+            for place in range(1, 7):
+                it, member = f"foe {place}", foe.members[place - 1] if place <= len(foe.members) else None
+                ails = [row[f"{it} {kind}"] for kind in ("sleep", "poison", "burn", "freeze", "paralysis")]
+                numbers = [row[f"{it} {name}"] for name in ("species / 151", "level / 100", "hp / max_hp")]
+                assert row[f"{it} is out"] == (foe.active.place == place)
+                if member is None:
+                    assert not any(ails + numbers)
+                    continue
+                assert ails == [float(member.status == kind) for kind in range(1, 6)]
+                assert numbers == pytest.approx([member.species / 151, member.level / 100, member.hp / member.max_hp])
+            assert [round(6 * row[f"foe {stage} stage / 6"]) for stage in stages] == list(foe.active.stages)
+            for name in ("substitute", "confused", "light_screen", "reflect"):
+                assert row[f"foe {name}"] == bool(foe.active.conditions & Conditions[name.upper()])
+
+
+def test_nothing_else_of_the_foe_can_be_seen():
+    """Bytes that a side may not know are changed, and its row stays the same."""
+    dice = np.random.default_rng(9)
+    for battle in observed(10):
+        array = BattleArray(1, battle)
+        for side in (1, 2):
+            row, changed = array.observe(side), array.copy()
+            changed.fields["numbers"], changed.fields["index"] = dice.integers(0, 256, 10), dice.integers(0, 9)
+            changed.fields["last_damage"] = dice.integers(0, 65536)
+            foe = changed.fields["sides"][:, 2 - side]
+            for name in ("moves", "pp", "stats", "mark"):
+                foe["members"][name] = dice.integers(0, 256, foe["members"][name].shape)
+            asleep = (foe["members"]["status"] > 0) & (foe["members"]["status"] < 8)
+            foe["members"]["status"][asleep] = dice.integers(1, 8)
+            for name in ("types", "stats", "substitute", "confusion", "disabled_slot", "disabled_turns", "bad_poison", "turns", "energy",
+                         "current_move", "picked_move", "kept_accuracy"):
+                foe["active"][name] = dice.integers(0, 256, foe["active"][name].shape)
+            own = changed.fields["sides"][:, side - 1]
+            for name in ("confusion", "disabled_turns", "turns"):
+                own["active"][name] = dice.integers(0, 256)
+            mask = len(COLUMNS) - ACTIONS
+            assert np.array_equal(row[:, :mask], changed.observe(side)[:, :mask])
+
+
+def test_the_columns(battle):
+    array = BattleArray(3, battle)
+    row = array.observe(1)
+    assert row.shape == (3, len(COLUMNS)) and row.dtype == np.float32 and len(set(COLUMNS)) == len(COLUMNS) == 224
+    named = dict(zip(COLUMNS, row[0].tolist()))
+    assert named["own 1 species / 151"] == pytest.approx(128 / 151) and named["own 2 level / 100"] == pytest.approx(0.73)
+    assert named["own 1 max_hp / 999"] == pytest.approx(353 / 999) and named["own 1 attack / 999"] == pytest.approx(298 / 999)
+    assert named["own 1 is out"] == named["asked to move"] == named["offered move 4"] == named["offered switch 2"] == 1
+    assert named["own 3 species / 151"] == named["offered pass"] == named["won"] == 0
+    for battle in observed(11):
+        for side in (1, 2):
+            row = BattleArray(1, battle).observe(side)
+            assert np.isfinite(row).all() and row.min() >= -1 and row.max() <= 1
+
+
+def test_it_is_quick(battle):
+    """Far quicker than a loop of single updates. The number that is promised is measured on an idle machine (README)."""
+    array, dice = BattleArray(4096, battle), np.random.default_rng(12)
+    spent = steps = 0
+    for _ in range(40):
+        masks = array.masks()
+        first = np.take(CHOICES, bits(masks).argmax(2))
+        begun = time.process_time()
+        array.step(first[0], first[1])
+        spent, steps = spent + time.process_time() - begun, steps + int((array.codes == 0).sum())
+        array.reset(array.over, dice.integers(0, 256, (4096, 10), np.uint8))
+    assert steps / spent > 300_000

@@ -1,0 +1,217 @@
+"""The environments by the rules of Gymnasium's and PettingZoo's published checkers, which are not needed here."""
+
+import sys
+import types
+
+import pytest
+
+np = pytest.importorskip("numpy")
+
+from gen1 import BadArgument, BadType, Battle, BattleEnv, Member, Refused, Side, TwoPlayerEnv  # noqa: E402
+from gen1.environments import DEFAULT_TEAM, random_policy  # noqa: E402
+from gen1.observations import COLUMNS  # noqa: E402
+from gen1.spaces import Box, Discrete  # noqa: E402
+
+
+def played(env, seed, dice):
+    """All that an episode tells, by choices at random."""
+    told = [env.reset(seed=seed)]
+    while True:
+        action = dice.choice(np.flatnonzero(env.action_masks()))
+        told.append(env.step(int(action)))
+        if told[-1][2] or told[-1][3]:
+            return told
+
+
+def same(one, two):
+    """Whether two told things are the same, arrays too."""
+    if isinstance(one, np.ndarray):
+        return np.array_equal(one, two)
+    if isinstance(one, (tuple, list)):
+        return len(one) == len(two) and all(map(same, one, two))
+    if isinstance(one, dict):
+        return one.keys() == two.keys() and all(same(it, two[key]) for key, it in one.items())
+    return one == two
+
+
+# What gymnasium.utils.env_checker.check_env asks.
+
+
+def test_reset_by_the_checker():
+    env = BattleEnv()
+    observation, info = env.reset(seed=123)
+    assert env.observation_space.contains(observation) and isinstance(info, dict)
+    again, _ = env.reset(seed=123)
+    assert np.array_equal(observation, again) and again is not observation
+    assert env.reset(seed=124) and env.reset() and env.reset(options={}) and env.reset(seed=1, options=None)
+    first, second = env.reset()[0], env.reset()[0]
+    assert env.observation_space.contains(first) and env.observation_space.contains(second)
+    one, two = BattleEnv(), BattleEnv()
+    one.reset(seed=5), two.reset(seed=6)
+    assert one.battle != two.battle
+    one.reset(), two.reset(seed=5)
+    assert one.battle != two.battle
+
+
+def test_spaces_by_the_checker():
+    env = BattleEnv()
+    box, discrete = env.observation_space, env.action_space
+    assert box.shape == (len(COLUMNS),) and box.dtype == np.float32 and (box.low <= box.high).all() and np.isfinite(box.low).all()
+    assert discrete.n == 12 and discrete.start == 0
+    assert box.contains(box.sample()) and discrete.contains(discrete.sample())
+    assert env.render_mode is None and "ansi" in env.metadata["render_modes"]
+
+
+def test_steps_by_the_checker():
+    """Five values of their types; episodes with one seed and the same actions are the same; each observation is in the space."""
+    env = BattleEnv()
+    told = played(env, 7, np.random.default_rng(1))
+    assert same(told, played(BattleEnv(), 7, np.random.default_rng(1)))
+    for observation, reward, over, cut, info in told[1:]:
+        assert env.observation_space.contains(observation) and isinstance(reward, float) and np.isfinite(reward)
+        assert isinstance(over, bool) and cut is False and info["action_mask"].shape == (12,)
+        assert reward in (-1.0, 0.0, 1.0) and (reward == 0 or over)
+    assert not told[-1][4]["action_mask"].any() and env.close() is None
+    with pytest.raises(Refused):
+        env.step(1)
+
+
+def test_masks_are_what_the_battle_offers():
+    env, dice = BattleEnv(), np.random.default_rng(3)
+    for seed in range(10):
+        env.reset(seed=seed)
+        over = False
+        while not over:
+            mask = env.action_masks()
+            assert mask.dtype == bool and mask.sum() == len(env.battle.choices(Side.ONE)) > 0
+            before = env.battle
+            for action in np.flatnonzero(~mask)[:2]:
+                with pytest.raises(Refused):
+                    env.step(int(action))
+                assert env.battle == before
+            _, _, over, _, info = env.step(dice.choice(np.flatnonzero(mask)))
+            assert np.array_equal(info["action_mask"], env.action_masks())
+
+
+@pytest.mark.parametrize("action", [-1, 12, 255, None, "1", 1.0, True, [1], np.array([1])])
+def test_actions_that_are_wrong(action):
+    env = BattleEnv()
+    env.reset(seed=1)
+    before = env.battle
+    with pytest.raises((BadArgument, BadType)):
+        env.step(action)
+    assert env.battle == before
+    assert env.step(np.int64(2)) and env.reset(seed=1) and env.step(np.array(2))
+
+
+def test_other_arguments():
+    for wrong, kind in (
+        (lambda: BattleEnv(policy=5), BadType),
+        (lambda: BattleEnv(render_mode="human"), BadArgument),
+        (lambda: TwoPlayerEnv(render_mode="human"), BadArgument),
+        (lambda: BattleEnv([]), BadArgument),
+        (lambda: BattleEnv(limit=0), BadArgument),
+        (lambda: BattleEnv().reset(seed=-1), BadArgument),
+        (lambda: BattleEnv().reset(seed="1"), BadType),
+        (lambda: BattleEnv().reset(options={"three": DEFAULT_TEAM}), BadArgument),
+    ):
+        with pytest.raises(kind):
+            wrong()
+    tauros = Member("Tauros", ["Body Slam"])
+    env = BattleEnv(render_mode="ansi")
+    env.reset(seed=1, options={"one": [tauros]})
+    assert len(env.battle.choices(1)) == 1 and env.render().startswith("turn 1: Tauros 353/353 - ")
+    assert BattleEnv().render() is None
+
+
+def test_a_policy_is_given_a_copy():
+    seen = []
+
+    def policy(battle, side, dice):
+        seen.append((battle.copy(), side))
+        battle.update(battle.choices(1)[0], battle.choices(2)[0])
+        return random_policy(seen[-1][0], side, dice)
+
+    env = BattleEnv(policy=policy)
+    env.reset(seed=2)
+    before = env.battle
+    env.step(int(np.flatnonzero(env.action_masks())[0]))
+    assert seen[0] == (before, Side.TWO) and isinstance(env.battle, Battle)
+
+
+# What pettingzoo.test.parallel_api_test asks.
+
+
+def test_two_players_by_the_checker():
+    env, dice = TwoPlayerEnv(), np.random.default_rng(4)
+    assert env.agents == [] and env.possible_agents == ["one", "two"] and env.unwrapped is env
+    for agent in env.possible_agents:
+        assert env.observation_space(agent) is env.observation_space(agent) and env.action_space(agent) is env.action_space(agent)
+    for seed in range(8):
+        observations, infos = env.reset(seed=seed)
+        assert set(env.agents) == set(observations) == set(infos) == set(env.possible_agents)
+        while env.agents:
+            acting = list(env.agents)
+            actions = {it: int(dice.choice(np.flatnonzero(env.action_masks(it)))) for it in acting}
+            observations, rewards, terminations, truncations, infos = env.step(actions)
+            for told in (observations, rewards, terminations, truncations, infos):
+                assert set(told) == set(acting)
+            for agent in acting:
+                assert env.observation_space(agent).contains(observations[agent])
+                assert isinstance(terminations[agent], bool) and truncations[agent] is False
+            assert set(env.agents) == {it for it in acting if not terminations[it]}
+            assert sum(rewards.values()) == 0
+        assert env.step({}) == ({}, {}, {}, {}, {}) and env.state().shape == (384,)
+
+
+def test_two_players_come_out_the_same():
+    def told(seed):
+        env, dice = TwoPlayerEnv(), np.random.default_rng(5)
+        found = [env.reset(seed=seed)]
+        while env.agents:
+            found.append(env.step({it: int(dice.choice(np.flatnonzero(env.action_masks(it)))) for it in env.agents}))
+        return found
+
+    assert same(told(3), told(3)) and not same(told(3), told(4))
+
+
+def test_actions_of_two_players_that_are_wrong():
+    env = TwoPlayerEnv(render_mode="ansi")
+    env.reset(seed=1)
+    before = env.battle
+    for actions in ({}, {"one": 1}, {"one": 1, "two": 1, "three": 1}, {"one": 12, "two": 1}, {"one": 1, "two": -1}):
+        with pytest.raises(BadArgument):
+            env.step(actions)
+        assert env.battle == before
+    with pytest.raises(Refused):
+        env.step({"one": 0, "two": 1})
+    assert env.battle == before and env.render().startswith("turn 1: ")
+
+
+def test_our_spaces():
+    discrete, box = Discrete(3), Box(-1, 1, (2,))
+    discrete.seed(1), box.seed(1)
+    assert {int(discrete.sample()) for _ in range(100)} == {0, 1, 2}
+    assert {int(discrete.sample(np.array([0, 1, 1], np.int8))) for _ in range(100)} == {1, 2}
+    assert discrete.sample(np.zeros(3, np.int8)) == 0
+    assert 2 in discrete and np.int64(2) in discrete and 3 not in discrete and True not in discrete and 1.0 not in discrete
+    assert np.zeros(2, np.float32) in box and np.full(2, 2, np.float32) not in box and np.zeros(3, np.float32) not in box
+    assert [0, 0] not in box and np.full(2, np.nan, np.float32) not in box
+    assert discrete == Discrete(3) != Discrete(4) and box == Box(-1, 1, (2,)) and "Box" in repr(box) and "3" in repr(discrete)
+
+
+def test_with_gymnasium_its_spaces_are_taken(monkeypatch):
+    """A module of its name, with what is used of it."""
+    from importlib.machinery import ModuleSpec
+
+    from gen1 import spaces
+
+    class Env:
+        def reset(self, *, seed=None):
+            self.seeded = seed
+
+    fake = types.ModuleType("gymnasium")
+    fake.__spec__ = ModuleSpec("gymnasium", None)
+    fake.spaces, fake.Env = types.SimpleNamespace(Discrete=Discrete, Box=Box), Env
+    monkeypatch.setitem(sys.modules, "gymnasium", fake)
+    assert spaces.made() == (Discrete, Box, Env)

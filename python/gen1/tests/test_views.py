@@ -1,0 +1,195 @@
+"""States, choices in words, rows of the tables, and teams as text."""
+
+import random
+import re
+
+import pytest
+from conftest import RECORDED, ROOT, random_team, recorded_only
+from gen1 import (
+    BadArgument,
+    BadTeam,
+    BadText,
+    BadType,
+    Battle,
+    Choice,
+    Conditions,
+    Member,
+    Move,
+    NewFault,
+    Outcome,
+    Request,
+    Rules,
+    Species,
+    Status,
+    Team,
+    TextFault,
+    Type,
+    base,
+    move_data,
+)
+
+if RECORDED.is_dir():
+    from battles import recorded, traces
+
+
+def u16(given, at):
+    return given[at] + 256 * given[at + 1]
+
+
+def compare_member(it, given):
+    """A member with its 24 bytes (docs/LAYOUT.md, "Member")."""
+    kinds = {0: 0, 8: 2, 16: 3, 32: 4, 64: 5, **dict.fromkeys(range(1, 8), 1)}
+    slots = [at for at in range(4) if given[15 + at]]
+    assert (it.species, it.level, it.max_hp, it.hp) == (given[0], given[1], u16(given, 2), u16(given, 4))
+    assert it.stats == tuple(u16(given, at) for at in (6, 8, 10, 12)) and it.status == kinds[given[14]]
+    assert it.sleep == (given[14] if given[14] < 8 else 0) and it.marked == bool(given[23])
+    assert it.moves == tuple(given[15 + at] for at in slots) and it.pp == tuple(given[19 + at] for at in slots)
+
+
+def compare_active(it, given):
+    """The active block (docs/LAYOUT.md, "Active block")."""
+    assert (it.place, *it.types) == tuple(given[:3]) and it.stages == tuple(byte - 6 for byte in given[3:9])
+    assert it.stats == tuple(u16(given, at) for at in (9, 11, 13, 15)) and it.conditions == int.from_bytes(given[17:21], "little")
+    counters = it.substitute, it.confusion, it.disabled_slot, it.disabled_turns, it.bad_poison, it.turns
+    assert counters == tuple(given[21:27]) and it.energy == u16(given, 27)
+    assert (it.current_move, it.picked_move, it.kept_accuracy) == tuple(given[29:32])
+
+
+@recorded_only
+@pytest.mark.parametrize("name", ["traces", "corners"])
+def test_states(name):
+    """The state of each recorded battle, field by field by docs/LAYOUT.md."""
+    for trace in traces(recorded(f"{name}.jsonl")):
+        for update in trace["updates"][::3]:
+            given = bytes.fromhex(update["bytes"])
+            state = Battle.load(given).state
+            assert (state.turn, state.last_damage, state.index, state.numbers) == (u16(given, 1), u16(given, 3), given[5], tuple(given[6:16]))
+            assert (state.outcome, *state.requests, state.rules, state.limit) == (*given[16:20], u16(given, 20))
+            for at, side in ((24, state.one), (204, state.two)):
+                places = [given[at + 24 * it : at + 24 * it + 24] for it in range(6)]
+                for it, member in zip(side.members, places):
+                    compare_member(it, member)
+                assert len(side.members) == sum(bool(it[0]) for it in places)
+                if state.turn:
+                    compare_active(side.active, given[at + 144 : at + 180])
+                else:
+                    assert side.active is None and not any(given[at + 144 : at + 180])
+
+
+def test_a_state(team):
+    battle = Battle(team, team, range(10), Rules.SLEEP_CLAUSE, 99)
+    assert battle.state.one.active is None and battle.state.turn == 0 and battle.state.rules is Rules.SLEEP_CLAUSE
+    battle.update(0, 0)
+    state = battle.state
+    assert state.one.active.types == (Type.NORMAL, Type.NORMAL) and state.one.active.conditions == Conditions.NONE
+    assert (state.outcome, state.requests, state.limit) == (Outcome.ONGOING, (Request.MOVE, Request.MOVE), 99)
+    assert state.two.members[1].moves == (Move.HYPNOSIS, Move.NIGHT_SHADE) and state.one.members[0].status is Status.NONE
+
+
+def test_choices_in_words(battle, team):
+    assert [battle.words(1, it) for it in battle.choices(1)] == [
+        "move 1 Body Slam", "move 2 Hyper Beam", "move 3 Earthquake", "move 4 Blizzard", "switch 2 Gengar"
+    ]
+    assert (battle.words(2, Choice.PASS), battle.words(2, Choice.MOVE_0), battle.words(2, 0x21)) == ("pass", "move 0", "switch 1 Tauros")
+    for side, choice in ((1, 0x23), (1, 5), (1, 256), (3, 0)):
+        with pytest.raises(BadArgument):
+            battle.words(side, choice)
+    with pytest.raises(BadArgument):
+        Battle(team, team, range(10)).words(1, 0x11)
+
+
+# Tables
+
+
+def rows(heading):
+    text = (ROOT / "docs" / "TABLES.md").read_text()
+    section = re.search(rf"^## {heading}\n(.*?)(?=^## |\Z)", text, re.M | re.S)[1]
+    return [[cell.strip() for cell in line.strip("|").split("|")] for line in section.splitlines() if re.match(r"\| *\d", line)]
+
+
+@recorded_only
+def test_rows_of_the_tables():
+    for number, name, one, two, *stats in rows("Species"):
+        it = base(int(number))
+        assert [it.types[0].label, it.types[1].label] == [one, two] and it == base(name)
+        assert [it.hp, it.attack, it.defense, it.speed, it.special] == list(map(int, stats))
+    for number, name, kind, power, accuracy, pp, _ in rows("Moves"):
+        it = move_data(name)
+        assert (it.type.label, it.power, it.accuracy, it.pp) == (kind, int(power), int(accuracy), int(pp))
+        assert it == move_data(int(number))
+    for call in (base, move_data):
+        for wrong in (0, 256, "Pond"):
+            with pytest.raises(BadTeam):
+                call(wrong)
+
+
+# Text
+
+TEXT = """Tauros (M)
+Level: 88
+EVs: 252 HP / 4 Atk / 100 SpA / 100 SpD
+IVs: 6 HP / 0 Atk / 20 Def
+- Body Slam
+"""
+
+
+def test_a_team_from_text():
+    """The example of docs/TEAM_TEXT.md: EVs are roots of the experience, and a DV is half its IV."""
+    it = Team.from_text(TEXT)[0]
+    assert (it.species, it.level, it.moves, it.pp_ups) == (Species.TAUROS, 88, (Move.BODY_SLAM,), (3,))
+    assert it.exp == (252 * 252, 16, 0, 0, 10000) and it.dvs == (0, 10, 15, 15)
+    assert Team.from_text("Starmie\n- Surf\n") == Team([Member("Starmie", ["Surf"], exp=[63504] * 5)])
+    packed = Team.from_packed("Bob|Tauros||NoAbility|bodyslam,hyperbeam||,4,,,,|M|,0,,,,||88|]Starmie||||psychic,recover|||||||")
+    assert [it.species.label for it in packed] == ["Tauros", "Starmie"] and packed[0].exp == (0, 16, 0, 0, 0)
+
+
+@pytest.mark.parametrize(
+    "text, line, code",
+    [
+        ("Tauros\n- Body Slm\n", 2, TextFault.MOVE),
+        ("\n\nTaurus\n- Body Slam\n", 3, TextFault.SPECIES),
+        ("Tauros @ Leftovers\n- Body Slam\n", 1, TextFault.ITEM),
+        ("Tauros\nLevel: 101\n- Body Slam\n", 2, TextFault.LEVEL),
+        ("Tauros\nEVs: 256 Atk\n", 2, TextFault.EVS),
+        ("Tauros\nIVs: 32 Atk\n", 2, TextFault.IVS),
+        ("Tauros\nEVs: 4 SpA / 8 SpD\n", 2, TextFault.SPECIAL_EVS),
+        ("Tauros\n- Pound\n- Cut\n- Surf\n- Fly\n- Dig\n", 6, TextFault.FIFTH_MOVE),
+        ("Tauros\nsomething\n", 2, TextFault.LINE),
+        ("Tauros\n- Pound\n\n" * 7, 19, TextFault.SEVENTH_MEMBER),
+    ],
+)
+def test_texts_with_a_fault(text, line, code):
+    with pytest.raises(BadText) as fault:
+        Team.from_text(text)
+    assert (fault.value.line, fault.value.text_code) == (line, code) and str(fault.value).startswith(f"line {line}: expected: ")
+
+
+def test_texts_that_are_no_team():
+    for text, member, code in (("", 0, NewFault.EMPTY), ("Tauros\n- Mimic\n", 1, NewFault.MOVE_LEFT_OUT), ("Tauros\n", 1, NewFault.NO_MOVE)):
+        with pytest.raises(BadText) as fault:
+            Team.from_text(text)
+        assert (fault.value.text_code, fault.value.code, fault.value.member) == (TextFault.TEAM, code, member)
+    with pytest.raises(BadText) as fault:
+        Team.from_packed("Tauros||||")
+    assert (fault.value.text_code, fault.value.member) == (TextFault.FIELDS, 1)
+    with pytest.raises(BadText) as fault:
+        Team.from_packed("Tauros||||pond|||||||")
+    assert (fault.value.member, fault.value.column) == (1, 5)
+    for call in (Team.from_text, Team.from_packed):
+        for wrong in (None, b"Tauros", 5, ["Tauros"]):
+            with pytest.raises(BadType):
+                call(wrong)
+
+
+def test_teams_to_text_and_back():
+    """The stats, moves and PP are the same: so the battles of both teams are, byte for byte."""
+    dice = random.Random(5)
+    for _ in range(300):
+        team = random_team(dice)
+        team = Team([it | {"moves": [[name, 3] for name, _ in it["moves"]]} for it in team.to_dicts()])
+        read = Team.from_text(team.to_text())
+        assert Battle(team, read, bytes(10)) == Battle(read, team, bytes(10)) == Battle(team, team, bytes(10))
+        assert Team.from_text(read.to_text()) == read
+    with pytest.raises(BadArgument) as fault:
+        Team([Member("Tauros", ["Pound"], pp_ups=[0])]).to_text()
+    assert "PP ups" in str(fault.value)
