@@ -178,6 +178,13 @@ def test_progress_without_a_terminal():
     assert list(progress(range(5), 5, "numbers", to)) == [0, 1, 2, 3, 4] and to.getvalue() == ""
 
 
+def test_progress_on_a_terminal():
+    pytest.importorskip("rich")
+    to = io.StringIO()
+    to.isatty = lambda: True
+    assert list(progress(range(5), 5, "numbers", to)) == [0, 1, 2, 3, 4]
+
+
 def test_random_battles_explained():
     """Each update of random battles is told, and is the one that `update` makes."""
     import random
@@ -205,10 +212,10 @@ def test_replay(monkeypatch, capsys, tmp_path):
     before, after = PAGE.split("null", 1)
     assert (status, err) == (0, "") and text.startswith(before) and text.endswith(after)
     held = text[len(before) : -len(after)]
-    assert json.loads(held) == asked and "<" not in held
+    assert json.loads(held) == asked and "<" not in held and held == given.decode().replace("<", "\\u003c")
     assert ran(monkeypatch, capsys, given, "replay", "--page", str(page), "--out", str(out))[:2] == ("", 0) and out.read_text() == text
     log = bytes([1, 1, 0, 26, 1])
-    assert '{"log": "0101001a01"}' in ran(monkeypatch, capsys, log, "replay", "--page", str(page))[0]
+    assert '{"log":"0101001a01"}' in ran(monkeypatch, capsys, log, "replay", "--page", str(page))[0]
 
 
 def test_replays_that_are_refused(monkeypatch, capsys, tmp_path):
@@ -220,6 +227,7 @@ def test_replays_that_are_refused(monkeypatch, capsys, tmp_path):
         (b"{}", ["--page", str(page)], 1, "'seed'"),
         (b'{"seed":[],"one":[],"two":[],"choices":[]}', ["--page", str(page)], 1, "seed"),
         (good, ["--page", str(other)], 1, "2 places"),
+        (good.replace(b'"Tauros"', b"128"), ["--page", str(page)], 1, "a number"),
         (good, ["--page", "/no/such"], 3, "No such file"),
         (good, ["--page", str(page), "--out", "/no/such/out"], 3, "cannot be written"),
     ):

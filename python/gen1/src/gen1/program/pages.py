@@ -1,6 +1,5 @@
 """The page of web/ with a battle in it (web/README.md, "A file that holds its battle")."""
 
-import json
 from pathlib import Path
 
 from gen1.events import events
@@ -25,10 +24,13 @@ def page_with(given: bytes, page: str | None) -> str:
 
 
 def _battle(given: bytes) -> str:
-    """The JSON that stands for an input, which is tested before."""
+    """The JSON that stands for an input, which is tested before: the text of an object of `run`, or a log's digits."""
     if not given.lstrip().startswith(b"{"):
         events(given)
-        return json.dumps({"log": given.hex()})
+        return f'{{"log":"{given.hex()}"}}'
     asked = an_object(given, "seed", "one", "two", "choices")
     a_battle(asked), pairs(asked)
-    return json.dumps(asked)
+    for it in (*asked["one"], *asked["two"]):
+        if not all(isinstance(name, str) for name in (it["species"], *(move for move, _ in it["moves"]))):
+            raise Fault("a page reads names, and here a species or a move is a number")
+    return given.decode("utf-8").strip()
