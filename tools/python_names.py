@@ -1,11 +1,12 @@
 #!/usr/bin/env python3
 """Writes the enums of python/gen1 from docs/TABLES.md, docs/LAYOUT.md, docs/MECHANICS.md and include/gen1.h.
 
-    tools/python_names.py           writes python/gen1/src/gen1/names.py
-    tools/python_names.py --check   writes nothing; fails where the file is not what it would write
+    tools/python_names.py           writes python/gen1/src/gen1/names.py and rows.py
+    tools/python_names.py --check   writes nothing; fails where one of them is not what it would write
 
-Species, moves and types are the rows of TABLES; the conditions the bits of LAYOUT; the kinds of statuses, stats, reasons, sources and volatiles the numbers of
-MECHANICS, "Events"; all codes the enums of the header, with the comment behind each as its text.
+Species, moves and types are the rows of TABLES; the conditions the bits of LAYOUT; the kinds of statuses, stats, reasons,
+sources and volatiles the numbers of MECHANICS, "Events"; all codes the enums of the header, with the comment behind each as
+its text.
 """
 
 import argparse
@@ -16,9 +17,10 @@ sys.dont_write_bytecode = True
 from repository import ROOT
 from tables import element_names, table
 
-OUT = ROOT / "python" / "gen1" / "src" / "gen1" / "names.py"
+OUT = ROOT / "python" / "gen1" / "src" / "gen1"
+ROWS = '"""The rows of species and moves. Made by tools/python_names.py; change docs/TABLES.md, not this."""\n'
 
-HEAD = '''"""Species, moves, types and codes by name. Made by tools/python_names.py; change docs/TABLES.md or include/gen1.h, not this."""
+HEAD = '''"""Species, moves, types and codes by name. Made by tools/python_names.py; change what it reads, not this."""
 
 from enum import IntEnum, IntFlag
 
@@ -49,19 +51,20 @@ CODES = (
     ("Outcome", "How a battle stands, of `Result.outcome`.", "ONGOING", "FAULT_TWO", ""),
     ("Request", "What a side is asked for the next update, of `Result.requests`.", "ASKED_NOTHING", "ASKED_SWITCH", "ASKED_"),
     ("NewFault", "Why there is no battle or no team, of `BadTeam.code`.", "EMPTY", "TURN_LIMIT", ""),
-    ("LoadFault", 'The first test that bytes fail (docs/LAYOUT.md, "Loading"), of `BadBytes.code`.', "LOAD_LENGTH", "LOAD_REQUEST", "LOAD_"),
+    ("LoadFault", 'The first test that bytes fail (docs/LAYOUT.md, "Loading"), of `BadBytes.code`.', "LOAD_LENGTH", "LOAD_REQUEST",
+     "LOAD_"),
     ("Refusal", "Why an update was refused, of `Refused.code`.", "OVER", "NOT_OFFERED_TWO", ""),
     ("EventKind", "Which event of a log, of `Event.kind`.", "TURN", "FAULT", ""),
     ("LogFault", "Why bytes are no log, of `BadLog.code`.", "LOG_TAG", "LOG_CUT", "LOG_"),
     ("TextFault", "What was expected in a text of a team, of `BadText.code`.", "TEXT_SPECIES", "TEXT_TEAM", "TEXT_"),
     ("DamageFault", "Why there are no damages, of `NoDamage.code`.", "DAMAGE_SIDE", "DAMAGE_DIVISOR", "DAMAGE_"),
 )
-# Of MECHANICS, "Events": the class, what it is, its heading, and the heading of its names.
+# Of MECHANICS, "Events": the class, what it is, and the heading of its names.
 KINDS = (
-    ("Stat", "A stat with stages.", "Number", "Stat"),
-    ("Reason", "Why a member could not act, of `CantEvent`.", "Number", "Reason of Cant"),
-    ("Source", "What dealt damage, of `DamageEvent`.", "Number", "Source of Damage"),
-    ("Volatile", "What started, ended or was activated.", "Number", "Volatile"),
+    ("Stat", "A stat with stages.", "Stat"),
+    ("Reason", "Why a member could not act, of `CantEvent`.", "Reason of Cant"),
+    ("Source", "What dealt damage, of `DamageEvent`.", "Source of Damage"),
+    ("Volatile", "What started, ended or was activated.", "Volatile"),
 )
 
 
@@ -100,7 +103,8 @@ def code_classes(text):
             sys.exit(f"include/gen1.h: {len(found)} enums with GEN1_{first}")
         names = [it for _, it, _ in found[0]]
         rows = found[0][names.index(first):names.index(last) + 1]
-        yield enum_class(name, doc, [(number, it.removeprefix(start), label or words(it.removeprefix(start))) for number, it, label in rows])
+        shorter = [(number, it.removeprefix(start), label) for number, it, label in rows]
+        yield enum_class(name, doc, [(number, it, label or words(it)) for number, it, label in shorter])
 
 
 def flags(layout):
@@ -140,7 +144,7 @@ def kind_rows(text, heading):
                 yield from ((int(row[number]), re.sub(r" *\(.*", "", row[at])) for row in rows[2:] if row[at])
 
 
-def made():
+def names():
     """The text of names.py."""
     tables = (ROOT / "docs" / "TABLES.md").read_text()
     rules = (ROOT / "docs" / "MECHANICS.md").read_text()
@@ -153,25 +157,30 @@ def made():
         parts.append(enum_class(name, doc, rows))
     parts.append(enum_class("Type", "A type, 0 to 14.", [(number, it, it) for number, it in enumerate(element_names(tables))]))
     kinds = sorted(kind_rows(rules, "Kind"))
-    parts.append(enum_class("Status", "What ails a member; 0 is nothing.", [(0, "None_", "none"), *((n, it, it.lower()) for n, it in kinds)]).replace("NONE_", "NONE"))
-    for name, doc, _, heading in KINDS:
-        parts.append(enum_class(name, doc, [(n, it, re.sub(r"(?<=[a-z])(?=[A-Z])", " ", it)) for n, it in sorted(kind_rows(rules, heading))]))
+    statuses = [(0, "None", "none"), *((number, it, it.lower()) for number, it in kinds)]
+    parts.append(enum_class("Status", "What ails a member; 0 is nothing.", statuses))
+    for name, doc, heading in KINDS:
+        rows = [(number, it, re.sub(r"(?<=[a-z])(?=[A-Z])", " ", it)) for number, it in sorted(kind_rows(rules, heading))]
+        parts.append(enum_class(name, doc, rows))
     parts += [flags((ROOT / "docs" / "LAYOUT.md").read_text()), *code_classes((ROOT / "include" / "gen1.h").read_text())]
-    return "".join([*parts, "\n", *row_lists(tables)])
+    return "".join(parts)
+
+
+def made():
+    """The text of each file."""
+    return {"names.py": names(), "rows.py": "".join([ROWS, *row_lists((ROOT / "docs" / "TABLES.md").read_text())])}
 
 
 def main():
     parser = argparse.ArgumentParser(description=__doc__, formatter_class=argparse.RawDescriptionHelpFormatter)
     parser.add_argument("--check", action="store_true")
-    check, text = parser.parse_args().check, made()
-    if OUT.exists() and OUT.read_text() == text:
-        return 0
-    if check:
-        print(f"{OUT.relative_to(ROOT)} is not what tools/python_names.py writes")
-        return 1
-    OUT.write_text(text)
-    print(f"{OUT.relative_to(ROOT)} written")
-    return 0
+    check = parser.parse_args().check
+    stale = {OUT / name: text for name, text in made().items() if not (OUT / name).exists() or (OUT / name).read_text() != text}
+    for path, text in stale.items():
+        if not check:
+            path.write_text(text)
+        print(f"{path.relative_to(ROOT)} {'is not what tools/python_names.py writes' if check else 'written'}")
+    return int(check and bool(stale))
 
 
 if __name__ == "__main__":

@@ -38,7 +38,8 @@ def at_least(least):
 def parser():
     made = argparse.ArgumentParser(prog="selfplay", description=__doc__, formatter_class=argparse.RawDescriptionHelpFormatter)
     names = sorted(arena.PLAYERS)
-    made.add_argument("--players", nargs="+", choices=names, default=list(arena.PLAYERS), metavar="NAME", help=f"two or more of {', '.join(names)}")
+    said = f"two or more of {', '.join(names)}"
+    made.add_argument("--players", nargs="+", choices=names, default=list(arena.PLAYERS), metavar="NAME", help=said)
     made.add_argument("--battles", type=at_least(1), default=200, metavar="N", help="battles of each pair (%(default)s)")
     made.add_argument("--job", type=at_least(1), default=100, metavar="N", help="battles of a job (%(default)s)")
     made.add_argument("--seed", type=int, default=1, metavar="N", help="another seed gives other battles (%(default)s)")

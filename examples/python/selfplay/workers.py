@@ -1,6 +1,7 @@
 """Where jobs are played: here, by processes of this machine, or by Dask's workers. What comes out is the same."""
 
 import sys
+import time
 from concurrent.futures import ProcessPoolExecutor, as_completed
 from concurrent.futures.process import BrokenProcessPool
 from pathlib import Path
@@ -45,7 +46,19 @@ def by_dask(jobs, address):
     from distributed import as_completed as as_done
 
     with Client(address) as client:
-        client.upload_file(str(Path(arena.__file__)))
+        send(client)
         running = {it.key: (it, job) for job in jobs for it in [client.submit(arena.play_job, job, pure=False, retries=TRIES)]}
         for done in as_done([it for it, _ in running.values()]):
             yield running[done.key][1], done.result()
+
+
+def send(client):
+    """Sends what they have to know to Dask's workers; again, where one is lost meanwhile."""
+    for left in reversed(range(TRIES)):
+        try:
+            client.upload_file(str(Path(arena.__file__)))
+            return
+        except OSError as fault:
+            if not left:
+                raise Lost(f"the workers cannot be sent {arena.__file__}: {fault}") from fault
+            time.sleep(1)

@@ -63,7 +63,8 @@ def test_states(name):
         for update in trace["updates"][::3]:
             given = bytes.fromhex(update["bytes"])
             state = Battle.load(given).state
-            assert (state.turn, state.last_damage, state.index, state.numbers) == (u16(given, 1), u16(given, 3), given[5], tuple(given[6:16]))
+            assert (state.turn, state.last_damage) == (u16(given, 1), u16(given, 3))
+            assert (state.index, state.numbers) == (given[5], tuple(given[6:16]))
             assert (state.outcome, *state.requests, state.rules, state.limit) == (*given[16:20], u16(given, 20))
             for at, side in ((24, state.one), (204, state.two)):
                 places = [given[at + 24 * it : at + 24 * it + 24] for it in range(6)]
@@ -165,7 +166,8 @@ def test_texts_with_a_fault(text, line, code):
 
 
 def test_texts_that_are_no_team():
-    for text, member, code in (("", 0, NewFault.EMPTY), ("Tauros\n- Mimic\n", 1, NewFault.MOVE_LEFT_OUT), ("Tauros\n", 1, NewFault.NO_MOVE)):
+    mimic = "Tauros\n- Mimic\n"
+    for text, member, code in (("", 0, NewFault.EMPTY), (mimic, 1, NewFault.MOVE_LEFT_OUT), ("Tauros\n", 1, NewFault.NO_MOVE)):
         with pytest.raises(BadText) as fault:
             Team.from_text(text)
         assert (fault.value.text_code, fault.value.code, fault.value.member) == (TextFault.TEAM, code, member)

@@ -4,7 +4,8 @@ from dataclasses import dataclass
 
 from gen1._check import move as a_move
 from gen1._check import species as a_species
-from gen1.names import MOVE_ROWS, SPECIES_ROWS, Move, Species, Type
+from gen1.names import Move, Species, Type
+from gen1.rows import MOVE_ROWS, SPECIES_ROWS
 
 
 @dataclass(frozen=True)

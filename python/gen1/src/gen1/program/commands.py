@@ -18,10 +18,11 @@ from gen1.program.playing import play
 from gen1.progress import progress
 from gen1.sentences import sentence
 
-EPILOG = """The inputs are those of battle_tool (docs/PROGRAM.md). FILE is a file, or - for standard input, which is read where no file is named.
+EPILOG = """The inputs are those of battle_tool (docs/PROGRAM.md). FILE is a file, or - for standard input, which is read where no file
+is named.
 
-Exit status: 0 done; 1 the input is refused, with a sentence on standard error; 2 the command line is wrong; 3 a file cannot be read or
-written; 130 ended from the keyboard."""
+Exit status: 0 done; 1 the input is refused, with a sentence on standard error; 2 the command line is wrong; 3 a file
+cannot be read or written; 130 ended from the keyboard."""
 
 
 def run(asked: argparse.Namespace) -> None:
@@ -118,14 +119,19 @@ def parser() -> argparse.ArgumentParser:
         words.add_argument("file", nargs="?", default="-", metavar="FILE", help="the input; - or nothing is standard input")
         words.set_defaults(command=command)
     words = subcommands.add_parser("replay", help="a page to look at a battle with", description=replay.__doc__)
-    words.add_argument("file", nargs="?", default="-", metavar="FILE", help="an object of `run`, or a log's bytes; - or nothing is standard input")
+    said = "an object of `run`, or a log's bytes; - or nothing is standard input"
+    words.add_argument("file", nargs="?", default="-", metavar="FILE", help=said)
     words.add_argument("--page", metavar="HTML", help="the page, as web/build makes it; else the one that the package carries")
     words.add_argument("--out", metavar="OUT", help="the file that is written; else it goes to standard output")
     words.set_defaults(command=replay)
-    words = subcommands.add_parser("play", help="a battle against a player that chooses at random, or by damage", description=play.__doc__)
-    words.add_argument("file", nargs="?", metavar="FILE", help="an object of `run`, of which the choices are left out; else two teams of three")
-    words.add_argument("--against", choices=("random", "greedy"), default="greedy", help="how side 2 chooses (%(default)s)")
-    words.add_argument("--seed", type=int, metavar="N", help="a number from 0 on, so that the battle can be had again; else one by chance")
+    said = "a battle against a player that chooses at random, or by damage"
+    words = subcommands.add_parser("play", help=said, description=play.__doc__)
+    said = "an object of `run`, of which the choices are left out; else two teams of three"
+    words.add_argument("file", nargs="?", metavar="FILE", help=said)
+    said = "how side 2 chooses (%(default)s)"
+    words.add_argument("--against", choices=("random", "greedy"), default="greedy", help=said)
+    said = "a number from 0 on, so that the battle can be had again; else one by chance"
+    words.add_argument("--seed", type=int, metavar="N", help=said)
     words.set_defaults(command=play)
     return made
 
