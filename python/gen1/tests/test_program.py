@@ -110,7 +110,7 @@ def test_state(monkeypatch, capsys, team):
 def test_explain(monkeypatch, capsys):
     given = (ROOT / "crates" / "battle_tool" / "stdin").read_bytes()
     out, status, err = ran(monkeypatch, capsys, given, "explain")
-    assert (status, err) == (0, "") and "Update 2: side 1 move 1, side 2 move 1." in out
+    assert status == 0 and "error" not in err and "Update 2: side 1 move 1, side 2 move 1." in out
     sayings = ("The hit on side 2's Tauros is critical.", "Side 2's Tauros faints.", "Side 1 wins.", "draw 4 is 252; with another")
     for said in sayings:
         assert said in out
@@ -177,6 +177,17 @@ def test_as_a_module():
 def test_progress_without_a_terminal():
     to = io.StringIO()
     assert list(progress(range(5), 5, "numbers", to)) == [0, 1, 2, 3, 4] and to.getvalue() == ""
+
+
+def test_progress_of_long_work(monkeypatch):
+    """A line every ten seconds, and one at the end."""
+    import gen1.progress as module
+
+    clock = iter([0, 4, 11, 15, 18, 19])
+    monkeypatch.setattr(module.time, "monotonic", lambda: next(clock))
+    to = io.StringIO()
+    assert list(progress(range(5), 5, "numbers", to)) == [0, 1, 2, 3, 4]
+    assert to.getvalue() == "numbers: 2 of 5, 11 s\nnumbers: 5 of 5, 19 s\n"
 
 
 def test_progress_on_a_terminal():

@@ -13,7 +13,7 @@ SECONDS = 10.0
 def progress(items: Iterable[T], total: int, what: str, to: TextIO | None = None) -> Iterator[T]:
     """The items, of which there are `total`, as they are taken.
 
-    A plain line is written every ten seconds and at the end, so that a log is not filled; nothing for what takes less than a second.
+    A plain line is written every ten seconds, and then one at the end too; so nothing for what takes less.
     """
     stream = sys.stderr if to is None else to
     if stream.isatty() and find_spec("rich"):
@@ -24,7 +24,7 @@ def progress(items: Iterable[T], total: int, what: str, to: TextIO | None = None
     for item in items:
         yield item
         done, now = done + 1, time.monotonic()
-        if now - told >= SECONDS or (done == total and now - begun >= 1):
+        if now - told >= SECONDS or (done == total and told > begun):
             told = now
             print(f"{what}: {done} of {total}, {now - begun:.0f} s", file=stream, flush=True)
 

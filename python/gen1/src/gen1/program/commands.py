@@ -29,7 +29,7 @@ def run(asked: argparse.Namespace) -> None:
     """Plays the battle of a JSON object, and prints its lines."""
     given = an_object(read(asked.file), "seed", "one", "two", "choices")
     battle, all_pairs = a_battle(given), pairs(given)
-    for at, pair in enumerate(progress(all_pairs, len(all_pairs), "updates")):
+    for at, pair in enumerate(all_pairs):
         try:
             update = battle.update(*pair)
         except Refused as fault:
