@@ -26,11 +26,11 @@ _update = _library.bind("gen1_array_update", None, c_void_p, c_size_t, *[c_void_
 CHOICES: Bytes = np.array([int(it) for it in Choice], np.uint8)
 ACTIONS = len(CHOICES)
 ALIGNED = 64
-# For each mask how many bits it has, and at [mask, n] the number of the choice of its n-th bit.
-_COUNT: Bytes = np.array([bin(mask).count("1") for mask in range(1 << ACTIONS)], np.uint8)
-_NTH: Bytes = np.zeros((1 << ACTIONS, ACTIONS), np.uint8)
+# For each mask how many bits it has, and at 16 times the mask and n the number of the choice of its n-th bit.
+_COUNT: NDArray[np.uint32] = np.array([bin(mask).count("1") for mask in range(1 << ACTIONS)], np.uint32)
+_NTH: Bytes = np.zeros(16 << ACTIONS, np.uint8)
 for _mask in range(1 << ACTIONS):
-    _NTH[_mask, : _COUNT[_mask]] = CHOICES[[_bit for _bit in range(ACTIONS) if _mask >> _bit & 1]]
+    _NTH[16 * _mask : 16 * _mask + _COUNT[_mask]] = CHOICES[[_bit for _bit in range(ACTIONS) if _mask >> _bit & 1]]
 
 
 class BattleArray:
@@ -138,8 +138,8 @@ class BattleArray:
         A battle that is over stays as it is.
         """
         masks = self.masks()
-        drawn = dice.integers(0, 1 << 16, masks.shape, np.uint16).astype(np.uint32)
-        taken = _NTH[masks, drawn * _COUNT[masks] >> 16]
+        nth = _COUNT.take(masks) * dice.integers(0, 1 << 16, masks.shape, np.uint16) >> 16
+        taken = _NTH.take(np.left_shift(masks, 4, dtype=np.uint32) + nth)
         self._update(taken[0], taken[1])
         return taken[0], taken[1]
 
