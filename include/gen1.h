@@ -599,6 +599,49 @@ enum {
     GEN1_DAMAGE_DIVISOR = 5  /* the defense that counts in this hit is 0, and the damage would be divided by it */
 };
 
+/* ---- many battles ---- */
+
+/*
+ * The masks of one side in each of `count` battles, to the place of the battle in `masks`. Answers 0; or GEN1_NO_SIDE, or else
+ * GEN1_LENGTHS where `mask_count` is not `count`, and then nothing is written.
+ */
+uint8_t gen1_offered_many(const gen1_battle *battles, size_t count, uint8_t side, uint16_t *masks, size_t mask_count);
+
+/*
+ * An update of each of `count` battles without a log: the battle at place i by the choices ones[i] and twos[i]. codes[i] becomes
+ * what gen1_update would answer, 0 or GEN1_OVER, GEN1_NOT_OFFERED_ONE or GEN1_NOT_OFFERED_TWO; a battle that is refused is
+ * unchanged, and the others are updated all the same. results[i] becomes what gen1_result answers of the battle as it now is.
+ *
+ * Each array stands with its own length. Answers 0; or GEN1_LENGTHS where one of them is not `count`, and then nothing at all has
+ * changed. No two arrays overlap.
+ */
+uint8_t gen1_update_many(gen1_battle *battles, size_t count, const uint8_t *ones, size_t one_count, const uint8_t *twos,
+                         size_t two_count, uint8_t *results, size_t result_count, uint8_t *codes, size_t code_count);
+
+#define GEN1_LENGTHS 254 /* an array has another length than the battles */
+
+/* How playouts ended: the four numbers add up to the rounds. */
+typedef struct gen1_playouts {
+    uint32_t wins_one; /* side 1 won */
+    uint32_t wins_two; /* side 2 won */
+    uint32_t ties;     /* nobody did */
+    uint32_t faults;   /* the battle could not go on: GEN1_FAULT_ONE or GEN1_FAULT_TWO */
+} gen1_playouts;
+
+/*
+ * Plays `rounds` copies of a battle to their end, each side choosing at random among what it is offered, and writes to `counts`
+ * how they ended; the battle itself stays as it is. A copy of a battle that is over ends as that did.
+ *
+ * The choices are drawn from a generator of this call's own: from a state of 64 bits, first `seed`, then 6364136223846793005
+ * times the state before and 1442695040888963407 more, modulo 2 to the power of 64; each draw goes one state on and is its upper
+ * 32 bits; of n choices the one at place (draw modulo n) of the list of gen1_choices is taken, side 1's before side 2's. The same
+ * arguments give the same counts. What the battle draws (hits, damage, ..) comes from the battle's own seed, the same in each
+ * round: a search that must not know it takes copies with other seeds.
+ *
+ * Answers 0, or the number of the first test of gen1_load that the bytes fail (GEN1_LOAD_VERSION, ..): then nothing is written.
+ */
+uint8_t gen1_playout(const gen1_battle *battle, uint64_t seed, uint32_t rounds, gen1_playouts *counts);
+
 /* ---- teams out of text ---- */
 
 /* Where a text is at fault, and what was expected there. */

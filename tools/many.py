@@ -1,13 +1,17 @@
-"""Masks and teams out of text of the C library, held against recorded battles."""
+"""Masks, many battles in one call, playouts and teams out of text of the C library, held against recorded battles."""
 
 import ctypes
 import json
-from ctypes import POINTER, Structure, byref, c_size_t, c_uint8, c_uint16
+from ctypes import POINTER, Structure, byref, c_size_t, c_uint8, c_uint16, c_uint32, c_uint64
 
 import gen1
-from battles import TRACES, cases, recorded, traces
+from battles import TRACES, cases, loads, recorded, traces
 
 KEPT = 7  # what an array or struct holds that a call must leave alone
+
+
+class Playouts(Structure):
+    _fields_ = [(name, c_uint32) for name in ("wins_one", "wins_two", "ties", "faults")]
 
 
 class TextFault(Structure):
@@ -16,9 +20,12 @@ class TextFault(Structure):
 
 def declare(calls):
     """The types of the calls of this file."""
-    battle, size = POINTER(gen1.BattleBytes), c_size_t
+    battle, size, byte = POINTER(gen1.BattleBytes), c_size_t, POINTER(c_uint8)
     for name, answer, takes in (
         ("gen1_offered", c_uint16, [battle, c_uint8]),
+        ("gen1_offered_many", c_uint8, [battle, size, c_uint8, POINTER(c_uint16), size]),
+        ("gen1_update_many", c_uint8, [battle, size, byte, size, byte, size, byte, size, byte, size]),
+        ("gen1_playout", c_uint8, [battle, c_uint64, c_uint32, POINTER(Playouts)]),
         ("gen1_team_from_text", c_uint8, [ctypes.c_char_p, size, POINTER(gen1.Team), POINTER(TextFault)]),
         ("gen1_team_from_packed", c_uint8, [ctypes.c_char_p, size, POINTER(gen1.Team), POINTER(TextFault)]),
     ):
@@ -46,13 +53,80 @@ def array_of(strings):
 
 
 def compare_masks(library, steps, count):
-    """The masks after each recorded update."""
+    """The masks after each recorded update, one by one and all at once."""
     battles = array_of([bytes.fromhex(update["bytes"]) for _, update in steps])
     for side in (1, 2):
         want = [sum(1 << bit_of(choice) for choice in update["offered"][side - 1]) for _, update in steps]
+        masks = (c_uint16 * len(steps))(*[KEPT] * len(steps))
+        code = library.calls.gen1_offered_many(battles, len(steps), side, masks, len(steps))
+        count.tell(f"masks of side {side}", (code, list(masks)), (0, want))
         count.tell(f"each mask of side {side}", [library.calls.gen1_offered(byref(battle), side) for battle in battles], want)
+    masks = (c_uint16 * 3)(*[KEPT] * 3)
     others = [side for side in range(256) if side not in (1, 2)]
     count.tell("no side's mask", {library.calls.gen1_offered(byref(battles[0]), side) for side in others}, {0xffff})
+    count.tell("no side's masks", {library.calls.gen1_offered_many(battles, 3, side, masks, 3) for side in others}, {255})
+    count.tell("masks of another length", {library.calls.gen1_offered_many(battles, size, 1, masks, 3) for size in (0, 2, 4)}, {254})
+    count.tell("masks that were kept", list(masks), [KEPT] * 3)
+
+
+def compare_batches(library, steps, count):
+    """All recorded updates in one call."""
+    size = len(steps)
+    battles = array_of([before for before, _ in steps])
+    ones, twos = ((c_uint8 * size)(*[update["pair"][side] for _, update in steps]) for side in (0, 1))
+    results, codes = ((c_uint8 * size)(*[KEPT] * size) for _ in range(2))
+    lengths = [size] * 5
+    for at in range(5):
+        lengths[at] -= 1
+        got = library.calls.gen1_update_many(battles, lengths[0], ones, lengths[1], twos, lengths[2], results, lengths[3], codes, lengths[4])
+        lengths[at] += 1
+        kept = (bytes(battles) == b"".join(before for before, _ in steps), set(results), set(codes))
+        count.tell(f"a batch with a short array, {at}", (got, *kept), (254, True, {KEPT}, {KEPT}))
+    got = library.calls.gen1_update_many(battles, size, ones, size, twos, size, results, size, codes, size)
+    count.tell("a batch", got, 0)
+    for at, (_, update) in enumerate(steps):
+        result = [results[at] & 7, results[at] >> 3 & 3, results[at] >> 5 & 3]
+        want = (update["refused"] or 0, update["bytes"], update["result"] or result)
+        count.tell(f"update {at} of a batch", (codes[at], bytes(battles[at]).hex(), result), want)
+
+
+def played_out(library, given, seed, rounds):
+    """How playouts end by the generator that gen1.h describes, played update by update."""
+    ends, state = [0] * 4, seed
+    for _ in range(rounds):
+        battle = library.load(given)
+        while (outcome := battle.result()[0]) == 0:
+            pair = []
+            for side in (1, 2):
+                offered = battle.choices(side)
+                state = (state * 6364136223846793005 + 1442695040888963407) % 2**64
+                pair.append(offered[(state >> 32) % len(offered)])
+            battle.update(*pair)
+        ends[min(outcome, 4) - 1] += 1
+    return ends
+
+
+def compare_playouts(library, steps, folder, count):
+    """Playouts of recorded states add up, and leave the battle; those of a battle that is over end as it did."""
+    for at, (_, update) in enumerate(steps[::97]):
+        battle, counts = array_of([bytes.fromhex(update["bytes"])])[0], Playouts()
+        code = library.calls.gen1_playout(byref(battle), at, 20, byref(counts))
+        got = [counts.wins_one, counts.wins_two, counts.ties, counts.faults]
+        count.tell(f"playouts {at}", (code, sum(got), bytes(battle).hex()), (0, 20, update["bytes"]))
+        if at % 20 == 0:
+            want = played_out(library, bytes(battle), at, 20)
+            count.tell(f"playouts {at}, update by update", got, want)
+        again = Playouts()
+        library.calls.gen1_playout(byref(battle), at, 20, byref(again))
+        count.tell(f"playouts {at}, again", bytes(again), bytes(counts))
+        outcome = (update["result"] or [0])[0]
+        if outcome:
+            count.tell(f"playouts {at}, over", got[min(outcome, 4) - 1], 20)
+    for number, (test, given) in enumerate(loads(recorded("loads.txt", folder)), 1):
+        if test and len(given) == 384:
+            counts = Playouts(KEPT, KEPT, KEPT, KEPT)
+            code = library.calls.gen1_playout(byref(array_of([given])[0]), 1, 3, byref(counts))
+            count.tell(f"playouts of byte string {number}", (code, counts.wins_one, counts.faults), (test, KEPT, KEPT))
 
 
 def export_text(members):
@@ -122,5 +196,7 @@ def compare_many(library, battle_of, member, folder, count):
     declare(library.calls)
     steps = list(steps_of(library, battle_of, folder))
     compare_masks(library, steps, count)
+    compare_batches(library, steps, count)
+    compare_playouts(library, steps, folder, count)
     compare_texts(library, member, folder, count)
     compare_text_faults(library, count)

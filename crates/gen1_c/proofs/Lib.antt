@@ -6,3 +6,11 @@ pub mod Begun
 pub mod Hits
 -- The log of an update, and what an update answered.
 pub mod Updates
+-- While a battle goes on, something is offered to each side.
+pub mod Offers
+-- Pairs that were accepted, one after the other.
+pub mod Accepting
+-- Many battles, one after the other.
+pub mod OneByOne
+-- Playouts, one after the other.
+pub mod Counting

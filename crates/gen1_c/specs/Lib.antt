@@ -12,5 +12,9 @@ pub mod Events
 pub mod Logs
 -- The damage of a hit.
 pub mod Damage
+-- Masks, and many battles.
+pub mod Batches
+-- How playouts end.
+pub mod Playouts
 -- Teams out of text.
 pub mod TeamText

@@ -5,6 +5,9 @@
 //! - `teams`: teams as plain structs
 //! - `update`: updates, offered choices and the result
 //! - `masks`: what may be chosen as a mask
+//! - `batches`: many battles in one call
+//! - `playouts`: battles played to their end by choices at random
+//! - `choosing`: the generator of those choices
 //! - `team_text`: teams out of text
 //! - `events`: the events of a log
 //! - `lines`: the lines of a log's events
@@ -12,16 +15,20 @@
 //! - `fronts`: writing to the front of a caller's memory
 #![tactic(auto)]
 
+pub mod batches;
 pub mod battle;
+mod choosing;
 pub mod damage;
 pub mod events;
 mod fronts;
 pub mod lines;
 pub mod masks;
+pub mod playouts;
 pub mod team_text;
 mod teams;
 pub mod update;
 
 pub use events::EventFields;
+pub use playouts::PlayoutCounts;
 pub use team_text::TextFaultForm;
 pub use teams::{MemberForm, TeamForm};

@@ -1,0 +1,37 @@
+//! The generator of choices at random (include/gen1.h, "many battles").
+ghost use Rattle.std.specs.Prelude.{◌%◌, ◌/◌, ◌<◌, ◌≡◌, ◌≤◌};
+ghost use Rattle.gen1_c.specs.Playouts.{next_state};
+
+// A linear congruential generator modulo 2 to the power of 64, of which the upper 32 bits are drawn.
+#[derive(Drop)]
+pub(crate) struct Choosing {
+    state: u64,
+}
+
+impl Choosing {
+    pub(crate) fn new(seed: u64) -> Self
+        ensures { result.state ≡ seed }
+    {
+        Choosing { state: seed }
+    }
+
+    // A number from 0 to a count, less one: the upper bits of the next state, modulo the count.
+    pub(crate) fn below(&mut self, count: usize) -> usize
+        requires some { 1 ≤ count }
+        ensures state { self.new.state ≡ next_state self.old.state }
+        ensures value { result ≡ next_state self.old.state / 4294967296 % count }
+        ensures bound { result < count }
+    {
+        self.state = next_state(self.state);
+        (self.state / 4294967296) as usize % count
+    }
+}
+
+// Knuth's multiplier and increment.
+fn next_state(state: u64) -> u64
+    ensures { result ≡ next_state state }
+{
+    state
+        .wrapping_mul(6364136223846793005)
+        .wrapping_add(1442695040888963407)
+}

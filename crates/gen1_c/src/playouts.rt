@@ -1,0 +1,139 @@
+//! Battles played to their end by choices at random (include/gen1.h, "many battles").
+ghost use Rattle.std.specs.Prelude.{IfOk, IsOk, length, true, ◌+◌, ◌<◌, ◌≡◌, ◌≢◌, ◌≤◌};
+ghost use Rattle.gen1_machine.specs.State.{State};
+ghost use Rattle.gen1_machine.specs.Step.{is_among};
+ghost use Rattle.gen1_layout.specs.Within.{Stands};
+ghost use Rattle.gen1_c.specs.Playouts.{EndsAs, Plays, PlaysOut, counting, total};
+ghost use Rattle.gen1_layout.specs.Parts.{joined};
+
+use crate::choosing::Choosing;
+use gen1_engine::{Battle, Choices};
+use gen1_layout::Packed;
+use gen1_machine::{Choice, EventList, Outcome, Side};
+use std::alloc::AllocError;
+
+/// How playouts ended.
+#[repr(C)]
+#[derive(Clone, Copy)]
+pub struct PlayoutCounts {
+    /// Side 1 won.
+    pub wins_one: u32,
+    /// Side 2 won.
+    pub wins_two: u32,
+    /// Nobody won.
+    pub ties: u32,
+    /// The battle could not go on.
+    pub faults: u32,
+}
+
+/// Plays copies of a battle to their end, by choices at random among those that are offered, and counts how they end
+/// (include/gen1.h, "many battles"). The answer is 0, or the number of the first of the seven tests of loading that the bytes
+/// fail (docs/LAYOUT.md, "Loading").
+#[unsafe(no_mangle)]
+pub extern "C" fn gen1_playout(
+    battle: &Packed,
+    seed: u64,
+    rounds: u32,
+    counts: &mut PlayoutCounts,
+) -> u8
+    ensures plays { Plays (joined battle.now) rounds counts.old counts.new result }
+    ensures total { result ≡ 0 → total counts.new ≡ rounds }
+    ensures kept { result ≢ 0 → counts.new ≡ counts.old }
+{
+    match Battle::load(battle.as_bytes()) {
+        Ok(start) => {
+            *counts = counted(&start, seed, rounds);
+            0
+        }
+        Err(fault) => fault.number(),
+    }
+}
+
+// How so many playouts end.
+fn counted(start: &Battle, seed: u64, rounds: u32) -> PlayoutCounts
+    ensures plays { (s : State) → Stands start.now s → PlaysOut s rounds result }
+    ensures total { total result ≡ rounds }
+{
+    let mut random = Choosing::new(seed);
+    let mut events = EventList::new();
+    let mut counts = PlayoutCounts {
+        wins_one: 0,
+        wins_two: 0,
+        ties: 0,
+        faults: 0,
+    };
+    'rounds: for _ in 0..rounds {
+        let end = end_of(start, &mut random, &mut events);
+        count(end, &mut counts);
+    }
+    counts
+}
+
+fn count(end: Outcome, counts: &mut PlayoutCounts)
+    requires room { total counts.old < 4294967295 }
+    ensures counts { counts.new ≡ counting end counts.old }
+    ensures total { total counts.new ≡ total counts.old + 1 }
+{
+    match end {
+        Outcome::WinOne => counts.wins_one += 1,
+        Outcome::WinTwo => counts.wins_two += 1,
+        Outcome::Tie => counts.ties += 1,
+        Outcome::Ongoing => counts.faults += 1,
+        Outcome::Fault(_) => counts.faults += 1,
+    }
+}
+
+// How a copy of a battle ends.
+fn end_of(start: &Battle, random: &mut Choosing, events: &mut EventList) -> Outcome
+    ensures { (s : State) → Stands start.now s → EndsAs s result }
+{
+    match copy_of(start) {
+        Ok(copy) => {
+            let mut copy = copy;
+            play_out(&mut copy, random, events)
+        }
+        // A copy takes no memory.
+        Err(_) => start.result().outcome,
+    }
+}
+
+fn copy_of(battle: &Battle) -> Result<Battle, AllocError>
+    ensures copy { IfOk result (λ copy. copy ≡ battle.now) }
+    ensures always { IsOk result }
+{
+    Ok(battle.clone()?)
+}
+
+// Plays a battle to its end by choices at random, and says how it ended.
+fn play_out(battle: &mut Battle, random: &mut Choosing, events: &mut EventList) -> Outcome
+    ensures { (s : State) → Stands battle.old s → EndsAs s result }
+{
+    // No battle takes more updates (docs/MECHANICS.md, "Turn limit").
+    'updates: for _ in 0..u32::from(battle.limit()) + 11 {
+        let now = battle.result();
+        if now.outcome.is_over() {
+            return now.outcome;
+        }
+        let one = pick(&battle.choices(Side::One), random);
+        let two = pick(&battle.choices(Side::Two), random);
+        match battle.update_events(one, two, events) {
+            Ok(_) => {}
+            // What is offered is never refused.
+            Err(_) => return now.outcome,
+        }
+    }
+    battle.result().outcome
+}
+
+fn pick(choices: &Choices, random: &mut Choosing) -> Choice
+    ensures { 1 ≤ length choices.now.items → is_among result choices.now.items ≡ true }
+{
+    let choices = choices.as_slice();
+    match choices.len() {
+        0 => Choice::Pass,
+        count => {
+            let place = random.below(count);
+            choices[place]
+        }
+    }
+}
