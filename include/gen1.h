@@ -73,13 +73,29 @@ enum { GEN1_SLEEP_CLAUSE = 1, GEN1_FREEZE_CLAUSE = 2 };
 #define GEN1_MOVE(slot) (0x10 + (slot))     /* slot 1 to 4; 0 where no slot can be chosen */
 #define GEN1_SWITCH(place) (0x20 + (place)) /* place 1 to 6 */
 
-/* What ails a member: `status` of gen1_event. */
+/* The version of this header, and of a library that was built with it: gen1_version answers GEN1_VERSION_NUMBER. */
+#define GEN1_VERSION "1.0.0"
+#define GEN1_VERSION_NUMBER 0x010000
+
+/* What ails a member: `status` of gen1_event and gen1_member_state. */
 enum {
     GEN1_STATUS_NONE, GEN1_STATUS_SLEEP, GEN1_STATUS_POISON, GEN1_STATUS_BURN, GEN1_STATUS_FREEZE, GEN1_STATUS_PARALYSIS
 };
 
-/* Stats: `detail` of GEN1_BOOST and GEN1_UNBOOST. */
+/* Stats: `detail` of GEN1_BOOST and GEN1_UNBOOST. The stat n is at n - 1 of `stages` and `stats` in gen1_active_state. */
 enum { GEN1_STAT_ATTACK = 1, GEN1_STAT_DEFENSE, GEN1_STAT_SPEED, GEN1_STAT_SPECIAL, GEN1_STAT_ACCURACY, GEN1_STAT_EVASION };
+
+/* What gen1_choice_kind answers. */
+enum { GEN1_CHOICE_NONE, GEN1_CHOICE_PASS, GEN1_CHOICE_MOVE, GEN1_CHOICE_SWITCH };
+
+/* Conditions of a member that is out (docs/MECHANICS.md, "Conditions"), to be added up: of gen1_active_state. */
+enum {
+    GEN1_CONDITION_BIDE = 1, GEN1_CONDITION_THRASH = 2, GEN1_CONDITION_TRAPPING = 4, GEN1_CONDITION_FLINCH = 8,
+    GEN1_CONDITION_CHARGING = 16, GEN1_CONDITION_INVULNERABLE = 32, GEN1_CONDITION_CONFUSED = 64, GEN1_CONDITION_MIST = 128,
+    GEN1_CONDITION_FOCUS_ENERGY = 256, GEN1_CONDITION_SUBSTITUTE = 512, GEN1_CONDITION_RECHARGE = 1024,
+    GEN1_CONDITION_RAGE = 2048, GEN1_CONDITION_SEEDED = 4096, GEN1_CONDITION_BAD_POISON = 8192,
+    GEN1_CONDITION_LIGHT_SCREEN = 16384, GEN1_CONDITION_REFLECT = 32768, GEN1_CONDITION_DISABLED = 65536
+};
 
 /* tools/header.py writes the lines from here to "end of the tables", from docs/TABLES.md. */
 
@@ -683,6 +699,96 @@ enum {
     GEN1_TEXT_FIELDS = 13,        /* packed: twelve fields with `|` between them */
     GEN1_TEXT_TEAM = 14           /* members that are a team: `rule` says why they are none, and `member` who is at fault */
 };
+
+/* ---- naming ---- */
+
+/* The version of the library: 65,536 times the major number, 256 times the minor one, and the third. */
+uint32_t gen1_version(void);
+
+/*
+ * The species or move that the `count` bytes name, or 0 if they name none. Only letters and digits count, in either case
+ * (docs/TEAM_TEXT.md, "Names"): "mrmime" is 122, and each name of docs/TABLES.md is found. Two moves are known by the names of
+ * later games too, "Vise Grip" and "Hi Jump Kick".
+ */
+uint8_t gen1_species_from_name(const char *text, size_t count);
+uint8_t gen1_move_from_name(const char *text, size_t count);
+
+/* ---- looking ---- */
+
+/* A member, as it stands. Where a side has none at a place, all is 0. */
+typedef struct gen1_member_state {
+    uint8_t species;    /* 1 to 151 */
+    uint8_t level;      /* 1 to 100 */
+    uint8_t status;     /* GEN1_STATUS_NONE to GEN1_STATUS_PARALYSIS */
+    uint8_t sleep;      /* asleep: 1 to 7 turns left; else 0 */
+    uint8_t marked;     /* 1 if it sleeps by the foe's move and the sleep clause counts it; else 0 */
+    uint8_t moves[4];   /* 1 to 164; 0 in a slot without a move */
+    uint8_t pp[4];      /* 0 to 63; 0 in a slot without a move */
+    uint16_t hp;        /* 0 to max_hp */
+    uint16_t max_hp;    /* 11 to 999 */
+    uint16_t stats[4];  /* 5 to 999: its own Attack, Defense, Speed and Special, without stages and penalties */
+} gen1_member_state;
+
+/* The member of a side that is out. Before the first update nobody is, and all is 0. */
+typedef struct gen1_active_state {
+    uint32_t conditions;    /* GEN1_CONDITION_.., added up */
+    uint16_t stats[4];      /* 1 to 999: Attack, Defense, Speed and Special at their stages and after their penalties */
+    uint16_t energy;        /* Bide: what it has stored, 0 to 65,535; else 0 */
+    uint8_t place;          /* 1 to 6: which member it is */
+    uint8_t types[2];       /* 0 to 14; they need not be the species' */
+    uint8_t stages[6];      /* 0 to 12, of which 6 is the middle: Attack, Defense, Speed, Special, accuracy, evasion */
+    uint8_t current_move;   /* the move that was used last: 0 none, 1 to 4 a slot, 5 Struggle */
+    uint8_t picked_move;    /* the move that was picked last, likewise */
+    uint8_t kept_accuracy;  /* Thrash and Rage: the accuracy that is kept, 1 to 255; else 0 */
+    uint8_t substitute;     /* HP of the Substitute, 0 to 249; 0 without one */
+    uint8_t confusion;      /* confused: 1 to 5 turns left; else 0 */
+    uint8_t disabled_slot;  /* the slot that Disable bars, 1 to 4; else 0 */
+    uint8_t disabled_turns; /* for 1 to 8 turns more; else 0 */
+    uint8_t bad_poison;     /* the counter that Toxic begins, 0 to 64; 0 without it */
+    uint8_t turns;          /* turns left of Bide, Thrash (1 to 3) or trapping (0 to 4), of which one at most is on; else 0 */
+} gen1_active_state;
+
+typedef struct gen1_side_state {
+    gen1_member_state members[6]; /* by their places from 1 on */
+    gen1_active_state active;
+} gen1_side_state;
+
+/* All that the 384 bytes stand for (docs/LAYOUT.md). */
+typedef struct gen1_state {
+    gen1_side_state sides[2]; /* side 1 and side 2 */
+    uint16_t turn;            /* 0 before the first update, up to the limit */
+    uint16_t limit;           /* the last turn, 1 to 9,999 */
+    uint16_t last_damage;     /* of either side, 0 to 65,535 */
+    uint8_t rules;            /* GEN1_SLEEP_CLAUSE and GEN1_FREEZE_CLAUSE, added up */
+    uint8_t outcome;          /* GEN1_ONGOING to GEN1_FAULT_TWO */
+    uint8_t requests[2];      /* GEN1_ASKED_NOTHING to GEN1_ASKED_SWITCH, of side 1 and side 2 */
+    uint8_t index;            /* which of the nine link numbers is drawn next, 0 to 8 */
+    uint8_t numbers[10];      /* the nine link numbers in use, and the tenth seed byte, which is never drawn */
+} gen1_state;
+
+/* Writes what the battle stands for to `*state`, all of it. */
+void gen1_view(const gen1_battle *battle, gen1_state *state);
+
+/* What a byte chooses: GEN1_CHOICE_PASS, GEN1_CHOICE_MOVE or GEN1_CHOICE_SWITCH; GEN1_CHOICE_NONE if it is no choice. */
+uint8_t gen1_choice_kind(uint8_t choice);
+
+/* The slot of a move (0 to 4) or the place of a member (1 to 6) that a byte chooses; 0 for GEN1_PASS and for no choice. */
+uint8_t gen1_choice_slot(uint8_t choice);
+
+/* ---- searching ---- */
+
+/*
+ * Gives the battle other numbers to draw: ten bytes of seed, of which nine are drawn in turn, and the index of the one that is
+ * drawn next, from 0 to 8 (docs/MECHANICS.md, "Link numbers"). Nothing else of the battle changes.
+ *
+ * A copy of a battle holds the numbers that the battle itself will draw: a search that plays out copies as they are sees what
+ * will come, and no player does. So reseed each copy with bytes of your own before it is played out.
+ *
+ * Answers 0, or GEN1_RESEED_INDEX if the index is above 8; then nothing has changed.
+ */
+uint8_t gen1_reseed(gen1_battle *battle, const uint8_t seed[10], uint8_t index);
+
+enum { GEN1_RESEED_INDEX = 1 };
 
 #ifdef __cplusplus
 }

@@ -29,8 +29,15 @@ PARTS = dict(zip(DOCUMENTS, (
     ("Rules", OF_RULES), ("Tables", OF_OTHERS), ("The 384 bytes", OF_OTHERS), ("Teams as text", OF_OTHERS),
     ("The program", OF_OTHERS), ("The C library", OF_OTHERS))))
 # What a section need not have, and why.
-WITHOUT = {Section("docs/PROGRAM.md", "The program battle_tool"): {
-    "Definition": "none; clap reads the words, and the contract of `tool` says which statuses there are"}}
+WITHOUT = {
+    Section("docs/PROGRAM.md", "The program battle_tool"): {
+        "Definition": "none; clap reads the words, and the contract of `tool` says which statuses there are"},
+    Section("include/gen1.h", "naming"): {
+        "Definition": "`species_called` and `move_called` ([gen1_text, Ids.antt](../crates/gen1_text/specs/Ids.antt))",
+        "Edits": "[gen1_c](../crates/gen1_c/must-fail): any_name_is_that_of_the_first_species"},
+    Section("include/gen1.h", "searching"): {
+        "Definition": "`reseeded` ([gen1_engine, Reseed.antt](../crates/gen1_engine/specs/Reseed.antt))"},
+}
 # Twelve walks: a rule, the section that it stands in, and the files below crates/ of its definition, its code and its test.
 WALKS = (
     ("Link numbers", "Link numbers", "gen1_rolls/specs/Streams.antt", "gen1_rolls/src/link.rt", "gen1_rolls/src/tests.rt"),

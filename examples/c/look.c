@@ -1,6 +1,6 @@
 /*
  * Plays a battle by itself, and looks at what else the library answers: what is offered, how the battle stands, events as
- * structs, the damage of a hit, and a battle that is kept, tried and loaded.
+ * structs, the damage of a hit, what a battle stands for, and a battle that is kept, tried and loaded.
  *
  *     cc -O2 -I include examples/c/look.c crates/gen1_c/out/libgen1_c.a -o look
  *     ./look
@@ -12,10 +12,10 @@
 
 /* A Tauros at level 100 with Body Slam, Hyper Beam, Blizzard and Earthquake. */
 static const gen1_member tauros = {
-    .species = 128,
+    .species = GEN1_SPECIES_TAUROS,
     .level = 100,
     .dvs = {15, 15, 15, 15},
-    .moves = {34, 63, 59, 89},
+    .moves = {GEN1_MOVE_BODY_SLAM, GEN1_MOVE_HYPER_BEAM, GEN1_MOVE_BLIZZARD, GEN1_MOVE_EARTHQUAKE},
     .pp_ups = {3, 3, 3, 3},
     .exp = {65535, 65535, 65535, 65535, 65535},
 };
@@ -31,12 +31,16 @@ static void show_damage(const gen1_battle *battle, uint8_t move)
         printf("move %d: code %d\n", move, code);
 }
 
-/* Whether side 1 wins by this pair of choices, tried on a copy. */
-static bool wins_at_once(const gen1_battle *battle, uint8_t one, uint8_t two)
+/*
+ * Whether side 1 wins by this pair of choices, tried on a copy. The copy gets other numbers to draw, so this is a guess, as any
+ * player's is.
+ */
+static bool may_win_at_once(const gen1_battle *battle, uint8_t one, uint8_t two)
 {
+    static const uint8_t other[10] = {9, 8, 7, 6, 5, 4, 3, 2, 1, 0};
     gen1_battle copy = *battle;
     size_t length;
-    return gen1_update(&copy, one, two, NULL, 0, &length) == 0 && GEN1_OUTCOME(gen1_result(&copy)) == GEN1_WIN_ONE;
+    return gen1_reseed(&copy, other, 0) == 0 && gen1_update(&copy, one, two, NULL, 0, &length) == 0 && GEN1_OUTCOME(gen1_result(&copy)) == GEN1_WIN_ONE;
 }
 
 /* The first choice of a side. */
@@ -45,6 +49,23 @@ static uint8_t first_choice(const gen1_battle *battle, uint8_t side)
     uint8_t choices[9];
     uint8_t count = gen1_choices(battle, side, choices);
     return count == 0 || count == GEN1_NO_SIDE ? GEN1_PASS : choices[0];
+}
+
+/* Prints a choice of side 1, taken apart. */
+static void show_choice(uint8_t choice)
+{
+    printf("side 1 chooses kind %d, slot %d\n", gen1_choice_kind(choice), gen1_choice_slot(choice));
+}
+
+/* Prints HP and PP as the battle stands. */
+static void show_state(const gen1_battle *battle)
+{
+    gen1_state state;
+    gen1_view(battle, &state);
+    for (int side = 0; side < 2; side++) {
+        const gen1_member_state *it = &state.sides[side].members[state.sides[side].active.place - 1];
+        printf("side %d has %d of %d HP and %d PP of its first move\n", side + 1, it->hp, it->max_hp, it->pp[0]);
+    }
 }
 
 /* Prints how much damage the events of a log tell of. */
@@ -67,20 +88,24 @@ int main(void)
     uint8_t log[GEN1_LOG_ROOM];
     size_t length;
 
+    if (gen1_version() != GEN1_VERSION_NUMBER || gen1_species_from_name("tauros", 6) != GEN1_SPECIES_TAUROS)
+        return 1;
     if (gen1_new(&battle, &team, &team, seed, 0, GEN1_LIMIT) != 0)
         return 1;
-    show_damage(&battle, 34); /* nobody is out yet */
+    show_damage(&battle, GEN1_MOVE_BODY_SLAM); /* nobody is out yet */
     while (GEN1_OUTCOME(gen1_result(&battle)) == GEN1_ONGOING) {
         uint8_t one = first_choice(&battle, GEN1_ONE), two = first_choice(&battle, GEN1_TWO);
-        if (wins_at_once(&battle, one, two))
-            puts("side 1 is about to win");
+        show_choice(one);
+        if (may_win_at_once(&battle, one, two))
+            puts("side 1 may be about to win");
         if (gen1_update(&battle, one, two, log, sizeof log, &length) != 0)
             return 1;
         show_events(log, length);
     }
     printf("outcome %d\n", GEN1_OUTCOME(gen1_result(&battle)));
-    show_damage(&battle, 34);
-    show_damage(&battle, 12); /* a move with no usual damage */
+    show_state(&battle);
+    show_damage(&battle, GEN1_MOVE_BODY_SLAM);
+    show_damage(&battle, GEN1_MOVE_GUILLOTINE); /* a move with no usual damage */
 
     if (gen1_load(&loaded, battle.bytes, sizeof battle.bytes) != 0 || memcmp(&loaded, &battle, sizeof battle) != 0)
         return 1;

@@ -29,7 +29,7 @@ within_out {p = p} {s = s} h out = by h.valid.field
     by (inl u) = absurd (out u.turn)
     by (inr v) = within_of p s h v.field
 
-not_zero : (n : ℕ) → (n ≡ 0 → ⊥) → (n == 0) ≡ false
+pub not_zero : (n : ℕ) → (n ≡ 0 → ⊥) → (n == 0) ≡ false
 not_zero n apart = grind (arith, nat_tests)
 
 -- what is due, case by case

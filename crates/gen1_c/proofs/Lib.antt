@@ -14,3 +14,7 @@ pub mod Accepting
 pub mod OneByOne
 -- Playouts, one after the other.
 pub mod Counting
+-- What the bytes of a battle stand for.
+pub mod Viewed
+-- A test that let nothing through.
+pub mod Writing

@@ -18,3 +18,7 @@ pub mod Batches
 pub mod Playouts
 -- Teams out of text.
 pub mod TeamText
+-- What the bytes of a battle stand for.
+pub mod View
+-- The bytes of choices.
+pub mod Choices

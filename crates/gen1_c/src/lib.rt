@@ -12,23 +12,32 @@
 //! - `events`: the events of a log
 //! - `lines`: the lines of a log's events
 //! - `damage`: the damage of a hit
+//! - `names`: species and moves by their names, and the version
+//! - `view`: what the bytes of a battle stand for, as plain structs
+//! - `choice`: the bytes of choices taken apart
+//! - `reseed`: other numbers to draw
 //! - `fronts`: writing to the front of a caller's memory
 #![tactic(auto)]
 
 pub mod batches;
 pub mod battle;
+pub mod choice;
 mod choosing;
 pub mod damage;
 pub mod events;
 mod fronts;
 pub mod lines;
 pub mod masks;
+pub mod names;
 pub mod playouts;
+pub mod reseed;
 pub mod team_text;
 mod teams;
 pub mod update;
+pub mod view;
 
 pub use events::EventFields;
 pub use playouts::PlayoutCounts;
 pub use team_text::TextFaultForm;
 pub use teams::{MemberForm, TeamForm};
+pub use view::{ActiveState, BattleState, MemberState, SideState};

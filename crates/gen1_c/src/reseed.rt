@@ -1,0 +1,31 @@
+//! A battle with other numbers to draw (include/gen1.h, "searching"; docs/MECHANICS.md, "Link numbers").
+ghost use Rattle.std.specs.Prelude.{◌<◌, ◌≡◌, ◌≢◌, ◌≤◌};
+ghost use Rattle.gen1_machine.specs.State.{State};
+ghost use Rattle.gen1_engine.specs.Reseed.{reseeded};
+ghost use Rattle.gen1_layout.specs.LoadingMeaning.{StandsForSome};
+ghost use Rattle.gen1_layout.specs.Within.{Stands};
+
+use gen1_engine::packed::reseed;
+use gen1_layout::Packed;
+use gen1_rolls::LinkRandom;
+
+const WRONG_INDEX: u8 = 1;
+
+/// Gives the battle other numbers to draw, and the index of the one that is drawn next, from 0 to 8; nothing else changes.
+#[unsafe(no_mangle)]
+pub extern "C" fn gen1_reseed(battle: &mut Packed, seed: &[u8; 10], index: u8) -> u8
+    ensures stands { index < 9 → (s : State) → Stands battle.old s → (result ≡ 0)
+        × Stands battle.new (reseeded (record { index = index; numbers = seed.now }) s) }
+    ensures valid { StandsForSome battle.old → StandsForSome battle.new }
+    ensures above { 9 ≤ index → result ≡ 1 }
+    // Whatever the bytes are.
+    ensures kept { result ≢ 0 → battle.new ≡ battle.old }
+{
+    match LinkRandom::from_parts(index, *seed) {
+        Some(numbers) => {
+            reseed(battle, &numbers);
+            0
+        }
+        None => WRONG_INDEX,
+    }
+}

@@ -1,0 +1,105 @@
+/* Calls of names, views, choices taken apart and new numbers to draw, with arguments out of their ranges (hostile.c). */
+#include "lawful.h"
+
+#include <string.h>
+
+static void try_version(void)
+{
+    note();
+    uint32_t got = gen1_version();
+    tell("gen1_version", got == GEN1_VERSION_NUMBER && unchanged(), got, GEN1_VERSION_NUMBER);
+}
+
+/* A name of the tables, or bytes that name nothing. */
+static const char *some_name(const char *name, size_t *count, bool *is_name)
+{
+    *is_name = one_in(2);
+    *count = *is_name ? strlen(name) : draw(40);
+    char *text = block(0, *count);
+    if (*is_name)
+        memcpy(text, name, *count);
+    else
+        memset(text, 0x80 + (int)draw(128), *count);
+    return text;
+}
+
+static void try_species_from_name(void)
+{
+    size_t count;
+    bool is_name;
+    const char *text = some_name("Mr. Mime", &count, &is_name);
+    note();
+    uint8_t got = gen1_species_from_name(text, count), want = is_name ? GEN1_SPECIES_MR_MIME : 0;
+    tell("gen1_species_from_name", got == want && unchanged(), got, want);
+}
+
+static void try_move_from_name(void)
+{
+    size_t count;
+    bool is_name;
+    const char *text = some_name("Hi Jump Kick", &count, &is_name);
+    note();
+    uint8_t got = gen1_move_from_name(text, count), want = is_name ? GEN1_MOVE_HIGH_JUMP_KICK : 0;
+    tell("gen1_move_from_name", got == want && unchanged(), got, want);
+}
+
+/* The view has to agree with what other calls answer of the battle. */
+static void try_view(void)
+{
+    bool is_valid;
+    gen1_battle from = some_battle(&is_valid);
+    const gen1_battle *battle = block_of(0, &from, sizeof from);
+    gen1_state *state = block(1, sizeof *state);
+    note();
+    gen1_view(battle, state);
+    bool is_right = changed_only(1, sizeof *state);
+    uint32_t result = gen1_result(&from);
+    if (is_valid)
+        is_right = is_right && state->outcome == GEN1_OUTCOME(result) && state->requests[0] == GEN1_REQUEST_ONE(result) &&
+                   state->requests[1] == GEN1_REQUEST_TWO(result) && state->index <= 8;
+    tell("gen1_view", is_right, state->outcome, GEN1_OUTCOME(result));
+}
+
+static bool is_choice(uint8_t byte)
+{
+    return byte == GEN1_PASS || (GEN1_MOVE(0) <= byte && byte <= GEN1_MOVE(4)) || (GEN1_SWITCH(1) <= byte && byte <= GEN1_SWITCH(6));
+}
+
+static void try_choice_kind(void)
+{
+    uint8_t byte = any_byte();
+    note();
+    uint8_t got = gen1_choice_kind(byte), want = is_choice(byte) ? (uint8_t)(byte / 16 + 1) : GEN1_CHOICE_NONE;
+    tell("gen1_choice_kind", got == want && unchanged(), got, want);
+}
+
+static void try_choice_slot(void)
+{
+    uint8_t byte = any_byte();
+    note();
+    uint8_t got = gen1_choice_slot(byte), want = is_choice(byte) ? byte % 16 : 0;
+    tell("gen1_choice_slot", got == want && unchanged(), got, want);
+}
+
+/* At 0 the numbers are as they were given, and nothing else has changed. */
+static void try_reseed(void)
+{
+    bool is_valid;
+    gen1_battle from = some_battle(&is_valid);
+    gen1_battle *battle = block_of(0, &from, sizeof from);
+    const uint8_t *seed = block(1, 10);
+    uint8_t index = one_in(2) ? (uint8_t)draw(9) : any_byte();
+    note();
+    uint8_t got = gen1_reseed(battle, seed, index), want = index <= 8 ? 0 : GEN1_RESEED_INDEX;
+    bool is_kept = got == 0 ? changed_only(0, sizeof from) : unchanged();
+    if (got == 0) {
+        from.bytes[5] = index;
+        memcpy(from.bytes + 6, seed, 10);
+    }
+    bool is_due = memcmp(battle, &from, sizeof from) == 0;
+    tell("gen1_reseed", got == want && is_kept && (is_due || !is_valid), got, want);
+}
+
+try_call *const tries_of_views[] = {
+    try_version, try_species_from_name, try_move_from_name, try_view, try_choice_kind, try_choice_slot, try_reseed, NULL
+};

@@ -1,0 +1,135 @@
+"""What tools/examples compares of names, views, choices and new numbers to draw (include/gen1.h, "naming", "looking",
+"searching"): names with docs/TABLES.md, views with the recorded bytes as docs/LAYOUT.md reads them."""
+
+import re
+import sys
+from ctypes import Structure, byref, c_size_t, c_uint8, c_uint16, c_uint32
+
+sys.dont_write_bytecode = True
+from repository import ROOT
+from tables import numbered, table
+
+U16, U32 = c_uint16, c_uint32
+
+
+def bytes_named(*names):
+    return [(name, c_uint8) for name in names]
+
+
+class MemberState(Structure):
+    _fields_ = bytes_named("species", "level", "status", "sleep", "marked") + [
+        ("moves", c_uint8 * 4), ("pp", c_uint8 * 4), ("hp", U16), ("max_hp", U16), ("stats", U16 * 4)]
+
+
+class ActiveState(Structure):
+    _fields_ = [("conditions", U32), ("stats", U16 * 4), ("energy", U16), ("place", c_uint8), ("types", c_uint8 * 2),
+                ("stages", c_uint8 * 6)] + bytes_named(
+        "current_move", "picked_move", "kept_accuracy", "substitute", "confusion", "disabled_slot", "disabled_turns", "bad_poison",
+        "turns")
+
+
+class SideState(Structure):
+    _fields_ = [("members", MemberState * 6), ("active", ActiveState)]
+
+
+class State(Structure):
+    _fields_ = [("sides", SideState * 2), ("turn", U16), ("limit", U16), ("last_damage", U16), ("rules", c_uint8),
+                ("outcome", c_uint8), ("requests", c_uint8 * 2), ("index", c_uint8), ("numbers", c_uint8 * 10)]
+
+
+def plain(value):
+    """A struct or array as tuples of numbers."""
+    if isinstance(value, Structure):
+        return {name: plain(getattr(value, name)) for name, _ in value._fields_}
+    return [plain(each) for each in value] if hasattr(value, "__len__") else value
+
+
+def word(given, at):
+    return given[at] + 256 * given[at + 1]
+
+
+def words(given, at, count):
+    return [word(given, at + 2 * place) for place in range(count)]
+
+
+def member_read(given):
+    """A member's 24 bytes (docs/LAYOUT.md, "Member")."""
+    byte = given[14]
+    asleep = 1 <= byte <= 7
+    return {
+        "species": given[0], "level": given[1], "status": 1 if asleep else {0: 0, 8: 2, 16: 3, 32: 4, 64: 5}[byte],
+        "sleep": byte if asleep else 0, "marked": given[23], "moves": list(given[15:19]), "pp": list(given[19:23]),
+        "hp": word(given, 4), "max_hp": word(given, 2), "stats": words(given, 6, 4)}
+
+
+def active_read(given):
+    """An active block (docs/LAYOUT.md, "Active block")."""
+    return {
+        "conditions": word(given, 17) + 65536 * word(given, 19), "stats": words(given, 9, 4), "energy": word(given, 27),
+        "place": given[0], "types": list(given[1:3]), "stages": list(given[3:9]), "current_move": given[29],
+        "picked_move": given[30], "kept_accuracy": given[31], "substitute": given[21], "confusion": given[22],
+        "disabled_slot": given[23], "disabled_turns": given[24], "bad_poison": given[25], "turns": given[26]}
+
+
+def side_read(given):
+    return {"members": [member_read(given[24 * place:24 * place + 24]) for place in range(6)], "active": active_read(given[144:])}
+
+
+def state_read(given):
+    """All 384 bytes."""
+    return {
+        "sides": [side_read(given[24:204]), side_read(given[204:384])], "turn": word(given, 1), "limit": word(given, 20),
+        "last_damage": word(given, 3), "rules": given[19], "outcome": given[16], "requests": list(given[17:19]),
+        "index": given[5], "numbers": list(given[6:16])}
+
+
+def compare_battle(calls, name, given, count):
+    """A recorded battle: its view, and other numbers to draw."""
+    held, state = (c_uint8 * 384)(*given), State()
+    calls.gen1_view(held, byref(state))
+    due = state_read(given)
+    count.tell(f"{name}, view", plain(state), due)
+    seed = [given[30], *range(240, 249)]
+    codes = [calls.gen1_reseed(held, (c_uint8 * 10)(*seed), index) for index in (9, 255)]
+    count.tell(f"{name}, no index", (codes, bytes(held)), ([1, 1], given))
+    code = calls.gen1_reseed(held, (c_uint8 * 10)(*seed), 8)
+    count.tell(f"{name}, reseeded", (code, bytes(held)), (0, given[:5] + bytes([8, *seed]) + given[16:]))
+
+
+def compare_names(calls, count):
+    """Names of docs/TABLES.md are found, however they are written."""
+    document = (ROOT / "docs" / "TABLES.md").read_text()
+    for kind, heading in (("species", "Species"), ("move", "Moves")):
+        names = [row[0] for row in numbered(table(document, heading))]
+        find = getattr(calls, f"gen1_{kind}_from_name")
+        plain_forms = (str, str.lower, lambda it: re.sub("[^A-Za-z0-9]", "", it).upper())
+        forms = [[form(name).encode() for form in plain_forms] for name in names]
+        got = [[find(form, c_size_t(len(form))) for form in each] for each in forms]
+        count.tell(f"names, {kind}, found", got, [[number] * 3 for number in range(1, 1 + len(names))])
+        count.tell(f"names, {kind}, not found", [find(name, c_size_t(len(name))) for name in (b"Missingno", b"")], [0, 0])
+
+
+def compare_version(calls, count):
+    header = (ROOT / "include" / "gen1.h").read_text()
+    version = re.search(r'GEN1_VERSION "(\d+)\.(\d+)\.(\d+)"', header).groups()
+    count.tell("version", calls.gen1_version(), sum(int(n) << (16 - 8 * k) for k, n in enumerate(version)))
+
+
+def compare_choices(calls, count):
+    kinds = [calls.gen1_choice_kind(byte) for byte in range(256)]
+    slots = [calls.gen1_choice_slot(byte) for byte in range(256)]
+    kind = {0: 1, **dict.fromkeys(range(16, 21), 2), **dict.fromkeys(range(33, 39), 3)}
+    count.tell("kinds of choices", kinds, [kind.get(byte, 0) for byte in range(256)])
+    count.tell("slots of choices", slots, [byte % 16 if byte in kind else 0 for byte in range(256)])
+
+
+def compare(calls, battles, count):
+    """All of it. `battles` gives names and the 384 bytes of each."""
+    for name in ("species_from_name", "move_from_name", "choice_kind", "choice_slot", "reseed"):
+        getattr(calls, f"gen1_{name}").restype = c_uint8
+    calls.gen1_version.restype, calls.gen1_view.restype = U32, None
+    compare_names(calls, count)
+    compare_version(calls, count)
+    compare_choices(calls, count)
+    for name, given in battles:
+        compare_battle(calls, name, given, count)
