@@ -73,10 +73,6 @@ enum { GEN1_SLEEP_CLAUSE = 1, GEN1_FREEZE_CLAUSE = 2 };
 #define GEN1_MOVE(slot) (0x10 + (slot))     /* slot 1 to 4; 0 where no slot can be chosen */
 #define GEN1_SWITCH(place) (0x20 + (place)) /* place 1 to 6 */
 
-/* The version of this header, and of a library that was built with it: gen1_version answers GEN1_VERSION_NUMBER. */
-#define GEN1_VERSION "1.0.0"
-#define GEN1_VERSION_NUMBER 0x010000
-
 /* What ails a member: `status` of gen1_event and gen1_member_state. */
 enum {
     GEN1_STATUS_NONE, GEN1_STATUS_SLEEP, GEN1_STATUS_POISON, GEN1_STATUS_BURN, GEN1_STATUS_FREEZE, GEN1_STATUS_PARALYSIS
