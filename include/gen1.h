@@ -698,16 +698,75 @@ enum {
 
 /* ---- naming ---- */
 
+/* Room for any name, for the words of any choice, and for any sentence of gen1_text. */
+#define GEN1_NAME_ROOM 16
+#define GEN1_WORDS_ROOM 32
+#define GEN1_SENTENCE_ROOM 128
+
+/*
+ * Calls that write a text do so as gen1_next_line does: to the front of `text`, without a zero at its end, and the number of its
+ * bytes to `*length`; the rest of `text` is left alone. They answer 0, or a code, and then nothing has changed:
+ */
+enum {
+    GEN1_UNKNOWN = 1,   /* the number stands for nothing of this kind */
+    GEN1_SMALL_ROOM = 2 /* the text is longer than `room` */
+};
+
 /* The version of the library: 65,536 times the major number, 256 times the minor one, and the third. */
 uint32_t gen1_version(void);
 
 /*
+ * The name of a species (1 to 151), a move (1 to 165) or a type (0 to 14), as docs/TABLES.md and the lines have it: "Mr. Mime",
+ * "Double-Edge", "Psychic". At most 14 bytes, all of them ASCII. Answers 0 or one of the codes above.
+ */
+uint8_t gen1_species_name(uint8_t species, char *text, size_t room, size_t *length);
+uint8_t gen1_move_name(uint8_t move, char *text, size_t room, size_t *length);
+uint8_t gen1_type_name(uint8_t type, char *text, size_t room, size_t *length);
+
+/*
  * The species or move that the `count` bytes name, or 0 if they name none. Only letters and digits count, in either case
- * (docs/TEAM_TEXT.md, "Names"): "mrmime" is 122, and each name of docs/TABLES.md is found. Two moves are known by the names of
- * later games too, "Vise Grip" and "Hi Jump Kick".
+ * (docs/TEAM_TEXT.md, "Names"): "mrmime" is 122, and what gen1_species_name and gen1_move_name write is found again. Two moves
+ * are known by the names of later games too, "Vise Grip" and "Hi Jump Kick".
  */
 uint8_t gen1_species_from_name(const char *text, size_t count);
 uint8_t gen1_move_from_name(const char *text, size_t count);
+
+/* A species' base stats and types, by docs/TABLES.md; one with a single type has it twice. */
+typedef struct gen1_base {
+    uint8_t stats[5]; /* 5 to 250: HP, Attack, Defense, Speed, Special */
+    uint8_t types[2]; /* 0 to 14 */
+} gen1_base;
+
+/* Answers 0, or GEN1_UNKNOWN if the species is not 1 to 151; then `*base` has not changed. */
+uint8_t gen1_species_stats(uint8_t species, gen1_base *base);
+
+/* A move, by docs/TABLES.md. */
+typedef struct gen1_move {
+    uint8_t type;     /* 0 to 14 */
+    uint8_t power;    /* 0 to 170; 0 if it has no damage of its power */
+    uint8_t accuracy; /* 0 to 255: the percent of docs/TABLES.md in 255ths, rounded down. A draw from 0 to 255 that is below hits */
+    uint8_t pp;       /* 1 to 40, without PP ups */
+} gen1_move;
+
+/* Answers 0, or GEN1_UNKNOWN if the move is not 1 to 165; then `*row` has not changed. */
+uint8_t gen1_move_data(uint8_t move, gen1_move *row);
+
+/*
+ * A code in words: one sentence with the ranges that would have been right, such as "a DV is above 15". `about` says whose code
+ * it is. Of an answer of gen1_new give GEN1_CODE(answer). The code 0 is "nothing is at fault". Answers 0 or one of the codes above.
+ */
+uint8_t gen1_text(uint8_t about, uint8_t code, char *text, size_t room, size_t *length);
+
+enum {
+    GEN1_ABOUT_NEW = 1,    /* gen1_new: 1 to 13 */
+    GEN1_ABOUT_LOAD = 2,   /* gen1_load: 1 to 7 */
+    GEN1_ABOUT_UPDATE = 3, /* gen1_update: 1 to 4 */
+    GEN1_ABOUT_LOG = 4,    /* gen1_next_event and gen1_next_line: 1 to 5 */
+    GEN1_ABOUT_DAMAGE = 5, /* gen1_damage: 1 to 5 */
+    GEN1_ABOUT_NAME = 6,   /* the calls of this section: 1 and 2 */
+    GEN1_ABOUT_CHOICE = 7, /* gen1_choice_words: 1 to 4 */
+    GEN1_ABOUT_RESEED = 8  /* gen1_reseed: 1 */
+};
 
 /* ---- looking ---- */
 
@@ -770,6 +829,19 @@ uint8_t gen1_choice_kind(uint8_t choice);
 
 /* The slot of a move (0 to 4) or the place of a member (1 to 6) that a byte chooses; 0 for GEN1_PASS and for no choice. */
 uint8_t gen1_choice_slot(uint8_t choice);
+
+/*
+ * A choice of a side in words, as the battle stands: "pass", "move 2 Body Slam", "move 0" (what is left where no slot can be
+ * chosen), "switch 3 Gengar". It need not be offered. At most 21 bytes. Answers 0, or the first of these that applies:
+ */
+uint8_t gen1_choice_words(const gen1_battle *battle, uint8_t side, uint8_t choice, char *text, size_t room, size_t *length);
+
+enum {
+    GEN1_WORDS_SIDE = 1,   /* the side is neither 1 nor 2 */
+    GEN1_WORDS_CHOICE = 2, /* the byte is no choice */
+    GEN1_WORDS_NOBODY = 3, /* there is no move in that slot, or no member at that place, or nobody is out yet */
+    GEN1_WORDS_SMALL = 4   /* the words are longer than `room` */
+};
 
 /* ---- searching ---- */
 

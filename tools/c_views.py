@@ -1,15 +1,17 @@
-"""What tools/examples compares of names, views, choices and new numbers to draw (include/gen1.h, "naming", "looking",
-"searching"): names with docs/TABLES.md, views with the recorded bytes as docs/LAYOUT.md reads them."""
+"""What tools/examples compares of names, views, choices in words and new numbers to draw (include/gen1.h, "naming", "looking",
+"searching"): names and rows with docs/TABLES.md, views with the recorded bytes as docs/LAYOUT.md reads them."""
 
+import ctypes
 import re
 import sys
-from ctypes import Structure, byref, c_size_t, c_uint8, c_uint16, c_uint32
+from ctypes import Structure, byref, c_uint8, c_uint16, c_uint32
 
 sys.dont_write_bytecode = True
 from repository import ROOT
-from tables import numbered, table
+from tables import element_names, numbered, table
 
 U16, U32 = c_uint16, c_uint32
+ROOM, KEPT = 128, b"\x07" * 128
 
 
 def bytes_named(*names):
@@ -83,12 +85,42 @@ def state_read(given):
         "index": given[5], "numbers": list(given[6:16])}
 
 
-def compare_battle(calls, name, given, count):
-    """A recorded battle: its view, and other numbers to draw."""
+def text_of(call, *arguments, room=ROOM):
+    """What a call that writes a text answers: its code, and the text; and that it wrote no more."""
+    text, length = ctypes.create_string_buffer(KEPT, ROOM), ctypes.c_size_t(999)
+    code = call(*arguments, text, ctypes.c_size_t(room), byref(length))
+    written = 0 if code else length.value
+    kept = text.raw[written:] == KEPT[written:] and (code == 0 or length.value == 999)
+    return code, text.raw[:written].decode() if kept else None
+
+
+def words_due(state, side, choice, names):
+    """A choice in words, of a state that was read."""
+    species, moves = names
+    it = state["sides"][side - 1]
+    kind, number = choice >> 4, choice & 15
+    if choice == 0:
+        return 0, "pass"
+    if kind == 1 and number == 0:
+        return 0, "move 0"
+    if kind == 1 and 1 <= number <= 4:
+        place = it["active"]["place"]
+        id = it["members"][place - 1]["moves"][number - 1] if place else 0
+        return (0, f"move {number} {moves[id - 1]}") if id else (3, "")
+    if kind == 2 and 1 <= number <= 6:
+        id = it["members"][number - 1]["species"]
+        return (0, f"switch {number} {species[id - 1]}") if id else (3, "")
+    return 2, ""
+
+
+def compare_battle(calls, name, given, names, count):
+    """A recorded battle: its view, each byte of a choice in words, and other numbers to draw."""
     held, state = (c_uint8 * 384)(*given), State()
     calls.gen1_view(held, byref(state))
     due = state_read(given)
     count.tell(f"{name}, view", plain(state), due)
+    got = [text_of(calls.gen1_choice_words, held, side, choice) for side in (1, 2) for choice in range(64)]
+    count.tell(f"{name}, words", got, [words_due(due, side, choice, names) for side in (1, 2) for choice in range(64)])
     seed = [given[30], *range(240, 249)]
     codes = [calls.gen1_reseed(held, (c_uint8 * 10)(*seed), index) for index in (9, 255)]
     count.tell(f"{name}, no index", (codes, bytes(held)), ([1, 1], given))
@@ -96,23 +128,43 @@ def compare_battle(calls, name, given, count):
     count.tell(f"{name}, reseeded", (code, bytes(held)), (0, given[:5] + bytes([8, *seed]) + given[16:]))
 
 
-def compare_names(calls, count):
-    """Names of docs/TABLES.md are found, however they are written."""
+def rows_of(call, last, length):
+    """The rows that a call of a number and a struct of bytes writes, and the numbers that it refuses."""
+    rows, refused = [], []
+    for number in range(256):
+        row = (c_uint8 * length)(*[7] * length)
+        if call(number, row) == 0:
+            rows.append(list(row))
+        elif list(row) == [7] * length:
+            refused.append(number)
+    return rows, refused == [number for number in range(256) if not 1 <= number <= last]
+
+
+def compare_tables(calls, count):
+    """Names and rows of docs/TABLES.md, and names that are found again."""
     document = (ROOT / "docs" / "TABLES.md").read_text()
-    for kind, heading in (("species", "Species"), ("move", "Moves")):
-        names = [row[0] for row in numbered(table(document, heading))]
-        find = getattr(calls, f"gen1_{kind}_from_name")
-        plain_forms = (str, str.lower, lambda it: re.sub("[^A-Za-z0-9]", "", it).upper())
-        forms = [[form(name).encode() for form in plain_forms] for name in names]
-        got = [[find(form, c_size_t(len(form))) for form in each] for each in forms]
-        count.tell(f"names, {kind}, found", got, [[number] * 3 for number in range(1, 1 + len(names))])
-        count.tell(f"names, {kind}, not found", [find(name, c_size_t(len(name))) for name in (b"Missingno", b"")], [0, 0])
-
-
-def compare_version(calls, count):
-    header = (ROOT / "include" / "gen1.h").read_text()
-    version = re.search(r'GEN1_VERSION "(\d+)\.(\d+)\.(\d+)"', header).groups()
-    count.tell("version", calls.gen1_version(), sum(int(n) << (16 - 8 * k) for k, n in enumerate(version)))
+    elements = element_names(document)
+    species, moves = (numbered(table(document, heading)) for heading in ("Species", "Moves"))
+    for kind, rows, first in (("species", species, 1), ("move", moves, 1), ("type", [[name] for name in elements], 0)):
+        names = [row[0] for row in rows]
+        call = getattr(calls, f"gen1_{kind}_name")
+        got = [text_of(call, number) for number in range(256)]
+        due = [(0, names[number - first]) if first <= number < first + len(names) else (1, "") for number in range(256)]
+        count.tell(f"names, {kind}", got, due)
+        short = [text_of(call, number, room=len(name) - 1)[0] for number, name in enumerate(names, first)]
+        count.tell(f"names, {kind}, small rooms", set(short), {2})
+        if first:
+            find = getattr(calls, f"gen1_{kind}_from_name")
+            forms = [[form(name).encode() for form in (str, str.lower, lambda it: re.sub("[^A-Za-z0-9]", "", it).upper())] for name in names]
+            got = [[find(form, ctypes.c_size_t(len(form))) for form in each] for each in forms]
+            count.tell(f"names, {kind}, found", got, [[number] * 3 for number in range(first, first + len(names))])
+            count.tell(f"names, {kind}, not found", find(b"Missingno", ctypes.c_size_t(9)), 0)
+    number = {name: place for place, name in enumerate(elements)}
+    base = [[*map(int, row[3:8]), number[row[1]], number[row[2]]] for row in species]
+    count.tell("base stats", rows_of(calls.gen1_species_stats, 151, 7), (base, True))
+    data = [[number[row[1]], int(row[2]), int(row[3]) * 255 // 100, int(row[4])] for row in moves]
+    count.tell("moves", rows_of(calls.gen1_move_data, 165, 4), (data, True))
+    return [row[0] for row in species], [row[0] for row in moves]
 
 
 def compare_choices(calls, count):
@@ -123,13 +175,24 @@ def compare_choices(calls, count):
     count.tell("slots of choices", slots, [byte % 16 if byte in kind else 0 for byte in range(256)])
 
 
+def compare_sentences(calls, count):
+    """Each code of gen1.h has a sentence, and no other number has one."""
+    last = {1: 13, 2: 7, 3: 4, 4: 5, 5: 5, 6: 2, 7: 4, 8: 1}
+    got = {about: [code for code in range(256) if text_of(calls.gen1_text, about, code)[0] == 0] for about in range(256)}
+    count.tell("sentences", got, {about: list(range(last[about] + 1)) if about in last else [] for about in range(256)})
+    header = (ROOT / "include" / "gen1.h").read_text()
+    version = re.search(r'GEN1_VERSION "(\d+)\.(\d+)\.(\d+)"', header).groups()
+    count.tell("version", calls.gen1_version(), sum(int(n) << (16 - 8 * k) for k, n in enumerate(version)))
+
+
 def compare(calls, battles, count):
     """All of it. `battles` gives names and the 384 bytes of each."""
-    for name in ("species_from_name", "move_from_name", "choice_kind", "choice_slot", "reseed"):
+    for name in ("species_name", "move_name", "type_name", "species_from_name", "move_from_name", "species_stats", "move_data",
+                 "text", "choice_kind", "choice_slot", "choice_words", "reseed"):
         getattr(calls, f"gen1_{name}").restype = c_uint8
     calls.gen1_version.restype, calls.gen1_view.restype = U32, None
-    compare_names(calls, count)
-    compare_version(calls, count)
+    names = compare_tables(calls, count)
     compare_choices(calls, count)
+    compare_sentences(calls, count)
     for name, given in battles:
-        compare_battle(calls, name, given, count)
+        compare_battle(calls, name, given, names, count)

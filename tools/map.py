@@ -32,9 +32,6 @@ PARTS = dict(zip(DOCUMENTS, (
 WITHOUT = {
     Section("docs/PROGRAM.md", "The program battle_tool"): {
         "Definition": "none; clap reads the words, and the contract of `tool` says which statuses there are"},
-    Section("include/gen1.h", "naming"): {
-        "Definition": "`species_called` and `move_called` ([gen1_text, Ids.antt](../crates/gen1_text/specs/Ids.antt))",
-        "Edits": "[gen1_c](../crates/gen1_c/must-fail): any_name_is_that_of_the_first_species"},
     Section("include/gen1.h", "searching"): {
         "Definition": "`reseeded` ([gen1_engine, Reseed.antt](../crates/gen1_engine/specs/Reseed.antt))"},
 }

@@ -1,6 +1,6 @@
 /*
  * Plays a battle by itself, and looks at what else the library answers: what is offered, how the battle stands, events as
- * structs, the damage of a hit, what a battle stands for, and a battle that is kept, tried and loaded.
+ * structs, the damage of a hit, names, what a battle stands for, and a battle that is kept, tried and loaded.
  *
  *     cc -O2 -I include examples/c/look.c crates/gen1_c/out/libgen1_c.a -o look
  *     ./look
@@ -25,10 +25,14 @@ static void show_damage(const gen1_battle *battle, uint8_t move)
 {
     uint16_t damages[39];
     uint8_t code = gen1_damage(battle, GEN1_ONE, move, false, damages);
+    char name[GEN1_NAME_ROOM], why[GEN1_SENTENCE_ROOM];
+    size_t length, count;
+    if (gen1_move_name(move, name, sizeof name, &length) != 0)
+        return;
     if (code == 0)
-        printf("move %d takes %d to %d\n", move, damages[0], damages[38]);
-    else
-        printf("move %d: code %d\n", move, code);
+        printf("%.*s takes %d to %d\n", (int)length, name, damages[0], damages[38]);
+    else if (gen1_text(GEN1_ABOUT_DAMAGE, code, why, sizeof why, &count) == 0)
+        printf("%.*s: %.*s\n", (int)length, name, (int)count, why);
 }
 
 /*
@@ -51,10 +55,28 @@ static uint8_t first_choice(const gen1_battle *battle, uint8_t side)
     return count == 0 || count == GEN1_NO_SIDE ? GEN1_PASS : choices[0];
 }
 
-/* Prints a choice of side 1, taken apart. */
-static void show_choice(uint8_t choice)
+/* Prints a choice of side 1 in words. */
+static void show_choice(const gen1_battle *battle, uint8_t choice)
 {
-    printf("side 1 chooses kind %d, slot %d\n", gen1_choice_kind(choice), gen1_choice_slot(choice));
+    char words[GEN1_WORDS_ROOM];
+    size_t length;
+    if (gen1_choice_words(battle, GEN1_ONE, choice, words, sizeof words, &length) == 0)
+        printf("side 1 chooses %.*s: kind %d, slot %d\n", (int)length, words, gen1_choice_kind(choice), gen1_choice_slot(choice));
+}
+
+/* Prints what the tables say of a species and of a move, by their names; and whether both were found. */
+static bool show_tables(const char *species, const char *move)
+{
+    uint8_t of_species = gen1_species_from_name(species, strlen(species)), of_move = gen1_move_from_name(move, strlen(move));
+    char first[GEN1_NAME_ROOM], name[GEN1_NAME_ROOM];
+    size_t length, count;
+    gen1_base base;
+    gen1_move row;
+    if (gen1_species_stats(of_species, &base) != 0 || gen1_move_data(of_move, &row) != 0 ||
+        gen1_species_name(of_species, name, sizeof name, &length) != 0 || gen1_type_name(base.types[0], first, sizeof first, &count) != 0)
+        return false;
+    printf("%.*s is %.*s, with base Speed %d; %s has power %d\n", (int)length, name, (int)count, first, base.stats[3], move, row.power);
+    return true;
 }
 
 /* Prints HP and PP as the battle stands. */
@@ -88,14 +110,14 @@ int main(void)
     uint8_t log[GEN1_LOG_ROOM];
     size_t length;
 
-    if (gen1_version() != GEN1_VERSION_NUMBER || gen1_species_from_name("tauros", 6) != GEN1_SPECIES_TAUROS)
+    if (gen1_version() != GEN1_VERSION_NUMBER || !show_tables("tauros", "Body Slam"))
         return 1;
     if (gen1_new(&battle, &team, &team, seed, 0, GEN1_LIMIT) != 0)
         return 1;
     show_damage(&battle, GEN1_MOVE_BODY_SLAM); /* nobody is out yet */
     while (GEN1_OUTCOME(gen1_result(&battle)) == GEN1_ONGOING) {
         uint8_t one = first_choice(&battle, GEN1_ONE), two = first_choice(&battle, GEN1_TWO);
-        show_choice(one);
+        show_choice(&battle, one);
         if (may_win_at_once(&battle, one, two))
             puts("side 1 may be about to win");
         if (gen1_update(&battle, one, two, log, sizeof log, &length) != 0)

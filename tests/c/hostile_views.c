@@ -1,4 +1,4 @@
-/* Calls of names, views, choices taken apart and new numbers to draw, with arguments out of their ranges (hostile.c). */
+/* Calls of names, codes in words, views, choices and new numbers to draw, with arguments out of their ranges (hostile.c). */
 #include "lawful.h"
 
 #include <string.h>
@@ -100,6 +100,79 @@ static void try_reseed(void)
     tell("gen1_reseed", got == want && is_kept && (is_due || !is_valid), got, want);
 }
 
+/* What a text that is due has to look like, of a call that wrote to blocks 1 and 2; `due` is the code without a small room. */
+static void tell_text(const char *name, uint8_t got, uint8_t due, uint8_t small, const size_t *length, size_t room)
+{
+    if (got != 0)
+        tell(name, unchanged() && got == (due != 0 ? due : small), got, due);
+    else
+        tell(name, due == 0 && 0 < *length && *length <= room && changed_only_two(1, *length, 2, sizeof *length), got, due);
+}
+
+static void try_name(const char *name, uint8_t (*call)(uint8_t, char *, size_t, size_t *), uint8_t first, uint8_t last)
+{
+    size_t room = draw(40);
+    uint8_t number = any_byte();
+    char *text = block(1, room);
+    size_t *length = block(2, sizeof *length);
+    note();
+    uint8_t got = call(number, text, room, length);
+    tell_text(name, got, first <= number && number <= last ? 0 : GEN1_UNKNOWN, GEN1_SMALL_ROOM, length, room);
+}
+
+static void try_species_name(void) { try_name("gen1_species_name", gen1_species_name, 1, 151); }
+static void try_move_name(void) { try_name("gen1_move_name", gen1_move_name, 1, 165); }
+static void try_type_name(void) { try_name("gen1_type_name", gen1_type_name, 0, 14); }
+
+static void try_text(void)
+{
+    static const uint8_t last[9] = {0, 13, 7, 4, 5, 5, 2, 4, 1};
+    size_t room = draw(140);
+    uint8_t about = one_in(2) ? (uint8_t)draw(9) : any_byte(), code = one_in(2) ? (uint8_t)draw(15) : any_byte();
+    char *text = block(1, room);
+    size_t *length = block(2, sizeof *length);
+    note();
+    uint8_t got = gen1_text(about, code, text, room, length);
+    tell_text("gen1_text", got, 1 <= about && about <= 8 && code <= last[about] ? 0 : GEN1_UNKNOWN, GEN1_SMALL_ROOM, length, room);
+}
+
+static void try_species_stats(void)
+{
+    uint8_t species = any_byte();
+    gen1_base *base = block(0, sizeof *base);
+    note();
+    uint8_t got = gen1_species_stats(species, base), want = 1 <= species && species <= 151 ? 0 : GEN1_UNKNOWN;
+    tell("gen1_species_stats", got == want && (got == 0 ? changed_only(0, sizeof *base) : unchanged()), got, want);
+}
+
+static void try_move_data(void)
+{
+    uint8_t move = any_byte();
+    gen1_move *row = block(0, sizeof *row);
+    note();
+    uint8_t got = gen1_move_data(move, row), want = 1 <= move && move <= 165 ? 0 : GEN1_UNKNOWN;
+    tell("gen1_move_data", got == want && (got == 0 ? changed_only(0, sizeof *row) : unchanged()), got, want);
+}
+
+/* Of a valid battle, what GEN1_WORDS_NOBODY is due to is not worked out here. */
+static void try_choice_words(void)
+{
+    bool is_valid;
+    gen1_battle from = some_battle(&is_valid);
+    const gen1_battle *battle = block_of(0, &from, sizeof from);
+    size_t room = draw(40);
+    uint8_t side = one_in(2) ? (uint8_t)(1 + draw(2)) : any_byte(), byte = any_byte();
+    char *text = block(1, room);
+    size_t *length = block(2, sizeof *length);
+    note();
+    uint8_t got = gen1_choice_words(battle, side, byte, text, room, length);
+    uint8_t due = side != GEN1_ONE && side != GEN1_TWO ? GEN1_WORDS_SIDE : !is_choice(byte) ? GEN1_WORDS_CHOICE : 0;
+    if (due == 0 && got == GEN1_WORDS_NOBODY)
+        due = GEN1_WORDS_NOBODY;
+    tell_text("gen1_choice_words", got, due, GEN1_WORDS_SMALL, length, room);
+}
+
 try_call *const tries_of_views[] = {
-    try_version, try_species_from_name, try_move_from_name, try_view, try_choice_kind, try_choice_slot, try_reseed, NULL
+    try_version, try_species_from_name, try_move_from_name, try_view, try_choice_kind, try_choice_slot, try_reseed,
+    try_species_name, try_move_name, try_type_name, try_text, try_species_stats, try_move_data, try_choice_words, NULL
 };

@@ -16,5 +16,5 @@ pub mod OneByOne
 pub mod Counting
 -- What the bytes of a battle stand for.
 pub mod Viewed
--- A test that let nothing through.
+-- Texts that are due, and so are written.
 pub mod Writing

@@ -1,6 +1,70 @@
--- A test that let nothing through.
-use Rattle.std.proofs.Common.{Bool, None, Some, false, if◌then◌else◌, refl, true, ◌≡◌}
+-- Texts that are due, and so are written.
+use Rattle.std.proofs.Common.{Bool, Err, List, None, Ok, Option, Result, Some, ap, codes, false, if◌then◌else◌, nat_le, ok_or, option_map, refl, subst, sym, true, ℕ, ◌&&◌, ◌++◌, ◌+◌, ◌≡◌, ◌∙◌, ◌∷◌}
+use Rattle.std.specs.List.{slice_get}
+use Rattle.gen1_tables.specs.Names.{move_name, species_name}
+use Rattle.gen1_machine.specs.declared.side.Side.{Side}
+use Rattle.gen1_machine.specs.State.{Field, known_in, member_at, member_in, party}
+use Rattle.gen1_c.specs.Choices.{move_words, switch_words}
+use Rattle.gen1_c.proofs.Hits.{not_zero}
+use Rattle.gen1_c.specs.Fronts.{Room, Writes}
+use Rattle.gen1_c.specs.Names.{Tells, numbered}
 
+-- what is due is written, or it is said why not
+pub written : (small : ℕ) {due : Result (List ℕ) ℕ} {text : List ℕ} (old new : Room) (code : ℕ) → due ≡ Ok text
+    → Writes small (Ok text) old new code → Writes small due old new code
+written small old new code e h = subst (λ (due : Result (List ℕ) ℕ). Writes small due old new code) (sym e) h
+
+pub refused : (small : ℕ) {due : Result (List ℕ) ℕ} {why : ℕ} (old : Room) → due ≡ Err why → Writes small due old old why
+refused small {why = why} old e = subst (λ (due : Result (List ℕ) ℕ). Writes small due old old why) (sym e) (refl, refl)
+
+-- a test that let nothing through
 pub none_through : {A : Type 0} (test : Bool) (x : A) → (if test then Some x else None) ≡ None → test ≡ false
 none_through true x e = absurd (let f = e in cc)
 none_through false x e = refl
+
+-- a number in its range, and one out of it
+
+pub in_range : {A : Type 0} (last number : ℕ) (it : A) → (nat_le 1 number && nat_le number last) ≡ true → numbered last number it ≡ Ok it
+in_range last number it e = rw e refl
+
+pub out_of_range : {A : Type 0} (last number : ℕ) (it : A) → (nat_le 1 number && nat_le number last) ≡ false → numbered last number it ≡ Err 1
+out_of_range last number it e = rw e refl
+
+-- a row that is due is told
+
+pub row_told : {A : Type 0} {due : Result A ℕ} (old : A) {new : A} → due ≡ Ok new → Tells due old new 0
+row_told {A = A} old {new = new} e = subst (λ (due : Result A ℕ). Tells due old new 0) (sym e) (refl, refl)
+
+pub row_kept : {A : Type 0} {due : Result A ℕ} (old : A) → due ≡ Err 1 → Tells due old old 1
+row_kept {A = A} old e = subst (λ (due : Result A ℕ). Tells due old old 1) (sym e) (refl, refl)
+
+-- a text of a list, by its place
+
+pub got_some : {A : Type 0} (view : A → List ℕ) {o : Option A} (list : List (List ℕ)) (k : ℕ) {x : A} → option_map view o ≡ slice_get list k → o ≡ Some x
+    → ok_or {E = ℕ} (slice_get list k) 1 ≡ Ok (view x)
+got_some view list k e is = ap (λ (o : Option (List ℕ)). ok_or {E = ℕ} o 1) (sym e ∙ ap (option_map view) is)
+
+pub got_none : {A : Type 0} (view : A → List ℕ) {o : Option A} (list : List (List ℕ)) (k : ℕ) → option_map view o ≡ slice_get list k → o ≡ None
+    → ok_or {E = ℕ} (slice_get list k) 1 ≡ Err 1
+got_none view list k e is = ap (λ (o : Option (List ℕ)). ok_or {E = ℕ} o 1) (sym e ∙ ap (option_map view) is)
+
+-- the words of a move and of a switch
+
+pub move_early : (side : Side) (slot : ℕ) (f : Field) → (slot ≡ 0 → ⊥) → f.turn ≡ 0 → move_words side slot f ≡ Err 3
+move_early side slot f some turn = rw (not_zero slot some, turn) refl
+
+pub move_named : (side : Side) (slot : ℕ) (f : Field) (id : ℕ) → (slot ≡ 0 → ⊥) → (f.turn ≡ 0 → ⊥) → id ≡ (known_in slot (member_in side f).moves).id
+    → (nat_le 1 id && nat_le id 165) ≡ true → move_words side slot f ≡ Ok ((codes "move " ++ ((48 + slot) ∷ codes " ")) ++ move_name id)
+move_named side slot f id some out is range = rw (not_zero slot some, not_zero f.turn out, sym is, range) refl
+
+pub move_unnamed : (side : Side) (slot : ℕ) (f : Field) (id : ℕ) → (slot ≡ 0 → ⊥) → (f.turn ≡ 0 → ⊥) → id ≡ (known_in slot (member_in side f).moves).id
+    → (nat_le 1 id && nat_le id 165) ≡ false → move_words side slot f ≡ Err 3
+move_unnamed side slot f id some out is range = rw (not_zero slot some, not_zero f.turn out, sym is, range) refl
+
+pub switch_named : (side : Side) (place : ℕ) (f : Field) (id : ℕ) → id ≡ (member_at place (party side f)).species
+    → (nat_le 1 id && nat_le id 151) ≡ true → switch_words side place f ≡ Ok ((codes "switch " ++ ((48 + place) ∷ codes " ")) ++ species_name id)
+switch_named side place f id is range = rw (sym is, range) refl
+
+pub switch_unnamed : (side : Side) (place : ℕ) (f : Field) (id : ℕ) → id ≡ (member_at place (party side f)).species
+    → (nat_le 1 id && nat_le id 151) ≡ false → switch_words side place f ≡ Err 3
+switch_unnamed side place f id is range = rw (sym is, range) refl

@@ -1,7 +1,10 @@
--- The bytes of choices taken apart (include/gen1.h, "looking"; docs/MECHANICS.md, "Offered choices").
-use Rattle.std.specs.Prelude.{None, Option, Some, ℕ}
+-- The bytes of choices taken apart, and in words (include/gen1.h, "looking"; docs/MECHANICS.md, "Offered choices").
+use Rattle.std.specs.Prelude.{Err, List, None, Ok, Option, Result, Some, codes, if◌then◌else◌, nat_le, ℕ, ◌&&◌, ◌++◌, ◌+◌, ◌==◌, ◌∷◌}
+use Rattle.gen1_tables.specs.Names.{move_name, species_name}
 use Rattle.gen1_machine.specs.declared.choice.Choice.{Choice}
 use Rattle.gen1_machine.specs.declared.choice.Choice.TheVariants.{Move, Pass, Switch}
+use Rattle.gen1_machine.specs.declared.side.Side.{Side}
+use Rattle.gen1_machine.specs.State.{Field, known_in, member_at, member_in, party}
 
 abbrev pub kind_of_choice : Option Choice → ℕ
 kind_of_choice None = 0
@@ -14,3 +17,25 @@ slot_of_choice None = 0
 slot_of_choice (Some Pass) = 0
 slot_of_choice (Some (Move slot)) = slot
 slot_of_choice (Some (Switch place)) = place
+
+-- a word, a digit and a name; the code 3 where the number is none that has a name
+abbrev pub named : List ℕ → ℕ → ℕ → ℕ → List ℕ → Result (List ℕ) ℕ
+named word digit last number name =
+    if nat_le 1 number && nat_le number last then Ok ((word ++ ((48 + digit) ∷ codes " ")) ++ name) else Err 3
+
+-- before the first update nobody is out, and has moves to choose from
+abbrev pub move_words : Side → ℕ → Field → Result (List ℕ) ℕ
+move_words side slot f =
+    if slot == 0 then Ok (codes "move 0")
+    else (if f.turn == 0 then Err 3
+    else named (codes "move ") slot 165 (known_in slot (member_in side f).moves).id (move_name (known_in slot (member_in side f).moves).id))
+
+abbrev pub switch_words : Side → ℕ → Field → Result (List ℕ) ℕ
+switch_words side place f =
+    named (codes "switch ") place 151 (member_at place (party side f)).species (species_name (member_at place (party side f)).species)
+
+abbrev pub words_due : Side → Option Choice → Field → Result (List ℕ) ℕ
+words_due side None f = Err 2
+words_due side (Some Pass) f = Ok (codes "pass")
+words_due side (Some (Move slot)) f = move_words side slot f
+words_due side (Some (Switch place)) f = switch_words side place f

@@ -18,6 +18,10 @@ pub mod Batches
 pub mod Playouts
 -- Teams out of text.
 pub mod TeamText
+-- Names, and what the tables say.
+pub mod Names
+-- Codes in words.
+pub mod Texts
 -- What the bytes of a battle stand for.
 pub mod View
 -- The bytes of choices.

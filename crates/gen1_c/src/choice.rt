@@ -1,9 +1,26 @@
-//! The bytes of choices taken apart (include/gen1.h, "looking"; docs/MECHANICS.md, "Offered choices").
-ghost use Rattle.std.specs.Prelude.{◌≡◌};
+//! The bytes of choices taken apart, and in words (include/gen1.h, "looking"; docs/MECHANICS.md, "Offered choices").
+ghost use Rattle.std.specs.Prelude.{Ok, length, ◌++◌, ◌≡◌, ◌≢◌, ◌≤◌};
 ghost use Rattle.gen1_machine.specs.Choices.{choice_at};
-ghost use Rattle.gen1_c.specs.Choices.{kind_of_choice, slot_of_choice};
+ghost use Rattle.gen1_machine.specs.Numbers.{side_number};
+ghost use Rattle.gen1_machine.specs.State.{State};
+ghost use Rattle.gen1_machine.specs.declared.side.Side.{Side};
+ghost use Rattle.gen1_layout.specs.Within.{Stands};
+ghost use Rattle.gen1_c.specs.Choices.{kind_of_choice, move_words, slot_of_choice, switch_words, words_due};
+ghost use Rattle.gen1_c.specs.Fronts.{Writes};
+ghost use Rattle.gen1_c.specs.Update.{IsNoSide};
 
-use gen1_machine::Choice;
+use crate::fronts::{put_front, write_text};
+use gen1_layout::Packed;
+use gen1_machine::{Choice, MoveSlot, Place, Side};
+use gen1_tables::{MoveId, Species};
+
+const NO_SIDE: u8 = 1;
+
+const NO_CHOICE: u8 = 2;
+
+const NOBODY: u8 = 3;
+
+const SMALL_WORDS: u8 = 4;
 
 /// What a byte chooses: 1 a pass, 2 a move, 3 a switch; 0 where it is no choice.
 #[unsafe(no_mangle)]
@@ -28,7 +45,109 @@ pub extern "C" fn gen1_choice_slot(byte: u8) -> u8
     };
     match choice {
         Choice::Pass => 0,
-        Choice::Move(slot) => slot.number(),
-        Choice::Switch(place) => place.number(),
+        Choice::Move(slot) => number_of_slot(slot),
+        Choice::Switch(place) => number_of_place(place),
     }
+}
+
+fn number_of_slot(slot: MoveSlot) -> u8
+    ensures value { result ≡ slot }
+    ensures high { result ≤ 4 }
+{
+    slot.number()
+}
+
+fn number_of_place(place: Place) -> u8
+    ensures value { result ≡ place }
+    ensures low { 1 ≤ result }
+    ensures high { result ≤ 6 }
+{
+    place.number()
+}
+
+/// A choice of a side in words, as the battle stands.
+#[unsafe(no_mangle)]
+pub extern "C" fn gen1_choice_words(
+    battle: &Packed,
+    side: u8,
+    byte: u8,
+    text: &mut [u8],
+    written: &mut usize,
+) -> u8
+    ensures writes { (s : State) (which : Side) → Stands battle.now s → side ≡ side_number which
+        → Writes 4 (words_due which (choice_at byte) s.field)
+        (record { bytes = text.old; count = written.old })
+        (record { bytes = text.new; count = written.new }) result }
+    ensures no_side { IsNoSide side → result ≡ 1 }
+    // Whatever the bytes are.
+    ensures kept { result ≢ 0 → (text.new ≡ text.old) × (written.new ≡ written.old) }
+{
+    let Some(side) = Side::from_number(side) else {
+        return NO_SIDE;
+    };
+    let Some(choice) = Choice::from_byte(byte) else {
+        return NO_CHOICE;
+    };
+    match choice {
+        Choice::Pass => write_text(b"pass", SMALL_WORDS, text, written),
+        Choice::Move(slot) => write_move(battle, side, number_of_slot(slot), text, written),
+        Choice::Switch(place) => write_switch(battle, side, number_of_place(place), text, written),
+    }
+}
+
+// "move 2 Body Slam"; "move 0" where no slot can be chosen.
+fn write_move(battle: &Packed, side: Side, slot: u8, text: &mut [u8], written: &mut usize) -> u8
+    requires { slot ≤ 4 }
+    ensures writes { (s : State) → Stands battle.now s → Writes 4 (move_words side slot s.field)
+        (record { bytes = text.old; count = written.old })
+        (record { bytes = text.new; count = written.new }) result }
+    ensures kept { result ≢ 0 → (text.new ≡ text.old) × (written.new ≡ written.old) }
+{
+    if slot == 0 {
+        return write_text(b"move 0", SMALL_WORDS, text, written);
+    }
+    if battle.turn() == 0 {
+        return NOBODY;
+    }
+    match MoveId::new(battle.move_in(side, slot)) {
+        Some(id) => {
+            let head = [b'm', b'o', b'v', b'e', b' ', 48 + slot, b' '];
+            write_joined(&head, id.name().as_bytes(), text, written)
+        }
+        None => NOBODY,
+    }
+}
+
+// "switch 3 Gengar".
+fn write_switch(battle: &Packed, side: Side, place: u8, text: &mut [u8], written: &mut usize) -> u8
+    requires low { 1 ≤ place }
+    requires high { place ≤ 6 }
+    ensures writes { (s : State) → Stands battle.now s → Writes 4 (switch_words side place s.field)
+        (record { bytes = text.old; count = written.old })
+        (record { bytes = text.new; count = written.new }) result }
+    ensures kept { result ≢ 0 → (text.new ≡ text.old) × (written.new ≡ written.old) }
+{
+    match Species::new(battle.species_at(side, place)) {
+        Some(species) => {
+            let head = [b's', b'w', b'i', b't', b'c', b'h', b' ', 48 + place, b' '];
+            write_joined(&head, species.name().as_bytes(), text, written)
+        }
+        None => NOBODY,
+    }
+}
+
+// Two texts, one behind the other, as `write_text` writes one.
+fn write_joined(head: &[u8], name: &[u8], text: &mut [u8], written: &mut usize) -> u8
+    requires { length head.now ≤ 9 }
+    ensures { Writes 4 (Ok (head.now ++ name.now)) (record { bytes = text.old; count = written.old })
+        (record { bytes = text.new; count = written.new }) result }
+{
+    let count = head.len() + name.len();
+    if text.len() < count {
+        return SMALL_WORDS;
+    }
+    put_front(head, text);
+    put_front(name, &mut text[head.len()..]);
+    *written = count;
+    0
 }

@@ -12,9 +12,10 @@
 //! - `events`: the events of a log
 //! - `lines`: the lines of a log's events
 //! - `damage`: the damage of a hit
-//! - `names`: species and moves by their names, and the version
+//! - `names`: names of species, moves and types, and their rows of the tables
+//! - `texts`: codes in words
 //! - `view`: what the bytes of a battle stand for, as plain structs
-//! - `choice`: the bytes of choices taken apart
+//! - `choice`: the bytes of choices taken apart, and in words
 //! - `reseed`: other numbers to draw
 //! - `fronts`: writing to the front of a caller's memory
 #![tactic(auto)]
@@ -33,10 +34,12 @@ pub mod playouts;
 pub mod reseed;
 pub mod team_text;
 mod teams;
+pub mod texts;
 pub mod update;
 pub mod view;
 
 pub use events::EventFields;
+pub use names::{BaseForm, MoveForm};
 pub use playouts::PlayoutCounts;
 pub use team_text::TextFaultForm;
 pub use teams::{MemberForm, TeamForm};

@@ -1,11 +1,39 @@
-//! Species and moves by their names, and the version (include/gen1.h, "naming"; docs/TABLES.md).
-ghost use Rattle.std.specs.Prelude.{unwrap_or, ◌*◌, ◌+◌, ◌≡◌};
+//! Names of species, moves and types, and what the tables say of each (include/gen1.h, "naming"; docs/TABLES.md).
+ghost use Rattle.std.specs.Prelude.{map, unwrap_or, ◌*◌, ◌+◌, ◌≡◌};
 ghost use Rattle.gen1_text.specs.Ids.{move_called, species_called};
+ghost use Rattle.gen1_c.specs.Fronts.{Writes};
+ghost use Rattle.gen1_c.specs.Names.{Tells, base_due, base_row, move_due, move_text, row_of_move, species_text, type_names, type_text};
 
+use crate::fronts::{SMALL_ROOM, UNKNOWN, write_text};
+use crate::texts::text_at;
+use gen1_tables::{MoveId, Species};
 use gen1_text::{move_called, species_called};
+
+static TYPE_NAMES: [&str; 15] = [
+    "Normal", "Fighting", "Flying", "Poison", "Ground", "Rock", "Bug", "Ghost", "Fire", "Water",
+    "Grass", "Electric", "Psychic", "Ice", "Dragon",
+];
 
 // The version of the library: major, minor and third number.
 const VERSION: u32 = 65536;
+
+/// A species' base HP, Attack, Defense, Speed and Special, and its two types.
+#[repr(C)]
+#[derive(Clone, Copy)]
+pub struct BaseForm {
+    pub stats: [u8; 5],
+    pub types: [u8; 2],
+}
+
+/// A move's type, power, accuracy as a byte, and PP without PP ups.
+#[repr(C)]
+#[derive(Clone, Copy)]
+pub struct MoveForm {
+    pub kind: u8,
+    pub power: u8,
+    pub accuracy: u8,
+    pub pp: u8,
+}
 
 /// The version of the library: 65,536 times the major number, 256 times the minor one, and the third.
 #[unsafe(no_mangle)]
@@ -13,6 +41,48 @@ pub extern "C" fn gen1_version() -> u32
     ensures { result ≡ 65536 * 1 + 256 * 0 + 0 }
 {
     VERSION
+}
+
+/// The name of a species, from 1 to 151.
+#[unsafe(no_mangle)]
+pub extern "C" fn gen1_species_name(number: u8, text: &mut [u8], written: &mut usize) -> u8
+    ensures { Writes 2 (species_text number) (record { bytes = text.old; count = written.old })
+        (record { bytes = text.new; count = written.new }) result }
+{
+    match Species::new(number) {
+        Some(species) => write_text(species.name().as_bytes(), SMALL_ROOM, text, written),
+        None => UNKNOWN,
+    }
+}
+
+/// The name of a move, from 1 to 165.
+#[unsafe(no_mangle)]
+pub extern "C" fn gen1_move_name(number: u8, text: &mut [u8], written: &mut usize) -> u8
+    ensures { Writes 2 (move_text number) (record { bytes = text.old; count = written.old })
+        (record { bytes = text.new; count = written.new }) result }
+{
+    match MoveId::new(number) {
+        Some(id) => write_text(id.name().as_bytes(), SMALL_ROOM, text, written),
+        None => UNKNOWN,
+    }
+}
+
+/// The name of a type, from 0 to 14.
+#[unsafe(no_mangle)]
+pub extern "C" fn gen1_type_name(number: u8, text: &mut [u8], written: &mut usize) -> u8
+    ensures { Writes 2 (type_text number) (record { bytes = text.old; count = written.old })
+        (record { bytes = text.new; count = written.new }) result }
+{
+    match text_at(type_names(), number) {
+        Some(name) => write_text(name.as_bytes(), SMALL_ROOM, text, written),
+        None => UNKNOWN,
+    }
+}
+
+fn type_names() -> &'static [&'static str; 15]
+    ensures { map (λ name. name.now) result.now ≡ type_names }
+{
+    &TYPE_NAMES
 }
 
 /// The species that a text names (docs/TEAM_TEXT.md, "Names"), from 1 to 151, or 0.
@@ -34,5 +104,54 @@ pub extern "C" fn gen1_move_from_name(text: &[u8]) -> u8
     match move_called(text) {
         Some(id) => id.number(),
         None => 0,
+    }
+}
+
+/// The base stats and types of a species, from 1 to 151.
+#[unsafe(no_mangle)]
+pub extern "C" fn gen1_species_stats(number: u8, base: &mut BaseForm) -> u8
+    ensures { Tells (base_due number) base.old base.new result }
+{
+    match Species::new(number) {
+        Some(species) => {
+            *base = base_of(species);
+            0
+        }
+        None => UNKNOWN,
+    }
+}
+
+fn base_of(species: Species) -> BaseForm
+    ensures { result ≡ base_row species }
+{
+    let [first, second] = species.types();
+    BaseForm {
+        stats: species.base(),
+        types: [first.number(), second.number()],
+    }
+}
+
+/// The row of a move, from 1 to 165.
+#[unsafe(no_mangle)]
+pub extern "C" fn gen1_move_data(number: u8, row: &mut MoveForm) -> u8
+    ensures { Tells (move_due number) row.old row.new result }
+{
+    match MoveId::new(number) {
+        Some(id) => {
+            *row = row_of(id);
+            0
+        }
+        None => UNKNOWN,
+    }
+}
+
+fn row_of(id: MoveId) -> MoveForm
+    ensures { result ≡ row_of_move id }
+{
+    MoveForm {
+        kind: id.kind().number(),
+        power: id.power(),
+        accuracy: id.accuracy_byte(),
+        pp: id.pp(),
     }
 }

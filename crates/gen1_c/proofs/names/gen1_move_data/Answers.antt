@@ -1,0 +1,14 @@
+use Rattle.std.proofs.Common.{Ok, ap, sym, ◌∙◌}
+use Rattle.gen1_c.specs.Names.{row_of_move}
+use Rattle.gen1_c.proofs.Begun.{let_through}
+use Rattle.gen1_c.proofs.Writing.{in_range, none_through, out_of_range, row_kept, row_told}
+use Rattle.gen1_c.proofs.names.gen1_move_data.Goals as goal
+
+pub returns-in-Some : goal.returns-in-Some
+returns-in-Some c =
+    let id = let_through _ _ _ (sym c.new.ensures ∙ c.in-Some.is) in
+    row_told _ (in_range 165 c.args.number (row_of_move c.args.number) id.0 ∙ ap Ok (sym (c.row_of.ensures ∙ ap row_of_move id.1)))
+
+pub returns-in-None : goal.returns-in-None
+returns-in-None c =
+    row_kept _ (out_of_range 165 c.args.number (row_of_move c.args.number) (none_through _ c.args.number (sym c.new.ensures ∙ c.in-None.is)))

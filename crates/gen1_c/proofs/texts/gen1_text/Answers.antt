@@ -1,0 +1,15 @@
+use Rattle.std.proofs.Common.{List, Ok, ap, sym, ◌∙◌, ℕ}
+use Rattle.std.specs.List.{slice_get}
+use Rattle.gen1_c.specs.Texts.{sentences}
+use Rattle.gen1_c.proofs.Writing.{got_none, got_some, refused, written}
+use Rattle.gen1_c.proofs.texts.gen1_text.Goals as goal
+
+pub returns-in-Some : goal.returns-in-Some
+returns-in-Some c =
+    let list = ap (λ (names : List (List ℕ)). slice_get names c.args.code) c.texts_about.ensures in
+    written 2 _ _ _ (got_some _ (sentences c.args.about) c.args.code (c.text_at.ensures ∙ list) c.in-Some.is ∙ ap Ok (sym c.as_bytes.ensures.value)) c.write_text.ensures
+
+pub returns-in-None : goal.returns-in-None
+returns-in-None c =
+    let list = ap (λ (names : List (List ℕ)). slice_get names c.args.code) c.texts_about.ensures in
+    refused 2 _ (got_none _ (sentences c.args.about) c.args.code (c.text_at.ensures ∙ list) c.in-None.is)
