@@ -10,6 +10,7 @@ The lines outside the two marks are written by hand, and stay as they are.
 import argparse
 import re
 import sys
+import textwrap
 
 sys.dont_write_bytecode = True
 from repository import ROOT
@@ -18,6 +19,7 @@ from tables import element_names, numbered, table
 HEADER = ROOT / "include" / "gen1.h"
 BEGIN = '/* tools/header.py writes the lines from here to "end of the tables", from docs/TABLES.md. */\n'
 END = "/* end of the tables */\n"
+WIDTH = 128
 
 
 def constant(kind, name):
@@ -26,12 +28,12 @@ def constant(kind, name):
 
 
 def enum(about, kind, first, names):
-    """An enum whose first constant has the number `first`, one constant on a line."""
+    """An enum whose first constant has the number `first`."""
     constants = [constant(kind, name) for name in names]
     if len(set(constants)) != len(constants):
         sys.exit(f"docs/TABLES.md: two names of {kind} are the same constant")
     constants[0] += f" = {first}"
-    body = ",\n".join(f"    {each}" for each in constants)
+    body = textwrap.fill(", ".join(constants), WIDTH, initial_indent="    ", subsequent_indent="    ", break_long_words=False)
     return f"/* {about} */\nenum {{\n{body}\n}};\n"
 
 
