@@ -536,9 +536,10 @@ typedef struct gen1_active_state {
     uint8_t turns;          /* turns left of Bide, Thrash (1 to 3) or trapping (0 to 4), of which one at most is on; else 0 */
 } gen1_active_state;
 
+/* A side: its members, and what lasts only while one of them is out. */
 typedef struct gen1_side_state {
     gen1_member_state members[6]; /* by their places from 1 on */
-    gen1_active_state active;
+    gen1_active_state active;     /* of the member that is out */
 } gen1_side_state;
 
 /* All that the 384 bytes stand for (docs/LAYOUT.md). */
