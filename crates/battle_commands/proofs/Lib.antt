@@ -5,3 +5,4 @@ pub mod Duels
 pub mod CalcOutcomes
 pub mod Heard
 pub mod Pieces
+pub mod Serving

@@ -9,3 +9,4 @@ pub mod AskedBattle
 pub mod Faults
 pub mod Logs
 pub mod Rooms
+pub mod Served

@@ -1,5 +1,6 @@
 //! Battles that are played pair by pair, and the lines of each (docs/PROGRAM.md, "run", "Output").
-ghost use Rattle.std.specs.Prelude.{◌≡◌, ◌||◌, IfOk, IfSome, false};
+ghost use Rattle.std.specs.Prelude.{◌+◌, ◌≡◌, ◌||◌, IfOk, IfSome, false};
+ghost use Rattle.gen1_machine.specs.Input.{TakesAtMost};
 ghost use Rattle.gen1_machine.specs.Lines.{lines};
 ghost use Rattle.gen1_machine.specs.State.{State};
 ghost use Rattle.gen1_layout.specs.Within.{Stands};
@@ -8,7 +9,7 @@ ghost use Rattle.battle_commands.specs.Due.{due_from, run_due};
 
 use crate::asked_battle::open_bout;
 use crate::fault::ToolFault;
-use crate::input::read_input;
+use crate::input::{INPUT_LIMIT, read_input};
 use gen1_engine::Battle;
 use gen1_machine::{Device, Event, EventList, Sink, Source, send};
 use gen1_printer::print_line;
@@ -27,6 +28,9 @@ pub fn play<A: AllocGlobal, R: Source, W: Sink>(
     // Where the source tells its bytes, what is due for them is written and answered.
     ensures answers { IfSome (R.remaining reader.old)
         (λ input. Answers (run_due input) (W.contents writer.old) (W.contents writer.new) result) }
+
+    // No more than the limit and one byte is taken from the source.
+    ensures taken { TakesAtMost (R.remaining reader.old) (R.remaining reader.new) (INPUT_LIMIT + 1) }
 
     // A fault of a device is answered exactly where that device has failed in this call.
     ensures read { R.has_failed reader.new ≡ (R.has_failed reader.old || is_read_fault result) }

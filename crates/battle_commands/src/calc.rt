@@ -1,5 +1,6 @@
 //! The damage numbers that an input asks for (docs/PROGRAM.md, "calc").
-ghost use Rattle.std.specs.Prelude.{◌≡◌, ◌≤◌, ◌||◌, length, IfSome, option_and_then};
+ghost use Rattle.std.specs.Prelude.{◌+◌, ◌≡◌, ◌≤◌, ◌||◌, length, IfSome, option_and_then};
+ghost use Rattle.gen1_machine.specs.Input.{TakesAtMost};
 ghost use Rattle.battle_commands.specs.Answers.{is_read_fault, is_write_fault};
 ghost use Rattle.battle_input.specs.Sheets.{json_of};
 ghost use Rattle.battle_commands.specs.Calc.{PrintsDamages, damages_due};
@@ -31,6 +32,9 @@ pub fn play_calc<A: AllocGlobal, R: Source, W: Sink>(
     ensures answers { IfSome (R.remaining reader.old)
         (λ input. PrintsDamages (damages_due input) (W.contents writer.old) (W.contents writer.new)
         result) }
+
+    // No more than the limit and one byte is taken from the source.
+    ensures taken { TakesAtMost (R.remaining reader.old) (R.remaining reader.new) (INPUT_LIMIT + 1) }
 
     // A fault of a device is answered exactly where that device has failed in this call.
     ensures read { R.has_failed reader.new ≡ (R.has_failed reader.old || is_read_fault result) }

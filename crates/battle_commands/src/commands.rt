@@ -1,5 +1,5 @@
 //! The command line (docs/PROGRAM.md, "The program battle_tool").
-ghost use Rattle.std.specs.Prelude.{◌≡◌, ◌≤◌, ◌||◌, IfSome, None, codes};
+ghost use Rattle.std.specs.Prelude.{◌≡◌, ◌≤◌, ◌||◌, IfSome, IsOk, Result, codes, is_some, true};
 ghost use Rattle.clap.specs.Matches.{first_value, found_of};
 ghost use Rattle.battle_commands.specs.Answers.{Answers, Tells, is_read_fault, is_write_fault};
 ghost use Rattle.battle_commands.specs.Calc.{PrintsDamages, damages_due};
@@ -7,20 +7,19 @@ ghost use Rattle.battle_commands.specs.Due.{run_due};
 ghost use Rattle.battle_commands.specs.Faults.{error_line, status_of};
 ghost use Rattle.battle_commands.specs.Logs.{PrintsLog};
 ghost use Rattle.battle_commands.specs.Rooms.{room_due};
+ghost use Rattle.battle_commands.specs.Served.{IsUndisturbed, Serves, TellsEnd, given, status_after};
 
 use crate::battles::play;
 use crate::calc::play_calc;
 use crate::fault::ToolFault;
+use crate::folder::Folder;
 use crate::logs::play_print;
 use crate::rooms::play_room;
 use clap::error::ErrorKind;
 use clap::{Arg, ArgAction, ArgMatches, Command, Error};
-use gen1_machine::{Device, Sink, Source, send};
+use gen1_machine::{Sink, Source, send};
 use std::alloc::{AllocError, Global};
 use std::convert::AsStr;
-use std::fs;
-use std::io::{Read, Write};
-use std::rt::Files;
 
 /// The status where the command line asks for nothing that can be run.
 pub const COMMAND_LINE_REFUSED: u8 = 2;
@@ -95,7 +94,10 @@ pub fn report<E: Sink>(fault: ToolFault, err: &mut E) -> u8
 /// Writes what clap answers to words that ask for nothing to run: help that was asked for to
 /// standard output, and what is wrong with the words to standard error.
 fn answer_words<O: Sink, E: Sink>(alloc: Global, error: &Error, out: &mut O, err: &mut E) -> u8
-    ensures { result ≤ 4 }
+    ensures most { result ≤ 4 }
+    ensures undisturbed { result ≡ 0
+        → (O.has_failed out.new ≡ O.has_failed out.old) × (E.has_failed err.new ≡ E.has_failed err.old)
+        × (E.contents err.new ≡ E.contents err.old) }
 {
     if error.kind() == ErrorKind::OutOfMemory {
         return report(ToolFault::Memory, err);
@@ -144,68 +146,97 @@ fn run_named<A: AllocGlobal, I: Source, O: Sink>(
     }
 }
 
-/// Runs a subcommand on its FILE, or on `input`.
-fn run<A: AllocGlobal + Files, I: Read + Drop, O: Sink>(
+/// Runs a subcommand on its FILE, or on `input`, which is left alone where a FILE is named.
+fn run<A: AllocGlobal, F: Folder, I: Source, O: Sink>(
     rt: &A,
+    folder: &F,
     name: &str,
     matches: &ArgMatches,
-    input: I,
+    input: &mut I,
     out: &mut O,
 ) -> Result<(), ToolFault>
-    ensures print { first_value (found_of matches.now) (codes "FILE") ≡ None
-        → name.now ≡ codes "print"
-        → IfSome (I.remaining input)
-        (λ log. PrintsLog log (O.contents out.old) (O.contents out.new) result) }
-    ensures calc { first_value (found_of matches.now) (codes "FILE") ≡ None
-        → name.now ≡ codes "calc"
-        → IfSome (I.remaining input)
-        (λ asked. PrintsDamages (damages_due asked) (O.contents out.old) (O.contents out.new)
-        result) }
-    ensures room { first_value (found_of matches.now) (codes "FILE") ≡ None
-        → name.now ≡ codes "room"
-        → IfSome (I.remaining input)
-        (λ asked. Answers (room_due asked) (O.contents out.old) (O.contents out.new) result) }
-    ensures run { first_value (found_of matches.now) (codes "FILE") ≡ None → name.now ≡ codes "run"
-        → IfSome (I.remaining input)
-        (λ asked. Answers (run_due asked) (O.contents out.old) (O.contents out.new) result) }
+    ensures serves { IfSome
+        (given (first_value (found_of matches.now) (codes "FILE")) (F.named folder.now)
+        (I.remaining input.old))
+        (λ asked. Serves name.now asked (O.contents out.old) (O.contents out.new) result) }
+    ensures alone { is_some (first_value (found_of matches.now) (codes "FILE")) ≡ true
+        → input.new ≡ input.old }
+    ensures read { IsOk result → I.has_failed input.new ≡ I.has_failed input.old }
     ensures write { O.has_failed out.new ≡ (O.has_failed out.old || is_write_fault result) }
 {
     match matches.get_str("FILE") {
-        None => run_named(rt, name, &mut Device::new(input), out),
-        Some(path) => match fs::open(rt, path) {
-            Ok(file) => run_named(rt, name, &mut Device::new(file), out),
+        None => run_named(rt, name, input, out),
+        Some(file) => match folder.open(file) {
+            Ok(mut opened) => run_named(rt, name, &mut opened, out),
             Err(_) => Err(ToolFault::Read),
         },
     }
 }
 
-/// Runs the words of a command line, the program's name first, and answers the exit status, from 0 to 4
-/// (docs/PROGRAM.md, "The program battle_tool"). It reads `input` where no FILE is named, prints to `out`, and tells what is
-/// wrong on `err`.
-pub fn tool<A, S, I, O, E>(rt: &A, words: &[S], input: I, out: O, err: E) -> u8
-where
-    A: AllocGlobal + Files,
-    S: AsStr,
-    I: Read + Drop,
-    O: Write + Drop,
-    E: Write + Drop,
-    ensures { result ≤ 4 }
+/// Runs a subcommand on its FILE, or on `input`, and tells its fault: the status is 0 where all was done.
+fn run_and_tell<A: AllocGlobal, F: Folder, I: Source, O: Sink, E: Sink>(
+    rt: &A,
+    folder: &F,
+    name: &str,
+    matches: &ArgMatches,
+    input: &mut I,
+    out: &mut O,
+    err: &mut E,
+) -> u8
+    ensures most { result ≤ 4 }
+    ensures ends { (end : Result (Unit {0}) ToolFault) × (result ≡ status_after end)
+        × IfSome
+        (given (first_value (found_of matches.now) (codes "FILE")) (F.named folder.now)
+        (I.remaining input.old))
+        (λ asked. Serves name.now asked (O.contents out.old) (O.contents out.new) end)
+        × TellsEnd (E.contents err.old) (E.contents err.new) (E.has_failed err.old)
+        (E.has_failed err.new) end }
+    ensures undisturbed { result ≡ 0
+        → IsUndisturbed (I.has_failed input.old) (I.has_failed input.new) (O.has_failed out.old)
+        (O.has_failed out.new) (E.has_failed err.old) (E.has_failed err.new) (E.contents err.old)
+        (E.contents err.new) }
 {
-    let mut out = Device::new(out);
-    let mut err = Device::new(err);
+    match run(rt, folder, name, matches, input, out) {
+        Ok(()) => 0,
+        Err(fault) => report(fault, err),
+    }
+}
+
+/// Runs the words of a command line, the program's name first, and answers the exit status, from 0 to 4
+/// (docs/PROGRAM.md, "The program battle_tool"). It reads the FILE of `folder` that the words name, or `input` where they name
+/// none, prints to `out`, and tells what is wrong on `err`.
+pub fn tool<A, F, S, I, O, E>(
+    rt: &A,
+    folder: &F,
+    words: &[S],
+    input: &mut I,
+    out: &mut O,
+    err: &mut E,
+) -> u8
+where
+    A: AllocGlobal,
+    F: Folder,
+    S: AsStr,
+    I: Source,
+    O: Sink,
+    E: Sink,
+    ensures most { result ≤ 4 }
+    // No read and no write has failed, and nothing was told.
+    ensures undisturbed { result ≡ 0
+        → IsUndisturbed (I.has_failed input.old) (I.has_failed input.new) (O.has_failed out.old)
+        (O.has_failed out.new) (E.has_failed err.old) (E.has_failed err.new) (E.contents err.old)
+        (E.contents err.new) }
+{
     let alloc = rt.alloc();
     let Ok(command) = command(alloc) else {
-        return report(ToolFault::Memory, &mut err);
+        return report(ToolFault::Memory, err);
     };
     let matches = match command.try_get_matches_from(words) {
         Ok(matches) => matches,
-        Err(error) => return answer_words(alloc, &error, &mut out, &mut err),
+        Err(error) => return answer_words(alloc, &error, out, err),
     };
     let Some((name, inner)) = matches.subcommand() else {
         return COMMAND_LINE_REFUSED;
     };
-    match run(rt, name, inner, input, &mut out) {
-        Ok(()) => 0,
-        Err(fault) => report(fault, &mut err),
-    }
+    run_and_tell(rt, folder, name, inner, input, out, err)
 }

@@ -1,5 +1,6 @@
 //! The input of a subcommand (docs/PROGRAM.md, "What is tested, in this order").
-ghost use Rattle.std.specs.Prelude.{◌≡◌, ◌≤◌, ◌||◌, IfErr, IfOk, IfSome, vec_len};
+ghost use Rattle.std.specs.Prelude.{◌+◌, ◌≡◌, ◌≤◌, ◌||◌, IfErr, IfOk, IfSome, vec_len};
+ghost use Rattle.gen1_machine.specs.Input.{TakesAtMost};
 ghost use Rattle.battle_commands.specs.Answers.{IsInputFault, is_read_fault};
 
 use crate::fault::ToolFault;
@@ -9,11 +10,13 @@ use std::alloc::Global;
 /// The greatest length of an input, in bytes.
 pub const INPUT_LIMIT: usize = 1_048_576;
 
-/// Reads an input whole: `Read` where the source failed, `TooLong` past the limit, `Memory` where there is too little.
+/// Reads an input whole: `Read` where the source failed, `TooLong` past the limit, `Memory` where there is too little. One byte
+/// past the limit is taken from the source at the most.
 pub fn read_input<R: Source>(alloc: Global, reader: &mut R) -> Result<Vec<u8>, ToolFault>
     ensures whole { IfOk result (λ v. IfSome (R.remaining reader.old) (λ input. v.items ≡ input)) }
     ensures fits { IfOk result (λ v. vec_len v ≤ INPUT_LIMIT) }
     ensures fault { IfErr result (λ fault. IsInputFault fault (R.remaining reader.old)) }
+    ensures taken { TakesAtMost (R.remaining reader.old) (R.remaining reader.new) (INPUT_LIMIT + 1) }
     ensures read { R.has_failed reader.new ≡ (R.has_failed reader.old || is_read_fault result) }
 {
     match read_whole(alloc, reader, INPUT_LIMIT) {

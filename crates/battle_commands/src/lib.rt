@@ -1,6 +1,7 @@
 //! The subcommands of `battle_tool` (docs/PROGRAM.md): each reads an input, prints what is due for it, and answers its fault.
 //!
 //! - `commands`: the command line: which subcommand runs on what, and the exit status
+//! - `folder`: inputs that are opened by name
 //! - `input`: an input, read whole
 //! - `asked_battle`: the battle that an input asks for
 //! - `battles`: `run`
@@ -20,6 +21,7 @@ mod commands;
 mod damage;
 mod duel;
 mod fault;
+mod folder;
 mod input;
 mod logs;
 mod number_line;
@@ -29,6 +31,7 @@ pub use battles::{play, text_of};
 pub use calc::play_calc;
 pub use commands::{COMMAND_LINE_REFUSED, report, tool};
 pub use fault::ToolFault;
+pub use folder::{Disk, Folder};
 pub use input::INPUT_LIMIT;
 pub use logs::play_print;
 pub use rooms::play_room;

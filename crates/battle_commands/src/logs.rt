@@ -1,10 +1,11 @@
 //! The lines of a log (docs/PROGRAM.md, "print").
-ghost use Rattle.std.specs.Prelude.{◌≡◌, ◌||◌, IfSome};
+ghost use Rattle.std.specs.Prelude.{◌+◌, ◌≡◌, ◌||◌, IfSome};
+ghost use Rattle.gen1_machine.specs.Input.{TakesAtMost};
 ghost use Rattle.battle_commands.specs.Answers.{is_read_fault, is_write_fault};
 ghost use Rattle.battle_commands.specs.Logs.{PrintsLog};
 
 use crate::fault::ToolFault;
-use crate::input::read_input;
+use crate::input::{INPUT_LIMIT, read_input};
 use gen1_machine::{Sink, Source, send};
 use gen1_printer::{PrintFault, print_log};
 
@@ -19,6 +20,9 @@ pub fn play_print<A: AllocGlobal, R: Source, W: Sink>(
     // Where the source tells its bytes, they are the log that is printed.
     ensures answers { IfSome (R.remaining reader.old)
         (λ log. PrintsLog log (W.contents writer.old) (W.contents writer.new) result) }
+
+    // No more than the limit and one byte is taken from the source.
+    ensures taken { TakesAtMost (R.remaining reader.old) (R.remaining reader.new) (INPUT_LIMIT + 1) }
 
     // A fault of a device is answered exactly where that device has failed in this call.
     ensures read { R.has_failed reader.new ≡ (R.has_failed reader.old || is_read_fault result) }

@@ -1,5 +1,6 @@
 //! Two players' submissions to a room, and what each is answered (docs/PROGRAM.md, "room").
-ghost use Rattle.std.specs.Prelude.{List, [], ◌++◌, ◌∷◌, ◌≡◌, ◌||◌, IfSome, codes, false};
+ghost use Rattle.std.specs.Prelude.{◌+◌, List, [], ◌++◌, ◌∷◌, ◌≡◌, ◌||◌, IfSome, codes, false};
+ghost use Rattle.gen1_machine.specs.Input.{TakesAtMost};
 ghost use Rattle.gen1_machine.specs.Lines.{joined, lines};
 ghost use Rattle.gen1_machine.specs.Room.{Course, after as follows, reply_to};
 ghost use Rattle.gen1_machine.specs.declared.event.Event.{Event as Told};
@@ -11,7 +12,7 @@ ghost use Rattle.battle_commands.specs.Rooms.{pieces_of_refusal, replies_due, ro
 
 use crate::asked_battle::open_bout;
 use crate::fault::ToolFault;
-use crate::input::read_input;
+use crate::input::{INPUT_LIMIT, read_input};
 use arrayvec::ArrayString;
 use gen1_machine::{Side, Sink, Source, send, send_all};
 use gen1_printer::print_log;
@@ -35,6 +36,9 @@ pub fn play_room<A: AllocGlobal, R: Source, W: Sink>(
     // Where the source tells its bytes, what is due for them is written and answered.
     ensures answers { IfSome (R.remaining reader.old)
         (λ input. Answers (room_due input) (W.contents writer.old) (W.contents writer.new) result) }
+
+    // No more than the limit and one byte is taken from the source.
+    ensures taken { TakesAtMost (R.remaining reader.old) (R.remaining reader.new) (INPUT_LIMIT + 1) }
 
     // A fault of a device is answered exactly where that device has failed in this call.
     ensures read { R.has_failed reader.new ≡ (R.has_failed reader.old || is_read_fault result) }

@@ -1,7 +1,7 @@
 //! The program: hands its words and its streams to the command line (docs/PROGRAM.md, "The program battle_tool").
 #![tactic(auto)]
 
-use battle_commands::{COMMAND_LINE_REFUSED, ToolFault, report, tool};
+use battle_commands::{COMMAND_LINE_REFUSED, Disk, ToolFault, report, tool};
 use gen1_machine::Device;
 use std::alloc::AllocError;
 use std::process::ExitCode;
@@ -14,9 +14,22 @@ fn main(rt: HostRuntime) -> ExitCode {
         // A word is no text.
         Err(_) => return ExitCode::from(COMMAND_LINE_REFUSED),
     };
+    let mut err = Device::new(rt.stderr());
     let status = match words {
-        Ok(words) => tool(&rt, words.as_slice(), rt.stdin(), rt.stdout(), rt.stderr()),
-        Err(_) => report(ToolFault::Memory, &mut Device::new(rt.stderr())),
+        Ok(words) => {
+            let mut input = Device::new(rt.stdin());
+            let mut out = Device::new(rt.stdout());
+            let folder = Disk::new(&rt);
+            tool(
+                &rt,
+                &folder,
+                words.as_slice(),
+                &mut input,
+                &mut out,
+                &mut err,
+            )
+        }
+        Err(_) => report(ToolFault::Memory, &mut err),
     };
     ExitCode::from(status)
 }

@@ -1,6 +1,6 @@
 //! What the tests of the subcommands share: two Tauros as JSON, and what a subcommand answers, on devices that fail too.
-use battle_commands::{ToolFault, play, play_calc, play_room, tool};
-use gen1_machine::{Device, Sink, Source};
+use battle_commands::{Disk, Folder, ToolFault, play, play_calc, play_room, tool};
+use gen1_machine::{Device, DeviceFault, Sink, Source};
 use std::alloc::AllocError;
 use std::fmt::Debug;
 use std::process::Abort;
@@ -153,10 +153,40 @@ pub(crate) fn ran_words(
     words: &[&str],
     input: &[u8],
 ) -> (u8, Vec<u8>, Vec<u8>) {
-    let mut out = Vec::new(rt.alloc());
-    let mut err = Vec::new(rt.alloc());
-    let status = tool(rt, words, input, &mut out, &mut err);
-    (status, out, err)
+    ran_in(rt, &Disk::new(rt), words, input)
+}
+
+/// The same with the FILEs of a folder.
+pub(crate) fn ran_in(
+    rt: &impl AllocGlobal,
+    folder: &impl Folder,
+    words: &[&str],
+    input: &[u8],
+) -> (u8, Vec<u8>, Vec<u8>) {
+    let mut out = Device::new(Vec::new(rt.alloc()));
+    let mut err = Device::new(Vec::new(rt.alloc()));
+    let mut given = Device::new(input);
+    let status = tool(rt, folder, words, &mut given, &mut out, &mut err);
+    (status, out.into_inner(), err.into_inner())
+}
+
+/// A folder with one file.
+#[derive(Drop)]
+pub(crate) struct Shelf<'a> {
+    pub(crate) name: &'a str,
+    pub(crate) bytes: &'a [u8],
+}
+
+impl<'a> Folder for Shelf<'a> {
+    type Input = Device<&'a [u8]>;
+
+    fn open(&self, name: &str) -> Result<Device<&'a [u8]>, DeviceFault> {
+        if name == self.name {
+            Ok(Device::new(self.bytes))
+        } else {
+            Err(DeviceFault)
+        }
+    }
 }
 
 /// The same with one word, on its standard input.
