@@ -2,19 +2,24 @@
 #![tactic(auto)]
 
 use battle_commands::{COMMAND_LINE_REFUSED, Disk, ToolFault, report, tool};
-use gen1_machine::Device;
+use gen1_machine::{Device, send};
 use std::alloc::AllocError;
 use std::process::ExitCode;
 use std::{env, io};
 
+/// What is told where a word of the command line is no text.
+const NO_TEXT: &str = "error: a word is no UTF-8\n";
+
 fn main(rt: HostRuntime) -> ExitCode {
+    let mut err = Device::new(rt.stderr());
     let words = match env::args(&rt) {
         Ok(words) => words.collect::<Vec<String>>(rt.alloc()),
         Err(error) if error.kind() == io::ErrorKind::OutOfMemory => Err(AllocError),
-        // A word is no text.
-        Err(_) => return ExitCode::from(COMMAND_LINE_REFUSED),
+        Err(_) => {
+            let _ = send(&mut err, NO_TEXT.as_bytes());
+            return ExitCode::from(COMMAND_LINE_REFUSED);
+        }
     };
-    let mut err = Device::new(rt.stderr());
     let status = match words {
         Ok(words) => {
             let mut input = Device::new(rt.stdin());
