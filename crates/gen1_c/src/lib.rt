@@ -7,7 +7,7 @@
 //! - `masks`: what may be chosen as a mask
 //! - `batches`: many battles in one call
 //! - `playouts`: battles played to their end by choices at random
-//! - `choosing`: the generator of those choices
+//! - `choice_generator`: the generator of those choices
 //! - `team_text`: teams out of text
 //! - `events`: the events of a log
 //! - `lines`: the lines of a log's events
@@ -23,7 +23,7 @@
 pub mod batches;
 pub mod battle;
 pub mod choice;
-mod choosing;
+mod choice_generator;
 pub mod damage;
 pub mod events;
 mod fronts;

@@ -6,7 +6,7 @@ ghost use Rattle.gen1_layout.specs.Within.{Stands};
 ghost use Rattle.gen1_c.specs.Playouts.{EndsAs, Plays, PlaysOut, counting, total};
 ghost use Rattle.gen1_layout.specs.Parts.{joined};
 
-use crate::choosing::Choosing;
+use crate::choice_generator::ChoiceGenerator;
 use gen1_engine::{Battle, Choices};
 use gen1_layout::Packed;
 use gen1_machine::{Choice, EventList, Outcome, Side};
@@ -54,7 +54,7 @@ fn counted(start: &Battle, seed: u64, rounds: u32) -> PlayoutCounts
     ensures plays { (s : State) → Stands start.now s → PlaysOut s rounds result }
     ensures total { total result ≡ rounds }
 {
-    let mut random = Choosing::new(seed);
+    let mut random = ChoiceGenerator::new(seed);
     let mut events = EventList::new();
     let mut counts = PlayoutCounts {
         wins_one: 0,
@@ -84,7 +84,7 @@ fn count(end: Outcome, counts: &mut PlayoutCounts)
 }
 
 // How a copy of a battle ends.
-fn end_of(start: &Battle, random: &mut Choosing, events: &mut EventList) -> Outcome
+fn end_of(start: &Battle, random: &mut ChoiceGenerator, events: &mut EventList) -> Outcome
     ensures { (s : State) → Stands start.now s → EndsAs s result }
 {
     match copy_of(start) {
@@ -105,7 +105,7 @@ fn copy_of(battle: &Battle) -> Result<Battle, AllocError>
 }
 
 // Plays a battle to its end by choices at random, and says how it ended.
-fn play_out(battle: &mut Battle, random: &mut Choosing, events: &mut EventList) -> Outcome
+fn play_out(battle: &mut Battle, random: &mut ChoiceGenerator, events: &mut EventList) -> Outcome
     ensures { (s : State) → Stands battle.old s → EndsAs s result }
 {
     // No battle takes more updates (docs/MECHANICS.md, "Turn limit").
@@ -125,7 +125,7 @@ fn play_out(battle: &mut Battle, random: &mut Choosing, events: &mut EventList) 
     battle.result().outcome
 }
 
-fn pick(choices: &Choices, random: &mut Choosing) -> Choice
+fn pick(choices: &Choices, random: &mut ChoiceGenerator) -> Choice
     ensures { 1 ≤ length choices.now.items → is_among result choices.now.items ≡ true }
 {
     let choices = choices.as_slice();

@@ -4,15 +4,15 @@ ghost use Rattle.gen1_c.specs.Playouts.{next_state};
 
 // A linear congruential generator modulo 2 to the power of 64, of which the upper 32 bits are drawn.
 #[derive(Drop)]
-pub(crate) struct Choosing {
+pub(crate) struct ChoiceGenerator {
     state: u64,
 }
 
-impl Choosing {
+impl ChoiceGenerator {
     pub(crate) fn new(seed: u64) -> Self
         ensures { result.state ≡ seed }
     {
-        Choosing { state: seed }
+        ChoiceGenerator { state: seed }
     }
 
     // A number from 0 to a count, less one: the upper bits of the next state, modulo the count.
