@@ -4,17 +4,31 @@
  *     bench/run                   in the repository, after `rt lib` in crates/gen1_c: builds this file and runs it; where
  *                                 valgrind is at hand, it counts instructions too
  *     bench/run BATTLES SEED      so many battles (10,000), from another seed (1)
+ *     bench/run --json ..         the same numbers as one line of JSON
  *
- * By hand: cc -O2 -Iinclude bench/bench.c crates/gen1_c/out/libgen1_c.a -o bench_program, then
+ * By hand: cc -O2 -pthread -Iinclude bench/bench.c crates/gen1_c/out/libgen1_c.a -o bench_program, then
  *
  *     bench_program BATTLES SEED            the table
- *     bench_program BATTLES SEED quiet      plays each battle once, without log, and prints the number of updates:
- *     bench_program BATTLES SEED log        or with log; for callgrind with --toggle-collect=gen1_update
+ *     bench_program BATTLES SEED more       its further rows: playouts, many battles in turn, threads
+ *     bench_program BATTLES SEED json       all rows as the members of a JSON object, without its braces
+ *
+ * and for callgrind modes that print what is counted, as many updates as were played:
+ *
+ *     bench_program BATTLES SEED quiet      each battle once, without log: --toggle-collect=gen1_update, or gen1_choices,
+ *     bench_program BATTLES SEED log        which is called for both sides; or with log
+ *     bench_program BATTLES SEED listed     and once more by choices drawn as they go: --toggle-collect=replay_choosing
+ *     bench_program BATTLES SEED masked     the same by masks: --toggle-collect=replay_masked, or gen1_offered
+ *     bench_program BATTLES SEED playout    and once in calls of gen1_playout: --toggle-collect=gen1_playout
+ *     bench_program BATTLES SEED trusted    and once by the call that does not test choices again, where there is one
+ *     bench_program BATTLES SEED masked_trusted    and by masks and that call: --toggle-collect=replay_masked_trusted
+ *
+ * UNTESTED is the name of that call, if the header has it: an update by choices that the caller took from what is offered.
  *
  * The battles are the same for the same seed, on every machine. First they are played and their choices kept; what is timed
  * is the same updates again: calls of gen1_update, and a copy of 384 bytes for each battle.
  */
 #define _POSIX_C_SOURCE 199309L
+#include <pthread.h>
 #include <stdio.h>
 #include <stdlib.h>
 #include <string.h>
@@ -23,7 +37,7 @@
 #include "gen1.h"
 #include "teams.h"
 
-enum { ROUNDS = 7, TEAM_COUNT = sizeof TEAMS / sizeof TEAMS[0] };
+enum { ROUNDS = 7, BATCH = 1024, MOST_THREADS = 4, TEAM_COUNT = sizeof TEAMS / sizeof TEAMS[0] };
 
 /* A battle as it begins, and where its pairs of choices begin and end. */
 typedef struct {
@@ -156,7 +170,7 @@ static uint64_t replay(bool with_log)
 }
 
 /* Plays all battles by choices that are drawn as they go, as a random player does, without keeping anything. */
-static uint64_t replay_choosing(void)
+__attribute__((noinline)) static uint64_t replay_choosing(void)
 {
     uint64_t updates = 0;
     size_t length;
@@ -172,6 +186,161 @@ static uint64_t replay_choosing(void)
     return updates;
 }
 
+/* The library asks for a processor that counts digits in one instruction. */
+#ifdef __x86_64__
+#define COUNTING __attribute__((target("popcnt")))
+#else
+#define COUNTING
+#endif
+
+/* A choice drawn from a mask of what is offered: that at the same place as in the list. */
+COUNTING static uint8_t chosen_of_mask(const gen1_battle *battle, uint8_t side)
+{
+    uint32_t mask = gen1_offered(battle, side);
+    for (uint32_t place = below((uint32_t)__builtin_popcount(mask)); place > 0; place--)
+        mask &= mask - 1;
+    int bit = __builtin_ctz(mask);
+    return (uint8_t)GEN1_CHOICE(bit);
+}
+
+/* The same playouts by masks. */
+COUNTING __attribute__((noinline)) static uint64_t replay_masked(void)
+{
+    uint64_t updates = 0;
+    size_t length;
+    for (size_t number = 0; number < game_count; number++) {
+        gen1_battle battle = games[number].start;
+        while (is_going_on(&battle)) {
+            uint8_t one = chosen_of_mask(&battle, GEN1_ONE), two = chosen_of_mask(&battle, GEN1_TWO);
+            if (gen1_update(&battle, one, two, NULL, 0, &length) != 0)
+                fail("a choice that is offered was refused");
+            updates++;
+        }
+    }
+    return updates;
+}
+
+/* The updates of a playout, by the choices that gen1_playout draws (include/gen1.h). */
+static uint64_t updates_of_playout(gen1_battle battle, uint64_t random)
+{
+    uint64_t updates = 0;
+    size_t length;
+    for (; is_going_on(&battle); updates++) {
+        uint8_t pair[2];
+        for (uint8_t side = GEN1_ONE; side <= GEN1_TWO; side++) {
+            uint8_t choices[9], count = gen1_choices(&battle, side, choices);
+            random = random * 6364136223846793005 + 1442695040888963407;
+            pair[side - 1] = choices[(random >> 32) % count];
+        }
+        if (gen1_update(&battle, pair[0], pair[1], NULL, 0, &length) != 0)
+            fail("a choice that is offered was refused");
+    }
+    return updates;
+}
+
+/* All battles in calls of gen1_playout, one round each. */
+static void replay_in_playouts(void)
+{
+    gen1_playouts counts;
+    for (size_t number = 0; number < game_count; number++)
+        if (gen1_playout(&games[number].start, number, 1, &counts) != 0)
+            fail("a battle was refused");
+}
+
+static uint64_t updates_of_playouts(void)
+{
+    uint64_t updates = 0;
+    for (size_t number = 0; number < game_count; number++)
+        updates += updates_of_playout(games[number].start, number);
+    return updates;
+}
+
+/* The battles of a batch, side by side in memory, and which pairs each has to come. */
+static _Alignas(64) gen1_battle batch[BATCH];
+static struct { size_t next, end; } to_come[BATCH];
+
+/* Plays all battles by the kept choices, BATCH at a time: an update of each in turn. The memory of all is more than what the
+   processor holds next to it. */
+static void replay_in_turn(void)
+{
+    size_t begun = 0, length;
+    for (size_t played = 0; played < pair_count;) {
+        for (size_t at = 0; at < BATCH; at++) {
+            if (to_come[at].next == to_come[at].end) {
+                if (begun == game_count)
+                    continue;
+                batch[at] = games[begun].start;
+                to_come[at].next = games[begun].first;
+                to_come[at].end = games[begun++].end;
+            }
+            uint8_t *pair = pairs[to_come[at].next++];
+            if (gen1_update(&batch[at], pair[0], pair[1], NULL, 0, &length) != 0)
+                fail("a choice that was accepted is refused");
+            played++;
+        }
+    }
+}
+
+/* The battles from one number on, before another. */
+typedef struct {
+    size_t first, end;
+} share;
+
+static void *replay_share(void *given)
+{
+    const share *mine = given;
+    size_t length;
+    for (size_t number = mine->first; number < mine->end; number++) {
+        _Alignas(64) gen1_battle battle = games[number].start;
+        for (size_t pair = games[number].first; pair < games[number].end; pair++)
+            if (gen1_update(&battle, pairs[pair][0], pairs[pair][1], NULL, 0, &length) != 0)
+                fail("a choice that was accepted is refused");
+    }
+    return NULL;
+}
+
+/* The same on so many threads, each with battles of its own. */
+static void replay_on_threads(size_t count)
+{
+    pthread_t threads[MOST_THREADS];
+    share shares[MOST_THREADS];
+    for (size_t number = 0; number < count; number++) {
+        shares[number] = (share){ number * game_count / count, (number + 1) * game_count / count };
+        if (pthread_create(&threads[number], NULL, replay_share, &shares[number]) != 0)
+            fail("no thread");
+    }
+    for (size_t number = 0; number < count; number++)
+        pthread_join(threads[number], NULL);
+}
+
+#ifdef UNTESTED
+/* Plays all battles by the kept choices, all of which are offered, without testing that again. */
+static void replay_trusted(void)
+{
+    size_t length;
+    for (size_t number = 0; number < game_count; number++) {
+        gen1_battle battle = games[number].start;
+        for (size_t pair = games[number].first; pair < games[number].end; pair++)
+            UNTESTED(&battle, pairs[pair][0], pairs[pair][1], NULL, 0, &length);
+    }
+}
+
+/* The playouts by masks, without testing the choices again. */
+COUNTING __attribute__((noinline)) static uint64_t replay_masked_trusted(void)
+{
+    uint64_t updates = 0;
+    size_t length;
+    for (size_t number = 0; number < game_count; number++) {
+        gen1_battle battle = games[number].start;
+        for (; is_going_on(&battle); updates++) {
+            uint8_t one = chosen_of_mask(&battle, GEN1_ONE), two = chosen_of_mask(&battle, GEN1_TWO);
+            UNTESTED(&battle, one, two, NULL, 0, &length);
+        }
+    }
+    return updates;
+}
+#endif
+
 static double seconds(void)
 {
     struct timespec now;
@@ -184,26 +353,62 @@ static void print_row(const char *what, double nanoseconds)
     printf("%-38s %8.1f ns an update, %5.2f million updates a second\n", what, nanoseconds, 1000 / nanoseconds);
 }
 
-/* The least time of an update over some rounds: what else the machine does only adds to it. */
-static double least_time(bool with_log)
+/* The ways to play all battles. A table has the first three. */
+typedef enum { QUIET, LOG, LISTED, MASKED, PLAYOUTS, IN_TURN, TWO_THREADS, FOUR_THREADS, TRUSTED, MASKED_TRUSTED, WAYS } way;
+
+static const struct {
+    const char *what, *key;
+} NAMES[WAYS] = {
+    [QUIET] = { "without log", "quiet" },
+    [LOG] = { "with log", "log" },
+    [LISTED] = { "without log, both sides' choices drawn", "listed" },
+    [MASKED] = { "the same, drawn by masks", "masked" },
+    [PLAYOUTS] = { "the same, in calls of gen1_playout", "playouts" },
+    [IN_TURN] = { "1,024 battles in turn", "in_turn" },
+    [TWO_THREADS] = { "on two threads", "two_threads" },
+    [FOUR_THREADS] = { "on four threads", "four_threads" },
+    [TRUSTED] = { "choices not tested again", "trusted" },
+    [MASKED_TRUSTED] = { "drawn by masks, not tested again", "masked_trusted" },
+};
+
+static bool is_there(way way)
 {
-    double least = 1e9;
-    for (int round = 0; round < ROUNDS; round++) {
-        double begun = seconds();
-        replay(with_log);
-        double each = 1e9 * (seconds() - begun) / (double)pair_count;
-        least = each < least ? each : least;
-    }
-    return least;
+#ifdef UNTESTED
+    return way < WAYS;
+#else
+    return way < TRUSTED;
+#endif
 }
 
-static double least_time_choosing(void)
+/* Plays all battles in a way, and answers how many updates that took. */
+static uint64_t played(way way)
 {
-    double least = 1e9;
+    switch (way) {
+    case QUIET: replay(false); break;
+    case LOG: replay(true); break;
+    case LISTED: return replay_choosing();
+    case MASKED: return replay_masked();
+    case PLAYOUTS: replay_in_playouts(); break;
+    case IN_TURN: replay_in_turn(); break;
+    case TWO_THREADS: replay_on_threads(2); break;
+    case FOUR_THREADS: replay_on_threads(4); break;
+#ifdef UNTESTED
+    case TRUSTED: replay_trusted(); break;
+    case MASKED_TRUSTED: return replay_masked_trusted();
+#endif
+    default: break;
+    }
+    return way == PLAYOUTS ? 0 : pair_count;
+}
+
+/* The least time of an update over some rounds: what else the machine does only adds to it. */
+static double least_time(way way)
+{
+    double least = 1e9, known = way == PLAYOUTS ? (double)updates_of_playouts() : 0;
     for (int round = 0; round < ROUNDS; round++) {
         double begun = seconds();
-        uint64_t updates = replay_choosing();
-        double each = 1e9 * (seconds() - begun) / (double)updates;
+        uint64_t updates = played(way);
+        double each = 1e9 * (seconds() - begun) / (known > 0 ? known : (double)updates);
         least = each < least ? each : least;
     }
     return least;
@@ -214,9 +419,44 @@ static void print_table(uint64_t draws)
     double count = (double)pair_count;
     printf("%zu battles, %zu updates, %.1f a battle\n", game_count, pair_count, count / (double)game_count);
     printf("%.2f draws an update, %.1f bytes of log\n", (double)draws / count, (double)replay(true) / count);
-    print_row("without log", least_time(false));
-    print_row("with log", least_time(true));
-    print_row("without log, both sides' choices drawn", least_time_choosing());
+    for (way way = QUIET; way <= LISTED; way++)
+        print_row(NAMES[way].what, least_time(way));
+}
+
+static void print_more(void)
+{
+    for (way way = MASKED; way < WAYS; way++)
+        if (is_there(way))
+            print_row(NAMES[way].what, least_time(way));
+}
+
+static void print_json(uint64_t draws)
+{
+    double count = (double)pair_count;
+    printf("\"battles\":%zu,\"updates\":%zu,\"draws\":%.4f,\"log_bytes\":%.4f,\"ns\":{", game_count, pair_count,
+           (double)draws / count, (double)replay(true) / count);
+    for (way way = QUIET; way < WAYS; way++)
+        if (is_there(way))
+            printf("%s\"%s\":%.2f", way == QUIET ? "" : ",", NAMES[way].key, least_time(way));
+    printf("}\n");
+}
+
+/* What callgrind is to count, beside the first play of the battles; prints the updates. */
+static void print_counted(const char *mode)
+{
+    uint64_t updates = pair_count;
+    if (strcmp(mode, "listed") == 0)
+        updates = replay_choosing();
+    else if (strcmp(mode, "masked") == 0)
+        updates = replay_masked();
+    else if (strcmp(mode, "playout") == 0) {
+        updates = updates_of_playouts();
+        replay_in_playouts();
+    } else if (strcmp(mode, "trusted") == 0)
+        updates = played(TRUSTED);
+    else if (strcmp(mode, "masked_trusted") == 0)
+        updates = played(MASKED_TRUSTED);
+    printf("%llu\n", (unsigned long long)updates);
 }
 
 int main(int count, char **words)
@@ -230,6 +470,10 @@ int main(int count, char **words)
         draws += play(&games[number], strcmp(mode, "log") == 0);
     if (strcmp(mode, "table") == 0)
         print_table(draws);
+    else if (strcmp(mode, "more") == 0)
+        print_more();
+    else if (strcmp(mode, "json") == 0)
+        print_json(draws);
     else
-        printf("%zu\n", pair_count);
+        print_counted(mode);
 }

@@ -267,6 +267,14 @@ enum {
     GEN1_SMALL_LOG = 4        /* `room` is not 0, but less than GEN1_LOG_ROOM; tested before the other three */
 };
 
+/*
+ * The same by two choices that are offered, which are not tested again: for callers who took them from gen1_choices or
+ * gen1_offered. It answers GEN1_SMALL_LOG as gen1_update does, and GEN1_NOT_OFFERED_ONE or GEN1_NOT_OFFERED_TWO for a byte that
+ * stands for no choice at all; then nothing has changed. By a choice that is not offered, or in a battle that is over, `battle`
+ * may stand for nothing afterwards (gen1_load tells); log and length are written as ever, and nothing else.
+ */
+uint8_t gen1_update_offered(gen1_battle *battle, uint8_t one, uint8_t two, uint8_t *log, size_t room, size_t *length);
+
 /* The outcome so far, and what each side is asked for the next update: one byte; take it apart with these macros. */
 uint8_t gen1_result(const gen1_battle *battle);
 
@@ -343,6 +351,34 @@ enum {
     GEN1_DAMAGE_NOBODY = 4,  /* nobody is out: the battle is before its first update */
     GEN1_DAMAGE_DIVISOR = 5  /* the defense that counts in this hit is 0, and the damage would be divided by it */
 };
+
+/* The damage of a hit in HP at each of the factors from 217 to 255, which are all as likely; or why there is none. */
+typedef struct gen1_damages {
+    uint16_t numbers[39]; /* the damages, rising; zeros where there are none */
+    uint8_t count;        /* how many there are: 39 or 0 */
+    uint8_t code;         /* 0; or why there are none: GEN1_DAMAGE_UNUSUAL or GEN1_DAMAGE_DIVISOR */
+} gen1_damages;
+
+/* What a use of a move would come to. Chances are exact: of the 256 numbers that may be drawn, how many bring it about. */
+typedef struct gen1_hit {
+    gen1_damages usual;      /* the damage if the hit is not critical */
+    gen1_damages critical;   /* the damage if it is */
+    uint16_t critical_draws; /* 0 to 255: how many of 256 draws make it critical; 0 for a move without usual damage */
+    uint16_t hit_draws;      /* 0 to 256: how many of 256 draws pass the hit test, for a move that takes one */
+} gen1_hit;
+
+/*
+ * What a use of a move by `side` would come to, in the present state of both members that are out (docs/MECHANICS.md, "Critical
+ * hits", "Hit test"). The member need not know the move. The accuracy is that of a new use: the one that Thrash and Rage keep is
+ * not looked at. Answers 0, or GEN1_DAMAGE_SIDE, GEN1_DAMAGE_MOVE or GEN1_DAMAGE_NOBODY, and then nothing has changed.
+ */
+uint8_t gen1_hit_now(const gen1_battle *battle, uint8_t side, uint8_t move, gen1_hit *hit);
+
+/*
+ * The same of two members that have just been sent out, without a battle. Answers 0; or GEN1_NO_SUCH_MOVE if the move is not 1 to
+ * 165; or as gen1_new answers of a team of `user` alone (as team one) and of a team of `foe` alone. Then nothing has changed.
+ */
+uint32_t gen1_hit_between(const gen1_member *user, const gen1_member *foe, uint8_t move, gen1_hit *hit);
 
 /* ---- many battles ---- */
 
@@ -495,10 +531,11 @@ enum {
     GEN1_ABOUT_LOAD = 2,   /* gen1_load: 1 to 7 */
     GEN1_ABOUT_UPDATE = 3, /* gen1_update: 1 to 4 */
     GEN1_ABOUT_LOG = 4,    /* gen1_next_event and gen1_next_line: 1 to 5 */
-    GEN1_ABOUT_DAMAGE = 5, /* gen1_damage: 1 to 5 */
+    GEN1_ABOUT_DAMAGE = 5, /* gen1_damage and gen1_hit_now: 1 to 5 */
     GEN1_ABOUT_NAME = 6,   /* the calls of this section: 1 and 2 */
     GEN1_ABOUT_CHOICE = 7, /* gen1_choice_words: 1 to 4 */
-    GEN1_ABOUT_RESEED = 8  /* gen1_reseed: 1 */
+    GEN1_ABOUT_RESEED = 8, /* gen1_reseed: 1 */
+    GEN1_ABOUT_ROOM = 9    /* gen1_room_submit: 1 to 4 */
 };
 
 /* ---- looking ---- */
@@ -591,6 +628,94 @@ enum {
 uint8_t gen1_reseed(gen1_battle *battle, const uint8_t seed[10], uint8_t index);
 
 enum { GEN1_RESEED_INDEX = 1 };
+
+/* ---- rooms ---- */
+
+/*
+ * A battle of two players who choose apart from each other (docs/MECHANICS.md, "Rooms"): the first choice is kept until the
+ * other is there, and then the battle is updated. A room is yours, as a battle is, and may be copied and stored. Make `battle`
+ * by gen1_new or gen1_load, and call gen1_room_begin; from then on let nothing but gen1_room_submit change it.
+ */
+typedef struct gen1_room {
+    gen1_battle battle;         /* as it stands; before gen1_room_begin the battle that the room is made of */
+    uint32_t number;            /* the number of the current pair of choices: how many pairs have ended */
+    uint16_t log_length;        /* 0 to 512: how many bytes of `log` are those of the last update */
+    uint8_t chosen[2];          /* the choices of side 1 and side 2 for the current pair, GEN1_DUE where there is none yet; they are
+                                   not for players */
+    uint8_t log[GEN1_LOG_ROOM]; /* the log of the last pair that ended; before one has, of the battle's start, if that was here */
+} gen1_room;
+
+#define GEN1_ROOM_SIZE 904 /* the size of a gen1_room, for languages that know no C; it lies at a multiple of 4 */
+#define GEN1_DUE 255       /* a choice that is not there yet */
+
+/* Makes a room of the battle that stands in it. One that has not begun is started at once. */
+void gen1_room_begin(gen1_room *room);
+
+/*
+ * What a side may submit for the current pair, as gen1_choices tells it: nothing if its choice is there, or the battle is over.
+ * A side of which nothing is asked has its GEN1_PASS there from the beginning. Answers how many, or GEN1_NO_SIDE.
+ */
+uint8_t gen1_room_choices(const gen1_room *room, uint8_t side, uint8_t choices[9]);
+
+/*
+ * A player's choice for the pair of this number. Answers 0 if it is taken; once both choices are there, the battle is updated,
+ * `log` is that of the update, and `number` is one more. Otherwise it answers GEN1_NO_SIDE or the first of these that applies,
+ * and nothing has changed. Until the pair has ended, no answer to either player tells which of the offered choices the other
+ * has made.
+ */
+uint8_t gen1_room_submit(gen1_room *room, uint8_t side, uint32_t number, uint8_t choice);
+
+enum {
+    GEN1_ROOM_OVER = 1,       /* the battle is over */
+    GEN1_ROOM_STALE = 2,      /* the number is not that of the current pair */
+    GEN1_ROOM_CHOSEN = 3,     /* the side's choice is there */
+    GEN1_ROOM_NOT_OFFERED = 4 /* the choice is none that the side is offered */
+};
+
+/* ---- watching ---- */
+
+/* What shows of a member. */
+typedef struct gen1_shown_member {
+    uint16_t hp;    /* 0 to 999; before it first came out its maximum */
+    uint8_t status; /* GEN1_STATUS_NONE to GEN1_STATUS_PARALYSIS */
+} gen1_shown_member;
+
+/* What shows of a side. The lower members are of the one that is out. */
+typedef struct gen1_shown_side {
+    gen1_shown_member members[6]; /* by their places from 1 on */
+    uint8_t count;                /* how many members there are, 1 to 6 */
+    uint8_t place;                /* which member is out, 1 to 6; 0 before the first came out */
+    uint8_t stages[6];            /* 0 to 12, of which 6 is the middle: Attack, Defense, Speed, Special, accuracy, evasion */
+    uint8_t substitute;           /* 1 if it has a Substitute, else 0 */
+    uint8_t confused;             /* 1 if it is confused, else 0 */
+    uint8_t light_screen;         /* 1 behind a Light Screen, else 0 */
+    uint8_t reflect;              /* 1 behind a Reflect, else 0 */
+} gen1_shown_side;
+
+/*
+ * What a watcher knows who has both teams and the log of every update so far, and nothing else (docs/MECHANICS.md,
+ * "Spectator's view"): neither seed nor choices nor counters. It is yours, as a battle is. The bytes in `held` are of an event
+ * that has come in part.
+ */
+typedef struct gen1_spectator {
+    gen1_shown_side sides[2]; /* side 1 and side 2 */
+    uint16_t turn;            /* 0 before the first, up to the limit */
+    uint8_t outcome;          /* GEN1_ONGOING to GEN1_FAULT_TWO */
+    uint8_t held_count;       /* 0 to 9: how many bytes are held */
+    uint8_t held[10];         /* the bytes */
+} gen1_spectator;
+
+#define GEN1_SPECTATOR_SIZE 86 /* the size of a gen1_spectator; it lies at a multiple of 2 */
+
+/* What is known before a battle of two teams. Answers 0, or a fault of a team as gen1_new does; then nothing has changed. */
+uint32_t gen1_spectator_begin(gen1_spectator *spectator, const gen1_team *one, const gen1_team *two);
+
+/*
+ * Takes in the next bytes of the battle's log, which may be cut anywhere, within an event too: an event counts as soon as its
+ * last byte is there. Answers 0; or GEN1_LOG_TAG or GEN1_LOG_FIELD where these bytes, behind those that are held, are no log.
+ * Then nothing has changed: none of them is taken in.
+ */
+uint8_t gen1_spectator_feed(gen1_spectator *spectator, const uint8_t *log, size_t count);
 
 #ifdef __cplusplus
 }

@@ -35,6 +35,16 @@ static void show_damage(const gen1_battle *battle, uint8_t move)
         printf("%.*s: %.*s\n", (int)length, name, (int)count, why);
 }
 
+/* Prints how likely a move of side 1 hits, and is critical: as the battle stands, and of two Tauros that were just sent out. */
+static bool show_odds(const gen1_battle *battle, uint8_t move)
+{
+    gen1_hit now, fresh;
+    if (gen1_hit_now(battle, GEN1_ONE, move, &now) != 0 || gen1_hit_between(&tauros, &tauros, move, &fresh) != 0)
+        return false;
+    printf("%d of 256 hit, %d of 256 are critical; at first %d and %d\n", now.hit_draws, now.critical_draws, fresh.hit_draws, fresh.critical_draws);
+    return now.critical.count == 0 || now.critical.numbers[0] > now.usual.numbers[0];
+}
+
 /*
  * Whether side 1 wins by this pair of choices, tried on a copy. The copy gets other numbers to draw, so this is a guess, as any
  * player's is.
@@ -102,6 +112,32 @@ static void show_events(const uint8_t *log, size_t count)
     }
 }
 
+/* Plays a battle in a room, where each player makes its first choice, and watches it by its log alone, byte by byte. */
+static bool play_in_room(const gen1_team *team, const uint8_t seed[10])
+{
+    gen1_room room;
+    gen1_spectator watcher;
+    if (gen1_new(&room.battle, team, team, seed, 0, GEN1_LIMIT) != 0 || gen1_spectator_begin(&watcher, team, team) != 0)
+        return false;
+    gen1_room_begin(&room);
+    for (;;) {
+        for (uint16_t at = 0; at < room.log_length; at++)
+            if (gen1_spectator_feed(&watcher, room.log + at, 1) != 0)
+                return false;
+        if (watcher.outcome != GEN1_ONGOING)
+            break;
+        uint32_t number = room.number;
+        for (uint8_t side = GEN1_ONE; side <= GEN1_TWO; side++) {
+            uint8_t choices[9];
+            if (gen1_room_choices(&room, side, choices) > 0 && gen1_room_submit(&room, side, number, choices[0]) != 0)
+                return false;
+        }
+    }
+    printf("in a room, as a watcher knows: outcome %d in turn %d, and side 1 has %d HP\n", watcher.outcome, watcher.turn,
+           watcher.sides[0].members[0].hp);
+    return true;
+}
+
 int main(void)
 {
     static const uint8_t seed[10] = {1, 36, 255, 7, 31, 100, 179, 254, 127, 10};
@@ -128,6 +164,8 @@ int main(void)
     show_state(&battle);
     show_damage(&battle, GEN1_MOVE_BODY_SLAM);
     show_damage(&battle, GEN1_MOVE_GUILLOTINE); /* a move with no usual damage */
+    if (!show_odds(&battle, GEN1_MOVE_BLIZZARD) || !play_in_room(&team, seed))
+        return 1;
 
     if (gen1_load(&loaded, battle.bytes, sizeof battle.bytes) != 0 || memcmp(&loaded, &battle, sizeof battle) != 0)
         return 1;

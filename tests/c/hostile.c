@@ -15,9 +15,10 @@
 #include <stdlib.h>
 
 /* The functions that try a call each, by their files; each list ends with NULL. */
-extern try_call *const tries_of_battles[], *const tries_of_batches[], *const tries_of_texts[], *const tries_of_views[];
+extern try_call *const tries_of_battles[], *const tries_of_batches[], *const tries_of_texts[], *const tries_of_views[],
+    *const tries_of_rooms[], *const tries_of_hits[];
 
-static try_call *const *const tries[] = {tries_of_battles, tries_of_batches, tries_of_texts, tries_of_views};
+static try_call *const *const tries[] = {tries_of_battles, tries_of_batches, tries_of_texts, tries_of_views, tries_of_rooms, tries_of_hits};
 
 int main(int count, char **words)
 {

@@ -194,6 +194,52 @@ static void try_update(void)
     tell("gen1_update", got == want && is_kept, got, want);
 }
 
+/* ---- gen1_update_offered ---- */
+
+static bool is_choice(uint8_t byte)
+{
+    return byte == GEN1_PASS || (GEN1_MOVE(0) <= byte && byte <= GEN1_MOVE(4)) || (GEN1_SWITCH(1) <= byte && byte <= GEN1_SWITCH(6));
+}
+
+/* The code of an update that tests no more than the room and that both bytes stand for choices. */
+static uint8_t fault_of_bytes(uint8_t one, uint8_t two, size_t room)
+{
+    if (room != 0 && room < GEN1_LOG_ROOM)
+        return GEN1_SMALL_LOG;
+    if (!is_choice(one))
+        return GEN1_NOT_OFFERED_ONE;
+    return is_choice(two) ? 0 : GEN1_NOT_OFFERED_TWO;
+}
+
+/* By choices that are offered it does what gen1_update does; by any others it writes the same memory and no more. */
+static void try_update_offered(void)
+{
+    bool is_valid;
+    gen1_battle from = some_battle(&is_valid);
+    uint8_t one = one_in(2) ? offered(&from, GEN1_ONE) : any_byte(), two = one_in(2) ? offered(&from, GEN1_TWO) : any_byte();
+    size_t room = one_in(4) ? draw(GEN1_LOG_ROOM) : one_in(4) ? 0 : GEN1_LOG_ROOM + draw(3) * 100;
+    gen1_battle tested = from, *battle = block_of(0, &from, sizeof from);
+    uint8_t *log = block(1, room);
+    size_t *length = block(2, sizeof *length);
+    size_t tested_length = 0;
+    uint8_t tested_log[GEN1_LOG_ROOM];
+    bool is_offered = is_valid && gen1_update(&tested, one, two, tested_log, sizeof tested_log, &tested_length) == 0;
+    note();
+    uint8_t got = gen1_update_offered(battle, one, two, room == 0 ? NULL : log, room, length);
+    uint8_t want = fault_of_bytes(one, two, room);
+    bool is_kept = unchanged();
+    if (got == 0) {
+        gen1_battle after = *battle;
+        is_kept = *length <= room && *length <= GEN1_LOG_ROOM;
+        is_kept &= !is_offered
+            || (memcmp(&after, &tested, sizeof after) == 0
+                && (room == 0 || (*length == tested_length && memcmp(log, tested_log, tested_length) == 0)));
+        memcpy(battle, &from, sizeof from);
+        is_kept &= changed_only_two(1, *length <= room ? *length : 0, 2, sizeof *length);
+    }
+    tell("gen1_update_offered", got == want && is_kept, got, want);
+}
+
 /* ---- gen1_next_event, gen1_next_line ---- */
 
 /* A log that was met, some of its bytes changed, or any bytes; in the block 0. */
@@ -278,5 +324,5 @@ static void try_damage(void)
 }
 
 try_call *const tries_of_battles[] = {
-    try_new, try_load, try_choices, try_result, try_update, try_next_event, try_next_line, try_damage, NULL,
+    try_new, try_load, try_choices, try_result, try_update, try_update_offered, try_next_event, try_next_line, try_damage, NULL,
 };

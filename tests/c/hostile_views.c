@@ -126,14 +126,14 @@ static void try_type_name(void) { try_name("gen1_type_name", gen1_type_name, 0, 
 
 static void try_text(void)
 {
-    static const uint8_t last[9] = {0, 13, 7, 4, 5, 5, 2, 4, 1};
+    static const uint8_t last[10] = {0, 13, 7, 4, 5, 5, 2, 4, 1, 4};
     size_t room = draw(140);
-    uint8_t about = one_in(2) ? (uint8_t)draw(9) : any_byte(), code = one_in(2) ? (uint8_t)draw(15) : any_byte();
+    uint8_t about = one_in(2) ? (uint8_t)draw(10) : any_byte(), code = one_in(2) ? (uint8_t)draw(15) : any_byte();
     char *text = block(1, room);
     size_t *length = block(2, sizeof *length);
     note();
     uint8_t got = gen1_text(about, code, text, room, length);
-    tell_text("gen1_text", got, 1 <= about && about <= 8 && code <= last[about] ? 0 : GEN1_UNKNOWN, GEN1_SMALL_ROOM, length, room);
+    tell_text("gen1_text", got, 1 <= about && about <= 9 && code <= last[about] ? 0 : GEN1_UNKNOWN, GEN1_SMALL_ROOM, length, room);
 }
 
 static void try_species_stats(void)

@@ -13,6 +13,10 @@ uint8_t __real_gen1_update(gen1_battle *, uint8_t, uint8_t, uint8_t *, size_t, s
 uint8_t __real_gen1_next_event(const uint8_t *, size_t, size_t *, gen1_event *);
 uint8_t __real_gen1_next_line(const uint8_t *, size_t, size_t *, char *, size_t, size_t *);
 uint8_t __real_gen1_damage(const gen1_battle *, uint8_t, uint8_t, bool, uint16_t[39]);
+uint8_t __real_gen1_room_submit(gen1_room *, uint8_t, uint32_t, uint8_t);
+uint8_t __real_gen1_spectator_feed(gen1_spectator *, const uint8_t *, size_t);
+uint8_t __real_gen1_hit_now(const gen1_battle *, uint8_t, uint8_t, gen1_hit *);
+uint32_t __real_gen1_hit_between(const gen1_member *, const gen1_member *, uint8_t, gen1_hit *);
 
 /* 1: a DV of 16 is taken as 15, so that its team is no longer refused. 2: a refused battle is emptied. */
 uint32_t __wrap_gen1_new(gen1_battle *battle, const gen1_team *one, const gen1_team *two, const uint8_t seed[10], uint8_t rules,
@@ -78,4 +82,48 @@ uint8_t __wrap_gen1_next_line(const uint8_t *log, size_t count, size_t *at, char
 uint8_t __wrap_gen1_damage(const gen1_battle *battle, uint8_t side, uint8_t move, bool critical, uint16_t damages[39])
 {
     return __real_gen1_damage(battle, WRONG == 11 && side == 3 ? 1 : side, move, critical, damages);
+}
+
+/* 12: a side is refused since the other has chosen. 13: a choice that is not offered is kept. 14: the old log stays. */
+uint8_t __wrap_gen1_room_submit(gen1_room *room, uint8_t side, uint32_t number, uint8_t choice)
+{
+    uint32_t before = room->number;
+    if (WRONG == 12 && (side == GEN1_ONE || side == GEN1_TWO) && room->chosen[2 - side] > GEN1_PASS && room->chosen[2 - side] != GEN1_DUE)
+        return GEN1_ROOM_CHOSEN;
+    uint8_t answer = __real_gen1_room_submit(room, side, number, choice);
+    if (WRONG == 13 && answer == GEN1_ROOM_NOT_OFFERED)
+        room->chosen[side - 1] = choice;
+    if (WRONG == 14 && answer == 0 && room->number != before)
+        room->log_length = 0;
+    return answer;
+}
+
+/* 15: what is held of an event is dropped. 16: of a log that is at fault the front is taken in. */
+uint8_t __wrap_gen1_spectator_feed(gen1_spectator *spectator, const uint8_t *log, size_t count)
+{
+    if (WRONG == 15)
+        spectator->held_count = 0;
+    uint8_t answer = __real_gen1_spectator_feed(spectator, log, count);
+    for (size_t front = count; WRONG == 16 && answer != 0 && front > 0; front--)
+        if (__real_gen1_spectator_feed(spectator, log, front - 1) == 0)
+            break;
+    return answer;
+}
+
+/* 17: one draw more hits. 18: one draw less is critical. */
+uint8_t __wrap_gen1_hit_now(const gen1_battle *battle, uint8_t side, uint8_t move, gen1_hit *hit)
+{
+    uint8_t answer = __real_gen1_hit_now(battle, side, move, hit);
+    if (WRONG == 17 && answer == 0 && hit->hit_draws > 0 && hit->hit_draws < 256)
+        hit->hit_draws++;
+    if (WRONG == 18 && answer == 0 && hit->critical_draws > 0)
+        hit->critical_draws--;
+    return answer;
+}
+
+/* 19: the user's member is its own foe. */
+uint32_t __wrap_gen1_hit_between(const gen1_member *user, const gen1_member *foe, uint8_t move, gen1_hit *hit)
+{
+    uint32_t answer = __real_gen1_hit_between(user, foe, move, hit);
+    return WRONG == 19 && answer == 0 ? __real_gen1_hit_between(user, user, move, hit) : answer;
 }

@@ -1,11 +1,11 @@
 -- What is due from `calc`, and what it and `print` answer where no input was read.
-use Rattle.std.proofs.Common.{Err, IfSome, List, None, Option, Some, [], false, length, nat_lt, option_and_then, refl, rules, true, ℕ, ◌<◌, ◌∷◌, ◌≡◌, ◌≤◌}
+use Rattle.std.proofs.Common.{Err, IfSome, List, None, Ok, Option, Some, [], false, length, nat_lt, refl, rules, true, ℕ, ◌<◌, ◌∷◌, ◌≡◌, ◌≤◌}
 use Rattle.std.specs.Prelude.{ok_or}
 use Rattle.std.proofs.KnownBytes.{Appends-nil}
 use Rattle.gen1_stats.specs.Teams.{team_refusal}
 use Rattle.gen1_machine.specs.Moves.{move_at}
 use Rattle.gen1_hits.specs.UsualDamage.{has_usual_damage}
-use Rattle.battle_input.specs.Sheets.{json_of}
+use Rattle.battle_input.specs.Sheets.{input_of}
 use Rattle.battle_commands.specs.Asked.{input_limit}
 use Rattle.battle_commands.specs.Answers.{IsInputFault}
 use Rattle.battle_commands.specs.Calc.{PrintsDamages, damages_due, damages_of}
@@ -17,7 +17,7 @@ use Rattle.battle_commands.specs.declared.fault.ToolFault.TheVariants.{Calc, Jso
 use Rattle.battle_commands.proofs.Outcomes.{some_all, some_along}
 
 -- neither team is refused, and the move has the usual damage
-pub due_found : (input : List ℕ) (s : CalcSheet) → length input ≤ input_limit → option_and_then calc_sheet_of (json_of input) ≡ Some s
+pub due_found : (input : List ℕ) (s : CalcSheet) → length input ≤ input_limit → input_of calc_sheet_of input ≡ Ok s
     → team_refusal (s.attacker ∷ []) ≡ None → team_refusal (s.defender ∷ []) ≡ None → has_usual_damage (move_at s.id) ≡ true
     → damages_due input ≡ ok_or (damages_of s) Calc
 unfolding damages_due
@@ -36,7 +36,7 @@ pub prints_no_damages : (fault : ToolFault) (told old : Option (List ℕ)) → I
 prints_no_damages Read told old h = some_all told _ (λ input. Appends-nil old)
 prints_no_damages Memory told old h = some_all told _ (λ input. Appends-nil old)
 prints_no_damages TooLong told old h = some_along told (λ input. input_limit < length input) _ (λ input long. (due_too_long input long, Appends-nil old)) h
-prints_no_damages Json told old h = absurd h
+prints_no_damages (Json fault) told old h = absurd h
 prints_no_damages (Team side place refusal) told old h = absurd h
 prints_no_damages (Pair number refusal) told old h = absurd h
 prints_no_damages (Log number) told old h = absurd h
@@ -48,7 +48,7 @@ pub prints_no_log : (fault : ToolFault) (told old : Option (List ℕ)) → IsInp
 prints_no_log Read told old h = some_all told _ (λ log. Appends-nil old)
 prints_no_log Memory told old h = some_all told _ (λ log. Appends-nil old)
 prints_no_log TooLong told old h = some_along told (λ log. input_limit < length log) _ (λ log long. (long, Appends-nil old)) h
-prints_no_log Json told old h = absurd h
+prints_no_log (Json fault) told old h = absurd h
 prints_no_log (Team side place refusal) told old h = absurd h
 prints_no_log (Pair number refusal) told old h = absurd h
 prints_no_log (Log number) told old h = absurd h

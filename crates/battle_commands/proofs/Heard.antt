@@ -67,7 +67,7 @@ pub fault_between : (said text : List ℕ) (rest : Due) (a b e : Option (List �
 fault_between said text rest a b e Read p q = appends_front_after a said rest.text p q
 fault_between said text rest a b e Write p q = appends_front_after a said rest.text p q
 fault_between said text rest a b e Memory p q = appends_front_after a said rest.text p q
-fault_between said text rest a b e Json p q = absurd (let n = q.0 in cc)
+fault_between said text rest a b e (Json fault) p q = absurd (let n = q.0 in cc)
 fault_between said text rest a b e TooLong p q = absurd (let n = q.0 in cc)
 fault_between said text rest a b e (Team side place refusal) p q = absurd (let n = q.0 in cc)
 fault_between said text rest a b e (Pair number refusal) p q = absurd (let n = q.0 in cc)
@@ -102,7 +102,7 @@ fault_behind : (text : List ℕ) (due : Due) (a b e : Option (List ℕ)) (fault 
 fault_behind text due a b e Read p q = front_behind text due a b e p q
 fault_behind text due a b e Write p q = front_behind text due a b e p q
 fault_behind text due a b e Memory p q = front_behind text due a b e p q
-fault_behind text due a b e Json p q = (q.0, Appends-trans a b e text due.text p q.1)
+fault_behind text due a b e (Json fault) p q = (q.0, Appends-trans a b e text due.text p q.1)
 fault_behind text due a b e TooLong p q = (q.0, Appends-trans a b e text due.text p q.1)
 fault_behind text due a b e (Team side place refusal) p q = (q.0, Appends-trans a b e text due.text p q.1)
 fault_behind text due a b e (Pair number refusal) p q = (q.0, Appends-trans a b e text due.text p q.1)

@@ -6,3 +6,4 @@ pub mod CalcOutcomes
 pub mod Heard
 pub mod Pieces
 pub mod Serving
+pub mod Asking

@@ -1,5 +1,5 @@
 -- What is answered for an input: where nothing is printed, and where its battle is played.
-use Rattle.std.proofs.Common.{◌≡◌, ◌||◌, ℕ, ◌<◌, ◌≤◌, Bool, true, false, nat_lt, option_and_then, List, [], length, Option, Some, None, Result, Ok, Err, IfSome, refl, sym, subst, ap, ◌∙◌, rules}
+use Rattle.std.proofs.Common.{◌≡◌, ◌||◌, ℕ, ◌<◌, ◌≤◌, Bool, true, false, nat_lt, List, [], length, Option, Some, None, Result, Ok, Err, IfSome, refl, sym, subst, ap, ◌∙◌, rules}
 use Rattle.std.proofs.KnownBytes.{Appends-nil}
 use Rattle.serde_json.specs.Data.{Data}
 use Rattle.gen1_machine.specs.State.{State, Terms, first_state}
@@ -9,7 +9,9 @@ use Rattle.gen1_stats.specs.Sheets.{Sheet as MemberSheet}
 use Rattle.gen1_stats.specs.Teams.{team_of, team_refusal}
 use Rattle.gen1_layout.specs.Parts.{Parts}
 use Rattle.gen1_layout.specs.Within.{Stands}
-use Rattle.battle_input.specs.Sheets.{BattleData, json_of, sheet_of}
+use Rattle.battle_input.specs.Sheets.{BattleData, input_of, sheet_of}
+use Rattle.battle_input.specs.declared.misfit.Key.{Key}
+use Rattle.battle_input.specs.declared.misfit.Misfit.{Misfit}
 use Rattle.battle_commands.specs.Asked.{Asked, asked_of, begins, input_limit}
 use Rattle.battle_commands.specs.Due.{Due, due_if}
 use Rattle.battle_commands.specs.AskedBattle.{IsAskedFault}
@@ -33,11 +35,11 @@ answers_unread due old = record { front = []; rest = due.text; split = refl; wri
 pub answers_unheld : (due : Due) (old : Option (List ℕ)) → Answers {T = Unit {0}} due old old (Err Memory)
 answers_unheld due old = record { front = []; rest = due.text; split = refl; written = Appends-nil old }
 
-too_long : {A : Type 0} (key : List ℕ) (meaning : Data → Option A) (input : List ℕ) → input_limit < length input → asked_of key meaning input ≡ Err TooLong
+too_long : {A : Type 0} (key : Key) (meaning : Data → Result A Misfit) (input : List ℕ) → input_limit < length input → asked_of key meaning input ≡ Err TooLong
 unfolding asked_of
 too_long key meaning input h = search rules
 
-pub answers_too_long : {A : Type 0} (due : State → List A → Due) (key : List ℕ) (meaning : Data → Option A) (input : List ℕ) (old : Option (List ℕ)) → input_limit < length input
+pub answers_too_long : {A : Type 0} (due : State → List A → Due) (key : Key) (meaning : Data → Result A Misfit) (input : List ℕ) (old : Option (List ℕ)) → input_limit < length input
     → Answers {T = Unit {0}} (due_if due (asked_of key meaning input)) old old (Err TooLong)
 answers_too_long due key meaning input old h =
     subst (λ (d : Due). Answers {T = Unit {0}} d old old (Err TooLong)) (sym (ap (due_if due) (too_long key meaning input h))) (refl, Appends-nil old)
@@ -50,7 +52,7 @@ pub answers_no_input : (due : List ℕ → Due) (fault : ToolFault) (told : Opti
 answers_no_input due Read told old long h = some_all told _ (λ input. answers_unread (due input) old)
 answers_no_input due Memory told old long h = some_all told _ (λ input. answers_unheld (due input) old)
 answers_no_input due TooLong told old long h = some_along told (λ input. input_limit < length input) _ long h
-answers_no_input due Json told old long h = absurd h
+answers_no_input due (Json fault) told old long h = absurd h
 answers_no_input due (Team side place refusal) told old long h = absurd h
 answers_no_input due (Pair number refusal) told old long h = absurd h
 answers_no_input due (Log number) told old long h = absurd h
@@ -58,8 +60,8 @@ answers_no_input due Calc told old long h = absurd h
 answers_no_input due Write told old long h = absurd h
 
 -- a battle is asked for where neither team is refused
-pub asks_for : {A : Type 0} (key : List ℕ) (meaning : Data → Option A) (input : List ℕ) (sheet : BattleData × List A) → length input ≤ input_limit
-    → option_and_then (sheet_of key meaning) (json_of input) ≡ Some sheet → team_refusal sheet.0.one ≡ None → team_refusal sheet.0.two ≡ None
+pub asks_for : {A : Type 0} (key : Key) (meaning : Data → Result A Misfit) (input : List ℕ) (sheet : BattleData × List A) → length input ≤ input_limit
+    → input_of (sheet_of key meaning) input ≡ Ok sheet → team_refusal sheet.0.one ≡ None → team_refusal sheet.0.two ≡ None
     → asked_of key meaning input ≡ Ok (record { state = begins sheet.0; items = sheet.1 })
 unfolding asked_of
 asks_for key meaning input sheet fits is one two =
@@ -79,7 +81,7 @@ unopened : {A : Type 0} (due : State → List A → Due) (fault : ToolFault) (as
 unopened due Memory asked old h = answers_unheld (due_if due asked) old
 unopened due Read asked old h = absurd h
 unopened due Write asked old h = absurd h
-unopened due Json asked old h = subst (λ (d : Due). Answers {T = Unit {0}} d old old (Err Json)) (sym (ap (due_if due) h)) (refl, Appends-nil old)
+unopened due (Json fault) asked old h = subst (λ (d : Due). Answers {T = Unit {0}} d old old (Err (Json fault))) (sym (ap (due_if due) h)) (refl, Appends-nil old)
 unopened due TooLong asked old h = subst (λ (d : Due). Answers {T = Unit {0}} d old old (Err TooLong)) (sym (ap (due_if due) h)) (refl, Appends-nil old)
 unopened due (Team side place refusal) asked old h =
     subst (λ (d : Due). Answers {T = Unit {0}} d old old (Err (Team side place refusal))) (sym (ap (due_if due) h)) (refl, Appends-nil old)
@@ -115,7 +117,7 @@ pub unopened_writes : (T : Type 0) {A : Type 0} (fault : ToolFault) (asked : Res
 unopened_writes T Write asked b h = absurd h
 unopened_writes T Read asked b h = unfailed b
 unopened_writes T Memory asked b h = unfailed b
-unopened_writes T Json asked b h = unfailed b
+unopened_writes T (Json fault) asked b h = unfailed b
 unopened_writes T TooLong asked b h = unfailed b
 unopened_writes T (Team side place refusal) asked b h = unfailed b
 unopened_writes T (Pair number refusal) asked b h = unfailed b
@@ -128,7 +130,7 @@ unread_writes T Write told b h = absurd h
 unread_writes T Read told b h = unfailed b
 unread_writes T Memory told b h = unfailed b
 unread_writes T TooLong told b h = unfailed b
-unread_writes T Json told b h = absurd h
+unread_writes T (Json fault) told b h = absurd h
 unread_writes T (Team side place refusal) told b h = absurd h
 unread_writes T (Pair number refusal) told b h = absurd h
 unread_writes T (Log number) told b h = absurd h

@@ -1,10 +1,10 @@
--- What a subcommand is given and prints: by its four names, and by a FILE that was opened; and the status of a run that is whole.
+-- What a subcommand is given and prints: by its five names, and by a FILE that was opened; and the status of a run that is whole.
 use Rattle.std.proofs.Common.{Bool, Err, IfSome, List, None, Ok, Option, Result, Some, ap, false, option_map, subst, sym, true, ℕ, ◌||◌, ◌≡◌, ◌∙◌}
 use Rattle.std.proofs.KnownBytes.{Appends-nil}
 use Rattle.std.specs.Prelude.{codes, is_ok, is_some}
 use Rattle.battle_commands.specs.Answers.{Answers, is_read_fault}
 use Rattle.battle_commands.specs.Calc.{PrintsDamages, damages_due}
-use Rattle.battle_commands.specs.Due.{run_due}
+use Rattle.battle_commands.specs.Due.{log_due, run_due}
 use Rattle.battle_commands.specs.Faults.{status_of}
 use Rattle.battle_commands.specs.Logs.{PrintsLog}
 use Rattle.battle_commands.specs.Rooms.{room_due}
@@ -18,10 +18,11 @@ pub serves : (name : List ℕ) (told old new : Option (List ℕ)) (result : Resu
     → (name ≡ codes "print" → IfSome told (λ input. PrintsLog input old new result))
     → (name ≡ codes "calc" → IfSome told (λ input. PrintsDamages (damages_due input) old new result))
     → (name ≡ codes "room" → IfSome told (λ input. Answers (room_due input) old new result))
+    → (name ≡ codes "log" → IfSome told (λ input. Answers (log_due input) old new result))
     → (name ≡ codes "run" → IfSome told (λ input. Answers (run_due input) old new result))
     → IfSome told (λ input. Serves name input old new result)
-serves name None old new result print calc room run = tt
-serves name (Some input) old new result print calc room run = record { print = print; calc = calc; room = room; run = run }
+serves name None old new result print calc room log run = tt
+serves name (Some input) old new result print calc room log run = record { print = print; calc = calc; room = room; log = log; run = run }
 
 -- no FILE is named, and standard input is given
 pub without_file : {A : Type 0} (f : A → List ℕ) (found : Option A) (file : Option (List ℕ)) → option_map f found ≡ file → found ≡ None → file ≡ None
@@ -66,6 +67,7 @@ unopened_serves file path named name standard old some = file_serves file path n
       print = λ e. Appends-nil old;
       calc = λ e. Appends-nil old;
       room = λ e. answers_unread (room_due input) old;
+      log = λ e. answers_unread (log_due input) old;
       run = λ e. answers_unread (run_due input) old;
     }
 
@@ -76,7 +78,7 @@ read_well (Err fault) failed fails e h = absurd (let k : false ≡ true = h in c
 
 -- no fault has status 0
 pub is_above_0 : (fault : ToolFault) → status_of fault ≡ 0 → ⊥
-is_above_0 Json h = let k : 1 ≡ 0 = h in cc
+is_above_0 (Json fault) h = let k : 1 ≡ 0 = h in cc
 is_above_0 TooLong h = let k : 1 ≡ 0 = h in cc
 is_above_0 (Team side place refusal) h = let k : 1 ≡ 0 = h in cc
 is_above_0 (Pair number refusal) h = let k : 1 ≡ 0 = h in cc

@@ -1,13 +1,17 @@
 -- What an input asks for: a battle and what is done in it, or the fault that is answered instead (docs/PROGRAM.md, "What is
 -- tested, in this order").
-use Rattle.std.specs.Prelude.{ℕ, List, length, nat_lt, if◌then◌else◌, codes, Option, Some, None, option_and_then, Result, Ok, Err}
+use Rattle.std.specs.Prelude.{Err, List, None, Ok, Option, Result, Some, if◌then◌else◌, length, nat_lt, ℕ}
 use Rattle.serde_json.specs.Data.{Data}
 use Rattle.gen1_stats.specs.Refusals.{number_of, place_of}
 use Rattle.gen1_stats.specs.Teams.{team_of, team_refusal}
 use Rattle.gen1_stats.specs.declared.refusal.TeamRefusal.{TeamRefusal}
 use Rattle.gen1_machine.specs.declared.side.Side.{Side}
 use Rattle.gen1_machine.specs.State.{State, first_state}
-use Rattle.battle_input.specs.Sheets.{BattleData, json_of, pair_of, sheet_of, submission_of}
+use Rattle.battle_input.specs.Sheets.{BattleData, input_of, pair_of, sheet_of, submission_of}
+use Rattle.battle_input.specs.declared.fault.JsonFault.{JsonFault}
+use Rattle.battle_input.specs.declared.misfit.Key.{Key}
+use Rattle.battle_input.specs.declared.misfit.Key.TheVariants.{Choices, Submissions}
+use Rattle.battle_input.specs.declared.misfit.Misfit.{Misfit}
 use Rattle.battle_commands.specs.declared.fault.ToolFault.{ToolFault}
 use Rattle.battle_commands.specs.declared.fault.ToolFault.TheVariants.{Json, TooLong, Team}
 
@@ -25,20 +29,20 @@ unless side (Some refusal) asked = Err (Team side (place_of refusal) (number_of 
 unless side None asked = asked
 
 -- side 1's team is tested whole before side 2's
-abbrev pub asked_by : {A : Type 0} → Option (BattleData × List A) → Result (Asked A) ToolFault
-asked_by None = Err Json
-asked_by (Some sheet) = unless 1 (team_refusal sheet.0.one) (unless 2 (team_refusal sheet.0.two) (Ok (record { state = begins sheet.0; items = sheet.1 })))
+abbrev pub asked_by : {A : Type 0} → Result (BattleData × List A) JsonFault → Result (Asked A) ToolFault
+asked_by (Err fault) = Err (Json fault)
+asked_by (Ok sheet) = unless 1 (team_refusal sheet.0.one) (unless 2 (team_refusal sheet.0.two) (Ok (record { state = begins sheet.0; items = sheet.1 })))
 
 abbrev pub input_limit : ℕ
 input_limit = 1048576
 
-unfoldable pub asked_of : {A : Type 0} → List ℕ → (Data → Option A) → List ℕ → Result (Asked A) ToolFault
-asked_of key meaning input = if nat_lt input_limit (length input) then Err TooLong else asked_by (option_and_then (sheet_of key meaning) (json_of input))
+unfoldable pub asked_of : {A : Type 0} → Key → (Data → Result A Misfit) → List ℕ → Result (Asked A) ToolFault
+asked_of key meaning input = if nat_lt input_limit (length input) then Err TooLong else asked_by (input_of (sheet_of key meaning) input)
 
 -- pairs of choices are asked for, or submissions to a room
 
 abbrev pub asked_to_run : List ℕ → Result (Asked (ℕ × ℕ)) ToolFault
-asked_to_run = asked_of (codes "choices") pair_of
+asked_to_run = asked_of Choices pair_of
 
 abbrev pub asked_of_room : List ℕ → Result (Asked (Side × ℕ × ℕ)) ToolFault
-asked_of_room = asked_of (codes "submissions") submission_of
+asked_of_room = asked_of Submissions submission_of

@@ -1,5 +1,5 @@
 -- What is due from `calc` for an input, and what it has written and answers (docs/PROGRAM.md, "calc").
-use Rattle.std.specs.Prelude.{Err, List, None, Ok, Option, Result, Some, [], if◌then◌else◌, length, nat_lt, ok_or, option_and_then, ℕ, ◌∷◌, ◌≡◌}
+use Rattle.std.specs.Prelude.{Err, List, Ok, Option, Result, [], if◌then◌else◌, length, nat_lt, ok_or, ℕ, ◌∷◌, ◌≡◌}
 use Rattle.std.specs.Io.KnownBytes.{Appends}
 use Rattle.gen1_stats.specs.Teams.{member_of as begun_of, team_refusal}
 use Rattle.gen1_machine.specs.Damage.{numbers_in}
@@ -8,12 +8,13 @@ use Rattle.gen1_machine.specs.Output.{AppendsFront}
 use Rattle.gen1_machine.specs.declared.side.Side.TheVariants.{One}
 use Rattle.gen1_hits.specs.Factors.{damages}
 use Rattle.gen1_hits.specs.UsualDamage.{has_usual_damage}
-use Rattle.battle_input.specs.Sheets.{json_of}
+use Rattle.battle_input.specs.Sheets.{input_of}
 use Rattle.battle_commands.specs.Asked.{input_limit, unless}
 use Rattle.battle_input.specs.CalcSheets.{calc_sheet_of}
 use Rattle.battle_commands.specs.Duel.{duel}
 use Rattle.battle_commands.specs.NumberLine.{number_line}
 use Rattle.battle_input.specs.declared.calc_sheet.CalcSheet.{CalcSheet}
+use Rattle.battle_input.specs.declared.fault.JsonFault.{JsonFault}
 use Rattle.battle_commands.specs.declared.fault.ToolFault.{ToolFault}
 use Rattle.battle_commands.specs.declared.fault.ToolFault.TheVariants.{Calc, Json, Memory, Read, TooLong, Write}
 
@@ -22,16 +23,16 @@ unfoldable pub damages_of : CalcSheet → Option (List ℕ)
 damages_of s = damages (numbers_in One (move_at s.id) s.critical (duel (begun_of s.attacker) (begun_of s.defender)))
 
 -- the teams of one, the attacker's before the defender's, and then the move
-abbrev pub due_by : Option CalcSheet → Result (List ℕ) ToolFault
-due_by None = Err Json
-due_by (Some s) =
+abbrev pub due_by : Result CalcSheet JsonFault → Result (List ℕ) ToolFault
+due_by (Err fault) = Err (Json fault)
+due_by (Ok s) =
     unless 1 (team_refusal (s.attacker ∷ []))
     (unless 2 (team_refusal (s.defender ∷ []))
     (if has_usual_damage (move_at s.id) then ok_or (damages_of s) Calc else Err Calc))
 
 -- the damage numbers that are due for an input, or the fault that is answered instead
 unfoldable pub damages_due : List ℕ → Result (List ℕ) ToolFault
-damages_due input = if nat_lt input_limit (length input) then Err TooLong else due_by (option_and_then calc_sheet_of (json_of input))
+damages_due input = if nat_lt input_limit (length input) then Err TooLong else due_by (input_of calc_sheet_of input)
 
 -- The line is written, or a front of it where a write fails. With any other fault nothing is.
 abbrev pub PrintsDamages : {T : Type 0} → Result (List ℕ) ToolFault → Option (List ℕ) → Option (List ℕ) → Result T ToolFault → Type 0

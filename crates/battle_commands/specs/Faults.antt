@@ -5,7 +5,7 @@ use Rattle.battle_commands.specs.declared.fault.ToolFault.{ToolFault}
 use Rattle.battle_commands.specs.declared.fault.ToolFault.TheVariants.{Json, TooLong, Team, Pair, Log, Calc, Read, Write, Memory}
 
 abbrev pub status_of : ToolFault → ℕ
-status_of Json = 1
+status_of (Json fault) = 1
 status_of TooLong = 1
 status_of (Team side place refusal) = 1
 status_of (Pair number refusal) = 1
@@ -17,7 +17,7 @@ status_of Memory = 4
 
 -- what is wrong, in words and numbers
 abbrev pub pieces_of : ToolFault → List (List ℕ)
-pieces_of Json = codes "json" ∷ []
+pieces_of (Json fault) = codes "json" ∷ []
 pieces_of TooLong = codes "too long" ∷ []
 pieces_of (Team side place refusal) = codes "team " ∷ decimal side ∷ codes " place " ∷ decimal place ∷ codes " refusal " ∷ decimal refusal ∷ []
 pieces_of (Pair number refusal) = codes "pair " ∷ decimal number ∷ codes " refused " ∷ decimal refusal ∷ []

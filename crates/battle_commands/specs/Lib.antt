@@ -7,6 +7,8 @@ pub mod Due
 pub mod Answers
 pub mod AskedBattle
 pub mod Faults
+pub mod Explanations
 pub mod Logs
 pub mod Rooms
 pub mod Served
+pub mod CommandLine

@@ -1,12 +1,17 @@
 -- What the program has written and answers for a subcommand and what it is given (docs/PROGRAM.md, "The program battle_tool").
-use Rattle.std.specs.Prelude.{Bool, Err, List, None, Ok, Option, Result, Some, codes, ℕ, ◌≡◌}
+use Rattle.std.specs.Prelude.{Bool, Err, IfSome, List, None, Ok, Option, Result, Some, codes, false, true, ℕ, ◌≡◌, ◌⊎◌}
+use Rattle.clap.specs.Matches.{first_value, found_of, one_text}
+use Rattle.clap.specs.Walk.{Row, rows_of}
+use Rattle.clap.specs.declared.parser.matches.ArgMatches.{ArgMatches}
 use Rattle.battle_commands.specs.Answers.{Answers, Tells}
 use Rattle.battle_commands.specs.Calc.{PrintsDamages, damages_due}
-use Rattle.battle_commands.specs.Due.{run_due}
+use Rattle.battle_commands.specs.Due.{log_due, run_due}
+use Rattle.battle_commands.specs.Explanations.{told_of}
 use Rattle.battle_commands.specs.Faults.{error_line, status_of}
 use Rattle.battle_commands.specs.Logs.{PrintsLog}
 use Rattle.battle_commands.specs.Rooms.{room_due}
 use Rattle.battle_commands.specs.declared.fault.ToolFault.{ToolFault}
+use Rattle.battle_commands.specs.declared.fault.ToolFault.TheVariants.{Memory}
 
 -- the bytes that a subcommand is given, where they are known: those of the FILE that is named, and else those of standard input
 abbrev pub given : Option (List ℕ) → (List ℕ → Option (List ℕ)) → Option (List ℕ) → Option (List ℕ)
@@ -18,12 +23,19 @@ pub record Serves (name input : List ℕ) (old new : Option (List ℕ)) (result 
   pub print : name ≡ codes "print" → PrintsLog input old new result
   pub calc : name ≡ codes "calc" → PrintsDamages (damages_due input) old new result
   pub room : name ≡ codes "room" → Answers (room_due input) old new result
+  pub log : name ≡ codes "log" → Answers (log_due input) old new result
   pub run : name ≡ codes "run" → Answers (run_due input) old new result
 
--- nothing is told where all was done, and else the line of the fault
-abbrev pub TellsEnd : Option (List ℕ) → Option (List ℕ) → Bool → Bool → Result (Unit {0}) ToolFault → Type 0
-TellsEnd old new failed fails (Ok done) = (new ≡ old) × (fails ≡ failed)
-TellsEnd old new failed fails (Err fault) = Tells old new failed fails (error_line fault)
+-- nothing is told where all was done, and else the line of the fault, with its explanation where one is asked for
+abbrev pub TellsEnd : Bool → Option (List ℕ) → Option (List ℕ) → Bool → Bool → Result (Unit {0}) ToolFault → Type 0
+TellsEnd explains old new failed fails (Ok done) = (new ≡ old) × (fails ≡ failed)
+TellsEnd explains old new failed fails (Err fault) = Tells old new failed fails (told_of explains fault)
+
+-- an explanation is asked for by the value `true`, and not by `false` or none
+pub record IsAskedFor (explains : Bool) (value : Option (List ℕ)) : Type 0 where
+  pub asked : value ≡ Some (codes "true") → explains ≡ true
+  pub unasked : value ≡ Some (codes "false") → explains ≡ false
+  pub none : value ≡ None → explains ≡ false
 
 -- 0 where all was done, and else the status of the fault
 abbrev pub status_after : Result (Unit {0}) ToolFault → ℕ
@@ -36,3 +48,23 @@ pub record IsUndisturbed (read reads written writes told tells : Bool) (old new 
   pub written_well : writes ≡ written
   pub told_well : tells ≡ told
   pub nothing_told : new ≡ old
+
+-- a subcommand that was asked for by these matches is served to its end, and its fault told
+pub record IsServed (name : List ℕ) (matches : ArgMatches) (named : List ℕ → Option (List ℕ)) (standard old new told tells : Option (List ℕ)) (failed fails : Bool) (status : ℕ) : Type 0 where
+  pub end : Result (Unit {0}) ToolFault
+  pub explains : Bool
+  pub status_is : status ≡ status_after end
+  pub serves : IfSome (given (first_value (found_of matches) (codes "FILE")) named standard) (λ input. Serves name input old new end)
+  pub ends : TellsEnd explains told tells failed fails end
+  pub asked : IsAskedFor explains (one_text (found_of matches) (codes "explain"))
+
+-- memory was refused before the words were understood, which is told
+pub record IsUnheld (told tells : Option (List ℕ)) (failed fails : Bool) (status : ℕ) : Type 0 where
+  pub status_is : status ≡ status_of Memory
+  pub line : Tells told tells failed fails (error_line Memory)
+
+-- one of both, by the name of the subcommand and what was found behind it
+abbrev pub Ends : List ℕ → List Row → (List ℕ → Option (List ℕ)) → Option (List ℕ) → Option (List ℕ) → Option (List ℕ) → Option (List ℕ) → Option (List ℕ) → Bool → Bool → ℕ → Type 0
+Ends name rows named standard old new told tells failed fails status =
+    ((matches : ArgMatches) × (rows_of (found_of matches) ≡ rows) × IsServed name matches named standard old new told tells failed fails status)
+    ⊎ IsUnheld told tells failed fails status

@@ -5,7 +5,7 @@ ghost use Rattle.battle_commands.specs.AskedBattle.{Opens};
 
 use crate::fault::ToolFault;
 use crate::input::INPUT_LIMIT;
-use battle_input::{Item, SheetFault, read_sheet};
+use battle_input::{Item, Key, SheetFault, read_sheet};
 use gen1_engine::Battle;
 use gen1_stats::Team;
 use std::alloc::Global;
@@ -22,14 +22,14 @@ pub struct Bout<T> {
 pub fn open_bout<T: Item + Drop>(
     alloc: Global,
     input: &[u8],
-    key: &str,
+    key: Key,
 ) -> Result<Bout<T>, ToolFault>
     requires { length input.now ≤ INPUT_LIMIT }
-    ensures { Opens result (asked_of key.now T.meaning input.now) }
+    ensures { Opens result (asked_of key T.meaning input.now) }
 {
     let sheet = match read_sheet::<T>(alloc, input, key) {
         Ok(sheet) => sheet,
-        Err(SheetFault::Shape) => return Err(ToolFault::Json),
+        Err(SheetFault::Json(fault)) => return Err(ToolFault::Json(fault)),
         Err(SheetFault::Memory) => return Err(ToolFault::Memory),
     };
     let asked = sheet.battle;

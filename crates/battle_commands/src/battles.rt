@@ -2,15 +2,18 @@
 ghost use Rattle.std.specs.Prelude.{◌+◌, ◌≡◌, ◌||◌, IfOk, IfSome, false};
 ghost use Rattle.gen1_machine.specs.Input.{TakesAtMost};
 ghost use Rattle.gen1_machine.specs.Lines.{lines};
+ghost use Rattle.gen1_machine.specs.LogBytes.{codes_of};
 ghost use Rattle.gen1_machine.specs.State.{State};
 ghost use Rattle.gen1_layout.specs.Within.{Stands};
 ghost use Rattle.battle_commands.specs.Answers.{Answers, is_read_fault, is_write_fault};
-ghost use Rattle.battle_commands.specs.Due.{due_from, run_due};
+ghost use Rattle.battle_commands.specs.Due.{due_from, log_due, run_due};
 
 use crate::asked_battle::open_bout;
 use crate::fault::ToolFault;
 use crate::input::{INPUT_LIMIT, read_input};
+use battle_input::Key;
 use gen1_engine::Battle;
+use gen1_events::LogBuf;
 use gen1_machine::{Device, Event, EventList, Sink, Source, send};
 use gen1_printer::print_line;
 use std::alloc::{AllocError, Allocator, Global};
@@ -40,7 +43,7 @@ pub fn play<A: AllocGlobal, R: Source, W: Sink>(
         Ok(input) => input,
         Err(fault) => return Err(fault),
     };
-    let mut bout = match open_bout::<(u8, u8)>(rt.alloc(), input.as_slice(), "choices") {
+    let mut bout = match open_bout::<(u8, u8)>(rt.alloc(), input.as_slice(), Key::Choices) {
         Ok(bout) => bout,
         Err(fault) => return Err(fault),
     };
@@ -55,7 +58,7 @@ fn play_pairs<W: Sink>(
     sink: &mut W,
 ) -> Result<(), ToolFault>
     ensures answers { (s : State) → Stands battle.old s
-        → Answers (due_from 0 s pairs.now) (W.contents sink.old) (W.contents sink.new) result }
+        → Answers (due_from lines 0 s pairs.now) (W.contents sink.old) (W.contents sink.new) result }
     ensures write { W.has_failed sink.new ≡ (W.has_failed sink.old || is_write_fault result) }
     ensures read { is_read_fault result ≡ false }
 {
@@ -73,6 +76,70 @@ fn play_pairs<W: Sink>(
             Err(_) => return Err(ToolFault::Memory),
         };
         match send(sink, text.as_slice()) {
+            Ok(()) => {}
+            Err(_) => return Err(ToolFault::Write),
+        }
+    }
+    Ok(())
+}
+
+/// Reads what `log` is asked for, and writes the log bytes of each pair (docs/PROGRAM.md, "log").
+///
+/// What is tested, and in which order, is as for `run`. The bytes of a pair are sent together, and
+/// where a fault is answered those before it are written. No memory is taken once the battle stands.
+pub fn play_log<A: AllocGlobal, R: Source, W: Sink>(
+    rt: &A,
+    reader: &mut R,
+    writer: &mut W,
+) -> Result<(), ToolFault>
+    // Where the source tells its bytes, what is due for them is written and answered.
+    ensures answers { IfSome (R.remaining reader.old)
+        (λ input. Answers (log_due input) (W.contents writer.old) (W.contents writer.new) result) }
+
+    // No more than the limit and one byte is taken from the source.
+    ensures taken { TakesAtMost (R.remaining reader.old) (R.remaining reader.new) (INPUT_LIMIT + 1) }
+
+    // A fault of a device is answered exactly where that device has failed in this call.
+    ensures read { R.has_failed reader.new ≡ (R.has_failed reader.old || is_read_fault result) }
+    ensures write { W.has_failed writer.new ≡ (W.has_failed writer.old || is_write_fault result) }
+{
+    let input = match read_input(rt.alloc(), reader) {
+        Ok(input) => input,
+        Err(fault) => return Err(fault),
+    };
+    let key = Key::Choices;
+    let mut bout = match open_bout::<(u8, u8)>(rt.alloc(), input.as_slice(), key) {
+        Ok(bout) => bout,
+        Err(fault) => return Err(fault),
+    };
+    log_pairs(&mut bout.battle, bout.items.as_slice(), writer)
+}
+
+/// Plays pairs, and sends the log bytes of each.
+fn log_pairs<W: Sink>(
+    battle: &mut Battle,
+    pairs: &[(u8, u8)],
+    sink: &mut W,
+) -> Result<(), ToolFault>
+    ensures answers { (s : State) → Stands battle.old s
+        → Answers (due_from codes_of 0 s pairs.now) (W.contents sink.old) (W.contents sink.new)
+        result }
+    ensures write { W.has_failed sink.new ≡ (W.has_failed sink.old || is_write_fault result) }
+    ensures read { is_read_fault result ≡ false }
+{
+    let mut log = LogBuf::new();
+    for (number, pair) in pairs.iter().enumerate() {
+        match battle.update_by_bytes(pair.0, pair.1, &mut log) {
+            Ok(_) => {}
+            Err(refusal) => {
+                let why = refusal.number();
+                return Err(ToolFault::Pair {
+                    number,
+                    refusal: why,
+                });
+            }
+        }
+        match send(sink, log.as_slice()) {
             Ok(()) => {}
             Err(_) => return Err(ToolFault::Write),
         }

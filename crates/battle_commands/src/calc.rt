@@ -1,8 +1,8 @@
 //! The damage numbers that an input asks for (docs/PROGRAM.md, "calc").
-ghost use Rattle.std.specs.Prelude.{◌+◌, ◌≡◌, ◌≤◌, ◌||◌, length, IfSome, option_and_then};
+ghost use Rattle.std.specs.Prelude.{◌+◌, ◌≡◌, ◌≤◌, ◌||◌, length, IfSome};
 ghost use Rattle.gen1_machine.specs.Input.{TakesAtMost};
 ghost use Rattle.battle_commands.specs.Answers.{is_read_fault, is_write_fault};
-ghost use Rattle.battle_input.specs.Sheets.{json_of};
+ghost use Rattle.battle_input.specs.Sheets.{input_of};
 ghost use Rattle.battle_commands.specs.Calc.{PrintsDamages, damages_due};
 ghost use Rattle.battle_input.specs.CalcSheets.{calc_sheet_of};
 ghost use Rattle.battle_commands.specs.AskedBattle.{Finds};
@@ -12,7 +12,7 @@ use crate::damage::damages;
 use crate::fault::ToolFault;
 use crate::input::{INPUT_LIMIT, read_input};
 use crate::number_line::number_line;
-use battle_input::{CalcSheet, SheetFault, read_calc_sheet, value_in};
+use battle_input::{CalcSheet, JsonFault, SheetFault, read_calc_sheet, value_in};
 use gen1_hits::has_usual_damage;
 use gen1_machine::{Sink, Source, send};
 use gen1_stats::Team;
@@ -62,7 +62,7 @@ fn find_numbers(alloc: Global, input: &[u8]) -> Result<[u16; 39], ToolFault>
 {
     let sheet = match calc_sheet_in(alloc, input) {
         Ok(sheet) => sheet,
-        Err(SheetFault::Shape) => return Err(ToolFault::Json),
+        Err(SheetFault::Json(fault)) => return Err(ToolFault::Json(fault)),
         Err(SheetFault::Memory) => return Err(ToolFault::Memory),
     };
     let CalcSheet {
@@ -90,11 +90,11 @@ fn find_numbers(alloc: Global, input: &[u8]) -> Result<[u16; 39], ToolFault>
 
 /// The sheet of an input.
 fn calc_sheet_in(alloc: Global, input: &[u8]) -> Result<CalcSheet, SheetFault>
-    ensures { Gives (λ sheet. sheet) result (option_and_then calc_sheet_of (json_of input.now)) }
+    ensures { Gives (λ sheet. sheet) result (input_of calc_sheet_of input.now) }
 {
     let value = value_in(alloc, input)?;
     match read_calc_sheet(&value) {
-        Some(sheet) => Ok(sheet),
-        None => Err(SheetFault::Shape),
+        Ok(sheet) => Ok(sheet),
+        Err(misfit) => Err(SheetFault::Json(JsonFault::Value(misfit))),
     }
 }

@@ -1,15 +1,21 @@
 //! The command line (docs/PROGRAM.md, "The program battle_tool").
-ghost use Rattle.std.specs.Prelude.{◌≡◌, ◌≤◌, ◌||◌, IfSome, IsOk, Result, codes, is_some, true};
+ghost use Rattle.std.specs.Prelude.{◌≡◌, ◌≤◌, ◌||◌, IfOk, IfSome, IsOk, List, Some, codes, false, is_some, map, true, ℕ};
+ghost use Rattle.gen1_machine.specs.Output.{Sends};
 ghost use Rattle.clap.specs.Matches.{first_value, found_of};
+ghost use Rattle.clap.specs.Values.{kind_of};
+ghost use Rattle.clap.specs.Words.{Row, app_of, subcommand_of, takes};
+ghost use Rattle.clap.specs.declared.builder.command.Command.TheViews.{out-Command as fields_of};
+ghost use Rattle.battle_commands.specs.CommandLine.{reading, tool_app};
 ghost use Rattle.battle_commands.specs.Answers.{Answers, Tells, is_read_fault, is_write_fault};
 ghost use Rattle.battle_commands.specs.Calc.{PrintsDamages, damages_due};
-ghost use Rattle.battle_commands.specs.Due.{run_due};
-ghost use Rattle.battle_commands.specs.Faults.{error_line, status_of};
+ghost use Rattle.battle_commands.specs.Due.{log_due, run_due};
+ghost use Rattle.battle_commands.specs.Explanations.{told_of};
+ghost use Rattle.battle_commands.specs.Faults.{status_of};
 ghost use Rattle.battle_commands.specs.Logs.{PrintsLog};
 ghost use Rattle.battle_commands.specs.Rooms.{room_due};
-ghost use Rattle.battle_commands.specs.Served.{IsUndisturbed, Serves, TellsEnd, given, status_after};
+ghost use Rattle.battle_commands.specs.Served.{Ends, IsServed, IsUndisturbed, IsUnheld, Serves, given};
 
-use crate::battles::play;
+use crate::battles::{play, play_log};
 use crate::calc::play_calc;
 use crate::fault::ToolFault;
 use crate::folder::Folder;
@@ -17,7 +23,7 @@ use crate::logs::play_print;
 use crate::rooms::play_room;
 use clap::error::ErrorKind;
 use clap::{Arg, ArgAction, ArgMatches, Command, Error};
-use gen1_machine::{Sink, Source, send};
+use gen1_machine::{DeviceFault, Sink, Source, send, send_all};
 use std::alloc::{AllocError, Global};
 use std::convert::AsStr;
 
@@ -34,6 +40,11 @@ const RUN_ABOUT: &str = "Runs a battle and prints its lines";
 const RUN_INPUT: &str =
     "Reads {\"seed\":[10 bytes],\"one\":[member],\"two\":[member],\"choices\":[[byte,byte],..]}, and the keys \"rules\" and \"limit\" where they are there. A member is {\"species\":name,\"level\":n,\"dvs\":[4],\"exp\":[5],\"moves\":[[name,ups],..]}. Prints a line for each event, pair by pair.";
 
+const LOG_ABOUT: &str = "Runs a battle and writes its log";
+
+const LOG_INPUT: &str =
+    "Reads the object of run. Writes the log bytes of each pair, which print reads.";
+
 const PRINT_ABOUT: &str = "Prints the lines of a log";
 
 const PRINT_INPUT: &str =
@@ -49,6 +60,8 @@ const ROOM_ABOUT: &str = "Runs a room of two players and prints what each is ans
 const ROOM_INPUT: &str =
     "Reads the object of run with \"submissions\":[[side,number,byte],..] in place of choices: the side, 1 or 2, the number of the pair that is meant, from 0, and the choice. Prints the lines of the start, and for each submission |room|waiting, |room|advanced with the lines of the pair, or |room|refused|N.";
 
+const EXPLAIN_HELP: &str = "Says where a fault is and what was expected, behind its line";
+
 const FILE_HELP: &str = "The input; without FILE it is standard input";
 
 /// A subcommand that reads a FILE, or standard input where none is named.
@@ -57,53 +70,86 @@ fn reading<'a>(
     name: &'a str,
     about: &'a str,
     input: &'a str,
-) -> Result<Command<'a>, AllocError> {
+) -> Result<Command<'a>, AllocError>
+    ensures { IfOk result
+        (λ command. (app_of command ≡ reading name.now)
+        × ((fields_of command).has_globals ≡ false)) }
+{
     let file = Arg::new(alloc, "FILE")
         .help(FILE_HELP)
         .action(ArgAction::Set);
-    Command::new(alloc, name)
-        .about(about)
-        .after_help(input)
-        .arg(file)
+    let explain = Arg::new(alloc, "explain")
+        .long("explain")
+        .help(EXPLAIN_HELP)
+        .action(ArgAction::SetTrue);
+    let command = Command::new(alloc, name).about(about).after_help(input);
+    let explained = command.arg(explain)?;
+    let filed = explained.arg(file)?;
+    Ok(filed)
 }
 
 /// The command line.
-fn command<'a>(alloc: Global) -> Result<Command<'a>, AllocError> {
-    Command::new(alloc, "battle_tool")
+fn command<'a>(alloc: Global) -> Result<Command<'a>, AllocError>
+    ensures { IfOk result (λ command. app_of command ≡ tool_app) }
+{
+    let top = Command::new(alloc, "battle_tool")
         .about(ABOUT)
         .after_help(STATUSES)
-        .subcommand_required(true)
-        .subcommand(reading(alloc, "run", RUN_ABOUT, RUN_INPUT)?)?
-        .subcommand(reading(alloc, "print", PRINT_ABOUT, PRINT_INPUT)?)?
-        .subcommand(reading(alloc, "calc", CALC_ABOUT, CALC_INPUT)?)?
-        .subcommand(reading(alloc, "room", ROOM_ABOUT, ROOM_INPUT)?)
+        .subcommand_required(true);
+    let run = reading(alloc, "run", RUN_ABOUT, RUN_INPUT)?;
+    let with_run = top.subcommand(run)?;
+    let log = reading(alloc, "log", LOG_ABOUT, LOG_INPUT)?;
+    let with_log = with_run.subcommand(log)?;
+    let print = reading(alloc, "print", PRINT_ABOUT, PRINT_INPUT)?;
+    let with_print = with_log.subcommand(print)?;
+    let calc = reading(alloc, "calc", CALC_ABOUT, CALC_INPUT)?;
+    let with_calc = with_print.subcommand(calc)?;
+    let room = reading(alloc, "room", ROOM_ABOUT, ROOM_INPUT)?;
+    let with_room = with_calc.subcommand(room)?;
+    Ok(with_room)
 }
 
-/// Tells a fault on standard error, and answers its status, from 1 to 4. A fault of that stream changes nothing. No memory is
-/// taken (docs/PROGRAM.md, "Faults and statuses").
-pub fn report<E: Sink>(fault: ToolFault, err: &mut E) -> u8
-    ensures status { result ≡ status_of fault }
+/// Tells a fault on standard error, with its explanation where `explains`, and answers its status, from 1 to 4. A fault of
+/// that stream changes nothing. No memory is taken (docs/PROGRAM.md, "Faults and statuses", "Explanations").
+pub fn report<E: Sink>(fault: &ToolFault, explains: bool, err: &mut E) -> u8
+    ensures status { result ≡ status_of fault.now }
     ensures most { result ≤ 4 }
     ensures told { Tells (E.contents err.old) (E.contents err.new) (E.has_failed err.old)
-        (E.has_failed err.new) (error_line fault) }
+        (E.has_failed err.new) (told_of explains fault.now) }
 {
-    let _ = send(err, fault.line().as_str().as_bytes());
+    let _ = tell(fault, explains, err);
     fault.status()
+}
+
+/// Sends the line of a fault, with its explanation where `explains`.
+fn tell<E: Sink>(fault: &ToolFault, explains: bool, err: &mut E) -> Result<(), DeviceFault>
+    ensures { Sends (E.contents err.old) (E.contents err.new) (E.has_failed err.old)
+        (E.has_failed err.new) (told_of explains fault.now) result }
+{
+    let line = fault.line();
+    if !explains {
+        return send(err, line.as_str().as_bytes());
+    }
+    let behind = fault.explanation();
+    send_all(err, &[line.as_str().as_bytes(), behind.as_str().as_bytes()])
 }
 
 /// Writes what clap answers to words that ask for nothing to run: help that was asked for to
 /// standard output, and what is wrong with the words to standard error.
 fn answer_words<O: Sink, E: Sink>(alloc: Global, error: &Error, out: &mut O, err: &mut E) -> u8
     ensures most { result ≤ 4 }
+    ensures unheld { kind_of error.now ≡ ErrorKind.OutOfMemory
+        → IsUnheld (E.contents err.old) (E.contents err.new) (E.has_failed err.old)
+        (E.has_failed err.new) result }
     ensures undisturbed { result ≡ 0
         → (O.has_failed out.new ≡ O.has_failed out.old) × (E.has_failed err.new ≡ E.has_failed err.old)
         × (E.contents err.new ≡ E.contents err.old) }
 {
     if error.kind() == ErrorKind::OutOfMemory {
-        return report(ToolFault::Memory, err);
+        return report(&ToolFault::Memory, false, err);
     }
     let Ok(text) = error.to_string(alloc) else {
-        return report(ToolFault::Memory, err);
+        return report(&ToolFault::Memory, false, err);
     };
     if error.use_stderr() {
         let _ = send(err, text.as_bytes());
@@ -111,7 +157,7 @@ fn answer_words<O: Sink, E: Sink>(alloc: Global, error: &Error, out: &mut O, err
     }
     match send(out, text.as_bytes()) {
         Ok(()) => 0,
-        Err(_) => report(ToolFault::Write, err),
+        Err(_) => report(&ToolFault::Write, false, err),
     }
 }
 
@@ -132,6 +178,9 @@ fn run_named<A: AllocGlobal, I: Source, O: Sink>(
     ensures room { name.now ≡ codes "room"
         → IfSome (I.remaining input.old)
         (λ asked. Answers (room_due asked) (O.contents out.old) (O.contents out.new) result) }
+    ensures log { name.now ≡ codes "log"
+        → IfSome (I.remaining input.old)
+        (λ asked. Answers (log_due asked) (O.contents out.old) (O.contents out.new) result) }
     ensures run { name.now ≡ codes "run"
         → IfSome (I.remaining input.old)
         (λ asked. Answers (run_due asked) (O.contents out.old) (O.contents out.new) result) }
@@ -142,6 +191,7 @@ fn run_named<A: AllocGlobal, I: Source, O: Sink>(
         "print" => play_print(rt, input, out),
         "calc" => play_calc(rt, input, out),
         "room" => play_room(rt, input, out),
+        "log" => play_log(rt, input, out),
         _ => play(rt, input, out),
     }
 }
@@ -173,7 +223,8 @@ fn run<A: AllocGlobal, F: Folder, I: Source, O: Sink>(
     }
 }
 
-/// Runs a subcommand on its FILE, or on `input`, and tells its fault: the status is 0 where all was done.
+/// Runs a subcommand on its FILE, or on `input`, and tells its fault, with its explanation where one is asked for: the status
+/// is 0 where all was done.
 fn run_and_tell<A: AllocGlobal, F: Folder, I: Source, O: Sink, E: Sink>(
     rt: &A,
     folder: &F,
@@ -184,21 +235,18 @@ fn run_and_tell<A: AllocGlobal, F: Folder, I: Source, O: Sink, E: Sink>(
     err: &mut E,
 ) -> u8
     ensures most { result ≤ 4 }
-    ensures ends { (end : Result (Unit {0}) ToolFault) × (result ≡ status_after end)
-        × IfSome
-        (given (first_value (found_of matches.now) (codes "FILE")) (F.named folder.now)
-        (I.remaining input.old))
-        (λ asked. Serves name.now asked (O.contents out.old) (O.contents out.new) end)
-        × TellsEnd (E.contents err.old) (E.contents err.new) (E.has_failed err.old)
-        (E.has_failed err.new) end }
+    ensures ends { IsServed name.now matches.now (F.named folder.now) (I.remaining input.old)
+        (O.contents out.old) (O.contents out.new) (E.contents err.old) (E.contents err.new)
+        (E.has_failed err.old) (E.has_failed err.new) result }
     ensures undisturbed { result ≡ 0
         → IsUndisturbed (I.has_failed input.old) (I.has_failed input.new) (O.has_failed out.old)
         (O.has_failed out.new) (E.has_failed err.old) (E.has_failed err.new) (E.contents err.old)
         (E.contents err.new) }
 {
+    let explains = matches.get_flag("explain");
     match run(rt, folder, name, matches, input, out) {
         Ok(()) => 0,
-        Err(fault) => report(fault, err),
+        Err(fault) => report(&fault, explains, err),
     }
 }
 
@@ -221,6 +269,13 @@ where
     O: Sink,
     E: Sink,
     ensures most { result ≤ 4 }
+    // Where the command line takes the words, the subcommand that they ask for is served.
+    ensures ends { (asked : List ℕ × List Row)
+        → takes tool_app (map S.text words.now) ≡ true
+        → subcommand_of tool_app (map S.text words.now) ≡ Some asked
+        → Ends asked.0 asked.1 (F.named folder.now) (I.remaining input.old) (O.contents out.old)
+        (O.contents out.new) (E.contents err.old) (E.contents err.new) (E.has_failed err.old)
+        (E.has_failed err.new) result }
     // No read and no write has failed, and nothing was told.
     ensures undisturbed { result ≡ 0
         → IsUndisturbed (I.has_failed input.old) (I.has_failed input.new) (O.has_failed out.old)
@@ -229,7 +284,7 @@ where
 {
     let alloc = rt.alloc();
     let Ok(command) = command(alloc) else {
-        return report(ToolFault::Memory, err);
+        return report(&ToolFault::Memory, false, err);
     };
     let matches = match command.try_get_matches_from(words) {
         Ok(matches) => matches,

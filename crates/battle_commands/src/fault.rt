@@ -4,6 +4,7 @@ ghost use Rattle.gen1_machine.specs.Lines.{joined};
 ghost use Rattle.battle_commands.specs.Faults.{error_line, pieces_of};
 
 use arrayvec::ArrayString;
+use battle_input::JsonFault;
 use gen1_stats::TeamRefusal;
 use itoa::Buffer;
 use std::error::Error;
@@ -17,10 +18,10 @@ const LINE_LENGTH: usize = 45;
 
 /// Why the program did not do all that it was asked. Each is shown as standard error tells it,
 /// after `error: ` (docs/PROGRAM.md, "Faults and statuses").
-#[derive(Clone, Copy, Debug, PartialEq, Eq)]
+#[derive(Clone, Debug, PartialEq, Eq, Drop)]
 pub enum ToolFault {
-    /// The input is no JSON, or not of the shape that is asked for.
-    Json,
+    /// The input is no JSON, or a value in it is not as it should be.
+    Json(JsonFault),
     /// The input is longer than `INPUT_LIMIT` bytes.
     TooLong,
     /// A side's team is refused. `side` is 1 or 2, `place` that of the member at fault, or 0 for
@@ -58,12 +59,12 @@ impl ToolFault {
 
     /// The exit status: 1 where the input is refused, 3 where a read or a write failed, 4 where
     /// memory was refused.
-    pub fn status(self) -> u8
-        ensures value { result ≡ status_of self }
+    pub fn status(&self) -> u8
+        ensures value { result ≡ status_of self.now }
         ensures most { result ≤ 4 }
     {
         match self {
-            ToolFault::Json
+            ToolFault::Json(_)
             | ToolFault::TooLong
             | ToolFault::Team { .. }
             | ToolFault::Pair { .. }
@@ -75,8 +76,8 @@ impl ToolFault {
     }
 
     /// The line that standard error has of it (docs/PROGRAM.md, "Faults and statuses").
-    pub fn line(self) -> ArrayString<LINE_LENGTH>
-        ensures { result.bytes ≡ error_line self }
+    pub fn line(&self) -> ArrayString<LINE_LENGTH>
+        ensures { result.bytes ≡ error_line self.now }
     {
         let mut line = ArrayString::new();
         line.push_str("error: ");
@@ -86,13 +87,13 @@ impl ToolFault {
     }
 
     /// What is wrong, in words and numbers.
-    fn words(self) -> ArrayString<WORDS_LENGTH>
-        ensures { result.bytes ≡ joined (pieces_of self) }
+    fn words(&self) -> ArrayString<WORDS_LENGTH>
+        ensures { result.bytes ≡ joined (pieces_of self.now) }
     {
         let mut words = ArrayString::new();
         let mut digits = Buffer::new();
         match self {
-            ToolFault::Json => words.push_str("json"),
+            ToolFault::Json(_) => words.push_str("json"),
             ToolFault::TooLong => words.push_str("too long"),
             ToolFault::Team {
                 side,
@@ -100,21 +101,21 @@ impl ToolFault {
                 refusal,
             } => {
                 words.push_str("team ");
-                words.push_str(digits.format(side));
+                words.push_str(digits.format(*side));
                 words.push_str(" place ");
-                words.push_str(digits.format(place));
+                words.push_str(digits.format(*place));
                 words.push_str(" refusal ");
-                words.push_str(digits.format(refusal));
+                words.push_str(digits.format(*refusal));
             }
             ToolFault::Pair { number, refusal } => {
                 words.push_str("pair ");
-                words.push_str(digits.format(number));
+                words.push_str(digits.format(*number));
                 words.push_str(" refused ");
-                words.push_str(digits.format(refusal));
+                words.push_str(digits.format(*refusal));
             }
             ToolFault::Log(number) => {
                 words.push_str("log ");
-                words.push_str(digits.format(number));
+                words.push_str(digits.format(*number));
             }
             ToolFault::Calc => words.push_str("calc"),
             ToolFault::Read => words.push_str("read"),

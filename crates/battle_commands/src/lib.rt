@@ -4,7 +4,7 @@
 //! - `folder`: inputs that are opened by name
 //! - `input`: an input, read whole
 //! - `asked_battle`: the battle that an input asks for
-//! - `battles`: `run`
+//! - `battles`: `run` and `log`
 //! - `rooms`: `room`
 //! - `logs`: `print`
 //! - `calc`: `calc`
@@ -12,6 +12,7 @@
 //! - `damage`: the damage between two members, for `calc`
 //! - `number_line`: the 39 numbers that `calc` prints
 //! - `fault`: the faults, with their statuses and lines
+//! - `explanation`: what is told of a fault behind its line
 #![tactic(auto)]
 
 mod asked_battle;
@@ -20,6 +21,7 @@ mod calc;
 mod commands;
 mod damage;
 mod duel;
+mod explanation;
 mod fault;
 mod folder;
 mod input;
@@ -27,7 +29,7 @@ mod logs;
 mod number_line;
 mod rooms;
 
-pub use battles::{play, text_of};
+pub use battles::{play, play_log, text_of};
 pub use calc::play_calc;
 pub use commands::{COMMAND_LINE_REFUSED, report, tool};
 pub use fault::ToolFault;

@@ -14,6 +14,7 @@ use crate::asked_battle::open_bout;
 use crate::fault::ToolFault;
 use crate::input::{INPUT_LIMIT, read_input};
 use arrayvec::ArrayString;
+use battle_input::Key;
 use gen1_machine::{Side, Sink, Source, send, send_all};
 use gen1_printer::print_log;
 use gen1_room::{Room, RoomRefusal, Submitted};
@@ -48,7 +49,7 @@ pub fn play_room<A: AllocGlobal, R: Source, W: Sink>(
         Ok(input) => input,
         Err(fault) => return Err(fault),
     };
-    let bout = match open_bout::<(Side, u32, u8)>(rt.alloc(), input.as_slice(), "submissions") {
+    let bout = match open_bout::<(Side, u32, u8)>(rt.alloc(), input.as_slice(), Key::Submissions) {
         Ok(bout) => bout,
         Err(fault) => return Err(fault),
     };

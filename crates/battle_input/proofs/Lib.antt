@@ -1,3 +1,4 @@
 -- Reading JSON values.
 pub mod Reading
 pub mod JsonLemmas
+pub mod Stops

@@ -1,15 +1,21 @@
 -- What a JSON value asks `calc` for: two members, a move, and whether the hit is critical (docs/PROGRAM.md, "calc", "JSON, to
 -- the letter").
-use Rattle.std.specs.Prelude.{codes, Option, option_and_then, option_map}
+use Rattle.std.specs.Prelude.{Bool, Result}
 use Rattle.serde_json.specs.Data.{Data}
-use Rattle.serde_json.specs.Find.{as_bool, as_str}
-use Rattle.gen1_tables.specs.Names.{move_named}
-use Rattle.battle_input.specs.Sheets.{field_of, member_of}
+use Rattle.serde_json.specs.Find.{as_bool}
+use Rattle.battle_input.specs.Misfits.{and_then, mapped}
+use Rattle.battle_input.specs.Sheets.{field_of, member_of, move_name_of, or_expected}
 use Rattle.battle_input.specs.declared.calc_sheet.CalcSheet.{CalcSheet}
+use Rattle.battle_input.specs.declared.misfit.Expected.TheVariants as expectations
+use Rattle.battle_input.specs.declared.misfit.Key.TheVariants as keys
+use Rattle.battle_input.specs.declared.misfit.Misfit.{Misfit}
 
-abbrev pub calc_sheet_of : Data → Option CalcSheet
+abbrev pub truth_of : Data → Result Bool Misfit
+truth_of d = or_expected expectations.Truth (as_bool d)
+
+abbrev pub calc_sheet_of : Data → Result CalcSheet Misfit
 calc_sheet_of d =
-    option_and_then (λ attacker. option_and_then (λ defender. option_and_then (λ id. option_map
+    and_then (λ attacker. and_then (λ defender. and_then (λ id. mapped
     (λ critical. record { attacker = attacker; defender = defender; id = id; critical = critical })
-    (field_of (codes "critical") as_bool d)) (field_of (codes "move") (λ e. option_and_then move_named (as_str e)) d))
-    (field_of (codes "defender") member_of d)) (field_of (codes "attacker") member_of d)
+    (field_of keys.Critical truth_of d)) (field_of keys.Move move_name_of d))
+    (field_of keys.Defender member_of d)) (field_of keys.Attacker member_of d)

@@ -1,10 +1,11 @@
 -- What was asked for, as the code holds it (docs/PROGRAM.md, "Input").
-use Rattle.std.specs.Prelude.{◌≡◌, List, Option, Some, None, Result, Ok, Err}
+use Rattle.std.specs.Prelude.{◌≡◌, List, Result, Ok, Err}
 use Rattle.battle_input.specs.Sheets.{BattleData}
+use Rattle.battle_input.specs.declared.fault.JsonFault.{JsonFault}
+use Rattle.battle_input.specs.declared.fault.SheetFault.{SheetFault}
+use Rattle.battle_input.specs.declared.fault.SheetFault.TheVariants.{Json, Memory}
 use Rattle.battle_input.specs.declared.sheet.BattleSheet.{BattleSheet}
-use Rattle.battle_input.specs.declared.sheet.SheetFault.{SheetFault}
 use Rattle.battle_input.specs.declared.sheet.Sheet.{Sheet}
-use Rattle.battle_input.specs.declared.sheet.SheetFault.TheVariants.{Shape, Memory}
 
 abbrev pub battle_view : BattleSheet → BattleData
 battle_view s = record { seed = s.seed; one = s.one.items; two = s.two.items; rules = s.rules; limit = s.limit }
@@ -14,7 +15,7 @@ abbrev pub sheet_view : {A : Type 0} → Sheet A → BattleData × List A
 sheet_view s = (battle_view s.battle, s.items.items)
 
 -- What a function answered, seen by view, is this, unless memory ran out.
-abbrev pub Gives : {X Y : Type 0} → (X → Y) → Result X SheetFault → Option Y → Type 0
-Gives view (Ok x) o = o ≡ Some (view x)
-Gives view (Err Shape) o = o ≡ None
-Gives view (Err Memory) o = Unit {0}
+abbrev pub Gives : {X Y : Type 0} → (X → Y) → Result X SheetFault → Result Y JsonFault → Type 0
+Gives view (Ok x) r = r ≡ Ok (view x)
+Gives view (Err (Json fault)) r = r ≡ Err fault
+Gives view (Err Memory) r = Unit {0}

@@ -1,15 +1,26 @@
 -- What a JSON value asks for: a battle (a seed, two lists of members, rules and a turn limit), and what is done in it (pairs of
--- choices, or submissions to a room) (docs/PROGRAM.md, "Input", "JSON, to the letter").
-use Rattle.std.specs.Prelude.{ℕ, ◌+◌, ◌==◌, ◌&&◌, List, [], ◌∷◌, nat_lt, nat_le, if◌then◌else◌, codes, Option, Some, None, option_map, option_and_then}
+-- choices, or submissions to a room); or the first place at which it is not as it should be (docs/PROGRAM.md, "Input", "JSON, to
+-- the letter", "Explanations").
+use Rattle.std.specs.Prelude.{Err, List, None, Ok, Option, Result, Some, [], if◌then◌else◌, nat_le, nat_lt, ok_or, option_and_then, ℕ, ◌&&◌, ◌+◌, ◌==◌, ◌∷◌}
 use Rattle.std.specs.Str.{is_utf8}
 use Rattle.serde_json.specs.Data.{Data, Items, no_items, item}
 use Rattle.serde_json.specs.Read.{read}
-use Rattle.serde_json.specs.Find.{get, as_array, as_number, as_str, as_u64}
+use Rattle.serde_json.specs.Find.{as_array, as_number, as_str, as_u64, get}
 use Rattle.gen1_tables.specs.Names.{species_named, move_named}
 use Rattle.gen1_stats.specs.Sheets.{Sheet as MemberSheet}
 use Rattle.gen1_machine.specs.declared.side.Side.{Side}
 use Rattle.gen1_machine.specs.declared.side.Side.TheVariants.{One, Two}
 use Rattle.gen1_machine.specs.Rules.{Rules, no_rules, rules_of as rules_of_bits}
+use Rattle.battle_input.specs.Misfits.{and_then, expects, inside, mapped, name_of}
+use Rattle.battle_input.specs.NoJson.{no_json}
+use Rattle.battle_input.specs.declared.fault.JsonFault.{JsonFault}
+use Rattle.battle_input.specs.declared.fault.JsonFault.TheVariants.{Value}
+use Rattle.battle_input.specs.declared.misfit.Expected.{Expected}
+use Rattle.battle_input.specs.declared.misfit.Expected.TheVariants as expectations
+use Rattle.battle_input.specs.declared.misfit.Key.{Key}
+use Rattle.battle_input.specs.declared.misfit.Key.TheVariants as keys
+use Rattle.battle_input.specs.declared.misfit.Misfit.{Misfit}
+use Rattle.battle_input.specs.declared.misfit.Step.TheVariants.{At, Of}
 
 pub record BattleData : Type 0 where
   pub seed : List ℕ
@@ -18,13 +29,17 @@ pub record BattleData : Type 0 where
   pub rules : Rules
   pub limit : ℕ
 
--- what each item is, or nothing where one is no such thing
-abbrev pub each_of : {A : Type 0} → (Data → Option A) → Items → Option (List A)
-each_of f no_items = Some []
-each_of f (item d ds) = option_and_then (λ x. option_map (λ xs. x ∷ xs) (each_of f ds)) (f d)
+-- what there is, or that it is not as expected
+abbrev pub or_expected : {A : Type 0} → Expected → Option A → Result A Misfit
+or_expected e found = ok_or found (expects e)
 
-abbrev pub list_of : {A : Type 0} → (Data → Option A) → Data → Option (List A)
-list_of f d = option_and_then (each_of f) (as_array d)
+-- what each item is, numbered from n, up to the first that is no such thing
+abbrev pub each_from : {A : Type 0} → ℕ → (Data → Result A Misfit) → Items → Result (List A) Misfit
+each_from n f no_items = Ok []
+each_from n f (item d ds) = and_then (λ x. mapped (λ xs. x ∷ xs) (each_from (n + 1) f ds)) (inside (At n) (f d))
+
+abbrev pub list_of : {A : Type 0} → (Data → Result A Misfit) → Data → Result (List A) Misfit
+list_of f d = and_then (each_from 0 f) (or_expected expectations.List (as_array d))
 
 abbrev pub count_of : Items → ℕ
 count_of no_items = 0
@@ -34,87 +49,111 @@ count_of (item d ds) = count_of ds + 1
 abbrev pub number_below : ℕ → Data → Option ℕ
 number_below bound d = option_and_then (λ n. if nat_lt n bound then Some n else None) (option_and_then as_u64 (as_number d))
 
-abbrev pub byte_of : Data → Option ℕ
-byte_of = number_below 256
+abbrev pub byte_of : Data → Result ℕ Misfit
+byte_of d = or_expected expectations.Byte (number_below 256 d)
 
-abbrev pub word_of : Data → Option ℕ
-word_of = number_below 65536
+abbrev pub word_of : Data → Result ℕ Misfit
+word_of d = or_expected expectations.Word (number_below 65536 d)
 
-abbrev pub long_of : Data → Option ℕ
-long_of = number_below 4294967296
+abbrev pub long_of : Data → Result ℕ Misfit
+long_of d = or_expected expectations.Long (number_below 4294967296 d)
 
 -- a list of so many numbers
-abbrev pub numbers_of : (Data → Option ℕ) → ℕ → Data → Option (List ℕ)
-numbers_of f n d = option_and_then (λ ds. if count_of ds == n then each_of f ds else None) (as_array d)
+abbrev pub numbers_of : (Data → Result ℕ Misfit) → ℕ → Data → Result (List ℕ) Misfit
+numbers_of f n d =
+    and_then (each_from 0 f) (or_expected (expectations.Items n) (option_and_then (λ ds. if count_of ds == n then Some ds else None) (as_array d)))
 
 -- what the two items of an array are
-abbrev pub both_of : {A B : Type 0} → (Data → Option A) → (Data → Option B) → Items → Option (A × B)
-both_of f g (item d (item e no_items)) = option_and_then (λ x. option_map (λ y. (x, y)) (g e)) (f d)
-both_of f g ds = None
+abbrev pub both_of : {A B : Type 0} → (Data → Result A Misfit) → (Data → Result B Misfit) → Items → Result (A × B) Misfit
+both_of f g (item d (item e no_items)) = and_then (λ x. mapped (λ y. (x, y)) (inside (At 1) (g e))) (inside (At 0) (f d))
+both_of f g ds = Err (expects (expectations.Items 2))
 
-abbrev pub pair_of : Data → Option (ℕ × ℕ)
-pair_of d = option_and_then (both_of byte_of byte_of) (as_array d)
+abbrev pub pair_of : Data → Result (ℕ × ℕ) Misfit
+pair_of d = and_then (both_of byte_of byte_of) (or_expected (expectations.Items 2) (as_array d))
 
 abbrev pub side_numbered : ℕ → Option Side
 side_numbered n = if n == 1 then Some One else if n == 2 then Some Two else None
 
-abbrev pub side_of : Data → Option Side
-side_of d = option_and_then side_numbered (byte_of d)
+abbrev pub side_of : Data → Result Side Misfit
+side_of d = or_expected expectations.Side (option_and_then side_numbered (number_below 256 d))
 
 -- what the three items of an array are
-abbrev pub three_of : {A B C : Type 0} → (Data → Option A) → (Data → Option B) → (Data → Option C) → Items → Option (A × B × C)
-three_of f g h (item d (item e (item i no_items))) = option_and_then (λ x. option_and_then (λ y. option_map (λ z. (x, y, z)) (h i)) (g e)) (f d)
-three_of f g h ds = None
+abbrev pub three_of : {A B C : Type 0} → (Data → Result A Misfit) → (Data → Result B Misfit) → (Data → Result C Misfit) → Items → Result (A × B × C) Misfit
+three_of f g h (item d (item e (item i no_items))) =
+    and_then (λ x. and_then (λ y. mapped (λ z. (x, y, z)) (inside (At 2) (h i))) (inside (At 1) (g e))) (inside (At 0) (f d))
+three_of f g h ds = Err (expects (expectations.Items 3))
 
 -- a side, the number of the pair that is meant, and a byte for its choice
-abbrev pub submission_of : Data → Option (Side × ℕ × ℕ)
-submission_of d = option_and_then (three_of side_of long_of byte_of) (as_array d)
+abbrev pub submission_of : Data → Result (Side × ℕ × ℕ) Misfit
+submission_of d = and_then (three_of side_of long_of byte_of) (or_expected (expectations.Items 3) (as_array d))
+
+abbrev pub species_of : Data → Result ℕ Misfit
+species_of d = or_expected expectations.Species (option_and_then species_named (as_str d))
+
+abbrev pub move_name_of : Data → Result ℕ Misfit
+move_name_of d = or_expected expectations.Move (option_and_then move_named (as_str d))
 
 -- a move by its name, and its PP ups
-abbrev pub move_of : Data → Option (ℕ × ℕ)
-move_of d = option_and_then (both_of (λ e. option_and_then move_named (as_str e)) byte_of) (as_array d)
+abbrev pub move_of : Data → Result (ℕ × ℕ) Misfit
+move_of d = and_then (both_of move_name_of byte_of) (or_expected (expectations.Items 2) (as_array d))
 
-abbrev pub moves_of : Data → Option (List (ℕ × ℕ))
-moves_of d = option_and_then (λ ds. if nat_le (count_of ds) 4 then each_of move_of ds else None) (as_array d)
+abbrev pub moves_of : Data → Result (List (ℕ × ℕ)) Misfit
+moves_of d =
+    and_then (each_from 0 move_of) (or_expected expectations.FewMoves (option_and_then (λ ds. if nat_le (count_of ds) 4 then Some ds else None) (as_array d)))
 
 -- the member of an object, under f
-abbrev pub field_of : {A : Type 0} → List ℕ → (Data → Option A) → Data → Option A
-field_of key f d = option_and_then f (get key d)
+abbrev pub field_of : {A : Type 0} → Key → (Data → Result A Misfit) → Data → Result A Misfit
+field_of key f d = and_then (λ e. inside (Of key) (f e)) (or_expected (expectations.With key) (get (name_of key) d))
 
 -- a key that may be absent, and what is meant where it is
-abbrev pub unless_absent : {A : Type 0} → A → (Data → Option A) → Option Data → Option A
-unless_absent default f None = Some default
-unless_absent default f (Some d) = f d
+abbrev pub unless_absent : {A : Type 0} → Key → A → (Data → Result A Misfit) → Option Data → Result A Misfit
+unless_absent key default f None = Ok default
+unless_absent key default f (Some d) = inside (Of key) (f d)
 
--- 0 to 3: bits of the sleep clause and the freeze clause; neither where it is absent
-abbrev pub rules_of : Data → Option Rules
-rules_of d =
-    unless_absent no_rules (λ e. option_and_then (λ n. if nat_le n 3 then Some (rules_of_bits n) else None) (byte_of e)) (get (codes "rules") d)
+-- 0 to 3: bits of the sleep clause and the freeze clause
+abbrev pub rules_numbered : Data → Result Rules Misfit
+rules_numbered d = or_expected expectations.Rules (option_and_then (λ n. if nat_le n 3 then Some (rules_of_bits n) else None) (number_below 256 d))
 
--- 1 to 9,999 turns; 1,000 where it is absent
-abbrev pub limit_of : Data → Option ℕ
-limit_of d =
-    unless_absent 1000 (λ e. option_and_then (λ n. if nat_le 1 n && nat_le n 9999 then Some n else None) (word_of e)) (get (codes "limit") d)
+-- neither where it is absent
+abbrev pub rules_of : Data → Result Rules Misfit
+rules_of d = unless_absent keys.Rules no_rules rules_numbered (get (name_of keys.Rules) d)
 
-abbrev pub member_of : Data → Option MemberSheet
+-- 1 to 9,999 turns
+abbrev pub limit_numbered : Data → Result ℕ Misfit
+limit_numbered d = or_expected expectations.Limit (option_and_then (λ n. if nat_le 1 n && nat_le n 9999 then Some n else None) (number_below 65536 d))
+
+-- 1,000 where it is absent
+abbrev pub limit_of : Data → Result ℕ Misfit
+limit_of d = unless_absent keys.Limit 1000 limit_numbered (get (name_of keys.Limit) d)
+
+abbrev pub member_of : Data → Result MemberSheet Misfit
 member_of d =
-    option_and_then (λ species. option_and_then (λ level. option_and_then (λ dvs. option_and_then (λ exp. option_map
+    and_then (λ species. and_then (λ level. and_then (λ dvs. and_then (λ exp. mapped
     (λ moves. record { species = species; level = level; dvs = dvs; exp = exp; moves = moves })
-    (field_of (codes "moves") moves_of d)) (field_of (codes "exp") (numbers_of word_of 5) d))
-    (field_of (codes "dvs") (numbers_of byte_of 4) d)) (field_of (codes "level") byte_of d))
-    (field_of (codes "species") (λ e. option_and_then species_named (as_str e)) d)
+    (field_of keys.Moves moves_of d)) (field_of keys.Exp (numbers_of word_of 5) d))
+    (field_of keys.Dvs (numbers_of byte_of 4) d)) (field_of keys.Level byte_of d))
+    (field_of keys.Species species_of d)
 
-abbrev pub battle_of : Data → Option BattleData
+abbrev pub battle_of : Data → Result BattleData Misfit
 battle_of d =
-    option_and_then (λ seed. option_and_then (λ one. option_and_then (λ two. option_and_then (λ rules. option_map
+    and_then (λ seed. and_then (λ one. and_then (λ two. and_then (λ rules. mapped
     (λ limit. record { seed = seed; one = one; two = two; rules = rules; limit = limit })
-    (limit_of d)) (rules_of d)) (field_of (codes "two") (list_of member_of) d))
-    (field_of (codes "one") (list_of member_of) d)) (field_of (codes "seed") (numbers_of byte_of 10) d)
+    (limit_of d)) (rules_of d)) (field_of keys.Two (list_of member_of) d))
+    (field_of keys.One (list_of member_of) d)) (field_of keys.Seed (numbers_of byte_of 10) d)
 
 -- a battle, and a list under a key
-abbrev pub sheet_of : {A : Type 0} → List ℕ → (Data → Option A) → Data → Option (BattleData × List A)
-sheet_of key meaning d = option_and_then (λ battle. option_map (λ items. (battle, items)) (field_of key (list_of meaning) d)) (battle_of d)
+abbrev pub sheet_of : {A : Type 0} → Key → (Data → Result A Misfit) → Data → Result (BattleData × List A) Misfit
+sheet_of key meaning d = and_then (λ battle. mapped (λ items. (battle, items)) (field_of key (list_of meaning) d)) (battle_of d)
 
--- the JSON value that the bytes are, if they are text and JSON
-abbrev pub json_of : List ℕ → Option Data
-json_of bytes = if is_utf8 bytes then read bytes else None
+-- the JSON value that the bytes are, or that they are none
+abbrev pub json_of : List ℕ → Result Data JsonFault
+json_of bytes = if is_utf8 bytes then ok_or (read bytes) (no_json bytes) else Err (no_json bytes)
+
+-- what is wrong with the value of an input
+abbrev pub of_value : {A : Type 0} → Result A Misfit → Result A JsonFault
+of_value (Ok x) = Ok x
+of_value (Err m) = Err (Value m)
+
+-- what a JSON input is, by what its value is
+abbrev pub input_of : {A : Type 0} → (Data → Result A Misfit) → List ℕ → Result A JsonFault
+input_of f bytes = and_then (λ d. of_value (f d)) (json_of bytes)

@@ -3,10 +3,18 @@
 //!
 //! - `sheet`: battles, with pairs of choices or submissions to a room
 //! - `calc_sheet`: calculations
+//! - `misfit`: where a value is not as it should be, and what is expected there
+//! - `no_json`: where bytes stop being JSON
+//! - `fault`: why there is no sheet
 #![tactic(auto)]
 
 mod calc_sheet;
+mod fault;
+mod misfit;
+mod no_json;
 mod sheet;
 
 pub use calc_sheet::{CalcSheet, read_calc_sheet};
-pub use sheet::{BattleSheet, Item, Sheet, SheetFault, read_battle, read_sheet, value_in};
+pub use fault::{JsonFault, SheetFault};
+pub use misfit::{EXPECTED_LENGTH, Expected, Key, Misfit, PATH_LENGTH, Path, Step};
+pub use sheet::{BattleSheet, Item, Sheet, read_battle, read_sheet, value_in};

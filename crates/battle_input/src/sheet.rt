@@ -1,16 +1,24 @@
 //! The battle that an input asks for, and what is done in it, as JSON (docs/PROGRAM.md, "Input", "JSON, to the letter").
-ghost use Rattle.std.specs.Prelude.{Option, ◌≡◌, codes, option_and_then, option_map};
+ghost use Rattle.std.specs.Prelude.{IfOk, Result, ◌≡◌};
 ghost use Rattle.serde_json.specs.Data.{Data};
+ghost use Rattle.serde_json.specs.Find.{get};
 ghost use Rattle.serde_json.specs.View.{view};
-ghost use Rattle.battle_input.specs.Sheets.{battle_of, byte_of, json_of, word_of, long_of, numbers_of, pair_of, side_of, submission_of, move_of, moves_of, member_of, list_of, field_of, rules_of, limit_of, sheet_of};
+ghost use Rattle.battle_input.specs.Misfits.{IsShort, mapped, name_of};
+ghost use Rattle.battle_input.specs.Sheets.{battle_of, byte_of, field_of, input_of, json_of, limit_numbered, limit_of, list_of, long_of, member_of, move_name_of, move_of, moves_of, numbers_of, of_value, or_expected, pair_of, rules_numbered, rules_of, sheet_of, side_of, species_of, submission_of, word_of};
 ghost use Rattle.battle_input.specs.SheetViews.{Gives, battle_view, sheet_view};
+ghost use Rattle.battle_input.specs.declared.misfit.Expected.TheVariants as expectations;
+ghost use Rattle.battle_input.specs.declared.misfit.Key.TheVariants as keys;
+ghost use Rattle.battle_input.specs.declared.misfit.Misfit.{Misfit as AMisfit};
 
+use crate::fault::SheetFault;
+use crate::misfit::{Expected, Key, Misfit, Step, behind};
+use crate::no_json::no_json;
 use arrayvec::ArrayVec;
 use gen1_machine::{Rules, Side, TurnLimit};
 use gen1_stats::MemberSpec;
 use gen1_tables::{MoveId, Species};
 use serde_json::Value;
-use std::alloc::Global;
+use std::alloc::{AllocError, Global};
 
 /// A battle that is asked for, before any test of the teams.
 #[derive(Debug, Drop)]
@@ -29,16 +37,7 @@ pub struct Sheet<T> {
     pub items: Vec<T>,
 }
 
-/// Why there is no sheet.
-#[derive(Clone, Copy, Debug, PartialEq, Eq)]
-pub enum SheetFault {
-    /// The value has not the shape that is asked for.
-    Shape,
-    /// Memory was refused.
-    Memory,
-}
-
-/// The JSON value of an input. `Shape` where it is no text, or no JSON.
+/// The JSON value of an input. `Text` where it is no text, or no JSON.
 #[tactic(auto, using(crate::proofs::JsonLemmas::json_some, crate::proofs::JsonLemmas::json_none))]
 pub fn value_in(alloc: Global, input: &[u8]) -> Result<Value, SheetFault>
     ensures { Gives view result (json_of input.now) }
@@ -49,139 +48,240 @@ pub fn value_in(alloc: Global, input: &[u8]) -> Result<Value, SheetFault>
             if error.is_memory() {
                 Err(SheetFault::Memory)
             } else {
-                Err(SheetFault::Shape)
+                Err(SheetFault::Json(no_json(input)))
             }
         }
     }
 }
 
-fn read_byte(value: &Value) -> Option<u8>
-    ensures { result ≡ byte_of (view value.now) }
+fn read_byte(value: &Value) -> Result<u8, Misfit>
+    ensures value { result ≡ byte_of (view value.now) }
+    ensures short { IsShort 0 result }
 {
-    let n = value.as_u64()?;
-    if n < 256 { Some(n as u8) } else { None }
+    match value.as_u64() {
+        Some(n) if n < 256 => Ok(n as u8),
+        _ => Err(Misfit::here(Expected::Byte)),
+    }
 }
 
-fn read_word(value: &Value) -> Option<u16>
-    ensures { result ≡ word_of (view value.now) }
+fn read_word(value: &Value) -> Result<u16, Misfit>
+    ensures value { result ≡ word_of (view value.now) }
+    ensures short { IsShort 0 result }
 {
-    let n = value.as_u64()?;
-    if n < 65536 { Some(n as u16) } else { None }
+    match value.as_u64() {
+        Some(n) if n < 65536 => Ok(n as u16),
+        _ => Err(Misfit::here(Expected::Word)),
+    }
 }
 
-fn read_long(value: &Value) -> Option<u32>
-    ensures { result ≡ long_of (view value.now) }
+fn read_long(value: &Value) -> Result<u32, Misfit>
+    ensures value { result ≡ long_of (view value.now) }
+    ensures short { IsShort 0 result }
 {
-    let n = value.as_u64()?;
-    if n < 4294967296 { Some(n as u32) } else { None }
+    match value.as_u64() {
+        Some(n) if n < 4294967296 => Ok(n as u32),
+        _ => Err(Misfit::here(Expected::Long)),
+    }
 }
 
 #[tactic(auto, using(crate::proofs::Reading::each_of_set, crate::proofs::Reading::each_of_stop, crate::proofs::Reading::each_of_full, crate::proofs::Reading::each_of_start, crate::proofs::Reading::count_of_view))]
-fn read_bytes<const N: usize>(value: &Value) -> Option<[u8; N]>
-    ensures { result ≡ numbers_of byte_of N (view value.now) }
+fn read_bytes<const N: usize>(value: &Value) -> Result<[u8; N], Misfit>
+    ensures value { result ≡ numbers_of byte_of N (view value.now) }
+    ensures short { IsShort 1 result }
 {
-    let items = value.as_array()?;
+    let Some(items) = value.as_array() else {
+        return Err(Misfit::here(Expected::Items(N)));
+    };
     if items.len() != N {
-        return None;
+        return Err(Misfit::here(Expected::Items(N)));
     }
     let mut bytes = [0u8; N];
     for i in 0..N {
-        bytes[i] = read_byte(&items[i])?;
+        match behind(Step::At(i), read_byte(&items[i])) {
+            Ok(byte) => bytes[i] = byte,
+            Err(misfit) => return Err(misfit),
+        }
     }
-    Some(bytes)
+    Ok(bytes)
 }
 
 #[tactic(auto, using(crate::proofs::Reading::each_of_set, crate::proofs::Reading::each_of_stop, crate::proofs::Reading::each_of_full, crate::proofs::Reading::each_of_start, crate::proofs::Reading::count_of_view))]
-fn read_words<const N: usize>(value: &Value) -> Option<[u16; N]>
-    ensures { result ≡ numbers_of word_of N (view value.now) }
+fn read_words<const N: usize>(value: &Value) -> Result<[u16; N], Misfit>
+    ensures value { result ≡ numbers_of word_of N (view value.now) }
+    ensures short { IsShort 1 result }
 {
-    let items = value.as_array()?;
+    let Some(items) = value.as_array() else {
+        return Err(Misfit::here(Expected::Items(N)));
+    };
     if items.len() != N {
-        return None;
+        return Err(Misfit::here(Expected::Items(N)));
     }
     let mut words = [0u16; N];
     for i in 0..N {
-        words[i] = read_word(&items[i])?;
+        match behind(Step::At(i), read_word(&items[i])) {
+            Ok(word) => words[i] = word,
+            Err(misfit) => return Err(misfit),
+        }
     }
-    Some(words)
+    Ok(words)
 }
 
-#[tactic(auto, using(crate::proofs::Reading::both_of_wrong))]
-fn read_pair(value: &Value) -> Option<(u8, u8)>
-    ensures { result ≡ pair_of (view value.now) }
+#[tactic(auto, using(crate::proofs::Reading::both_of_wrong, crate::proofs::Reading::both_of_first))]
+fn read_pair(value: &Value) -> Result<(u8, u8), Misfit>
+    ensures value { result ≡ pair_of (view value.now) }
+    ensures short { IsShort 1 result }
 {
-    let items = value.as_array()?;
+    let Some(items) = value.as_array() else {
+        return Err(Misfit::here(Expected::Items(2)));
+    };
     if items.len() != 2 {
-        return None;
+        return Err(Misfit::here(Expected::Items(2)));
     }
-    let one = read_byte(&items[0])?;
-    let two = read_byte(&items[1])?;
-    Some((one, two))
+    let one = match behind(Step::At(0), read_byte(&items[0])) {
+        Ok(one) => one,
+        Err(misfit) => return Err(misfit),
+    };
+    let two = match behind(Step::At(1), read_byte(&items[1])) {
+        Ok(two) => two,
+        Err(misfit) => return Err(misfit),
+    };
+    Ok((one, two))
 }
 
-fn read_side(value: &Value) -> Option<Side>
-    ensures { result ≡ side_of (view value.now) }
+fn read_side(value: &Value) -> Result<Side, Misfit>
+    ensures value { result ≡ side_of (view value.now) }
+    ensures short { IsShort 0 result }
 {
-    match read_byte(value)? {
-        1 => Some(Side::One),
-        2 => Some(Side::Two),
-        _ => None,
+    match value.as_u64() {
+        Some(1) => Ok(Side::One),
+        Some(2) => Ok(Side::Two),
+        _ => Err(Misfit::here(Expected::Side)),
     }
 }
 
-#[tactic(auto, using(crate::proofs::Reading::three_of_wrong))]
-fn read_submission(value: &Value) -> Option<(Side, u32, u8)>
-    ensures { result ≡ submission_of (view value.now) }
+#[tactic(auto, using(crate::proofs::Reading::three_of_wrong, crate::proofs::Reading::three_of_first, crate::proofs::Reading::three_of_second))]
+fn read_submission(value: &Value) -> Result<(Side, u32, u8), Misfit>
+    ensures value { result ≡ submission_of (view value.now) }
+    ensures short { IsShort 1 result }
 {
-    let items = value.as_array()?;
+    let Some(items) = value.as_array() else {
+        return Err(Misfit::here(Expected::Items(3)));
+    };
     if items.len() != 3 {
-        return None;
+        return Err(Misfit::here(Expected::Items(3)));
     }
-    let side = read_side(&items[0])?;
-    let number = read_long(&items[1])?;
-    let choice = read_byte(&items[2])?;
-    Some((side, number, choice))
+    let side = match behind(Step::At(0), read_side(&items[0])) {
+        Ok(side) => side,
+        Err(misfit) => return Err(misfit),
+    };
+    let number = match behind(Step::At(1), read_long(&items[1])) {
+        Ok(number) => number,
+        Err(misfit) => return Err(misfit),
+    };
+    let choice = match behind(Step::At(2), read_byte(&items[2])) {
+        Ok(choice) => choice,
+        Err(misfit) => return Err(misfit),
+    };
+    Ok((side, number, choice))
 }
 
-#[tactic(auto, using(crate::proofs::Reading::both_of_wrong))]
-fn read_move(value: &Value) -> Option<(MoveId, u8)>
-    ensures { result ≡ move_of (view value.now) }
+fn read_species(value: &Value) -> Result<Species, Misfit>
+    ensures value { result ≡ species_of (view value.now) }
+    ensures short { IsShort 0 result }
 {
-    let items = value.as_array()?;
-    if items.len() != 2 {
-        return None;
+    let Some(name) = value.as_str() else {
+        return Err(Misfit::here(Expected::Species));
+    };
+    match Species::from_name(name) {
+        Some(species) => Ok(species),
+        None => Err(Misfit::here(Expected::Species)),
     }
-    let name = items[0].as_str()?;
-    let id = MoveId::from_name(name)?;
-    let ups = read_byte(&items[1])?;
-    Some((id, ups))
+}
+
+pub(crate) fn read_move_name(value: &Value) -> Result<MoveId, Misfit>
+    ensures value { result ≡ move_name_of (view value.now) }
+    ensures short { IsShort 0 result }
+{
+    let Some(name) = value.as_str() else {
+        return Err(Misfit::here(Expected::Move));
+    };
+    match MoveId::from_name(name) {
+        Some(id) => Ok(id),
+        None => Err(Misfit::here(Expected::Move)),
+    }
+}
+
+#[tactic(auto, using(crate::proofs::Reading::both_of_wrong, crate::proofs::Reading::both_of_first))]
+fn read_move(value: &Value) -> Result<(MoveId, u8), Misfit>
+    ensures value { result ≡ move_of (view value.now) }
+    ensures short { IsShort 1 result }
+{
+    let Some(items) = value.as_array() else {
+        return Err(Misfit::here(Expected::Items(2)));
+    };
+    if items.len() != 2 {
+        return Err(Misfit::here(Expected::Items(2)));
+    }
+    let id = match behind(Step::At(0), read_move_name(&items[0])) {
+        Ok(id) => id,
+        Err(misfit) => return Err(misfit),
+    };
+    let ups = match behind(Step::At(1), read_byte(&items[1])) {
+        Ok(ups) => ups,
+        Err(misfit) => return Err(misfit),
+    };
+    Ok((id, ups))
 }
 
 #[tactic(auto, using(crate::proofs::Reading::each_of_more, crate::proofs::Reading::each_of_stop, crate::proofs::Reading::each_of_end, crate::proofs::Reading::each_of_start, crate::proofs::Reading::count_of_view))]
-fn read_moves(value: &Value) -> Option<ArrayVec<(MoveId, u8), 4>>
-    ensures { option_map (λ v. v.items) result ≡ moves_of (view value.now) }
+fn read_moves(value: &Value) -> Result<ArrayVec<(MoveId, u8), 4>, Misfit>
+    ensures value { mapped (λ v. v.items) result ≡ moves_of (view value.now) }
+    ensures short { IsShort 2 result }
 {
-    let items = value.as_array()?;
+    let Some(items) = value.as_array() else {
+        return Err(Misfit::here(Expected::FewMoves));
+    };
     if items.len() > 4 {
-        return None;
+        return Err(Misfit::here(Expected::FewMoves));
     }
     let mut moves = ArrayVec::new();
-    for item in items {
-        moves.push(read_move(item)?);
+    for (number, item) in items.iter().enumerate() {
+        match behind(Step::At(number), read_move(item)) {
+            Ok(chosen) => moves.push(chosen),
+            Err(misfit) => return Err(misfit),
+        }
     }
-    Some(moves)
+    Ok(moves)
+}
+
+/// The value under a key.
+pub(crate) fn value_at(value: &Value, key: Key) -> Result<&Value, Misfit>
+    ensures value { mapped (λ v. view v.now) result
+        ≡ or_expected (expectations.With key) (get (name_of key) (view value.now)) }
+    ensures short { IsShort 0 result }
+{
+    match value.get(key.name()) {
+        Some(found) => Ok(found),
+        None => Err(Misfit::here(Expected::With(key))),
+    }
 }
 
 /// The member that a JSON value stands for, before any test of its team.
-pub fn read_member(value: &Value) -> Option<MemberSpec>
-    ensures { result ≡ member_of (view value.now) }
+pub fn read_member(value: &Value) -> Result<MemberSpec, Misfit>
+    ensures value { result ≡ member_of (view value.now) }
+    ensures short { IsShort 3 result }
 {
-    let species = Species::from_name(value.get("species")?.as_str()?)?;
-    let level = read_byte(value.get("level")?)?;
-    let dvs = read_bytes::<4>(value.get("dvs")?)?;
-    let exp = read_words::<5>(value.get("exp")?)?;
-    let moves = read_moves(value.get("moves")?)?;
-    Some(MemberSpec {
+    let species = value_at(value, Key::Species)?;
+    let species = behind(Step::Of(Key::Species), read_species(species))?;
+    let level = value_at(value, Key::Level)?;
+    let level = behind(Step::Of(Key::Level), read_byte(level))?;
+    let dvs = value_at(value, Key::Dvs)?;
+    let dvs = behind(Step::Of(Key::Dvs), read_bytes::<4>(dvs))?;
+    let exp = value_at(value, Key::Exp)?;
+    let exp = behind(Step::Of(Key::Exp), read_words::<5>(exp))?;
+    let moves = value_at(value, Key::Moves)?;
+    let moves = behind(Step::Of(Key::Moves), read_moves(moves))?;
+    Ok(MemberSpec {
         species,
         level,
         dvs,
@@ -192,18 +292,19 @@ pub fn read_member(value: &Value) -> Option<MemberSpec>
 
 /// What stands in a list of an input.
 pub trait Item: Sized {
-    // What a value stands for, if it stands for one.
-    ghost meaning: { Data → Option Self };
+    // What a value stands for, or where it is not as it should be.
+    ghost meaning: { Data → Result Self AMisfit };
 
-    /// The item that a value stands for, if it stands for one.
-    fn read(value: &Value) -> Option<Self>
-        ensures { result ≡ meaning (view value.now) };
+    /// The item that a value stands for. A misfit in it has a way of three steps at most.
+    fn read(value: &Value) -> Result<Self, Misfit>
+        ensures value { result ≡ meaning (view value.now) }
+        ensures short { IsShort 3 result };
 }
 
 impl Item for MemberSpec {
     ghost meaning = { member_of };
 
-    fn read(value: &Value) -> Option<MemberSpec> {
+    fn read(value: &Value) -> Result<MemberSpec, Misfit> {
         read_member(value)
     }
 }
@@ -212,7 +313,7 @@ impl Item for MemberSpec {
 impl Item for (u8, u8) {
     ghost meaning = { pair_of };
 
-    fn read(value: &Value) -> Option<(u8, u8)> {
+    fn read(value: &Value) -> Result<(u8, u8), Misfit> {
         read_pair(value)
     }
 }
@@ -221,85 +322,116 @@ impl Item for (u8, u8) {
 impl Item for (Side, u32, u8) {
     ghost meaning = { submission_of };
 
-    fn read(value: &Value) -> Option<(Side, u32, u8)> {
+    fn read(value: &Value) -> Result<(Side, u32, u8), Misfit> {
         read_submission(value)
     }
 }
 
 #[tactic(auto, using(crate::proofs::Reading::each_of_more, crate::proofs::Reading::each_of_stop, crate::proofs::Reading::each_of_end, crate::proofs::Reading::each_of_start, crate::proofs::Reading::count_of_view))]
-fn read_list<T: Item + Drop>(alloc: Global, value: &Value) -> Result<Vec<T>, SheetFault>
-    ensures { Gives (λ v. v.items) result (list_of T.meaning (view value.now)) }
+fn read_list<T: Item + Drop>(
+    alloc: Global,
+    value: &Value,
+) -> Result<Result<Vec<T>, Misfit>, AllocError>
+    ensures value { IfOk result
+        (λ read. mapped (λ v. v.items) read ≡ list_of T.meaning (view value.now)) }
+    ensures short { IfOk result (λ read. IsShort 4 read) }
 {
     let Some(values) = value.as_array() else {
-        return Err(SheetFault::Shape);
+        return Ok(Err(Misfit::here(Expected::List)));
     };
     let mut items = Vec::new(alloc);
-    for value in values {
-        let Some(item) = T::read(value) else {
-            return Err(SheetFault::Shape);
-        };
-        if items.push(item).is_err() {
-            return Err(SheetFault::Memory);
+    for (number, value) in values.iter().enumerate() {
+        match behind(Step::At(number), T::read(value)) {
+            Ok(item) => items.push(item)?,
+            Err(misfit) => return Ok(Err(misfit)),
         }
     }
-    Ok(items)
+    Ok(Ok(items))
 }
 
-/// The list that stands under a key. `Shape` where there is none, or a value in it is no such item.
+/// The list that stands under a key, or where it is not as it should be.
+///
+/// # Errors
+///
+/// Memory was refused.
 pub fn read_list_at<T: Item + Drop>(
     alloc: Global,
     value: &Value,
-    key: &str,
-) -> Result<Vec<T>, SheetFault>
-    ensures { Gives (λ v. v.items) result (field_of key.now (list_of T.meaning) (view value.now)) }
+    key: Key,
+) -> Result<Result<Vec<T>, Misfit>, AllocError>
+    ensures value { IfOk result
+        (λ read. mapped (λ v. v.items) read
+        ≡ field_of key (list_of T.meaning) (view value.now)) }
+    ensures short { IfOk result (λ read. IsShort 5 read) }
 {
-    match value.get(key) {
-        None => Err(SheetFault::Shape),
-        Some(list) => read_list(alloc, list),
+    match value_at(value, key) {
+        Ok(list) => Ok(behind(Step::Of(key), read_list(alloc, list)?)),
+        Err(misfit) => Ok(Err(misfit)),
     }
 }
 
-fn read_seed(value: &Value) -> Option<[u8; 10]>
-    ensures { result ≡ field_of (codes "seed") (numbers_of byte_of 10) (view value.now) }
+fn read_seed(value: &Value) -> Result<[u8; 10], Misfit>
+    ensures { result ≡ field_of keys.Seed (numbers_of byte_of 10) (view value.now) }
 {
-    read_bytes::<10>(value.get("seed")?)
+    let seed = value_at(value, Key::Seed)?;
+    behind(Step::Of(Key::Seed), read_bytes::<10>(seed))
 }
 
-fn read_rules(value: &Value) -> Option<Rules>
+fn read_rules(value: &Value) -> Result<Rules, Misfit>
     ensures { result ≡ rules_of (view value.now) }
 {
-    match value.get("rules") {
-        None => Some(Rules::default()),
-        Some(rules) => Rules::new(read_byte(rules)?),
+    match value.get(Key::Rules.name()) {
+        None => Ok(Rules::default()),
+        Some(rules) => behind(Step::Of(Key::Rules), read_rules_number(rules)),
     }
 }
 
-fn read_limit(value: &Value) -> Option<TurnLimit>
+fn read_rules_number(value: &Value) -> Result<Rules, Misfit>
+    ensures value { result ≡ rules_numbered (view value.now) }
+    ensures short { IsShort 0 result }
+{
+    let Ok(number) = read_byte(value) else {
+        return Err(Misfit::here(Expected::Rules));
+    };
+    match Rules::new(number) {
+        Some(rules) => Ok(rules),
+        None => Err(Misfit::here(Expected::Rules)),
+    }
+}
+
+fn read_limit(value: &Value) -> Result<TurnLimit, Misfit>
     ensures { result ≡ limit_of (view value.now) }
 {
-    match value.get("limit") {
-        None => Some(TurnLimit::default()),
-        Some(limit) => TurnLimit::new(read_word(limit)?),
+    match value.get(Key::Limit.name()) {
+        None => Ok(TurnLimit::default()),
+        Some(limit) => behind(Step::Of(Key::Limit), read_limit_number(limit)),
     }
 }
 
-/// The battle that a JSON value asks for. `Shape` where it has not that shape: a key that is asked for
-/// is missing, a list is of another length, a number is no whole one or out of range, or a name is
+fn read_limit_number(value: &Value) -> Result<TurnLimit, Misfit>
+    ensures value { result ≡ limit_numbered (view value.now) }
+    ensures short { IsShort 0 result }
+{
+    let Ok(number) = read_word(value) else {
+        return Err(Misfit::here(Expected::Limit));
+    };
+    match TurnLimit::new(number) {
+        Some(limit) => Ok(limit),
+        None => Err(Misfit::here(Expected::Limit)),
+    }
+}
+
+/// The battle that a JSON value asks for, or the first place at which it is not as it should be: a key that is
+/// asked for is missing, a list is of another length, a number is no whole one or out of range, or a name is
 /// unknown.
 pub fn read_battle(alloc: Global, value: &Value) -> Result<BattleSheet, SheetFault>
-    ensures { Gives battle_view result (battle_of (view value.now)) }
+    ensures { Gives battle_view result (of_value (battle_of (view value.now))) }
 {
-    let Some(seed) = read_seed(value) else {
-        return Err(SheetFault::Shape);
-    };
-    let one = read_list_at(alloc, value, "one")?;
-    let two = read_list_at(alloc, value, "two")?;
-    let Some(rules) = read_rules(value) else {
-        return Err(SheetFault::Shape);
-    };
-    let Some(limit) = read_limit(value) else {
-        return Err(SheetFault::Shape);
-    };
+    let seed = read_seed(value)?;
+    let one = read_list_at(alloc, value, Key::One)??;
+    let two = read_list_at(alloc, value, Key::Two)??;
+    let rules = read_rules(value)?;
+    let limit = read_limit(value)?;
     Ok(BattleSheet {
         seed,
         one,
@@ -310,16 +442,16 @@ pub fn read_battle(alloc: Global, value: &Value) -> Result<BattleSheet, SheetFau
 }
 
 /// The sheet of an input that is JSON, with the list that stands under a key.
+#[tactic(auto, using(crate::proofs::Reading::no_battle))]
 pub fn read_sheet<T: Item + Drop>(
     alloc: Global,
     input: &[u8],
-    key: &str,
+    key: Key,
 ) -> Result<Sheet<T>, SheetFault>
-    ensures { Gives sheet_view result
-        (option_and_then (sheet_of key.now T.meaning) (json_of input.now)) }
+    ensures { Gives sheet_view result (input_of (sheet_of key T.meaning) input.now) }
 {
     let value = value_in(alloc, input)?;
     let battle = read_battle(alloc, &value)?;
-    let items = read_list_at(alloc, &value, key)?;
+    let items = read_list_at(alloc, &value, key)??;
     Ok(Sheet { battle, items })
 }

@@ -34,7 +34,7 @@ fn main(rt: HostRuntime) -> ExitCode {
                 &mut err,
             )
         }
-        Err(_) => report(ToolFault::Memory, &mut err),
+        Err(_) => report(&ToolFault::Memory, false, &mut err),
     };
     ExitCode::from(status)
 }

@@ -1,7 +1,7 @@
 -- How what is shown, beside what is known of the action, goes through phases. What gen1_layout's Chain says of a frame holds of
 -- `knowing k g`: a change of what is known is one of that frame, by computation.
 use Rattle.std.proofs.Common.{◌≡◌}
-use Rattle.gen1_layout.proofs.Words.{Bool, Event, Frame, List, Parts, Phase, Progress, Side, drawn_stops, false, refl, still, true, ℕ, ◌▸◌}
+use Rattle.gen1_layout.proofs.Words.{Bool, Frame, Parts, Phase, Progress, Side, Telling, drawn_stops, false, refl, still, true, ℕ, ◌▸◌}
 use Rattle.gen1_machine.specs.Progress.{on_action, unless_stopped}
 use Rattle.gen1_machine.specs.Action.{begin}
 use Rattle.gen1_layout.specs.Shows.{Does}
@@ -11,33 +11,33 @@ use Rattle.gen1_action.specs.Knowing.{begun, knowing, DoesKnowing, ShowsKnown, S
 
 module _ {A : Type 0} {byte : A → ℕ} {next : A → A} {width : ℕ} {origin : A} where
   -- what code without draws does, beside a generator
-  pub does_still : {k k' : Known} (g : Frame) {parts parts' : Parts} {events events' : List Event} {now : A} {b : Bool} {p : Progress} (f : Phase)
+  pub does_still : {k k' : Known} (g : Frame) {parts parts' : Parts} {events events' : Telling} {now : A} {b : Bool} {p : Progress} (f : Phase)
       → DoesKnowing parts events k parts' events' k' b f → ShowsKnown byte next width origin k g parts events now false p
       → ShowsKnown byte next width origin k' g parts' events' now b (f p)
   does_still {k' = k'} g {p = p} f does h = still {g' = knowing k' g} h (does (record g { drawn = p.drawn }) p h.shows) refl
 
   -- the same of code that comes to know nothing
-  pub plain_still : (k : Known) (g : Frame) {parts parts' : Parts} {events events' : List Event} {now : A} {b : Bool} {p : Progress} (f : Phase)
+  pub plain_still : (k : Known) (g : Frame) {parts parts' : Parts} {events events' : Telling} {now : A} {b : Bool} {p : Progress} (f : Phase)
       → Does parts events parts' events' b f → ShowsKnown byte next width origin k g parts events now false p
       → ShowsKnown byte next width origin k g parts' events' now b (f p)
   plain_still k g f does h = does_still {k = k} {k' = k} g f (λ x p. does (knowing k x) p) h
 
   -- what is known lasts
-  pub over : (k : Known) (g : Frame) {parts : Parts} {events : List Event} {now : A} {b : Bool} {p : Progress}
+  pub over : (k : Known) (g : Frame) {parts : Parts} {events : Telling} {now : A} {b : Bool} {p : Progress}
       → ShowsKnown byte next width origin k g parts events now b p → ShowsOver byte next width origin k g parts events now b p
   over k g a = (k.broke, a)
 
-  pub over_stops : (k : Known) (g : Frame) {parts : Parts} {events : List Event} {now : A} {p : Progress} (f h : Phase)
+  pub over_stops : (k : Known) (g : Frame) {parts : Parts} {events : Telling} {now : A} {p : Progress} (f h : Phase)
       → ShowsOver byte next width origin k g parts events now true (f p) → ShowsOver byte next width origin k g parts events now true ((f ▸ h) p)
   over_stops k g f h a = (a.0, drawn_stops f h a.1)
 
   -- what is left where nobody asks what is known
-  pub leaves : {k : Known} (g : Frame) {parts : Parts} {events : List Event} {now : A} {b : Bool} {p : Progress}
+  pub leaves : {k : Known} (g : Frame) {parts : Parts} {events : Telling} {now : A} {b : Bool} {p : Progress}
       → ShowsKnown byte next width origin k g parts events now b p → Leaves byte next width origin g parts events now p
   leaves g h = record { within = h.shows.within; written = h.shows.written; stands = h.stands }
 
   -- an action begins
-  pub begun_so : (k k' : Known) (g : Frame) {parts : Parts} {events : List Event} {now : A} {b : Bool} {p : Progress} (s : Side) → k' ≡ begun s k
+  pub begun_so : (k k' : Known) (g : Frame) {parts : Parts} {events : Telling} {now : A} {b : Bool} {p : Progress} (s : Side) → k' ≡ begun s k
       → ShowsOver byte next width origin k g parts events now b p → ShowsKnown byte next width origin k' g parts events now b (begin s p)
   unfolding begin on_action
   begun_so k k' g s is (broke, a) =

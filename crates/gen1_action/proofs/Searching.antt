@@ -1,6 +1,6 @@
 -- How what is shown goes through draws until one meets a test.
 use Rattle.std.proofs.Common.{◌+◌, ◌≡◌}
-use Rattle.gen1_layout.proofs.Words.{Bool, Event, Frame, List, None, Option, Parts, Phase, Progress, ShowsDrawn, Some, ap, false, refl, sym, ℕ, ◌∙◌}
+use Rattle.gen1_layout.proofs.Words.{Bool, Frame, None, Option, Parts, Phase, Progress, ShowsDrawn, Some, Telling, ap, false, refl, sym, ℕ, ◌∙◌}
 use Rattle.gen1_rolls.specs.Draws.{FindsDraw, FindsNone}
 use Rattle.gen1_rolls.specs.Streams.{Stream, byte_at, first, span}
 use Rattle.gen1_rolls.proofs.Standing.{found_then, none_then, stands_there}
@@ -14,7 +14,7 @@ unfolding draw_until
 searched test f p o e =
     ap (λ (x : Option ℕ). elim x as (λ _. Progress) [ Some k ↦ f (byte_at p.stream k) (record p { drawn = k + 1 }) | None ↦ record p { drawn = p.drawn + span p.stream } ]) e
 
-module _ {A : Type 0} {byte : A → ℕ} {next : A → A} {width : ℕ} {origin : A} {g : Frame} {parts : Parts} {events : List Event} {old new : A} {p : Progress} where
+module _ {A : Type 0} {byte : A → ℕ} {next : A → A} {width : ℕ} {origin : A} {g : Frame} {parts : Parts} {events : Telling} {old new : A} {p : Progress} where
   -- a byte was found, and what it leads to begins behind it
   pub found_by_drawing : {found : ℕ} (test : ℕ → Bool) (f : ℕ → Phase)
       → ShowsDrawn byte next width origin g parts events old false p → FindsDraw byte next width test old found new
@@ -32,7 +32,7 @@ module _ {A : Type 0} {byte : A → ℕ} {next : A → A} {width : ℕ} {origin 
         searched test f p (Some m) here ∙ ap (λ (b : ℕ). f b (record p { drawn = m + 1 })) (sym bytes),
       ))
 
-  pub drawn_until : {parts' : Parts} {events' : List Event} {b' : Bool} {found : ℕ} (test : ℕ → Bool) (f : ℕ → Phase)
+  pub drawn_until : {parts' : Parts} {events' : Telling} {b' : Bool} {found : ℕ} (test : ℕ → Bool) (f : ℕ → Phase)
       → ShowsDrawn byte next width origin g parts events old false p → FindsDraw byte next width test old found new
       → ((q : Progress) → ShowsDrawn byte next width origin g parts events new false q → ShowsDrawn byte next width origin g parts' events' new b' (f found q))
       → ShowsDrawn byte next width origin g parts' events' new b' (draw_until test f p)

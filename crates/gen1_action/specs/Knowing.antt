@@ -2,7 +2,7 @@
 -- that comes to know something is said by its phase, as every other: from what is shown before, beside what was known, follows
 -- what is shown after, beside what is known then.
 use Rattle.std.specs.Prelude.{◌≡◌}
-use Rattle.gen1_layout.specs.Words.{Bool, Event, Frame, List, None, Phase, Progress, Shows, ShowsDrawn, Side, false, ℕ}
+use Rattle.gen1_layout.specs.Words.{Bool, Frame, None, Phase, Progress, Shows, ShowsDrawn, Side, Telling, false, ℕ}
 use Rattle.gen1_machine.specs.declared.side.Side.TheVariants.{One}
 use Rattle.gen1_machine.specs.Progress.{Action}
 use Rattle.gen1_layout.specs.Parts.{Parts}
@@ -47,15 +47,15 @@ abbrev pub knowing : Known → Frame → Frame
 knowing k g = record g { skips = k.skips; action = action_of k }
 
 -- code with no draws, from these parts, events and knowledge to those, does what a phase does
-abbrev pub DoesKnowing : Parts → List Event → Known → Parts → List Event → Known → Bool → Phase → Type 0
+abbrev pub DoesKnowing : Parts → Telling → Known → Parts → Telling → Known → Bool → Phase → Type 0
 DoesKnowing parts events k parts' events' k' stopped phase =
     (g : Frame) (p : Progress) → Shows (knowing k g) parts events false p → Shows (knowing k' g) parts' events' stopped (phase p)
 
 -- code with draws, whatever generator it was handed
-abbrev pub ShowsKnown : {A : Type 0} → (A → ℕ) → (A → A) → ℕ → A → Known → Frame → Parts → List Event → A → Bool → Progress → Type 0
+abbrev pub ShowsKnown : {A : Type 0} → (A → ℕ) → (A → A) → ℕ → A → Known → Frame → Parts → Telling → A → Bool → Progress → Type 0
 ShowsKnown byte next width origin k g parts events now stopped p = ShowsDrawn byte next width origin (knowing k g) parts events now stopped p
 
-abbrev pub DoesKnowingDrawing : {A : Type 0} → (A → ℕ) → (A → A) → ℕ → Parts → List Event → A → Known → Parts → List Event → A → Known → Bool → Phase → Type 0
+abbrev pub DoesKnowingDrawing : {A : Type 0} → (A → ℕ) → (A → A) → ℕ → Parts → Telling → A → Known → Parts → Telling → A → Known → Bool → Phase → Type 0
 DoesKnowingDrawing {A = A} byte next width parts events old k parts' events' new k' stopped phase =
     (origin : A) (g : Frame) (p : Progress) → ShowsKnown byte next width origin k g parts events old false p
     → ShowsKnown byte next width origin k' g parts' events' new stopped (phase p)
@@ -64,7 +64,7 @@ DoesKnowingDrawing {A = A} byte next width parts events old k parts' events' new
 abbrev pub with_broke : Bool → Known → Known
 with_broke broke k = record k { broke = broke }
 
-abbrev pub ShowsOver : {A : Type 0} → (A → ℕ) → (A → A) → ℕ → A → Known → Frame → Parts → List Event → A → Bool → Progress → Type 0
+abbrev pub ShowsOver : {A : Type 0} → (A → ℕ) → (A → A) → ℕ → A → Known → Frame → Parts → Telling → A → Bool → Progress → Type 0
 ShowsOver byte next width origin k g parts events now stopped p =
     (broke : Bool) × ShowsKnown byte next width origin (with_broke broke k) g parts events now stopped p
 

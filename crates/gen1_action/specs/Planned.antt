@@ -1,7 +1,7 @@
 -- What operations show for a side that plans a move: which move it is about to use, or is using, so that what the move begins
 -- is explained by it (gen1_machine, `Plans.antt`). What they ask for is a premise, which their callers hand on.
 use Rattle.std.specs.Prelude.{◌≡◌}
-use Rattle.gen1_layout.specs.Words.{Bool, Event, Frame, List, Phase, Progress, Side, false, ℕ}
+use Rattle.gen1_layout.specs.Words.{Bool, Frame, Phase, Progress, Side, Telling, false, ℕ}
 use Rattle.gen1_tables.specs.declared.effect.Effect.{Effect}
 use Rattle.gen1_machine.specs.declared.picks.Pick.{Pick}
 use Rattle.gen1_machine.specs.declared.picks.Pick.TheVariants.{Use}
@@ -27,20 +27,20 @@ Before (Use used) terms plan p = Follows terms plan p × (p.action.letting_go �
 Before _ terms plan p = Follows terms plan p
 
 -- code does what a phase does under the rules of the battle
-abbrev pub DoesUnder : {A : Type 0} → (A → ℕ) → (A → A) → ℕ → Parts → List Event → A → Known → Parts → List Event → A → Known → Bool → (Ruling → Phase) → Type 0
+abbrev pub DoesUnder : {A : Type 0} → (A → ℕ) → (A → A) → ℕ → Parts → Telling → A → Known → Parts → Telling → A → Known → Bool → (Ruling → Phase) → Type 0
 DoesUnder {A = A} byte next width parts events old k parts' events' new k' stopped phase =
     (origin : A) (g : Frame) (p : Progress) → ShowsKnown byte next width origin k g parts events old false p
     → ShowsKnown byte next width origin k' g parts' events' new stopped (phase (ruling_of g.setting.terms) p)
 
 -- the same for a side that is using a move with this effect
-abbrev pub DoesAt : {A : Type 0} → (A → ℕ) → (A → A) → ℕ → Side → Effect → Parts → List Event → A → Known → Parts → List Event → A → Known → Bool → (Ruling → Phase) → Type 0
+abbrev pub DoesAt : {A : Type 0} → (A → ℕ) → (A → A) → ℕ → Side → Effect → Parts → Telling → A → Known → Parts → Telling → A → Known → Bool → (Ruling → Phase) → Type 0
 DoesAt {A = A} byte next width side effect parts events old k parts' events' new k' stopped phase =
     (origin : A) (g : Frame) (p : Progress) (plan : Side → Plan) → plan side ≡ Doing effect → Follows g.setting.terms plan p
     → ShowsKnown byte next width origin k g parts events old false p
     → ShowsKnown byte next width origin k' g parts' events' new stopped (phase (ruling_of g.setting.terms) p)
 
 -- the same for a side whose pick is about to take up such a move
-abbrev pub DoesTaking : {A : Type 0} → (A → ℕ) → (A → A) → ℕ → Side → Pick → Effect → Parts → List Event → A → Known → Parts → List Event → A → Known → Bool → (Ruling → Phase) → Type 0
+abbrev pub DoesTaking : {A : Type 0} → (A → ℕ) → (A → A) → ℕ → Side → Pick → Effect → Parts → Telling → A → Known → Parts → Telling → A → Known → Bool → (Ruling → Phase) → Type 0
 DoesTaking {A = A} byte next width side pick effect parts events old k parts' events' new k' stopped phase =
     (origin : A) (g : Frame) (p : Progress) (plan : Side → Plan) → Takes pick effect (plan side) → Before pick g.setting.terms plan p
     → ShowsKnown byte next width origin k g parts events old false p

@@ -1,5 +1,5 @@
 //! The hit test of an action, and how a miss is told (docs/MECHANICS.md, "Hit test", "Action").
-ghost use Rattle.gen1_layout.specs.Words.{Adds, AddsAtMost, AddsNone, Does, Event, HasRoom, List, Reads, active_in, false, move_at, true};
+ghost use Rattle.gen1_layout.specs.Words.{AddsAtMost, AddsNone, Does, Event, HasRoom, List, Reads, Told, active_in, false, move_at, true};
 ghost use Rattle.std.specs.Prelude.{if◌then◌else◌, ◌≡◌};
 ghost use Rattle.gen1_machine.specs.Moves.{accuracy_byte};
 ghost use Rattle.gen1_machine.specs.HitTest.{hit_or_miss, miss_event, must_hit, note_miss};
@@ -7,9 +7,10 @@ ghost use Rattle.gen1_action.specs.Knowing.{DoesKnowingDrawing, IsUncounted};
 
 use crate::Known;
 use crate::immunity::is_immune;
+use gen1_events::EventSink;
 use gen1_hits::hit_test;
 use gen1_layout::Packed;
-use gen1_machine::{Event, EventList, Side};
+use gen1_machine::{Event, Side};
 use gen1_rolls::Rolls;
 use gen1_tables::MoveId;
 
@@ -25,8 +26,8 @@ pub fn hit_or_miss<R: Rolls>(
     random: &mut R,
 )
     ensures shown { (events : List Event)
-        → DoesKnowingDrawing R.byte R.next R.SPAN battle.old events random.old known.old battle.new
-        events random.new known.new false (hit_or_miss side (move_at id)) }
+        → DoesKnowingDrawing R.byte R.next R.SPAN battle.old (Told events) random.old known.old battle.new
+        (Told events) random.new known.new false (hit_or_miss side (move_at id)) }
     ensures counts { IsUncounted known.old → IsUncounted known.new }
 {
     let base = base_of(battle, side, id, known.going_on);
@@ -37,21 +38,21 @@ pub fn hit_or_miss<R: Rolls>(
 
 /// The same, as a test whose miss ends the action: a miss is told, and `true` answered (docs/MECHANICS.md, "Early effects",
 /// "Late effects"). One event is written at most, and none where it hits; a place in `events` is to be free for it.
-pub fn must_hit<R: Rolls>(
+pub fn must_hit<R: Rolls, S: EventSink>(
     battle: &mut Packed,
     side: Side,
     id: MoveId,
     known: &mut Known,
     random: &mut R,
-    events: &mut EventList,
+    events: &mut S,
 ) -> bool
-    requires room { HasRoom 1 events.old }
-    ensures shown { DoesKnowingDrawing R.byte R.next R.SPAN battle.old events.old.items random.old
-        known.old battle.new events.new.items random.new known.new result
+    requires room { HasRoom S.room 1 events.old }
+    ensures shown { DoesKnowingDrawing R.byte R.next R.SPAN battle.old (S.tells events.old) random.old
+        known.old battle.new (S.tells events.new) random.new known.new result
         (must_hit side (move_at id)) }
     ensures counts { IsUncounted known.old → IsUncounted known.new }
-    ensures room { AddsAtMost 1 events.old events.new }
-    ensures quiet { result ≡ false → AddsNone events.old events.new }
+    ensures room { AddsAtMost S.room 1 events.old events.new }
+    ensures quiet { result ≡ false → AddsNone S.room events.old events.new }
 {
     hit_or_miss(battle, side, id, known, random);
     if !known.missed {
@@ -63,11 +64,11 @@ pub fn must_hit<R: Rolls>(
 
 /// Tells of a miss of `side`: `Immune` of the foe, where a type row of 0 has the move's type and a type of the foe, else
 /// `Miss` of the user (docs/MECHANICS.md, "Action", step 9). A place in `events` is to be free for it. Nothing else changes.
-pub fn note_miss(battle: &Packed, side: Side, id: MoveId, events: &mut EventList)
-    requires room { HasRoom 1 events.old }
-    ensures shown { Does battle.now events.old.items battle.now events.new.items false
+pub fn note_miss<S: EventSink>(battle: &Packed, side: Side, id: MoveId, events: &mut S)
+    requires room { HasRoom S.room 1 events.old }
+    ensures shown { Does battle.now (S.tells events.old) battle.now (S.tells events.new) false
         (note_miss side (move_at id)) }
-    ensures room { Adds 1 events.old events.new }
+    ensures room { AddsAtMost S.room 1 events.old events.new }
 {
     events.push(miss_event(battle, side, id));
 }

@@ -1,28 +1,34 @@
 //! Confusion that begins (docs/MECHANICS.md, "Early effects").
-ghost use Rattle.gen1_layout.specs.Words.{Adds, Does, DoesDrawing, HasRoom, false};
+ghost use Rattle.gen1_layout.specs.Words.{AddsAtMost, Does, DoesDrawing, HasRoom, false};
 ghost use Rattle.gen1_machine.specs.EarlyEffects.{confuse, confused_by};
 
+use gen1_events::EventSink;
 use gen1_layout::Packed;
-use gen1_machine::{Event, EventList, Side, Volatile};
+use gen1_machine::{Event, Side, Volatile};
 use gen1_rolls::Rolls;
 
 /// Confuses the member of `side` that is out, for the two to five turns of one draw, whether or not it is confused already
 /// (docs/MECHANICS.md, "Early effects"). A place in `events` is to be free for the `Start`; nothing else changes.
-pub fn confuse<R: Rolls>(battle: &mut Packed, side: Side, random: &mut R, events: &mut EventList)
-    requires room { HasRoom 1 events.old }
-    ensures shown { DoesDrawing R.byte R.next R.SPAN battle.old events.old.items random.old
-        battle.new events.new.items random.new false (confuse side) }
-    ensures room { Adds 1 events.old events.new }
+pub fn confuse<R: Rolls, S: EventSink>(
+    battle: &mut Packed,
+    side: Side,
+    random: &mut R,
+    events: &mut S,
+)
+    requires room { HasRoom S.room 1 events.old }
+    ensures shown { DoesDrawing R.byte R.next R.SPAN battle.old (S.tells events.old) random.old
+        battle.new (S.tells events.new) random.new false (confuse side) }
+    ensures room { AddsAtMost S.room 1 events.old events.new }
 {
     let byte = random.draw();
     confuse_by(battle, side, byte, events);
 }
 
-fn confuse_by(battle: &mut Packed, side: Side, byte: u8, events: &mut EventList)
-    requires room { HasRoom 1 events.old }
-    ensures shown { Does battle.old events.old.items battle.new events.new.items false
+fn confuse_by<S: EventSink>(battle: &mut Packed, side: Side, byte: u8, events: &mut S)
+    requires room { HasRoom S.room 1 events.old }
+    ensures shown { Does battle.old (S.tells events.old) battle.new (S.tells events.new) false
         (confused_by side byte) }
-    ensures room { Adds 1 events.old events.new }
+    ensures room { AddsAtMost S.room 1 events.old events.new }
 {
     battle.put_confused(side, Some(byte % 4 + 2));
     events.push(Event::Start(battle.who(side), Volatile::Confusion));

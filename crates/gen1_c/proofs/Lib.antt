@@ -18,3 +18,9 @@ pub mod Counting
 pub mod Viewed
 -- Texts that are due, and so are written.
 pub mod Writing
+-- Sides by their numbers, and a room's replies.
+pub mod Replies
+-- The odds of a move.
+pub mod OddsDue
+-- Choices that are written to the front of a caller's bytes.
+pub mod WrittenChoices

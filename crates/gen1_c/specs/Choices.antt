@@ -1,10 +1,11 @@
 -- The bytes of choices taken apart, and in words (include/gen1.h, "looking"; docs/MECHANICS.md, "Offered choices").
-use Rattle.std.specs.Prelude.{Err, List, None, Ok, Option, Result, Some, codes, if◌then◌else◌, nat_le, ℕ, ◌&&◌, ◌++◌, ◌+◌, ◌==◌, ◌∷◌}
+use Rattle.std.specs.Prelude.{Err, List, None, Ok, Option, Result, Some, codes, if◌then◌else◌, length, nat_le, ℕ, ◌&&◌, ◌++◌, ◌+◌, ◌==◌, ◌≡◌, ◌∷◌}
 use Rattle.gen1_tables.specs.Names.{move_name, species_name}
 use Rattle.gen1_machine.specs.declared.choice.Choice.{Choice}
 use Rattle.gen1_machine.specs.declared.choice.Choice.TheVariants.{Move, Pass, Switch}
 use Rattle.gen1_machine.specs.declared.side.Side.{Side}
 use Rattle.gen1_machine.specs.State.{Field, known_in, member_at, member_in, party}
+use Rattle.gen1_c.specs.Fronts.{over_front}
 
 abbrev pub kind_of_choice : Option Choice → ℕ
 kind_of_choice None = 0
@@ -39,3 +40,7 @@ words_due side None f = Err 2
 words_due side (Some Pass) f = Ok (codes "pass")
 words_due side (Some (Move slot)) f = move_words side slot f
 words_due side (Some (Switch place)) f = switch_words side place f
+
+-- so many bytes stand at the front of others, which keep what stands behind
+abbrev pub IsWritten : List ℕ → List ℕ → List ℕ → ℕ → Type 0
+IsWritten done base now count = (count ≡ length done) × (now ≡ over_front done base)

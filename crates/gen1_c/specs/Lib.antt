@@ -26,3 +26,7 @@ pub mod Texts
 pub mod View
 -- The bytes of choices.
 pub mod Choices
+-- What a room replies.
+pub mod Rooms
+-- The odds of a move.
+pub mod Odds

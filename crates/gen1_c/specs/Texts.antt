@@ -85,10 +85,19 @@ reseed_sentences =
     codes "the index is not 0 to 8" ∷
     []
 
+abbrev pub room_sentences : List (List ℕ)
+room_sentences =
+    codes "nothing is at fault" ∷
+    codes "the battle is over" ∷
+    codes "the number is not that of the current pair of choices" ∷
+    codes "the side has chosen" ∷
+    codes "the choice is not offered to the side" ∷
+    []
+
 -- by the number of the call
 abbrev pub sentences : ℕ → List (List ℕ)
 sentences about =
-    slice_index_or ([] ∷ new_sentences ∷ load_sentences ∷ update_sentences ∷ log_sentences ∷ damage_sentences ∷ name_sentences ∷ choice_sentences ∷ reseed_sentences ∷ []) about []
+    slice_index_or ([] ∷ new_sentences ∷ load_sentences ∷ update_sentences ∷ log_sentences ∷ damage_sentences ∷ name_sentences ∷ choice_sentences ∷ reseed_sentences ∷ room_sentences ∷ []) about []
 
 -- the sentence of a code; where there is none the code 1
 abbrev pub sentence_due : ℕ → ℕ → Result (List ℕ) ℕ

@@ -11,9 +11,9 @@ ghost use Rattle.gen1_c.specs.Batches.{AnsweredAs, AreMasks, AreUpdated};
 ghost use Rattle.gen1_c.specs.Update.{IsNoSide};
 
 use crate::update::gen1_result;
-use gen1_engine::packed::{offered_mask, update_events_by_bytes};
+use gen1_engine::packed::{offered_mask, update_silent_by_bytes};
 use gen1_layout::Packed;
-use gen1_machine::{EventList, Side};
+use gen1_machine::Side;
 
 const NO_SIDE: u8 = 255;
 
@@ -92,23 +92,22 @@ fn update_each(
     ensures updates { AreUpdated (length battles.old) battles.old ones.now twos.now
         (record { battles = battles.new; results = results.new; codes = codes.new }) }
 {
-    let mut events = EventList::new();
     for place in 0..battles.len() {
         let battle = &mut battles[place];
-        codes[place] = update_one(battle, ones[place], twos[place], &mut events);
+        codes[place] = update_one(battle, ones[place], twos[place]);
         results[place] = gen1_result(battle);
     }
 }
 
 // An update without a log: 0, or the number of the refusal.
-fn update_one(battle: &mut Packed, one: u8, two: u8, events: &mut EventList) -> u8
+fn update_one(battle: &mut Packed, one: u8, two: u8) -> u8
     ensures answers { (s : State) → Stands battle.old s
         → AnsweredAs (step_by_bytes s (one, two)).answer (step_by_bytes s (one, two)).state
         battle.old battle.new result }
     ensures valid { StandsForSome battle.old → StandsForSome battle.new }
     ensures stays { result ≢ 0 → battle.new ≡ battle.old }
 {
-    match update_events_by_bytes(battle, one, two, events) {
+    match update_silent_by_bytes(battle, one, two) {
         Ok(_) => 0,
         Err(why) => why.number(),
     }

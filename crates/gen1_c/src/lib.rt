@@ -3,7 +3,8 @@
 //!
 //! - `battle`: battles of two teams, and of bytes
 //! - `teams`: teams as plain structs
-//! - `update`: updates, offered choices and the result
+//! - `update`: updates and the result
+//! - `choices`: what may be chosen, as bytes
 //! - `masks`: what may be chosen as a mask
 //! - `batches`: many battles in one call
 //! - `playouts`: battles played to their end by choices at random
@@ -13,10 +14,13 @@
 //! - `lines`: the lines of a log's events
 //! - `damage`: the damage of a hit
 //! - `names`: names of species, moves and types, and their rows of the tables
+//! - `odds`: what a use of a move would come to
 //! - `texts`: codes in words
 //! - `view`: what the bytes of a battle stand for, as plain structs
 //! - `choice`: the bytes of choices taken apart, and in words
 //! - `reseed`: other numbers to draw
+//! - `rooms`: rooms of two players
+//! - `spectators`: what a watcher knows
 //! - `fronts`: writing to the front of a caller's memory
 #![tactic(auto)]
 
@@ -24,14 +28,18 @@ pub mod batches;
 pub mod battle;
 pub mod choice;
 mod choice_generator;
+pub mod choices;
 pub mod damage;
 pub mod events;
 mod fronts;
 pub mod lines;
 pub mod masks;
 pub mod names;
+pub mod odds;
 pub mod playouts;
 pub mod reseed;
+pub mod rooms;
+pub mod spectators;
 pub mod team_text;
 mod teams;
 pub mod texts;

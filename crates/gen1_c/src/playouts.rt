@@ -3,13 +3,15 @@ ghost use Rattle.std.specs.Prelude.{IfOk, IsOk, length, true, ◌+◌, ◌<◌, 
 ghost use Rattle.gen1_machine.specs.State.{State};
 ghost use Rattle.gen1_machine.specs.Step.{is_among};
 ghost use Rattle.gen1_layout.specs.Within.{Stands};
+ghost use Rattle.gen1_requests.specs.OfferedMask.{choices_in};
 ghost use Rattle.gen1_c.specs.Playouts.{EndsAs, Plays, PlaysOut, counting, total};
 ghost use Rattle.gen1_layout.specs.Parts.{joined};
 
 use crate::choice_generator::ChoiceGenerator;
-use gen1_engine::{Battle, Choices};
+use gen1_engine::Battle;
+use gen1_engine::packed::{choice_at, count_of};
 use gen1_layout::Packed;
-use gen1_machine::{Choice, EventList, Outcome, Side};
+use gen1_machine::{Choice, Outcome, Side};
 use std::alloc::AllocError;
 
 /// How playouts ended.
@@ -55,7 +57,6 @@ fn counted(start: &Battle, seed: u64, rounds: u32) -> PlayoutCounts
     ensures total { total result ≡ rounds }
 {
     let mut random = ChoiceGenerator::new(seed);
-    let mut events = EventList::new();
     let mut counts = PlayoutCounts {
         wins_one: 0,
         wins_two: 0,
@@ -63,7 +64,7 @@ fn counted(start: &Battle, seed: u64, rounds: u32) -> PlayoutCounts
         faults: 0,
     };
     'rounds: for _ in 0..rounds {
-        let end = end_of(start, &mut random, &mut events);
+        let end = end_of(start, &mut random);
         count(end, &mut counts);
     }
     counts
@@ -84,13 +85,13 @@ fn count(end: Outcome, counts: &mut PlayoutCounts)
 }
 
 // How a copy of a battle ends.
-fn end_of(start: &Battle, random: &mut ChoiceGenerator, events: &mut EventList) -> Outcome
+fn end_of(start: &Battle, random: &mut ChoiceGenerator) -> Outcome
     ensures { (s : State) → Stands start.now s → EndsAs s result }
 {
     match copy_of(start) {
         Ok(copy) => {
             let mut copy = copy;
-            play_out(&mut copy, random, events)
+            play_out(&mut copy, random)
         }
         // A copy takes no memory.
         Err(_) => start.result().outcome,
@@ -105,7 +106,7 @@ fn copy_of(battle: &Battle) -> Result<Battle, AllocError>
 }
 
 // Plays a battle to its end by choices at random, and says how it ended.
-fn play_out(battle: &mut Battle, random: &mut ChoiceGenerator, events: &mut EventList) -> Outcome
+fn play_out(battle: &mut Battle, random: &mut ChoiceGenerator) -> Outcome
     ensures { (s : State) → Stands battle.old s → EndsAs s result }
 {
     // No battle takes more updates (docs/MECHANICS.md, "Turn limit").
@@ -114,9 +115,9 @@ fn play_out(battle: &mut Battle, random: &mut ChoiceGenerator, events: &mut Even
         if now.outcome.is_over() {
             return now.outcome;
         }
-        let one = pick(&battle.choices(Side::One), random);
-        let two = pick(&battle.choices(Side::Two), random);
-        match battle.update_events(one, two, events) {
+        let one = pick(battle.offered_mask(Side::One), random);
+        let two = pick(battle.offered_mask(Side::Two), random);
+        match battle.update_silent(one, two) {
             Ok(_) => {}
             // What is offered is never refused.
             Err(_) => return now.outcome,
@@ -125,15 +126,15 @@ fn play_out(battle: &mut Battle, random: &mut ChoiceGenerator, events: &mut Even
     battle.result().outcome
 }
 
-fn pick(choices: &Choices, random: &mut ChoiceGenerator) -> Choice
-    ensures { 1 ≤ length choices.now.items → is_among result choices.now.items ≡ true }
+// One of the choices of a mask.
+fn pick(mask: u16, random: &mut ChoiceGenerator) -> Choice
+    requires { mask < 4096 }
+    ensures { 1 ≤ length (choices_in mask) → is_among result (choices_in mask) ≡ true }
 {
-    let choices = choices.as_slice();
-    match choices.len() {
-        0 => Choice::Pass,
-        count => {
-            let place = random.below(count);
-            choices[place]
-        }
+    let count = count_of(mask);
+    if count == 0 {
+        return Choice::Pass;
     }
+    let place = random.below(count as usize) as u8;
+    choice_at(mask, place)
 }

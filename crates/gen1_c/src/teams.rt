@@ -1,7 +1,8 @@
 //! Teams as plain structs (include/gen1.h, "beginning"; docs/MECHANICS.md, "Teams").
-ghost use Rattle.std.specs.Prelude.{IfErr, IfOk, OnOk, length, ◌+◌, ◌++◌, ◌<◌, ◌≡◌, ◌≢◌, ◌≤◌};
+ghost use Rattle.std.specs.Prelude.{IfErr, IfOk, OnOk, [], length, ◌∷◌, ◌+◌, ◌++◌, ◌<◌, ◌≡◌, ◌≢◌, ◌≤◌};
 ghost use Rattle.arrayvec.specs.ArrayVec.{array_vec_len};
 ghost use Rattle.gen1_stats.specs.Teams.{team_of};
+ghost use Rattle.gen1_c.specs.Odds.{one_fault};
 ghost use Rattle.gen1_c.specs.Teams.{chosen, fault_of, first_fault, member_fault, sheet_of, sheets_of, species_of, team_fault};
 
 use arrayvec::ArrayVec;
@@ -65,6 +66,23 @@ pub(crate) fn team_of(form: &TeamForm) -> Result<Team, u32>
         spec_of(sixth),
     ];
     match Team::new(&specs[..count]) {
+        Ok(team) => Ok(team),
+        Err(refusal) => Err(fault_of(refusal)),
+    }
+}
+
+// The team of a member alone.
+pub(crate) fn team_of_one(member: &MemberForm) -> Result<Team, u32>
+    ensures made { IfOk result (λ team. team ≡ team_of (sheet_of member.now ∷ [])) }
+    ensures allowed { OnOk result (one_fault member.now ≡ 0) }
+    ensures refused { IfErr result (λ fault. (fault ≡ one_fault member.now) × (fault ≢ 0)
+        × (fault < 65536)) }
+{
+    let fault = member_fault(member);
+    if fault > 0 {
+        return Err(256 + fault);
+    }
+    match Team::new(&[spec_of(member)]) {
         Ok(team) => Ok(team),
         Err(refusal) => Err(fault_of(refusal)),
     }

@@ -76,6 +76,14 @@ static CHOICE_TEXTS: [&str; 5] = [
 
 static RESEED_TEXTS: [&str; 2] = ["nothing is at fault", "the index is not 0 to 8"];
 
+static ROOM_TEXTS: [&str; 5] = [
+    "nothing is at fault",
+    "the battle is over",
+    "the number is not that of the current pair of choices",
+    "the side has chosen",
+    "the choice is not offered to the side",
+];
+
 /// A code in words: one sentence, with the ranges that would have been right. `about` says whose code it is.
 #[unsafe(no_mangle)]
 pub extern "C" fn gen1_text(about: u8, code: u8, text: &mut [u8], written: &mut usize) -> u8
@@ -101,6 +109,7 @@ fn texts_about(about: u8) -> &'static [&'static str]
         6 => &NAME_TEXTS,
         7 => &CHOICE_TEXTS,
         8 => &RESEED_TEXTS,
+        9 => &ROOM_TEXTS,
         _ => &[],
     }
 }

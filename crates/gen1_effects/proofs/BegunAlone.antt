@@ -1,12 +1,12 @@
 -- An operation that stands for itself, from an action that has just begun; that its action then ends is of no account.
 use Rattle.std.proofs.Common.{◌≡◌}
-use Rattle.gen1_layout.proofs.Words.{Bool, Event, Frame, List, Parts, Phase, Progress, Side, false, refl, stop, subst, then-goes, then-stops, true, ℕ, ◌▸◌}
+use Rattle.gen1_layout.proofs.Words.{Bool, Frame, Parts, Phase, Progress, Side, Telling, false, refl, stop, subst, then-goes, then-stops, true, ℕ, ◌▸◌}
 use Rattle.gen1_action.specs.declared.known.Known.{Known}
 use Rattle.gen1_action.specs.Alone.{just_begun, Leaves}
 use Rattle.gen1_action.specs.Knowing.{ShowsKnown}
 use Rattle.gen1_action.proofs.Knowledge.{leaves}
 
-module _ {A : Type 0} {byte : A → ℕ} {next : A → A} {width : ℕ} {origin : A} {parts : Parts} {events : List Event} {now : A} {b : Bool} where
+module _ {A : Type 0} {byte : A → ℕ} {next : A → A} {width : ℕ} {origin : A} {parts : Parts} {events : Telling} {now : A} {b : Bool} where
   pub begun_alone : {p : Progress} (k : Known) (g : Frame) (s : Side) → k ≡ just_begun s
       → ShowsKnown byte next width origin (just_begun s) g parts events now b p → ShowsKnown byte next width origin k g parts events now b p
   begun_alone k g s is h = rw is h

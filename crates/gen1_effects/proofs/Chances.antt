@@ -1,6 +1,6 @@
 -- How what is shown goes through a draw by chance, and through draws until a byte meets a test.
 use Rattle.std.proofs.Common.{◌+◌, ◌≡◌}
-use Rattle.gen1_layout.proofs.Words.{Bool, Event, Frame, List, None, Option, Parts, Phase, Progress, ShowsDrawn, Some, ap, choose-false, drawing, drawn_if_not, drawn_if_so, drawn_stays, false, nat_lt, refl, stay, sym, then-goes, true, ℕ, ◌∙◌, ◌▸◌}
+use Rattle.gen1_layout.proofs.Words.{Bool, Frame, None, Option, Parts, Phase, Progress, ShowsDrawn, Some, Telling, ap, choose-false, drawing, drawn_if_not, drawn_if_so, drawn_stays, false, nat_lt, refl, stay, sym, then-goes, true, ℕ, ◌∙◌, ◌▸◌}
 use Rattle.gen1_rolls.specs.Draws.{FindsDraw, FindsNone}
 use Rattle.gen1_rolls.specs.Streams.{Stream, byte_at, first, span}
 use Rattle.gen1_rolls.proofs.Standing.{byte_found, first-found, first-none, stands_after_found, stands_after_none, stands_there}
@@ -26,7 +26,7 @@ none-is test f p e =
 
 -- a test that does not hold, with a generator
 module _ {A : Type 0} {byte : A → ℕ} {next : A → A} {width : ℕ} {origin : A} where
-  pub drawn_past : {g g' : Frame} {parts parts' : Parts} {events events' : List Event} {now now' : A} {b : Bool} {p : Progress} (test : Progress → Bool) (f k : Phase) → test p ≡ false
+  pub drawn_past : {g g' : Frame} {parts parts' : Parts} {events events' : Telling} {now now' : A} {b : Bool} {p : Progress} (test : Progress → Bool) (f k : Phase) → test p ≡ false
       → ShowsDrawn byte next width origin g parts events now false p → ShowsDrawn byte next width origin g' parts' events' now' b (k p)
       → ShowsDrawn byte next width origin g' parts' events' now' b ((when test f ▸ k) p)
   unfolding stay
@@ -34,9 +34,9 @@ module _ {A : Type 0} {byte : A → ℕ} {next : A → A} {width : ℕ} {origin 
       let is : when test f p ≡ p = choose-false test f stay p e in
       rw (then-goes (when test f) k p (ap (λ (q : Progress). q.stopped) is ∙ h.shows.ends) ∙ ap k is) a
 
-module _ {A : Type 0} {byte : A → ℕ} {next : A → A} {width : ℕ} {origin : A} {g : Frame} {parts : Parts} {events : List Event} {old new : A} {b : Bool} {p : Progress} where
+module _ {A : Type 0} {byte : A → ℕ} {next : A → A} {width : ℕ} {origin : A} {g : Frame} {parts : Parts} {events : Telling} {old new : A} {b : Bool} {p : Progress} where
   -- the draw was below the bound
-  pub comes : {g' : Frame} {parts' : Parts} {events' : List Event} {now : A} {b' result : Bool} (bound : ℕ) (f : Phase)
+  pub comes : {g' : Frame} {parts' : Parts} {events' : Telling} {now : A} {b' result : Bool} (bound : ℕ) (f : Phase)
       → ShowsDrawn byte next width origin g parts events old b p → result ≡ nat_lt (byte old) bound → new ≡ next old → result ≡ true
       → (ShowsDrawn byte next width origin g parts events new b (record p { drawn = p.drawn + 1 })
       → ShowsDrawn byte next width origin g' parts' events' now b' (f (record p { drawn = p.drawn + 1 })))
@@ -54,7 +54,7 @@ module _ {A : Type 0} {byte : A → ℕ} {next : A → A} {width : ℕ} {origin 
       drawing (happens_below bound f) {drawn = byte old} h refl left (λ d. drawn_if_not (λ q. nat_lt (byte old) bound) f stay (sym is ∙ e) (drawn_stays d))
 
   -- a byte met the test
-  pub finding : {g' : Frame} {parts' : Parts} {events' : List Event} {now : A} {b' : Bool} {x : ℕ} (test : ℕ → Bool) (f : ℕ → Phase)
+  pub finding : {g' : Frame} {parts' : Parts} {events' : Telling} {now : A} {b' : Bool} {x : ℕ} (test : ℕ → Bool) (f : ℕ → Phase)
       → ShowsDrawn byte next width origin g parts events old b p → FindsDraw byte next width test old x new
       → ((m : ℕ) → test x ≡ true → ShowsDrawn byte next width origin g parts events new b (record p { drawn = m + 1 })
       → ShowsDrawn byte next width origin g' parts' events' now b' (f x (record p { drawn = m + 1 })))

@@ -1,6 +1,6 @@
 -- What a move may do besides its damage, by the way of its effect; and conditions without a number that begin.
 use Rattle.std.proofs.Common.{◌&&◌, ◌≡◌}
-use Rattle.gen1_layout.proofs.Words.{ActiveConditions, Bool, Event, Frame, List, Parts, Phase, Progress, Shows, Side, false, if_not, if_so, refl, stay, stays, true}
+use Rattle.gen1_layout.proofs.Words.{ActiveConditions, Bool, Frame, Parts, Phase, Progress, Shows, Side, Telling, false, if_not, if_so, refl, stay, stays, true}
 use Rattle.gen1_tables.specs.declared.effect.Effect.{Effect}
 use Rattle.gen1_tables.specs.declared.effect.Effect.TheVariants as effects
 use Rattle.gen1_machine.specs.declared.health.Kind.{Kind}
@@ -69,7 +69,7 @@ recharging-same c = record { bide = refl; thrash = refl; trapping = refl; confus
 
 -- by the freeze clause
 
-module _ {g : Frame} {parts : Parts} {events : List Event} where
+module _ {g : Frame} {parts : Parts} {events : Telling} where
   pub refuses : (clause : Bool) (s : Side) (p : Progress) → (clause && has_frozen_member (other s) p) ≡ true → Shows g parts events false p
       → Shows g parts events false (freezes_under clause s p)
   unfolding freezes_under freeze_only_one

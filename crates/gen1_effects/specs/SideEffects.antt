@@ -1,6 +1,6 @@
 -- What a move may do besides its damage (docs/MECHANICS.md, "Side effects"): what code does under a battle's rules, and the
 -- ways in which effects go.
-use Rattle.gen1_layout.specs.Words.{Bool, Event, Frame, List, Phase, Progress, ShowsDrawn, Side, false, other, true, ℕ}
+use Rattle.gen1_layout.specs.Words.{Bool, Frame, Phase, Progress, ShowsDrawn, Side, Telling, false, other, true, ℕ}
 use Rattle.gen1_tables.specs.declared.effect.Effect.{Effect}
 use Rattle.gen1_tables.specs.declared.effect.Effect.TheVariants as effects
 use Rattle.gen1_stats.specs.declared.status.Status.TheVariants.{Burned, Paralysed}
@@ -19,7 +19,7 @@ use Rattle.gen1_effects.specs.declared.side_effects.Way.{Way}
 use Rattle.gen1_effects.specs.declared.side_effects.Way.TheVariants as ways
 
 -- code with draws does what a phase does under the rules of the battle, whatever generator it was handed, and does not stop
-abbrev pub DoesByRules : {A : Type 0} → (A → ℕ) → (A → A) → ℕ → Parts → List Event → A → Parts → List Event → A → (Ruling → Phase) → Type 0
+abbrev pub DoesByRules : {A : Type 0} → (A → ℕ) → (A → A) → ℕ → Parts → Telling → A → Parts → Telling → A → (Ruling → Phase) → Type 0
 DoesByRules {A = A} byte next width parts events old parts' events' new phase =
     (origin : A) (g : Frame) (p : Progress) → ShowsDrawn byte next width origin g parts events old false p
     → ShowsDrawn byte next width origin g parts' events' new false (phase (ruling_of g.setting.terms) p)

@@ -8,8 +8,9 @@ ghost use Rattle.gen1_action.specs.Planned.{DoesUnder};
 ghost use Rattle.gen1_effects.specs.LateEffects.{is_late_but_bide};
 
 use gen1_action::Known;
+use gen1_events::EventSink;
 use gen1_layout::Packed;
-use gen1_machine::{EventList, Side};
+use gen1_machine::Side;
 use gen1_rolls::Rolls;
 use gen1_tables::{Effect, MoveId};
 
@@ -33,19 +34,19 @@ pub fn is_late_but_bide(effect: Effect) -> bool
 /// What a move of `side` does that raises a stat of the user's, lowers one of the foe's, or puts the foe to sleep
 /// (docs/MECHANICS.md, "Late effects"), from the beginning of its action. The hit test, where it makes one, and a count of
 /// sleep are drawn; two places in `events` are to be free. What the effect leaves alone stays as it is.
-pub fn late_effect<R: Rolls>(
+pub fn late_effect<R: Rolls, S: EventSink>(
     battle: &mut Packed,
     side: Side,
     id: MoveId,
     random: &mut R,
-    events: &mut EventList,
+    events: &mut S,
 )
-    requires room { HasRoom 2 events.old }
+    requires room { HasRoom S.room 2 events.old }
     requires tie { is_late_but_bide (move_at id).effect ≡ true }
-    ensures shown { DoesAlone R.byte R.next R.SPAN side battle.old events.old.items random.old
-        battle.new events.new.items random.new
+    ensures shown { DoesAlone R.byte R.next R.SPAN side battle.old (S.tells events.old) random.old
+        battle.new (S.tells events.new) random.new
         (λ r. late_effect r side (move_at id) (move_at id).effect) }
-    ensures room { AddsAtMost 2 events.old events.new }
+    ensures room { AddsAtMost S.room 2 events.old events.new }
 {
     let mut known = Known::new().begun(side);
     late_effect_knowing(battle, side, id, &mut known, random, events);
@@ -53,20 +54,20 @@ pub fn late_effect<R: Rolls>(
 
 /// The same in the middle of an action, of which more may be known. The action ends with it (docs/MECHANICS.md, "Action").
 #[inline(never)] // docs/SPEED.md, "Hints on inlining"
-pub fn late_effect_knowing<R: Rolls>(
+pub fn late_effect_knowing<R: Rolls, S: EventSink>(
     battle: &mut Packed,
     side: Side,
     id: MoveId,
     known: &mut Known,
     random: &mut R,
-    events: &mut EventList,
+    events: &mut S,
 )
-    requires room { HasRoom 2 events.old }
+    requires room { HasRoom S.room 2 events.old }
     requires tie { is_late_but_bide (move_at id).effect ≡ true }
-    ensures shown { DoesUnder R.byte R.next R.SPAN battle.old events.old.items random.old known.old
-        battle.new events.new.items random.new known.new true
+    ensures shown { DoesUnder R.byte R.next R.SPAN battle.old (S.tells events.old) random.old known.old
+        battle.new (S.tells events.new) random.new known.new true
         (λ r. late_effect r side (move_at id) (move_at id).effect ▸ stop) }
-    ensures room { AddsAtMost 2 events.old events.new }
+    ensures room { AddsAtMost S.room 2 events.old events.new }
 {
     match id.effect() {
         Effect::StatUp(stat, by) => {

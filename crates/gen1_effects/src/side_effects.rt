@@ -19,8 +19,9 @@ use confusion_chance::may_confuse;
 use disable::disable;
 use flinch_chance::may_flinch;
 use gen1_action::Known;
+use gen1_events::EventSink;
 use gen1_layout::{Conditions, Packed};
-use gen1_machine::{EventList, Kind, Side};
+use gen1_machine::{Kind, Side};
 use gen1_rolls::Rolls;
 use gen1_tables::{Effect, MoveId, Stat};
 use recharge::must_recharge;
@@ -50,18 +51,18 @@ pub(crate) enum Harm {
 
 /// The side effect of a move of `side` that has just begun its action (docs/MECHANICS.md, "Side effects"). A move without one
 /// does nothing. A place in `events` is to be free; the bytes, the events and the generator are left as the section says.
-pub fn side_effect<R: Rolls>(
+pub fn side_effect<R: Rolls, S: EventSink>(
     battle: &mut Packed,
     side: Side,
     id: MoveId,
     random: &mut R,
-    events: &mut EventList,
+    events: &mut S,
 )
-    requires room { HasRoom 1 events.old }
-    ensures shown { DoesAlone R.byte R.next R.SPAN side battle.old events.old.items random.old
-        battle.new events.new.items random.new
+    requires room { HasRoom S.room 1 events.old }
+    ensures shown { DoesAlone R.byte R.next R.SPAN side battle.old (S.tells events.old) random.old
+        battle.new (S.tells events.new) random.new
         (λ r. side_effect r side (move_at id) (move_at id).effect) }
-    ensures room { AddsAtMost 1 events.old events.new }
+    ensures room { AddsAtMost S.room 1 events.old events.new }
 {
     let mut known = Known::new().begun(side);
     side_effect_knowing(battle, side, id, &mut known, random, events);
@@ -69,20 +70,20 @@ pub fn side_effect<R: Rolls>(
 
 /// The side effect of a move of `side`, by what is known of its action, which only the hit test of Disable changes. True where
 /// it ended the action: where Disable missed or failed (docs/MECHANICS.md, "Side effects"). A place in `events` is to be free.
-pub fn side_effect_knowing<R: Rolls>(
+pub fn side_effect_knowing<R: Rolls, S: EventSink>(
     battle: &mut Packed,
     side: Side,
     id: MoveId,
     known: &mut Known,
     random: &mut R,
-    events: &mut EventList,
+    events: &mut S,
 ) -> bool
-    requires room { HasRoom 1 events.old }
-    ensures shown { DoesUnder R.byte R.next R.SPAN battle.old events.old.items random.old known.old
-        battle.new events.new.items random.new known.new result
+    requires room { HasRoom S.room 1 events.old }
+    ensures shown { DoesUnder R.byte R.next R.SPAN battle.old (S.tells events.old) random.old known.old
+        battle.new (S.tells events.new) random.new known.new result
         (λ r. side_effect r side (move_at id) (move_at id).effect) }
     ensures counts { IsUncounted known.old → IsUncounted known.new }
-    ensures room { AddsAtMost 1 events.old events.new }
+    ensures room { AddsAtMost S.room 1 events.old events.new }
 {
     match way_of(id.effect()) {
         Way::Confuse(bound) => {
@@ -102,18 +103,18 @@ pub fn side_effect_knowing<R: Rolls>(
 }
 
 // A Substitute of the foe's keeps harm away, without a draw.
-fn harm_unless_away<R: Rolls>(
+fn harm_unless_away<R: Rolls, S: EventSink>(
     battle: &mut Packed,
     side: Side,
     id: MoveId,
     harm: Harm,
     random: &mut R,
-    events: &mut EventList,
+    events: &mut S,
 )
-    requires room { HasRoom 1 events.old }
-    ensures shown { DoesByRules R.byte R.next R.SPAN battle.old events.old.items random.old
-        battle.new events.new.items random.new (λ r. harms_unless_away r side (move_at id) harm) }
-    ensures room { AddsAtMost 1 events.old events.new }
+    requires room { HasRoom S.room 1 events.old }
+    ensures shown { DoesByRules R.byte R.next R.SPAN battle.old (S.tells events.old) random.old
+        battle.new (S.tells events.new) random.new (λ r. harms_unless_away r side (move_at id) harm) }
+    ensures room { AddsAtMost S.room 1 events.old events.new }
 {
     if battle.is_on(side.other(), Conditions::SUBSTITUTE) {
         return;
@@ -121,18 +122,18 @@ fn harm_unless_away<R: Rolls>(
     do_harm(battle, side, id, harm, random, events);
 }
 
-fn do_harm<R: Rolls>(
+fn do_harm<R: Rolls, S: EventSink>(
     battle: &mut Packed,
     side: Side,
     id: MoveId,
     harm: Harm,
     random: &mut R,
-    events: &mut EventList,
+    events: &mut S,
 )
-    requires room { HasRoom 1 events.old }
-    ensures shown { DoesByRules R.byte R.next R.SPAN battle.old events.old.items random.old
-        battle.new events.new.items random.new (λ r. harms r side (move_at id) harm) }
-    ensures room { AddsAtMost 1 events.old events.new }
+    requires room { HasRoom S.room 1 events.old }
+    ensures shown { DoesByRules R.byte R.next R.SPAN battle.old (S.tells events.old) random.old
+        battle.new (S.tells events.new) random.new (λ r. harms r side (move_at id) harm) }
+    ensures room { AddsAtMost S.room 1 events.old events.new }
 {
     match harm {
         Harm::Poison(bound) => may_poison(battle, side, bound, random, events),

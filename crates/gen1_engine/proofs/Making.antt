@@ -17,6 +17,7 @@ use Rattle.gen1_machine.specs.Step.{Accepted, Answer, NotOffered, Over, Refused,
 use Rattle.gen1_machine.specs.Valid.{IsAsked, IsStarted, IsState, IsUnstarted, StandsAs}
 use Rattle.gen1_machine.proofs.Bounds.{step_is_bounded}
 use Rattle.gen1_layout.specs.Parts.{Parts}
+use Rattle.gen1_layout.specs.Shows.{Telling}
 use Rattle.gen1_layout.specs.Within.{Stands, Within, setting_of}
 use Rattle.gen1_requests.specs.Updates.{Plays, Starts, Steps}
 use Rattle.gen1_requests.proofs.Stepped.{step_accepts, valid-after}
@@ -120,7 +121,7 @@ passes s side c h one two = by side c (goes_on s side c h) h
     by Two (choices.Move k) going h = absurd (let f = rw (going, two) at h in cc)
     by Two (choices.Switch k) going h = absurd (let f = rw (going, two) at h in cc)
 
-pub starts_so : {s : State} {one two : Choice} {parts : Parts} {events : List Event} → AreOffered s one two → Starts s → Steps s choices.Pass choices.Pass parts events → Steps s one two parts events
+pub starts_so : {s : State} {one two : Choice} {parts : Parts} {events : Telling} → AreOffered s one two → Starts s → Steps s choices.Pass choices.Pass parts events → Steps s one two parts events
 starts_so {s = s} {one = one} {two = two} {parts = parts} {events = events} o starts h =
     let a = starts.unstarted.requests.one in
     let b = starts.unstarted.requests.two in
@@ -135,11 +136,13 @@ turns-as : (s : State) (one two : Choice) → Plays s requests.Move one two → 
 unfolding update update_for
 turns-as s one two plays a b = step_accepts s one two plays.goes_on plays.first plays.second ∙ rw (a, b) refl
 
-pub turned_so : {new : Parts} {events : List Event} (s : State) (one two : Choice) (q : Progress) → IsState s → step s one two ≡ accepted s q
-    → Within (record (setting_of s) { drawn = q.drawn }) new q.field → events ≡ q.events → Steps s one two new events
+pub turned_so : {new : Parts} {events : Telling} (s : State) (one two : Choice) (q : Progress) → IsState s → step s one two ≡ accepted s q
+    → Within (record (setting_of s) { drawn = q.drawn }) new q.field → events q.events → Steps s one two new events
 turned_so {new = new} s one two q valid is w e = record {
+  told = q.events;
   stands = subst (Stands new) (sym (ap (λ (t : Stepped). t.state) is)) (record { same = w.same; valid = subst IsState (ap (λ (t : Stepped). t.state) is) (valid-after s one two valid) });
-  answers = ap (λ (t : Stepped). t.answer) is ∙ ap Accepted (sym e);
+  answers = ap (λ (t : Stepped). t.answer) is;
+  written = e;
 }
 
 pub turn_made : (s : State) (one two : Choice) → IsState s → Plays s requests.Move one two

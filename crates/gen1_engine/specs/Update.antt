@@ -1,13 +1,13 @@
 -- What an update answers, leaves and tells, for a state that the bytes stand for (docs/MECHANICS.md, "Offered choices", "Falls
 -- and requests"): what the machine's step says.
-use Rattle.std.specs.Prelude.{Err, Ok, Result, true, ℕ, ◌≡◌}
+use Rattle.std.specs.Prelude.{Err, None, Ok, Option, Result, Some, true, ℕ, ◌≡◌}
 use Rattle.arrayvec.specs.ArrayVec.{ArrayVec}
 use Rattle.gen1_machine.specs.declared.side.Side.TheVariants.{One, Two}
 use Rattle.gen1_machine.specs.declared.event.Event.{Event}
 use Rattle.gen1_machine.specs.declared.choice.Choice.{Choice}
 use Rattle.gen1_machine.specs.Bounds.{Bounded}
 use Rattle.gen1_machine.specs.State.{State}
-use Rattle.gen1_machine.specs.Step.{Accepted, Answer, NotOffered, Over, Refused, Refusal as Reason, offers, step}
+use Rattle.gen1_machine.specs.Step.{Accepted, Answer, NotOffered, Over, Refused, Refusal as Reason, offers, refused, step}
 use Rattle.gen1_events.specs.Splits.{IsReading}
 use Rattle.gen1_layout.specs.Parts.{Parts}
 use Rattle.gen1_layout.specs.Within.{Stands}
@@ -65,3 +65,8 @@ IsBounded s one two = IsBoundedAs s (step s one two).answer (step s one two).sta
 pub record AreOffered (s : State) (one two : Choice) : Type 0 where
   pub first : offers s One one ≡ true
   pub second : offers s Two two ≡ true
+
+-- why the machine refuses a pair; where it does not, both choices are offered
+abbrev pub Tests : State → Choice → Choice → Option Refusal → Type 0
+Tests s one two (Some why) = (reason : Reason) × (why ≡ refusal_of reason) × (step s one two ≡ refused s reason)
+Tests s one two None = AreOffered s one two

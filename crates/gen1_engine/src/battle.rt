@@ -1,5 +1,5 @@
 //! A battle that stands for a valid state whenever nobody is inside it (docs/LAYOUT.md, "The 384 bytes of a battle").
-ghost use Rattle.std.specs.Prelude.{IfOk, IsOk, length, ◌↔◌, ◌≡◌, ◌≤◌, ◌||◌};
+ghost use Rattle.std.specs.Prelude.{IfOk, IsOk, [], length, ◌<◌, ◌↔◌, ◌≡◌, ◌≤◌, ◌||◌};
 ghost use Rattle.gen1_machine.specs.LogBytes.{codes_of};
 ghost use Rattle.gen1_machine.specs.Layout.{bytes_of};
 ghost use Rattle.gen1_machine.specs.OfferedChoices.{offered};
@@ -7,18 +7,20 @@ ghost use Rattle.gen1_machine.specs.State.{State, first_state, usual_terms};
 ghost use Rattle.gen1_layout.specs.Loading.{IsLoadedAs};
 ghost use Rattle.gen1_layout.specs.LoadingMeaning.{IsBattle, StandsForSome};
 ghost use Rattle.gen1_layout.specs.Within.{Stands};
+ghost use Rattle.gen1_layout.specs.Words.{AddsAtMost, HasRoom};
+ghost use Rattle.gen1_requests.specs.Updates.{Steps};
 ghost use Rattle.gen1_engine.specs.OfferedMask.{offered_mask};
 ghost use Rattle.gen1_engine.specs.Replay.{AnswersBytes, LogsBytes, Replays, TellsBytes, is_write_fault};
 ghost use Rattle.gen1_engine.specs.Reseed.{reseeded};
-ghost use Rattle.gen1_engine.specs.Update.{Answers, IsBounded, Logs, Tells, result_of};
+ghost use Rattle.gen1_engine.specs.Update.{Answers, AreOffered, IsBounded, Logs, Tells, result_of};
 
-use crate::choice_bytes::{update_by_bytes, update_events_by_bytes};
+use crate::choice_bytes::{update_by_bytes, update_events_by_bytes, update_silent_by_bytes};
 use crate::offered_mask::offered_mask;
 use crate::replay::{ReplayFault, replay};
 use crate::reseed::reseed;
 use crate::result::{BattleResult, Refusal};
-use crate::update::{result, update, update_events};
-use gen1_events::LogBuf;
+use crate::update::{result, update, update_events, update_offered, update_silent};
+use gen1_events::{EventSink, LogBuf};
 use gen1_layout::{LoadFault, Packed};
 use gen1_machine::{Choice, EventList, Rules, Side, Sink, TurnLimit};
 use gen1_requests::{Choices, offered};
@@ -129,9 +131,11 @@ impl Battle {
     }
 
     /// The same as a number of twelve binary digits, from the lowest on: Pass, Move with slot 0 to 4, Switch to place 1 to 6.
-    /// It is 0 once the battle is over.
+    /// It is 0 once the battle is over. [`count_of`](crate::packed::count_of) says how many choices it has, and
+    /// [`choice_at`](crate::packed::choice_at) which is at a place of the list.
     pub fn offered_mask(&self, side: Side) -> u16
-        ensures { (s : State) → Stands self.now s → result ≡ offered_mask s side }
+        ensures stands { (s : State) → Stands self.now s → result ≡ offered_mask s side }
+        ensures twelve { result < 4096 }
     {
         offered_mask(&self.packed, side)
     }
@@ -185,8 +189,7 @@ impl Battle {
         ensures logs { (s : State) → Stands self.old s → Logs s one two log.old log.new }
         ensures bounded { (s : State) → Stands self.old s → IsBounded s one two }
     {
-        let mut events = EventList::new();
-        update(&mut self.packed, one, two, &mut events, log)
+        update(&mut self.packed, one, two, log)
     }
 
     /// The same by two bytes (docs/MECHANICS.md, "Offered choices"), of which one that stands for no choice is not offered.
@@ -204,8 +207,51 @@ impl Battle {
             → AnswersBytes s (one, two) self.old self.new result }
         ensures logs { (s : State) → Stands self.old s → LogsBytes s (one, two) log.old log.new }
     {
-        let mut events = EventList::new();
-        update_by_bytes(&mut self.packed, one, two, &mut events, log)
+        update_by_bytes(&mut self.packed, one, two, log)
+    }
+
+    /// An update of which nothing is told but how the battle then stands: for who reads neither log nor events.
+    ///
+    /// # Errors
+    ///
+    /// As `update` has them; the battle stays as it is.
+    pub fn update_silent(&mut self, one: Choice, two: Choice) -> Result<BattleResult, Refusal>
+        ensures answers { (s : State) → Stands self.old s
+            → Answers s one two self.old self.new result }
+        ensures bounded { (s : State) → Stands self.old s → IsBounded s one two }
+    {
+        update_silent(&mut self.packed, one, two)
+    }
+
+    /// The same by two bytes, of which one that stands for no choice is not offered.
+    ///
+    /// # Errors
+    ///
+    /// As `update` has them; the battle stays as it is.
+    pub fn update_silent_by_bytes(&mut self, one: u8, two: u8) -> Result<BattleResult, Refusal>
+        ensures answers { (s : State) → Stands self.old s
+            → AnswersBytes s (one, two) self.old self.new result }
+    {
+        update_silent_by_bytes(&mut self.packed, one, two)
+    }
+
+    /// An update by two choices that are offered, which are not tested again: for who took them from `choices` or from
+    /// `offered_mask`. Its events go to a sink that was told nothing yet: an empty list, an empty buffer, or `Silent`.
+    pub fn update_offered<S: EventSink>(
+        &mut self,
+        one: Choice,
+        two: Choice,
+        events: &mut S,
+    ) -> BattleResult
+        requires offered { (s : State) → Stands self.old s → AreOffered s one two }
+        requires empty { S.tells events.old [] }
+        requires room { HasRoom S.room 51 events.old }
+        ensures steps { (s : State) → Stands self.old s
+            → Steps s one two self.new (S.tells events.new) }
+        ensures result { (s : State) → Stands self.new s → result ≡ result_of s }
+        ensures room { AddsAtMost S.room 51 events.old events.new }
+    {
+        update_offered(&mut self.packed, one, two, events)
     }
 
     /// An update whose events themselves are left in the list, and nothing else, in place of log bytes (`write_log` makes those

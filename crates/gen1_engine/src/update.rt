@@ -1,44 +1,45 @@
 //! An update of the bytes of a battle, by what is asked of the sides (docs/MECHANICS.md, "Offered choices", "Falls and
-//! requests").
+//! requests"). What becomes of its events its sink decides: a list, log bytes, or nothing.
 ghost use Rattle.std.specs.Prelude.{IsOk, OnErr, [], length, ◌≡◌, ◌≤◌};
 ghost use Rattle.gen1_machine.specs.LogBytes.{codes_of};
 ghost use Rattle.gen1_machine.specs.State.{State, is_over};
 ghost use Rattle.gen1_machine.specs.declared.terms.Request.TheVariants.{Move};
 ghost use Rattle.gen1_layout.specs.Within.{Stands};
-ghost use Rattle.gen1_layout.specs.Words.{AddsAtMost};
+ghost use Rattle.gen1_layout.specs.Words.{AddsAtMost, HasRoom};
 ghost use Rattle.gen1_layout.specs.LoadingMeaning.{StandsForSome};
 ghost use Rattle.gen1_requests.specs.Updates.{Plays, Steps};
-ghost use Rattle.gen1_engine.specs.Update.{Answers, AreOffered, Logs, Tells, result_of};
+ghost use Rattle.gen1_engine.specs.Update.{Answers, AreOffered, Logs, Tells, Tests, result_of};
 
-use crate::log::write_log;
 use crate::result::{BattleResult, Refusal};
-use gen1_events::LogBuf;
+use gen1_events::{EventSink, LogBuf, Silent};
 use gen1_layout::Packed;
 use gen1_machine::{Choice, EventList, Request, Side};
 use gen1_requests::{is_offered, replace, start};
 use gen1_turn::turn;
 
-// An update, of which the events and the log are both left, in lists that are lent.
-pub(crate) fn update(
+/// An update by a choice of each side, whose log bytes are left in the buffer, and nothing else. Whatever the bytes of the battle
+/// are, there is an answer, and nothing but them and the buffer is written.
+///
+/// # Errors
+///
+/// As [`update_events`] has them; bytes and buffer stay as they are.
+pub fn update(
     battle: &mut Packed,
     one: Choice,
     two: Choice,
-    events: &mut EventList,
     log: &mut LogBuf,
 ) -> Result<BattleResult, Refusal>
-    requires valid { StandsForSome battle.old }
     ensures answers { (s : State) → Stands battle.old s
         → Answers s one two battle.old battle.new result }
     ensures logs { (s : State) → Stands battle.old s → Logs s one two log.old log.new }
-    ensures valid { StandsForSome battle.new }
+    ensures valid { StandsForSome battle.old → StandsForSome battle.new }
+    ensures kept { OnErr result ((battle.new ≡ battle.old) × (log.new ≡ log.old)) }
 {
-    match update_events(battle, one, two, events) {
-        Ok(result) => {
-            write_log(events, log);
-            Ok(result)
-        }
-        Err(why) => Err(why),
+    if let Some(why) = refusal(battle, &one, &two) {
+        return Err(why);
     }
+    log.clear();
+    Ok(update_offered(battle, one, two, log))
 }
 
 /// An update by a choice of each side, whose events are left in the list, and nothing else. Whatever the bytes are, there is an
@@ -61,18 +62,65 @@ pub fn update_events(
     ensures short { IsOk result → length (codes_of events.new.items) ≤ 512 }
     ensures kept { OnErr result ((battle.new ≡ battle.old) × (events.new ≡ events.old)) }
 {
-    if is_over(battle) {
-        return Err(Refusal::Over);
-    }
-    if !is_offered(battle, Side::One, &one) {
-        return Err(Refusal::NotOffered(Side::One));
-    }
-    if !is_offered(battle, Side::Two, &two) {
-        return Err(Refusal::NotOffered(Side::Two));
+    if let Some(why) = refusal(battle, &one, &two) {
+        return Err(why);
     }
     events.clear();
+    Ok(update_offered(battle, one, two, events))
+}
+
+/// An update by a choice of each side, of which nothing is told but how the battle stands.
+///
+/// # Errors
+///
+/// As [`update_events`] has them; the bytes stay as they are.
+pub fn update_silent(battle: &mut Packed, one: Choice, two: Choice) -> Result<BattleResult, Refusal>
+    ensures answers { (s : State) → Stands battle.old s
+        → Answers s one two battle.old battle.new result }
+    ensures valid { StandsForSome battle.old → StandsForSome battle.new }
+    ensures kept { OnErr result (battle.new ≡ battle.old) }
+{
+    if let Some(why) = refusal(battle, &one, &two) {
+        return Err(why);
+    }
+    Ok(update_offered(battle, one, two, &mut Silent))
+}
+
+// Why a pair is refused, by the first reason that applies. None: both choices are offered.
+#[inline(always)] // docs/SPEED.md, "Hints on inlining"
+fn refusal(battle: &Packed, one: &Choice, two: &Choice) -> Option<Refusal>
+    ensures { (s : State) → Stands battle.now s → Tests s one.now two.now result }
+{
+    if is_over(battle) {
+        return Some(Refusal::Over);
+    }
+    if !is_offered(battle, Side::One, one) {
+        return Some(Refusal::NotOffered(Side::One));
+    }
+    if !is_offered(battle, Side::Two, two) {
+        return Some(Refusal::NotOffered(Side::Two));
+    }
+    None
+}
+
+/// An update by two choices that are offered, which are not tested: for who took them from what is offered. Its events go to a
+/// sink that was told nothing yet. By choices that are not offered the bytes may be anything afterwards; nothing else is written.
+#[inline(always)] // docs/SPEED.md, "Hints on inlining"
+pub fn update_offered<S: EventSink>(
+    battle: &mut Packed,
+    one: Choice,
+    two: Choice,
+    events: &mut S,
+) -> BattleResult
+    requires empty { S.tells events.old [] }
+    requires room { HasRoom S.room 51 events.old }
+    ensures steps { (s : State) → Stands battle.old s → AreOffered s one two
+        → Steps s one two battle.new (S.tells events.new) }
+    ensures result { (s : State) → Stands battle.new s → result ≡ result_of s }
+    ensures room { AddsAtMost S.room 51 events.old events.new }
+{
     play(battle, one, two, events);
-    Ok(result(battle))
+    result(battle)
 }
 
 /// How a battle stands, and what is asked of each side.
@@ -93,11 +141,12 @@ pub(crate) fn is_over(battle: &Packed) -> bool
 }
 
 // An update whose choices are offered.
-fn play(battle: &mut Packed, one: Choice, two: Choice, events: &mut EventList)
-    requires empty { events.old.items ≡ [] }
+fn play<S: EventSink>(battle: &mut Packed, one: Choice, two: Choice, events: &mut S)
+    requires empty { S.tells events.old [] }
+    requires room { HasRoom S.room 51 events.old }
     ensures stepped { (s : State) → Stands battle.old s → AreOffered s one two
-        → Steps s one two battle.new events.new.items }
-    ensures room { AddsAtMost 51 events.old events.new }
+        → Steps s one two battle.new (S.tells events.new) }
+    ensures room { AddsAtMost S.room 51 events.old events.new }
 {
     match battle.request(Side::One) {
         Request::Move => play_turn(battle, one, two, events),
@@ -112,11 +161,12 @@ fn play(battle: &mut Packed, one: Choice, two: Choice, events: &mut EventList)
 }
 
 // A turn draws from the numbers of the header, and leaves them there as they then stand.
-fn play_turn(battle: &mut Packed, one: Choice, two: Choice, events: &mut EventList)
-    requires empty { events.old.items ≡ [] }
+fn play_turn<S: EventSink>(battle: &mut Packed, one: Choice, two: Choice, events: &mut S)
+    requires empty { S.tells events.old [] }
+    requires room { HasRoom S.room 51 events.old }
     ensures stepped { (s : State) → Stands battle.old s → Plays s Move one two
-        → Steps s one two battle.new events.new.items }
-    ensures room { AddsAtMost 51 events.old events.new }
+        → Steps s one two battle.new (S.tells events.new) }
+    ensures room { AddsAtMost S.room 51 events.old events.new }
 {
     match battle.generator() {
         Some(generator) => {

@@ -1,5 +1,5 @@
 //! The hit test (docs/MECHANICS.md, "Hit test").
-ghost use Rattle.gen1_layout.specs.Words.{Event, Frame, List, Progress, Reads, Shows, ShowsDrawn, draw, false, is_asleep, move_at, not, status_in};
+ghost use Rattle.gen1_layout.specs.Words.{Event, Frame, List, Progress, Reads, Shows, ShowsDrawn, Told, draw, false, is_asleep, move_at, not, status_in};
 ghost use Rattle.std.specs.Prelude.{max, ◌&&◌, ◌*◌, ◌+◌, ◌/◌, ◌≡◌, ◌≤◌};
 ghost use Rattle.gen1_machine.specs.Stages.{percent_at};
 ghost use Rattle.gen1_machine.specs.HitTest.{eats_dreams, hit_test, hits_below, lowers, miss, never_misses, scaled_in, settled_hit_in};
@@ -38,9 +38,9 @@ pub fn hit_test<R: Rolls>(
     random: &mut R,
 ) -> Hit
     ensures shown { (origin : R) (g : Frame) (events : List Event) (p : Progress)
-        → ShowsDrawn R.byte R.next R.SPAN origin g battle.old events random.old false p
+        → ShowsDrawn R.byte R.next R.SPAN origin g battle.old (Told events) random.old false p
         → ShowsDrawn R.byte R.next R.SPAN origin (with_test result.hit result.kept g) battle.new
-        events random.new false (hit_test side (move_at id) base p) }
+        (Told events) random.new false (hit_test side (move_at id) base p) }
 {
     match settled_hit(battle, side, id) {
         Some(true) => Hit {
@@ -153,8 +153,8 @@ fn percent_at(stage: u8) -> u32
 // Draws, and tells whether the draw is below the byte; else the move misses.
 fn draw_below<R: Rolls>(battle: &mut Packed, side: Side, byte: u8, random: &mut R) -> bool
     ensures shown { (origin : R) (g : Frame) (events : List Event) (p : Progress)
-        → ShowsDrawn R.byte R.next R.SPAN origin g battle.old events random.old false p
-        → ShowsDrawn R.byte R.next R.SPAN origin (with_miss_unless result g) battle.new events
+        → ShowsDrawn R.byte R.next R.SPAN origin g battle.old (Told events) random.old false p
+        → ShowsDrawn R.byte R.next R.SPAN origin (with_miss_unless result g) battle.new (Told events)
         random.new false (draw (hits_below side byte) p) }
 {
     if random.draw() < byte {
@@ -166,8 +166,8 @@ fn draw_below<R: Rolls>(battle: &mut Packed, side: Side, byte: u8, random: &mut 
 
 fn miss(battle: &mut Packed, side: Side)
     ensures shown { (g : Frame) (events : List Event) (p : Progress)
-        → Shows g battle.old events false p
-        → Shows (with_miss_unless false g) battle.new events false (miss side p) }
+        → Shows g battle.old (Told events) false p
+        → Shows (with_miss_unless false g) battle.new (Told events) false (miss side p) }
 {
     battle.put_last_damage(0);
     battle.end_trapping(side);

@@ -3,24 +3,25 @@ ghost use Rattle.std.specs.Prelude.{◌&&◌};
 ghost use Rattle.gen1_layout.specs.Words.{AddsAtMost, Changes, Does, HasRoom, Reads, changed_member, false, healed_by, hurt_by, is_living, member_in, nat_lt};
 ghost use Rattle.gen1_machine.specs.Progress.{gain_hp, lose_hp};
 
+use gen1_events::EventSink;
 use gen1_layout::Packed;
-use gen1_machine::{DamageSource, Event, EventList, Side};
+use gen1_machine::{DamageSource, Event, Side};
 
 /// Takes HP from the member of `side` that is out: `amount`, or as many as there are. `Damage` with the health after it and
 /// the source is written where that takes any, and one place in `events` is to be free for it (docs/MECHANICS.md, "Landing",
 /// "Residual damage"). Nothing else changes.
 #[inline(always)] // docs/SPEED.md, "Hints on inlining"
-pub fn lose_hp(
+pub fn lose_hp<S: EventSink>(
     battle: &mut Packed,
     side: Side,
     source: DamageSource,
     amount: u16,
-    events: &mut EventList,
+    events: &mut S,
 )
-    requires room { HasRoom 1 events.old }
-    ensures shown { Does battle.old events.old.items battle.new events.new.items false
+    requires room { HasRoom S.room 1 events.old }
+    ensures shown { Does battle.old (S.tells events.old) battle.new (S.tells events.new) false
         (lose_hp side source amount) }
-    ensures room { AddsAtMost 1 events.old events.new }
+    ensures room { AddsAtMost S.room 1 events.old events.new }
 {
     if !loses(battle, side, amount) {
         return;
@@ -49,11 +50,11 @@ fn hurt(battle: &mut Packed, side: Side, amount: u16)
 /// Gives HP to the member of `side` that is out: `amount`, or as many as it lacks. `Heal` with the health after it is
 /// written where that gives any, and one place in `events` is to be free for it (docs/MECHANICS.md, "Recoil, drain and
 /// explosion", "Residual damage"). Nothing else changes.
-pub fn gain_hp(battle: &mut Packed, side: Side, amount: u16, events: &mut EventList)
-    requires room { HasRoom 1 events.old }
-    ensures shown { Does battle.old events.old.items battle.new events.new.items false
+pub fn gain_hp<S: EventSink>(battle: &mut Packed, side: Side, amount: u16, events: &mut S)
+    requires room { HasRoom S.room 1 events.old }
+    ensures shown { Does battle.old (S.tells events.old) battle.new (S.tells events.new) false
         (gain_hp side amount) }
-    ensures room { AddsAtMost 1 events.old events.new }
+    ensures room { AddsAtMost S.room 1 events.old events.new }
 {
     if !gains(battle, side, amount) {
         return;

@@ -5,8 +5,9 @@ ghost use Rattle.gen1_machine.specs.Progress.{only};
 ghost use Rattle.gen1_machine.specs.Landing.{breaks, land_damage, land_on_hp, land_on_substitute};
 ghost use Rattle.gen1_hits.specs.Landing.{has_broken, landed_on, with_break};
 
+use gen1_events::EventSink;
 use gen1_layout::Packed;
-use gen1_machine::{DamageSource, Event, EventList, Side, Volatile};
+use gen1_machine::{DamageSource, Event, Side, Volatile};
 
 /// Where damage landed.
 #[derive(Clone, Copy, Debug, PartialEq, Eq, Drop)]
@@ -22,14 +23,14 @@ pub enum Landed {
 /// Lands `damage` on the foe of `user`: on its Substitute where it has one, else on its HP, which cuts the last damage to
 /// what was there. Damage 0 changes nothing. At most one event is written, and one place in `events` is to be free for it
 /// (docs/MECHANICS.md, "Landing").
-pub fn land(battle: &mut Packed, user: Side, damage: u16, events: &mut EventList) -> Landed
-    requires room { HasRoom 1 events.old }
-    ensures shown { (g : Frame) (p : Progress) → Shows g battle.old events.old.items false p
-        → Shows (with_break (has_broken result) g) battle.new events.new.items false
+pub fn land<S: EventSink>(battle: &mut Packed, user: Side, damage: u16, events: &mut S) -> Landed
+    requires room { HasRoom S.room 1 events.old }
+    ensures shown { (g : Frame) (p : Progress) → Shows g battle.old (S.tells events.old) false p
+        → Shows (with_break (has_broken result) g) battle.new (S.tells events.new) false
         (only (nat_lt 0 damage) (land_damage (other user) damage) p) }
     ensures landed { Reads battle.old result λ f. landed_on damage
         (conditions_in (other user) f).substitute }
-    ensures room { AddsAtMost 1 events.old events.new }
+    ensures room { AddsAtMost S.room 1 events.old events.new }
 {
     if damage == 0 {
         return Landed::Hp;
@@ -53,20 +54,20 @@ pub fn land(battle: &mut Packed, user: Side, damage: u16, events: &mut EventList
 /// Lands `damage` on the Substitute of `target`, which has `hp` HP, and tells whether it broke. Damage above its HP, or
 /// above 255, breaks it, and `End` is written; else it keeps the rest, perhaps 0, and `Activate` is written. One place in
 /// `events` is to be free. The last damage stays (docs/MECHANICS.md, "Landing").
-pub fn land_on_substitute(
+pub fn land_on_substitute<S: EventSink>(
     battle: &mut Packed,
     target: Side,
     damage: u16,
     hp: u8,
-    events: &mut EventList,
+    events: &mut S,
 ) -> bool
-    requires room { HasRoom 1 events.old }
-    ensures shown { (g : Frame) (p : Progress) → Shows g battle.old events.old.items false p
+    requires room { HasRoom S.room 1 events.old }
+    ensures shown { (g : Frame) (p : Progress) → Shows g battle.old (S.tells events.old) false p
         → (conditions_in target p.field).substitute ≡ Some hp
-        → Shows (with_break result g) battle.new events.new.items false
+        → Shows (with_break result g) battle.new (S.tells events.new) false
         (land_on_substitute target damage hp p) }
     ensures broken { result ≡ breaks damage hp }
-    ensures room { AddsAtMost 1 events.old events.new }
+    ensures room { AddsAtMost S.room 1 events.old events.new }
 {
     if breaks(damage, hp) {
         battle.put_substitute(target, None);
@@ -88,17 +89,17 @@ fn breaks(damage: u16, hp: u8) -> bool
 /// `Damage` with the source is written where that is any, and one place in `events` is to be free for it (docs/MECHANICS.md,
 /// "Landing").
 #[inline(always)] // docs/SPEED.md, "Hints on inlining"
-pub fn land_on_hp(
+pub fn land_on_hp<S: EventSink>(
     battle: &mut Packed,
     target: Side,
     source: DamageSource,
     damage: u16,
-    events: &mut EventList,
+    events: &mut S,
 )
-    requires room { HasRoom 1 events.old }
-    ensures shown { Does battle.old events.old.items battle.new events.new.items false
+    requires room { HasRoom S.room 1 events.old }
+    ensures shown { Does battle.old (S.tells events.old) battle.new (S.tells events.new) false
         (land_on_hp target source damage) }
-    ensures room { AddsAtMost 1 events.old events.new }
+    ensures room { AddsAtMost S.room 1 events.old events.new }
 {
     let taken = damage.min(battle.hp(target));
     battle.put_last_damage(taken);

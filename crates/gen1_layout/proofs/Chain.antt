@@ -12,7 +12,7 @@ use Rattle.gen1_machine.specs.State.{changed_active, changed_conditions, changed
 use Rattle.gen1_machine.specs.Progress.{Action, Phase, Progress, choose, draw, given, note, on_action, on_active, on_conditions, on_field, on_member, set_last_damage, stay, stop, told, unless_stopped, when, ◌▸◌}
 use Rattle.gen1_layout.specs.Parts.{Parts}
 use Rattle.gen1_layout.specs.Within.{Within}
-use Rattle.gen1_layout.specs.Shows.{Frame, Shows, ShowsDrawn}
+use Rattle.gen1_layout.specs.Shows.{Frame, Shows, ShowsDrawn, Telling, Told}
 
 -- phases, by what they come to
 
@@ -34,15 +34,15 @@ choose-false test f k p e = ap (λ (b : Bool). elim b as (λ _. Progress) [ true
 
 -- one phase, then the next
 
-module _ {g g' : Frame} {parts parts' : Parts} {events events' : List Event} {b : Bool} {p : Progress} where
+module _ {g g' : Frame} {parts parts' : Parts} {events events' : Telling} {b : Bool} {p : Progress} where
   pub goes : (f k : Phase) → Shows g parts events false (f p) → Shows g' parts' events' b (k (f p)) → Shows g' parts' events' b ((f ▸ k) p)
   goes f k a h = rw (then-goes f k p a.ends) h
 
-module _ {g : Frame} {parts : Parts} {events : List Event} {p : Progress} where
+module _ {g : Frame} {parts : Parts} {events : Telling} {p : Progress} where
   pub stops : (f k : Phase) → Shows g parts events true (f p) → Shows g parts events true ((f ▸ k) p)
   stops f k a = rw (then-stops f k p a.ends) a
 
-module _ {g : Frame} {parts : Parts} {events : List Event} {b : Bool} {p : Progress} where
+module _ {g : Frame} {parts : Parts} {events : Telling} {b : Bool} {p : Progress} where
   pub if_so : (test : Progress → Bool) (f k : Phase) → test p ≡ true → Shows g parts events b (f p) → Shows g parts events b (choose test f k p)
   if_so test f k e h = rw (choose-true test f k p e) h
 
@@ -68,9 +68,21 @@ module _ {g : Frame} {parts : Parts} {events : List Event} {b : Bool} {p : Progr
   unfolding on_action
   acted f h = record { within = h.within; written = h.written; ends = h.ends; stream = h.stream; drawn = h.drawn; skips = h.skips; action = ap f h.action }
 
+-- what code showed that tells nothing, for whoever has been told of the events so far
+
+module _ {g : Frame} {parts : Parts} {events : Telling} {b : Bool} {p : Progress} (h : Shows g parts events b p) where
+  pub as_list : Shows g parts (Told p.events) b p
+  as_list = record { within = h.within; written = refl; ends = h.ends; stream = h.stream; drawn = h.drawn; skips = h.skips; action = h.action }
+
+  pub from_list : {g' : Frame} {parts' : Parts} {b' : Bool} {q : Progress} → Shows g' parts' (Told p.events) b' q → Shows g' parts' events b' q
+  from_list a = record { within = a.within; written = subst events a.written h.written; ends = a.ends; stream = a.stream; drawn = a.drawn; skips = a.skips; action = a.action }
+
+  pub quietly : {g' : Frame} {parts' : Parts} {b' : Bool} {q : Progress} → (Shows g parts (Told p.events) b p → Shows g' parts' (Told p.events) b' q) → Shows g' parts' events b' q
+  quietly f = from_list (f as_list)
+
 -- a part that changes nothing, and a test that does not hold
 
-module _ {g g' : Frame} {parts parts' : Parts} {events events' : List Event} {b : Bool} {p : Progress} where
+module _ {g g' : Frame} {parts parts' : Parts} {events events' : Telling} {b : Bool} {p : Progress} where
   pub passing : (f k : Phase) → f p ≡ p → Shows g parts events false p → Shows g' parts' events' b (k p) → Shows g' parts' events' b ((f ▸ k) p)
   passing f k e h a = rw (then-goes f k p (ap (λ (q : Progress). q.stopped) e ∙ h.ends) ∙ ap k e) a
 
@@ -80,20 +92,27 @@ module _ {g g' : Frame} {parts parts' : Parts} {events events' : List Event} {b 
 
 -- writes and events
 
-module _ {g : Frame} {parts : Parts} {events : List Event} {b : Bool} {p : Progress} (h : Shows g parts events b p) where
+-- one event more was told
+abbrev pub Tells : Telling → Telling → Event → Type 0
+Tells events events' e = (all : List Event) → events all → events' (all ++ e ∷ [])
+
+told_then : {events : Telling} (events' : Telling) {all : List Event} {e e' : Event} → Tells events events' e → events all → e ≡ e' → events' (all ++ e' ∷ [])
+told_then events' {all = all} a h k = subst (λ (x : Event). events' (all ++ x ∷ [])) k (a all h)
+
+module _ {g : Frame} {parts : Parts} {events : Telling} {b : Bool} {p : Progress} (h : Shows g parts events b p) where
   pub put : {parts' : Parts} (f : Field → Field) → Within g.setting parts' (f p.field) → Shows g parts' events b (on_field f p)
   unfolding on_field
   put f w = record { within = w; written = h.written; ends = h.ends; stream = h.stream; drawn = h.drawn; skips = h.skips; action = h.action }
 
-  pub noted : {events' : List Event} (event : Field → Event) {e : Event} → events' ≡ events ++ e ∷ [] → e ≡ event p.field → Shows g parts events' b (note event p)
+  pub noted : {events' : Telling} (event : Field → Event) {e : Event} → Tells events events' e → e ≡ event p.field → Shows g parts events' b (note event p)
   unfolding note
-  noted event a k = record { within = h.within; written = rw (a, h.written, k) refl; ends = h.ends; stream = h.stream; drawn = h.drawn; skips = h.skips; action = h.action }
+  noted {events' = events'} event a k = record { within = h.within; written = told_then events' a h.written k; ends = h.ends; stream = h.stream; drawn = h.drawn; skips = h.skips; action = h.action }
 
   -- a change, and the event that tells of it
-  pub told_so : {parts' : Parts} {events' : List Event} (f : Field → Field) (event : Field → Event) {e : Event} → Within g.setting parts' (f p.field)
-      → events' ≡ events ++ e ∷ [] → e ≡ event (f p.field) → Shows g parts' events' b (told f event p)
+  pub told_so : {parts' : Parts} {events' : Telling} (f : Field → Field) (event : Field → Event) {e : Event} → Within g.setting parts' (f p.field)
+      → Tells events events' e → e ≡ event (f p.field) → Shows g parts' events' b (told f event p)
   unfolding told
-  told_so f event w a k = record { within = w; written = rw (a, h.written, k) refl; ends = h.ends; stream = h.stream; drawn = h.drawn; skips = h.skips; action = h.action }
+  told_so {events' = events'} f event w a k = record { within = w; written = told_then events' a h.written k; ends = h.ends; stream = h.stream; drawn = h.drawn; skips = h.skips; action = h.action }
 
   pub put_on_member : {parts' : Parts} (s : Side) (f : Member → Member) → Within g.setting parts' (changed_member s f p.field) → Shows g parts' events b (on_member s f p)
   unfolding on_member
@@ -115,7 +134,7 @@ module _ {g : Frame} {parts : Parts} {events : List Event} {b : Bool} {p : Progr
 
 module _ {A : Type 0} {byte : A → ℕ} {next : A → A} {width : ℕ} {origin : A} where
   -- what code without draws showed, for a generator that has not moved
-  pub still : {g g' : Frame} {parts parts' : Parts} {events events' : List Event} {now : A} {b b' : Bool} {p q : Progress}
+  pub still : {g g' : Frame} {parts parts' : Parts} {events events' : Telling} {now : A} {b b' : Bool} {p q : Progress}
       → ShowsDrawn byte next width origin g parts events now b p → Shows (record g' { drawn = p.drawn }) parts' events' b' q → g'.stream ≡ g.stream
       → ShowsDrawn byte next width origin g' parts' events' now b' q
   still {g = g} {g' = g'} {now = now} {q = q} a h same = record {
@@ -123,8 +142,23 @@ module _ {A : Type 0} {byte : A → ℕ} {next : A → A} {width : ℕ} {origin 
     stands = subst (λ (s : Stream). StandsAt byte next width origin s q.drawn now) (sym same) (stands_there a.stands (sym h.drawn));
   }
 
+  pub drawn_as_list : {g : Frame} {parts : Parts} {events : Telling} {now : A} {b : Bool} {p : Progress}
+      → ShowsDrawn byte next width origin g parts events now b p → ShowsDrawn byte next width origin g parts (Told p.events) now b p
+  drawn_as_list h = record { shows = as_list h.shows; stands = h.stands }
+
+  pub drawn_from_list : {g g' : Frame} {parts parts' : Parts} {events : Telling} {old new : A} {b b' : Bool} {p q : Progress}
+      → ShowsDrawn byte next width origin g parts events old b p → ShowsDrawn byte next width origin g' parts' (Told p.events) new b' q
+      → ShowsDrawn byte next width origin g' parts' events new b' q
+  drawn_from_list h a = record { shows = from_list h.shows a.shows; stands = a.stands }
+
+  pub drawn_quietly : {g g' : Frame} {parts parts' : Parts} {events : Telling} {old new : A} {b b' : Bool} {p q : Progress}
+      → ShowsDrawn byte next width origin g parts events old b p
+      → (ShowsDrawn byte next width origin g parts (Told p.events) old b p → ShowsDrawn byte next width origin g' parts' (Told p.events) new b' q)
+      → ShowsDrawn byte next width origin g' parts' events new b' q
+  drawn_quietly h f = drawn_from_list h (f (drawn_as_list h))
+
   -- a draw: the byte is the stream's, and what follows begins behind it
-  pub drawing : {g g' : Frame} {parts parts' : Parts} {events events' : List Event} {old new now : A} {b b' : Bool} {p : Progress} (f : ℕ → Phase) {drawn : ℕ}
+  pub drawing : {g g' : Frame} {parts parts' : Parts} {events events' : Telling} {old new now : A} {b b' : Bool} {p : Progress} (f : ℕ → Phase) {drawn : ℕ}
       → ShowsDrawn byte next width origin g parts events old b p → drawn ≡ byte old → new ≡ next old
       → (ShowsDrawn byte next width origin g parts events new b (record p { drawn = p.drawn + 1 })
       → ShowsDrawn byte next width origin g' parts' events' now b' (f drawn (record p { drawn = p.drawn + 1 })))
@@ -138,39 +172,37 @@ module _ {A : Type 0} {byte : A → ℕ} {next : A → A} {width : ℕ} {origin 
         stands = stands_after_draw a.stands left;
       }))
 
-  pub drawn_goes : {g g' : Frame} {parts parts' : Parts} {events events' : List Event} {now now' : A} {b : Bool} {p : Progress} (f k : Phase)
+  pub drawn_goes : {g g' : Frame} {parts parts' : Parts} {events events' : Telling} {now now' : A} {b : Bool} {p : Progress} (f k : Phase)
       → ShowsDrawn byte next width origin g parts events now false (f p) → ShowsDrawn byte next width origin g' parts' events' now' b (k (f p))
       → ShowsDrawn byte next width origin g' parts' events' now' b ((f ▸ k) p)
   drawn_goes {p = p} f k a h = rw (then-goes f k p a.shows.ends) h
 
-  pub drawn_stops : {g : Frame} {parts : Parts} {events : List Event} {now : A} {p : Progress} (f k : Phase)
+  pub drawn_stops : {g : Frame} {parts : Parts} {events : Telling} {now : A} {p : Progress} (f k : Phase)
       → ShowsDrawn byte next width origin g parts events now true (f p) → ShowsDrawn byte next width origin g parts events now true ((f ▸ k) p)
   drawn_stops {p = p} f k a = rw (then-stops f k p a.shows.ends) a
 
-  pub drawn_if_so : {g : Frame} {parts : Parts} {events : List Event} {now : A} {b : Bool} {p : Progress} (test : Progress → Bool) (f k : Phase) → test p ≡ true
+  pub drawn_if_so : {g : Frame} {parts : Parts} {events : Telling} {now : A} {b : Bool} {p : Progress} (test : Progress → Bool) (f k : Phase) → test p ≡ true
       → ShowsDrawn byte next width origin g parts events now b (f p) → ShowsDrawn byte next width origin g parts events now b (choose test f k p)
   drawn_if_so {p = p} test f k e h = rw (choose-true test f k p e) h
 
-  pub drawn_if_not : {g : Frame} {parts : Parts} {events : List Event} {now : A} {b : Bool} {p : Progress} (test : Progress → Bool) (f k : Phase) → test p ≡ false
+  pub drawn_if_not : {g : Frame} {parts : Parts} {events : Telling} {now : A} {b : Bool} {p : Progress} (test : Progress → Bool) (f k : Phase) → test p ≡ false
       → ShowsDrawn byte next width origin g parts events now b (k p) → ShowsDrawn byte next width origin g parts events now b (choose test f k p)
   drawn_if_not {p = p} test f k e h = rw (choose-false test f k p e) h
 
-  pub drawn_stays : {g : Frame} {parts : Parts} {events : List Event} {now : A} {b : Bool} {p : Progress}
+  pub drawn_stays : {g : Frame} {parts : Parts} {events : Telling} {now : A} {b : Bool} {p : Progress}
       → ShowsDrawn byte next width origin g parts events now b p → ShowsDrawn byte next width origin g parts events now b (stay p)
   unfolding stay
   drawn_stays h = h
 
-  pub drawn_seeing : {B : Type 0} {a : B} {g : Frame} {parts : Parts} {events : List Event} {now : A} {b : Bool} {p : Progress} (read : Progress → B) (f : B → Phase)
+  pub drawn_seeing : {B : Type 0} {a : B} {g : Frame} {parts : Parts} {events : Telling} {now : A} {b : Bool} {p : Progress} (read : Progress → B) (f : B → Phase)
       → a ≡ read p → ShowsDrawn byte next width origin g parts events now b (f a p) → ShowsDrawn byte next width origin g parts events now b (given read f p)
   unfolding given
   drawn_seeing read f e h = rw (← e) h
 
-  pub drawn_settled : {g : Frame} {parts : Parts} {events : List Event} {now : A} {b b' : Bool} {p : Progress} → b ≡ b'
+  pub drawn_settled : {g : Frame} {parts : Parts} {events : Telling} {now : A} {b b' : Bool} {p : Progress} → b ≡ b'
       → ShowsDrawn byte next width origin g parts events now b p → ShowsDrawn byte next width origin g parts events now b' p
   drawn_settled e h = record { shows = settled e h.shows; stands = h.stands }
 
-  pub drawn_acted : {g : Frame} {parts : Parts} {events : List Event} {now : A} {b : Bool} {p : Progress} (f : Action → Action)
+  pub drawn_acted : {g : Frame} {parts : Parts} {events : Telling} {now : A} {b : Bool} {p : Progress} (f : Action → Action)
       → ShowsDrawn byte next width origin g parts events now b p → ShowsDrawn byte next width origin (record g { action = f g.action }) parts events now b (on_action f p)
   drawn_acted {g = g} f h = still {g' = record g { action = f g.action }} h (acted f h.shows) refl
-
--- how what is shown begins: no draws, no events, and nothing known of the action

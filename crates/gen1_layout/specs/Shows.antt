@@ -8,6 +8,14 @@ use Rattle.gen1_machine.specs.Progress.{Action, Phase, Progress}
 use Rattle.gen1_layout.specs.Parts.{Parts}
 use Rattle.gen1_layout.specs.Within.{Packs, Setting, Within}
 
+-- what has been told of events: of a list that it is the one. What takes events says so of itself (gen1_events, `EventSink`)
+abbrev pub Telling : Type 1
+Telling = List Event → Type 0
+
+-- these events and no others, where nobody has to know who takes them
+abbrev pub Told : List Event → Telling
+Told events told = events ≡ told
+
 -- what is known beside the bytes and the events
 pub record Frame : Type 0 where
   pub setting : Setting
@@ -16,10 +24,10 @@ pub record Frame : Type 0 where
   pub skips : Bool
   pub action : Action
 
--- the parts and the events stand for p, and `stopped` tells whether p has stopped
-pub record Shows (g : Frame) (parts : Parts) (events : List Event) (stopped : Bool) (p : Progress) : Type 0 where
+-- the parts stand for p, its events have been told, and `stopped` tells whether p has stopped
+pub record Shows (g : Frame) (parts : Parts) (events : Telling) (stopped : Bool) (p : Progress) : Type 0 where
   pub within : Within g.setting parts p.field
-  pub written : events ≡ p.events
+  pub written : events p.events
   pub ends : p.stopped ≡ stopped
   pub stream : p.stream ≡ g.stream
   pub drawn : p.drawn ≡ g.drawn
@@ -27,9 +35,9 @@ pub record Shows (g : Frame) (parts : Parts) (events : List Event) (stopped : Bo
   pub action : p.action ≡ g.action
 
 -- the same while a side may still have nobody out; nothing stops there
-pub record ShowsPacked (g : Frame) (parts : Parts) (events : List Event) (p : Progress) : Type 0 where
+pub record ShowsPacked (g : Frame) (parts : Parts) (events : Telling) (p : Progress) : Type 0 where
   pub packs : Packs g.setting parts p.field
-  pub written : events ≡ p.events
+  pub written : events p.events
   pub ends : p.stopped ≡ false
   pub stream : p.stream ≡ g.stream
   pub drawn : p.drawn ≡ g.drawn
@@ -37,17 +45,17 @@ pub record ShowsPacked (g : Frame) (parts : Parts) (events : List Event) (p : Pr
   pub action : p.action ≡ g.action
 
 -- what is shown inside an update, with a generator, which stands exactly where p has drawn to; what the frame says of draws is then of no account
-pub record ShowsDrawn {A : Type 0} (byte : A → ℕ) (next : A → A) (width : ℕ) (origin : A) (g : Frame) (parts : Parts) (events : List Event) (now : A) (stopped : Bool) (p : Progress) : Type 0 where
+pub record ShowsDrawn {A : Type 0} (byte : A → ℕ) (next : A → A) (width : ℕ) (origin : A) (g : Frame) (parts : Parts) (events : Telling) (now : A) (stopped : Bool) (p : Progress) : Type 0 where
   pub shows : Shows (record g { drawn = p.drawn }) parts events stopped p
   pub stands : StandsAt byte next width origin g.stream p.drawn now
 
 -- code with no draws, from these parts and events to those, does what a phase does
-abbrev pub Does : Parts → List Event → Parts → List Event → Bool → Phase → Type 0
+abbrev pub Does : Parts → Telling → Parts → Telling → Bool → Phase → Type 0
 Does parts events parts' events' stopped phase =
     (g : Frame) (p : Progress) → Shows g parts events false p → Shows g parts' events' stopped (phase p)
 
 -- code with draws does what a phase does, whatever generator it was handed
-abbrev pub DoesDrawing : {A : Type 0} → (A → ℕ) → (A → A) → ℕ → Parts → List Event → A → Parts → List Event → A → Bool → Phase → Type 0
+abbrev pub DoesDrawing : {A : Type 0} → (A → ℕ) → (A → A) → ℕ → Parts → Telling → A → Parts → Telling → A → Bool → Phase → Type 0
 DoesDrawing {A = A} byte next width parts events old parts' events' new stopped phase =
     (origin : A) (g : Frame) (p : Progress) → ShowsDrawn byte next width origin g parts events old false p
     → ShowsDrawn byte next width origin g parts' events' new stopped (phase p)

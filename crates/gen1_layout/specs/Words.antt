@@ -1,5 +1,4 @@
 -- The words of contracts: one for each thing that many of them say, and those that they speak of, passed on.
-use Rattle.arrayvec.specs.ArrayVec.{ArrayVec, array_vec_len}
 use Rattle.gen1_layout.specs.Parts.{Parts}
 use Rattle.std.specs.Prelude.{◌+◌, ◌≡◌, ◌≤◌}
 pub use Rattle.std.specs.Prelude.{Bool, IsTrue, List, None, Option, Some, [], false, is_some, length, map, nat_le, nat_lt, not, slice_index_or, slice_set, true, zero, ℕ}
@@ -13,7 +12,7 @@ pub use Rattle.gen1_machine.specs.CurrentStats.{has_number, now, now_in, stage_o
 pub use Rattle.gen1_machine.specs.Moves.{move_at}
 pub use Rattle.gen1_machine.specs.Progress.{Phase, Progress, conditions, draw, status_of, stop, ◌▸◌}
 pub use Rattle.gen1_layout.specs.Within.{Packs, Setting, Within}
-pub use Rattle.gen1_layout.specs.Shows.{Does, DoesDrawing, Frame, Shows, ShowsDrawn}
+pub use Rattle.gen1_layout.specs.Shows.{Does, DoesDrawing, Frame, Shows, ShowsDrawn, Telling, Told}
 
 -- reading: wherever the parts stand for a field, a value is this of the field
 
@@ -74,20 +73,17 @@ WritesConditionsIf s old new written fits =
 
 -- doing: what a phase does that depends on what there is, where code was handed this
 
-abbrev pub DoesSeeing : {A : Type 0} → (Progress → A) → A → Parts → List Event → Parts → List Event → Bool → Phase → Type 0
+abbrev pub DoesSeeing : {A : Type 0} → (Progress → A) → A → Parts → Telling → Parts → Telling → Bool → Phase → Type 0
 DoesSeeing read value parts events parts' events' stopped phase =
     (g : Frame) (p : Progress) → read p ≡ value → Shows g parts events false p → Shows g parts' events' stopped (phase p)
 
--- events: there is room for so many more; so many were added, at most so many, or none
+-- events: there is room for so many more; at most so many were added, or none
 
-abbrev pub HasRoom : ℕ → ArrayVec Event → Type 0
-HasRoom n events = array_vec_len events + n ≤ 64
+abbrev pub HasRoom : {S : Type 0} → (S → ℕ) → ℕ → S → Type 0
+HasRoom room n events = n ≤ room events
 
-abbrev pub Adds : ℕ → ArrayVec Event → ArrayVec Event → Type 0
-Adds n old new = array_vec_len new ≡ array_vec_len old + n
+abbrev pub AddsAtMost : {S : Type 0} → (S → ℕ) → ℕ → S → S → Type 0
+AddsAtMost room n old new = room old ≤ room new + n
 
-abbrev pub AddsAtMost : ℕ → ArrayVec Event → ArrayVec Event → Type 0
-AddsAtMost n old new = array_vec_len new ≤ array_vec_len old + n
-
-abbrev pub AddsNone : ArrayVec Event → ArrayVec Event → Type 0
-AddsNone old new = array_vec_len new ≡ array_vec_len old
+abbrev pub AddsNone : {S : Type 0} → (S → ℕ) → S → S → Type 0
+AddsNone room old new = room old ≡ room new

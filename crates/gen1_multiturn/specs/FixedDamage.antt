@@ -1,7 +1,7 @@
 -- What a move of fixed damage deals, as a damage that is handed back: none is the fault of Psywave at level 1 (docs/MECHANICS.md,
 -- "Fixed damage and one-hit moves").
 use Rattle.std.specs.Prelude.{None, Option, Some, ℕ, ◌≡◌}
-use Rattle.gen1_layout.specs.Words.{Event, Frame, List, Phase, Progress, ShowsDrawn, false}
+use Rattle.gen1_layout.specs.Words.{Event, Frame, List, Phase, Progress, ShowsDrawn, Told, false}
 use Rattle.gen1_machine.specs.Progress.{fault, set_last_damage}
 use Rattle.gen1_layout.specs.Parts.{Parts}
 
@@ -12,5 +12,5 @@ deal None = fault 2
 -- the generator was drawn from up to n, and what a phase does is to draw as far, and to deal the result
 abbrev pub DealsAs : {A : Type 0} → (A → ℕ) → (A → A) → ℕ → Parts → A → Option ℕ → A → Phase → Type 0
 DealsAs {A = A} byte next width parts old result new phase =
-    (origin : A) (g : Frame) (events : List Event) (p : Progress) → ShowsDrawn byte next width origin g parts events old false p
-    → (n : ℕ) × ShowsDrawn byte next width origin g parts events new false (record p { drawn = n }) × (phase p ≡ deal result (record p { drawn = n }))
+    (origin : A) (g : Frame) (events : List Event) (p : Progress) → ShowsDrawn byte next width origin g parts (Told events) old false p
+    → (n : ℕ) × ShowsDrawn byte next width origin g parts (Told events) new false (record p { drawn = n }) × (phase p ≡ deal result (record p { drawn = n }))

@@ -9,22 +9,23 @@ ghost use Rattle.gen1_action.specs.Knowing.{DoesKnowing};
 ghost use Rattle.gen1_multiturn.specs.Effectiveness.{how_many};
 
 use gen1_action::Known;
+use gen1_events::EventSink;
 use gen1_layout::Packed;
-use gen1_machine::{Event, EventList, Side};
+use gen1_machine::{Event, Side};
 use gen1_tables::{MoveId, effectiveness};
 
 // `Crit`, and `SuperEffective` or `Resisted`, of the foe of `side`, where the damage went through the types.
-pub(crate) fn note_first_hit(
+pub(crate) fn note_first_hit<S: EventSink>(
     battle: &Packed,
     side: Side,
     id: MoveId,
     known: &Known,
-    events: &mut EventList,
+    events: &mut S,
 )
-    requires room { HasRoom 2 events.old }
-    ensures shown { DoesKnowing battle.now events.old.items known.now battle.now events.new.items
+    requires room { HasRoom S.room 2 events.old }
+    ensures shown { DoesKnowing battle.now (S.tells events.old) known.now battle.now (S.tells events.new)
         known.now false (note_first_hit side (move_at id)) }
-    ensures room { AddsAtMost 2 events.old events.new }
+    ensures room { AddsAtMost S.room 2 events.old events.new }
 {
     if !known.through_types {
         return;
@@ -33,22 +34,22 @@ pub(crate) fn note_first_hit(
     note_effectiveness(battle, side, id, events);
 }
 
-fn note_critical(battle: &Packed, target: Side, known: &Known, events: &mut EventList)
-    requires room { HasRoom 1 events.old }
-    ensures shown { DoesKnowing battle.now events.old.items known.now battle.now events.new.items
+fn note_critical<S: EventSink>(battle: &Packed, target: Side, known: &Known, events: &mut S)
+    requires room { HasRoom S.room 1 events.old }
+    ensures shown { DoesKnowing battle.now (S.tells events.old) known.now battle.now (S.tells events.new)
         known.now false (note_critical target) }
-    ensures room { AddsAtMost 1 events.old events.new }
+    ensures room { AddsAtMost S.room 1 events.old events.new }
 {
     if known.critical {
         events.push(Event::Crit(battle.who(target)));
     }
 }
 
-fn note_effectiveness(battle: &Packed, side: Side, id: MoveId, events: &mut EventList)
-    requires room { HasRoom 1 events.old }
-    ensures shown { Does battle.now events.old.items battle.now events.new.items false
+fn note_effectiveness<S: EventSink>(battle: &Packed, side: Side, id: MoveId, events: &mut S)
+    requires room { HasRoom S.room 1 events.old }
+    ensures shown { Does battle.now (S.tells events.old) battle.now (S.tells events.new) false
         (given (numbers side (move_at id)) (note_effectiveness (other side))) }
-    ensures room { AddsAtMost 1 events.old events.new }
+    ensures room { AddsAtMost S.room 1 events.old events.new }
 {
     let foe = side.other();
     let factors = effectiveness(id.kind(), battle.first_type(foe), battle.second_type(foe));

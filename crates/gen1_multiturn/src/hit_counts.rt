@@ -1,6 +1,6 @@
 //! How many hits a move makes (docs/MECHANICS.md, "Many hits").
 ghost use Rattle.std.specs.Prelude.{unwrap_or, ◌-◌, ◌≡◌, ◌≤◌};
-ghost use Rattle.gen1_layout.specs.Words.{AddsAtMost, Event as EventOf, HasRoom, List, false, is_some, move_at, true};
+ghost use Rattle.gen1_layout.specs.Words.{AddsAtMost, Event as EventOf, HasRoom, List, Told, false, is_some, move_at, true};
 ghost use Rattle.gen1_machine.specs.HitEffects.{hit_effect, plan_hits};
 ghost use Rattle.gen1_machine.specs.ManyHits.{note_hit_count};
 ghost use Rattle.gen1_tables.specs.Effects.{hits_more};
@@ -11,8 +11,9 @@ ghost use Rattle.gen1_action.specs.Knowing.{DoesKnowing, DoesKnowingDrawing};
 ghost use Rattle.gen1_multiturn.specs.ManyHits.{IsFew, is_multi_hit};
 
 use gen1_action::{Known, draw_count};
+use gen1_events::EventSink;
 use gen1_layout::Packed;
-use gen1_machine::{Event, EventList, HitCount, Side};
+use gen1_machine::{Event, HitCount, Side};
 use gen1_rolls::Rolls;
 use gen1_tables::{Effect, MoveId};
 
@@ -25,7 +26,7 @@ pub(crate) fn plan_unless_broken<R: Rolls>(
 )
     requires many { hits_more (move_at id).effect ≡ true }
     ensures shown { (parts : Parts) (events : List EventOf)
-        → DoesKnowingDrawing R.byte R.next R.SPAN parts events random.old known.old parts events
+        → DoesKnowingDrawing R.byte R.next R.SPAN parts (Told events) random.old known.old parts (Told events)
         random.new known.new false
         (unless broke_substitute (hit_effect side (move_at id) (move_at id).effect)) }
     ensures made { known.new.hits_made ≡ known.old.hits_made }
@@ -40,7 +41,7 @@ pub(crate) fn plan_unless_broken<R: Rolls>(
 fn plan_more<R: Rolls>(side: Side, id: MoveId, known: &mut Known, random: &mut R)
     requires many { hits_more (move_at id).effect ≡ true }
     ensures shown { (parts : Parts) (events : List EventOf)
-        → DoesKnowingDrawing R.byte R.next R.SPAN parts events random.old known.old parts events
+        → DoesKnowingDrawing R.byte R.next R.SPAN parts (Told events) random.old known.old parts (Told events)
         random.new known.new false (hit_effect side (move_at id) (move_at id).effect) }
     ensures made { known.new.hits_made ≡ known.old.hits_made }
     ensures few { IsFew known.old → IsFew known.new }
@@ -61,7 +62,7 @@ fn is_multi_hit(effect: Effect) -> bool
 // Two to five, drawn after the first hit alone.
 fn plan_hits<R: Rolls>(known: &mut Known, random: &mut R)
     ensures shown { (parts : Parts) (events : List EventOf)
-        → DoesKnowingDrawing R.byte R.next R.SPAN parts events random.old known.old parts events
+        → DoesKnowingDrawing R.byte R.next R.SPAN parts (Told events) random.old known.old parts (Told events)
         random.new known.new false plan_hits }
     ensures made { known.new.hits_made ≡ known.old.hits_made }
     ensures few { IsFew known.old → IsFew known.new }
@@ -85,14 +86,19 @@ pub(crate) fn hits_left(planned: Option<u8>) -> u8
 }
 
 // Tells how many hits were made, where a number was settled.
-pub(crate) fn note_hit_count(battle: &Packed, target: Side, known: &Known, events: &mut EventList)
-    requires room { HasRoom 1 events.old }
+pub(crate) fn note_hit_count<S: EventSink>(
+    battle: &Packed,
+    target: Side,
+    known: &Known,
+    events: &mut S,
+)
+    requires room { HasRoom S.room 1 events.old }
     requires made { (1 ≤ known.now.hits_made) × (known.now.hits_made ≤ 5) }
-    ensures shown { DoesKnowing battle.now events.old.items known.now battle.now events.new.items
+    ensures shown { DoesKnowing battle.now (S.tells events.old) known.now battle.now (S.tells events.new)
         known.now false
         (when (λ p. is_some p.action.hits_planned)
         (given (λ p. p.action.hits_made) (note_hit_count target))) }
-    ensures room { AddsAtMost 1 events.old events.new }
+    ensures room { AddsAtMost S.room 1 events.old events.new }
 {
     if !known.hits_planned.is_some() {
         return;

@@ -1,13 +1,14 @@
 //! What comes with the hit of a move that makes one (docs/MECHANICS.md, "Recoil, drain and explosion").
 ghost use Rattle.std.specs.Prelude.{max, ◌/◌, ◌≡◌};
-ghost use Rattle.gen1_layout.specs.Words.{AddsAtMost, Does, Event as EventOf, HasRoom, List, false, move_at};
+ghost use Rattle.gen1_layout.specs.Words.{AddsAtMost, Does, Event as EventOf, HasRoom, List, Told, false, move_at};
 ghost use Rattle.gen1_machine.specs.HitEffects.{drain, explode, hit_effect, recoil, recoil_of, start_rage};
 ghost use Rattle.gen1_tables.specs.Effects.{hits_more};
 ghost use Rattle.gen1_multiturn.specs.ManyHits.{consequence_of};
 
+use gen1_events::EventSink;
 use gen1_hits::{gain_hp, lose_hp};
 use gen1_layout::{Conditions, Packed};
-use gen1_machine::{DamageSource, Event, EventList, Side, Volatile};
+use gen1_machine::{DamageSource, Event, Side, Volatile};
 use gen1_tables::{Effect, MoveId, STRUGGLE};
 
 // What a hit brings with it.
@@ -21,12 +22,12 @@ pub(crate) enum Consequence {
 }
 
 // One event is written at most.
-pub(crate) fn hit_effect(battle: &mut Packed, side: Side, id: MoveId, events: &mut EventList)
-    requires room { HasRoom 1 events.old }
+pub(crate) fn hit_effect<S: EventSink>(battle: &mut Packed, side: Side, id: MoveId, events: &mut S)
+    requires room { HasRoom S.room 1 events.old }
     requires one { hits_more (move_at id).effect ≡ false }
-    ensures shown { Does battle.old events.old.items battle.new events.new.items false
+    ensures shown { Does battle.old (S.tells events.old) battle.new (S.tells events.new) false
         (hit_effect side (move_at id) (move_at id).effect) }
-    ensures room { AddsAtMost 1 events.old events.new }
+    ensures room { AddsAtMost S.room 1 events.old events.new }
 {
     match consequence_of(id.effect()) {
         Consequence::Recoil => recoil(battle, side, id, events),
@@ -51,11 +52,11 @@ fn consequence_of(effect: Effect) -> Consequence
 }
 
 // The user is hurt, past its own Substitute.
-fn recoil(battle: &mut Packed, side: Side, id: MoveId, events: &mut EventList)
-    requires room { HasRoom 1 events.old }
-    ensures shown { Does battle.old events.old.items battle.new events.new.items false
+fn recoil<S: EventSink>(battle: &mut Packed, side: Side, id: MoveId, events: &mut S)
+    requires room { HasRoom S.room 1 events.old }
+    ensures shown { Does battle.old (S.tells events.old) battle.new (S.tells events.new) false
         (recoil side (move_at id)) }
-    ensures room { AddsAtMost 1 events.old events.new }
+    ensures room { AddsAtMost S.room 1 events.old events.new }
 {
     let amount = recoil_of(id, battle.last_damage());
     lose_hp(battle, side, DamageSource::Recoil, amount, events);
@@ -74,11 +75,11 @@ fn recoil_of(id: MoveId, damage: u16) -> u16
 }
 
 // The user heals half of the damage, which becomes the last damage.
-fn drain(battle: &mut Packed, side: Side, events: &mut EventList)
-    requires room { HasRoom 1 events.old }
-    ensures shown { Does battle.old events.old.items battle.new events.new.items false
+fn drain<S: EventSink>(battle: &mut Packed, side: Side, events: &mut S)
+    requires room { HasRoom S.room 1 events.old }
+    ensures shown { Does battle.old (S.tells events.old) battle.new (S.tells events.new) false
         (drain side) }
-    ensures room { AddsAtMost 1 events.old events.new }
+    ensures room { AddsAtMost S.room 1 events.old events.new }
 {
     let half = half_of(battle.last_damage());
     battle.put_last_damage(half);
@@ -92,11 +93,11 @@ fn half_of(damage: u16) -> u16
 }
 
 // The user's own Rage, which never ends.
-fn start_rage(battle: &mut Packed, side: Side, events: &mut EventList)
-    requires room { HasRoom 1 events.old }
-    ensures shown { Does battle.old events.old.items battle.new events.new.items false
+fn start_rage<S: EventSink>(battle: &mut Packed, side: Side, events: &mut S)
+    requires room { HasRoom S.room 1 events.old }
+    ensures shown { Does battle.old (S.tells events.old) battle.new (S.tells events.new) false
         (start_rage side) }
-    ensures room { AddsAtMost 1 events.old events.new }
+    ensures room { AddsAtMost S.room 1 events.old events.new }
 {
     if battle.is_on(side, Conditions::RAGE) {
         return;
@@ -108,7 +109,7 @@ fn start_rage(battle: &mut Packed, side: Side, events: &mut EventList)
 // The user falls, without an event of its own.
 pub(crate) fn explode(battle: &mut Packed, side: Side)
     ensures shown { (events : List EventOf)
-        → Does battle.old events battle.new events false (explode side) }
+        → Does battle.old (Told events) battle.new (Told events) false (explode side) }
 {
     battle.put_fallen(side);
     battle.put_flag(side, Conditions::SEEDED, false);

@@ -1,6 +1,5 @@
 //! The hits of a move, one after the other (docs/MECHANICS.md, "Many hits").
 ghost use Rattle.std.specs.Prelude.{◌*◌, ◌+◌, ◌||◌, ◌≡◌, ◌≤◌};
-ghost use Rattle.arrayvec.specs.ArrayVec.{array_vec_len};
 ghost use Rattle.gen1_layout.specs.Words.{AddsAtMost, Does, HasRoom, Reads, false, move_at, other, true};
 ghost use Rattle.gen1_machine.specs.State.{has_fallen_in};
 ghost use Rattle.gen1_machine.specs.declared.event.Event.TheVariants as told;
@@ -19,9 +18,10 @@ use crate::hit_counts::{hits_left, note_hit_count, plan_unless_broken};
 use crate::hit_effects::hit_effect;
 use crate::moves::rage::rage;
 use gen1_action::Known;
+use gen1_events::EventSink;
 use gen1_hits::{Landed, land};
 use gen1_layout::Packed;
-use gen1_machine::{Event, EventList, Side};
+use gen1_machine::{Event, Side};
 use gen1_rolls::Rolls;
 use gen1_tables::{Effect, MoveId};
 
@@ -33,19 +33,19 @@ use gen1_tables::{Effect, MoveId};
 /// the last the hit count, where one was planned. Thirteen places in `events` are to be free. What is known then is how many
 /// hits were planned and made, and whether a Substitute broke; before, no hit was planned or made. One draw or two are taken
 /// for a count of two to five, else none (docs/MECHANICS.md, "Many hits", "Recoil, drain and explosion").
-pub fn hits<R: Rolls>(
+pub fn hits<R: Rolls, S: EventSink>(
     battle: &mut Packed,
     side: Side,
     id: MoveId,
     known: &mut Known,
     random: &mut R,
-    events: &mut EventList,
+    events: &mut S,
 )
-    requires room { HasRoom 13 events.old }
+    requires room { HasRoom S.room 13 events.old }
     requires counts { IsUncounted known.old }
-    ensures shown { DoesKnowingDrawing R.byte R.next R.SPAN battle.old events.old.items random.old
-        known.old battle.new events.new.items random.new known.new false (hits side (move_at id)) }
-    ensures room { AddsAtMost 13 events.old events.new }
+    ensures shown { DoesKnowingDrawing R.byte R.next R.SPAN battle.old (S.tells events.old) random.old
+        known.old battle.new (S.tells events.new) random.new known.new false (hits side (move_at id)) }
+    ensures room { AddsAtMost S.room 13 events.old events.new }
 {
     note_first_hit(battle, side, id, known, events);
     if hits_more(id.effect()) {
@@ -67,13 +67,19 @@ fn hits_more(effect: Effect) -> bool
 
 // The hit of a move that makes one.
 #[inline(always)] // docs/SPEED.md, "Hints on inlining"
-fn hit_once(battle: &mut Packed, side: Side, id: MoveId, known: &mut Known, events: &mut EventList)
-    requires room { HasRoom 4 events.old }
+fn hit_once<S: EventSink>(
+    battle: &mut Packed,
+    side: Side,
+    id: MoveId,
+    known: &mut Known,
+    events: &mut S,
+)
+    requires room { HasRoom S.room 4 events.old }
     requires one { hits_more (move_at id).effect ≡ false }
     requires made { known.old.hits_made ≤ 4 }
-    ensures shown { DoesKnowing battle.old events.old.items known.old battle.new events.new.items
+    ensures shown { DoesKnowing battle.old (S.tells events.old) known.old battle.new (S.tells events.new)
         known.new false (hit_once side (move_at id)) }
-    ensures room { AddsAtMost 4 events.old events.new }
+    ensures room { AddsAtMost S.room 4 events.old events.new }
 {
     land_hit(battle, side, known, events);
     note_knock_out(id.effect(), events);
@@ -83,21 +89,21 @@ fn hit_once(battle: &mut Packed, side: Side, id: MoveId, known: &mut Known, even
 }
 
 // A hit of a move that makes several: two events at most, since nothing else comes with it.
-fn hit_of_many<R: Rolls>(
+fn hit_of_many<R: Rolls, S: EventSink>(
     battle: &mut Packed,
     side: Side,
     id: MoveId,
     known: &mut Known,
     random: &mut R,
-    events: &mut EventList,
+    events: &mut S,
 )
-    requires room { HasRoom 2 events.old }
+    requires room { HasRoom S.room 2 events.old }
     requires many { hits_more (move_at id).effect ≡ true }
     requires made { known.old.hits_made ≤ 4 }
-    ensures shown { DoesKnowingDrawing R.byte R.next R.SPAN battle.old events.old.items random.old
-        known.old battle.new events.new.items random.new known.new false
+    ensures shown { DoesKnowingDrawing R.byte R.next R.SPAN battle.old (S.tells events.old) random.old
+        known.old battle.new (S.tells events.new) random.new known.new false
         (hit_once side (move_at id)) }
-    ensures room { AddsAtMost 2 events.old events.new }
+    ensures room { AddsAtMost S.room 2 events.old events.new }
     ensures made { known.new.hits_made ≡ known.old.hits_made + 1 }
     ensures few { IsFew known.old → IsFew known.new }
 {
@@ -108,11 +114,11 @@ fn hit_of_many<R: Rolls>(
 }
 
 // The last damage lands on the foe.
-fn land_hit(battle: &mut Packed, side: Side, known: &mut Known, events: &mut EventList)
-    requires room { HasRoom 1 events.old }
-    ensures shown { DoesKnowing battle.old events.old.items known.old battle.new events.new.items
+fn land_hit<S: EventSink>(battle: &mut Packed, side: Side, known: &mut Known, events: &mut S)
+    requires room { HasRoom S.room 1 events.old }
+    ensures shown { DoesKnowing battle.old (S.tells events.old) known.old battle.new (S.tells events.new)
         known.new false (land (other side)) }
-    ensures room { AddsAtMost 1 events.old events.new }
+    ensures room { AddsAtMost S.room 1 events.old events.new }
     ensures same { (known.new.hits_made ≡ known.old.hits_made)
         × (known.new.hits_planned ≡ known.old.hits_planned) }
 {
@@ -128,12 +134,12 @@ fn has_broken(landed: Landed) -> bool
     matches!(landed, Landed::Broke)
 }
 
-fn note_knock_out(effect: Effect, events: &mut EventList)
-    requires room { HasRoom 1 events.old }
+fn note_knock_out<S: EventSink>(effect: Effect, events: &mut S)
+    requires room { HasRoom S.room 1 events.old }
     ensures shown { (parts : Parts)
-        → Does parts events.old.items parts events.new.items false
+        → Does parts (S.tells events.old) parts (S.tells events.new) false
         (only (knocks_out effect) (note λ f. told.OneHitKnockOut)) }
-    ensures room { AddsAtMost 1 events.old events.new }
+    ensures room { AddsAtMost S.room 1 events.old events.new }
 {
     if knocks_out(effect) {
         events.push(Event::OneHitKnockOut);
@@ -146,19 +152,19 @@ fn knocks_out(effect: Effect) -> bool
     matches!(effect, Effect::OneHitKnockOut)
 }
 
-fn effect_unless_broken(
+fn effect_unless_broken<S: EventSink>(
     battle: &mut Packed,
     side: Side,
     id: MoveId,
     known: &Known,
-    events: &mut EventList,
+    events: &mut S,
 )
-    requires room { HasRoom 1 events.old }
+    requires room { HasRoom S.room 1 events.old }
     requires one { hits_more (move_at id).effect ≡ false }
-    ensures shown { DoesKnowing battle.old events.old.items known.now battle.new events.new.items
+    ensures shown { DoesKnowing battle.old (S.tells events.old) known.now battle.new (S.tells events.new)
         known.now false
         (unless broke_substitute (hit_effect side (move_at id) (move_at id).effect)) }
-    ensures room { AddsAtMost 1 events.old events.new }
+    ensures room { AddsAtMost S.room 1 events.old events.new }
 {
     if !known.broke {
         hit_effect(battle, side, id, events);
@@ -166,22 +172,22 @@ fn effect_unless_broken(
 }
 
 // The hits after the first, and how many there were in all.
-fn other_hits<R: Rolls>(
+fn other_hits<R: Rolls, S: EventSink>(
     battle: &mut Packed,
     side: Side,
     id: MoveId,
     known: &mut Known,
     random: &mut R,
-    events: &mut EventList,
+    events: &mut S,
 )
-    requires room { HasRoom 9 events.old }
+    requires room { HasRoom S.room 9 events.old }
     requires many { hits_more (move_at id).effect ≡ true }
     requires made { known.old.hits_made ≡ 1 }
     requires few { IsFew known.old }
-    ensures shown { DoesKnowingDrawing R.byte R.next R.SPAN battle.old events.old.items random.old
-        known.old battle.new events.new.items random.new known.new false
+    ensures shown { DoesKnowingDrawing R.byte R.next R.SPAN battle.old (S.tells events.old) random.old
+        known.old battle.new (S.tells events.new) random.new known.new false
         (other_hits side (move_at id)) }
-    ensures room { AddsAtMost 9 events.old events.new }
+    ensures room { AddsAtMost S.room 9 events.old events.new }
 {
     let left = hits_left(known.hits_planned);
     hit_again(battle, side, id, left, known, random, events);
@@ -189,22 +195,22 @@ fn other_hits<R: Rolls>(
 }
 
 // So many hits more, if nothing ends them.
-fn hit_again<R: Rolls>(
+fn hit_again<R: Rolls, S: EventSink>(
     battle: &mut Packed,
     side: Side,
     id: MoveId,
     left: u8,
     known: &mut Known,
     random: &mut R,
-    events: &mut EventList,
+    events: &mut S,
 )
-    requires room { array_vec_len events.old + 2 * left ≤ 64 }
+    requires room { HasRoom S.room (2 * left) events.old }
     requires many { hits_more (move_at id).effect ≡ true }
     requires made { known.old.hits_made + left ≤ 5 }
-    ensures shown { DoesKnowingDrawing R.byte R.next R.SPAN battle.old events.old.items random.old
-        known.old battle.new events.new.items random.new known.new false
+    ensures shown { DoesKnowingDrawing R.byte R.next R.SPAN battle.old (S.tells events.old) random.old
+        known.old battle.new (S.tells events.new) random.new known.new false
         (hit_again left side (move_at id)) }
-    ensures room { array_vec_len events.new ≤ array_vec_len events.old + 2 * left }
+    ensures room { AddsAtMost S.room (2 * left) events.old events.new }
     ensures low { known.old.hits_made ≤ known.new.hits_made }
     ensures high { known.new.hits_made ≤ known.old.hits_made + left }
 {

@@ -1,6 +1,6 @@
 //! What a miss brings: a crash, or an explosion (docs/MECHANICS.md, "Action", step 9).
 ghost use Rattle.std.specs.Prelude.{◌≡◌};
-ghost use Rattle.gen1_layout.specs.Words.{AddsAtMost, Does, Event, HasRoom, List, false, move_at, true};
+ghost use Rattle.gen1_layout.specs.Words.{AddsAtMost, Does, Event, HasRoom, List, Told, false, move_at, true};
 ghost use Rattle.gen1_machine.specs.HitEffects.{explode};
 ghost use Rattle.gen1_machine.specs.ManyHits.{crash, missed_move};
 ghost use Rattle.gen1_tables.specs.Effects.{crashes, explodes};
@@ -8,9 +8,10 @@ ghost use Rattle.gen1_machine.specs.Progress.{only};
 
 use crate::hit_effects::explode;
 use gen1_action::note_miss;
+use gen1_events::EventSink;
 use gen1_hits::lose_hp;
 use gen1_layout::Packed;
-use gen1_machine::{DamageSource, EventList, Side};
+use gen1_machine::{DamageSource, Side};
 use gen1_tables::{Effect, MoveId};
 
 /// Tells that a move of `side` has missed, which ends its action: `Immune` of the foe or `Miss` of the user. Jump Kick and High
@@ -18,11 +19,11 @@ use gen1_tables::{Effect, MoveId};
 /// Self-Destruct and Explosion the user's HP become 0, and its status and Seeded are cleared. Two places in `events` are to be
 /// free; nothing else changes (docs/MECHANICS.md, "Action", step 9).
 #[inline(always)] // docs/SPEED.md, "Hints on inlining"
-pub fn missed_move(battle: &mut Packed, side: Side, id: MoveId, events: &mut EventList)
-    requires room { HasRoom 2 events.old }
-    ensures shown { Does battle.old events.old.items battle.new events.new.items true
+pub fn missed_move<S: EventSink>(battle: &mut Packed, side: Side, id: MoveId, events: &mut S)
+    requires room { HasRoom S.room 2 events.old }
+    ensures shown { Does battle.old (S.tells events.old) battle.new (S.tells events.new) true
         (missed_move side (move_at id)) }
-    ensures room { AddsAtMost 2 events.old events.new }
+    ensures room { AddsAtMost S.room 2 events.old events.new }
 {
     note_miss(battle, side, id, events);
     crash(battle, side, id.effect(), events);
@@ -30,11 +31,11 @@ pub fn missed_move(battle: &mut Packed, side: Side, id: MoveId, events: &mut Eve
 }
 
 // A kick that misses hurts its user.
-fn crash(battle: &mut Packed, side: Side, effect: Effect, events: &mut EventList)
-    requires room { HasRoom 1 events.old }
-    ensures shown { Does battle.old events.old.items battle.new events.new.items false
+fn crash<S: EventSink>(battle: &mut Packed, side: Side, effect: Effect, events: &mut S)
+    requires room { HasRoom S.room 1 events.old }
+    ensures shown { Does battle.old (S.tells events.old) battle.new (S.tells events.new) false
         (only (crashes effect) (crash side)) }
-    ensures room { AddsAtMost 1 events.old events.new }
+    ensures room { AddsAtMost S.room 1 events.old events.new }
 {
     if !crashes(effect) {
         return;
@@ -51,7 +52,7 @@ fn crashes(effect: Effect) -> bool
 
 fn explode_if(battle: &mut Packed, side: Side, effect: Effect)
     ensures shown { (events : List Event)
-        → Does battle.old events battle.new events false (only (explodes effect) (explode side)) }
+        → Does battle.old (Told events) battle.new (Told events) false (only (explodes effect) (explode side)) }
 {
     if effect.explodes() {
         explode(battle, side);

@@ -1,5 +1,5 @@
 -- How an update closes.
-use Rattle.gen1_layout.proofs.Words.{Bool, Event, Frame, IsBetween, None, Parts, Phase, Progress, Shows, Some, ap, arith, choose-false, false, if_not, nat_le, nat_tests, note, refl, stay, stays, then-goes, true, ℕ, ◌▸◌}
+use Rattle.gen1_layout.proofs.Words.{Bool, Frame, IsBetween, None, Parts, Phase, Progress, Shows, Some, Telling, ap, arith, choose-false, false, if_not, nat_le, nat_tests, note, refl, stay, stays, then-goes, true, ℕ, ◌▸◌}
 use Rattle.std.proofs.Common.{List, [], get_or, length, not, suc, sym, zero, ◌&&◌, ◌-◌, ◌<◌, ◌∷◌, ◌≡◌, ◌∙◌, ◌||◌}
 use Rattle.std.proofs.lemmas.Bool.{false≢true}
 use Rattle.gen1_tables.specs.Types.{any}
@@ -68,7 +68,7 @@ pub nobody_fell : (both : Bool) (f : Field) → both ≡ (not (has_fallen_in One
 nobody_fell both f e is One = (both_false (has_fallen_in One f) (has_fallen_in Two f) (sym e ∙ is)).0
 nobody_fell both f e is Two = (both_false (has_fallen_in One f) (has_fallen_in Two f) (sym e ∙ is)).1
 
-pub faints_not : {g : Frame} {parts : Parts} {events : List Event} {p : Progress} (s : Side) → has_fallen_in s p.field ≡ false → Shows g parts events false p
+pub faints_not : {g : Frame} {parts : Parts} {events : Telling} {p : Progress} (s : Side) → has_fallen_in s p.field ≡ false → Shows g parts events false p
     → Shows g parts events false (faint_if_fallen s p)
 unfolding faint_if_fallen
 faints_not s e h = if_not _ _ _ e (stays h)

@@ -16,3 +16,8 @@ pub mod OfferedSet
 pub mod OneChoice
 -- The bytes of what it lists rise.
 pub mod RisingOffers
+-- Binary digits: of four bytes, and without one of them.
+pub mod Digits
+-- The digits of what is offered, and the choices of digits.
+pub mod MaskDigits
+pub mod MaskChoices

@@ -1,5 +1,5 @@
 -- What the choices that are offered give to an update.
-use Rattle.gen1_layout.proofs.Words.{Bool, Field, Frame, List, Parts, Progress, Shows, Side, ap, false, inl, inr, length, refl, subst, sym, true, ℕ}
+use Rattle.gen1_layout.proofs.Words.{Bool, Field, Frame, Parts, Progress, Shows, Side, Telling, ap, false, inl, inr, length, refl, subst, sym, true, ℕ}
 use Rattle.std.proofs.Common.{◌≡◌, ◌⊎◌, ◌∙◌}
 use Rattle.std.proofs.lemmas.Bool.{false≢true}
 use Rattle.gen1_layout.specs.Words.{Event}
@@ -107,5 +107,5 @@ comes-after (choices.Move j) y p h = h
 comes-after choices.Pass y p h = h
 
 -- an update is closed also where it stopped
-pub reopened : {g : Frame} {parts : Parts} {events : List Event} {b : Bool} {p : Progress} → Shows g parts events b p → Shows g parts events false (record p { stopped = false })
+pub reopened : {g : Frame} {parts : Parts} {events : Telling} {b : Bool} {p : Progress} → Shows g parts events b p → Shows g parts events false (record p { stopped = false })
 reopened h = record { within = h.within; written = h.written; ends = refl; stream = h.stream; drawn = h.drawn; skips = h.skips; action = h.action }

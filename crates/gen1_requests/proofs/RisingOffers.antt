@@ -95,7 +95,7 @@ four_moves terms t h =
     let inside : t.active.place - 1 < length t.members = omega (arith, h.place.0, h.place.1) in
     (All-get_or (IsMemberUnder terms.rules) t.members (t.active.place - 1) nobody inside h.members.each).numbers.slots.1
 
-four_in : (s : Side) (terms : Terms) (f : Field) → IsField terms f → length (member_in s f).moves ≤ 4
+pub four_in : (s : Side) (terms : Terms) (f : Field) → IsField terms f → length (member_in s f).moves ≤ 4
 four_in One terms f h = four_moves terms f.one h.one
 four_in Two terms f h = four_moves terms f.two h.two
 

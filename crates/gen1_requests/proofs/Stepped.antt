@@ -1,7 +1,6 @@
 -- The machine's step by a pair of choices that are offered, by which update it is, and that what follows is valid.
-use Rattle.gen1_layout.proofs.Words.{List, Parts, Progress, [], ap, false, inl, inr, refl, sym, true, ℕ}
+use Rattle.gen1_layout.proofs.Words.{Parts, Progress, Telling, [], ap, false, inl, inr, refl, sym, true, ℕ}
 use Rattle.std.proofs.Common.{◌∷◌, ◌≡◌, ◌⊎◌, ◌∙◌}
-use Rattle.gen1_layout.specs.Words.{Event}
 use Rattle.gen1_machine.specs.declared.choice.Choice.{Choice}
 use Rattle.gen1_machine.specs.declared.choice.Choice.TheVariants.{Pass}
 use Rattle.gen1_machine.specs.declared.side.Side.TheVariants.{One, Two}
@@ -62,20 +61,22 @@ pub valid-after : (s : State) (one two : Choice) → IsState s → IsState (step
 unfolding run_by
 valid-after s one two valid = states_stay_valid s ((one, two) ∷ []) valid
 
-steps-by : (s : State) (one two : Choice) (q : Progress) {parts : Parts} {events : List Event} → IsState s → step s one two ≡ accepted s q → Updated (setting_of s) parts events q
+steps-by : (s : State) (one two : Choice) (q : Progress) {parts : Parts} {events : Telling} → IsState s → step s one two ≡ accepted s q → Updated (setting_of s) parts events q
     → Steps s one two parts events
 steps-by s one two q {parts = parts} {events = events} valid is left =
     let followed = ap (λ (t : Stepped). t.state) is in
     let same = left.within.same ∙ ap (λ (n : ℕ). blocks_of (record s { field = q.field; drawn = n })) (sym left.drawn) in
     record {
       stands = record { same = same ∙ ap blocks_of (sym followed); valid = valid-after s one two valid };
-      answers = ap (λ (t : Stepped). t.answer) is ∙ ap Accepted (sym left.written);
+      told = q.events;
+      answers = ap (λ (t : Stepped). t.answer) is;
+      written = left.written;
     }
 
-pub started-so : (s : State) {parts : Parts} {events : List Event} → IsState s → Starts s → Updated (setting_of s) parts events (close_update (ruling_of s.terms) (start (opened s)))
+pub started-so : (s : State) {parts : Parts} {events : Telling} → IsState s → Starts s → Updated (setting_of s) parts events (close_update (ruling_of s.terms) (start (opened s)))
     → Steps s Pass Pass parts events
 started-so s valid starts left = steps-by s Pass Pass _ valid (starts-as s starts) left
 
-pub replaced-so : (s : State) (one two : Choice) {parts : Parts} {events : List Event} → IsState s → Plays s requests.Switch one two
+pub replaced-so : (s : State) (one two : Choice) {parts : Parts} {events : Telling} → IsState s → Plays s requests.Switch one two
     → Updated (setting_of s) parts events (close_update (ruling_of s.terms) (replace one two (opened s))) → Steps s one two parts events
 replaced-so s one two valid plays left = steps-by s one two _ valid (replaces-as s one two plays) left

@@ -1,5 +1,5 @@
 -- A member that comes out: the bytes, and what is told.
-use Rattle.gen1_layout.proofs.Words.{Active, Field, List, Member, None, Option, Parts, Progress, Setting, Shows, Side, [], ap, arith, changed_active, changed_conditions, given, lit≤, note, on_active, on_conditions, on_field, party, refl, subst, sym, then-goes, underway_in, ℕ}
+use Rattle.gen1_layout.proofs.Words.{Active, Field, List, Member, None, Option, Parts, Progress, Setting, Shows, Side, Telling, [], ap, arith, changed_active, changed_conditions, given, lit≤, note, on_active, on_conditions, on_field, party, refl, subst, sym, then-goes, underway_in, ℕ}
 use Rattle.std.proofs.Common.{false, max, ◌++◌, ◌/◌, ◌∷◌, ◌≡◌, ◌≤◌, ◌∙◌}
 use Rattle.gen1_layout.specs.Words.{Event, Packs}
 use Rattle.gen1_tables.specs.Species.{species_row}
@@ -152,7 +152,7 @@ free_one s = subst (λ (q : Progress). (underway_in One q.field).trapping ≡ No
     (ap (λ (a : Active). a.conditions.underway.trapping) (sent_made 1 (member_at 1 s.field.one)))
 
 -- both are out
-pub both_begun : (s : State) {parts : Parts} {events : List Event} → IsUnstarted s.terms s.field
+pub both_begun : (s : State) {parts : Parts} {events : Telling} → IsUnstarted s.terms s.field
     → ShowsPacked (beginning s) parts events (send_out Two 1 (send_out One 1 (opened s))) → Shows (beginning s) parts events false (start (opened s))
 unfolding start
 both_begun s un h =

@@ -1,6 +1,6 @@
 -- The end of an update, in the parts that code has (docs/MECHANICS.md, "Falls and requests").
 use Rattle.std.specs.Prelude.{◌<◌, ◌||◌, ◌≡◌}
-use Rattle.gen1_layout.specs.Words.{Bool, Event, Frame, List, None, Option, Phase, Progress, Shows, Some, false, true, ℕ}
+use Rattle.gen1_layout.specs.Words.{Bool, Frame, None, Option, Phase, Progress, Shows, Some, Telling, false, true, ℕ}
 use Rattle.gen1_machine.specs.declared.side.Side.TheVariants.{One, Two}
 use Rattle.gen1_machine.specs.declared.terms.Outcome.{Outcome}
 use Rattle.gen1_machine.specs.declared.terms.Outcome.TheVariants.{Fault}
@@ -19,6 +19,6 @@ abbrev pub ask_next : Phase
 ask_next = choose (λ p. has_fallen One p || has_fallen Two p) ask_for_switches ask_for_moves
 
 -- by whether the battle is decided: it has ended and the rest of the update falls away, or nothing has happened and a turn is left
-abbrev pub Decides : Frame → Parts → List Event → Bool → Progress → Type 0
+abbrev pub Decides : Frame → Parts → Telling → Bool → Progress → Type 0
 Decides g parts events true p = Shows g parts events true (end_if_decided (ruling_of g.setting.terms) p)
 Decides g parts events false p = (end_if_decided (ruling_of g.setting.terms) p ≡ p) × Shows g parts events false p × (p.field.turn < g.setting.terms.limit)

@@ -6,3 +6,5 @@ pub mod SwitchingIn
 pub mod Falls
 -- What each side may choose, as a set.
 pub mod OfferedChoices
+-- The same as a number.
+pub mod OfferedMask

@@ -1,7 +1,7 @@
 -- What an update is begun for, and how it leaves the bytes, the events and the generator (docs/MECHANICS.md, "Falls and
 -- requests").
 use Rattle.std.specs.Prelude.{◌≡◌, ◌⊎◌}
-use Rattle.gen1_layout.specs.Words.{Event, Frame, List, Progress, Setting, Within, false, true, ℕ}
+use Rattle.gen1_layout.specs.Words.{Event, Frame, List, Progress, Setting, Telling, Within, false, true, ℕ}
 use Rattle.gen1_rolls.specs.Draws.{StandsAt}
 use Rattle.gen1_rolls.specs.Streams.{Link, Stream}
 use Rattle.gen1_machine.specs.declared.choice.Choice.{Choice}
@@ -36,18 +36,20 @@ pub record Starts (s : State) : Type 0 where
   pub unstarted : IsUnstarted s.terms s.field
 
 -- the bytes and the events are those of q, and no draw was made
-pub record Updated (g : Setting) (parts : Parts) (events : List Event) (q : Progress) : Type 0 where
+pub record Updated (g : Setting) (parts : Parts) (events : Telling) (q : Progress) : Type 0 where
   pub within : Within g parts q.field
-  pub written : events ≡ q.events
+  pub written : events q.events
   pub drawn : q.drawn ≡ g.drawn
 
 -- the same with draws, after which the generator stands where q has drawn to
-pub record UpdatedDrawing {A : Type 0} (byte : A → ℕ) (next : A → A) (width : ℕ) (origin : A) (stream : Stream) (g : Setting) (parts : Parts) (events : List Event) (now : A) (q : Progress) : Type 0 where
+pub record UpdatedDrawing {A : Type 0} (byte : A → ℕ) (next : A → A) (width : ℕ) (origin : A) (stream : Stream) (g : Setting) (parts : Parts) (events : Telling) (now : A) (q : Progress) : Type 0 where
   pub within : Within g parts q.field
-  pub written : events ≡ q.events
+  pub written : events q.events
   pub stands : StandsAt byte next width origin stream q.drawn now
 
--- the bytes stand for the state that follows by a pair of choices, which was accepted with these events
-pub record Steps (s : State) (one two : Choice) (parts : Parts) (events : List Event) : Type 0 where
+-- the bytes stand for the state that follows by a pair of choices, which was accepted with the events that were told
+pub record Steps (s : State) (one two : Choice) (parts : Parts) (events : Telling) : Type 0 where
   pub stands : Stands parts (step s one two).state
-  pub answers : (step s one two).answer ≡ Accepted events
+  pub told : List Event
+  pub answers : (step s one two).answer ≡ Accepted told
+  pub written : events told

@@ -2,7 +2,7 @@
 //! next.
 ghost use Rattle.std.specs.Prelude.{not, ◌&&◌, ◌<◌, ◌≡◌};
 ghost use Rattle.gen1_tables.specs.Types.{any};
-ghost use Rattle.gen1_layout.specs.Words.{AddsAtMost, AddsNone, Bool, Does, Event as EventOf, Field, Frame, HasRoom, List, Progress, Reads, Setting, Shows, Within, false, is_living, nat_le, party, true, ◌▸◌};
+ghost use Rattle.gen1_layout.specs.Words.{AddsAtMost, AddsNone, Bool, Does, Event as EventOf, Field, Frame, HasRoom, List, Progress, Reads, Setting, Shows, Told, Within, false, is_living, nat_le, party, true, ◌▸◌};
 ghost use Rattle.gen1_machine.specs.declared.event.Event.TheVariants as told;
 ghost use Rattle.gen1_machine.specs.declared.side.Side.TheVariants as sides;
 ghost use Rattle.gen1_machine.specs.Falls.{ask_for_moves, ask_nothing, battle_ends, close, faint_if_fallen, faint_in_order, settle, switch_if, the_fallen_faint};
@@ -13,22 +13,23 @@ ghost use Rattle.gen1_machine.specs.Valid.{IsOutcome};
 ghost use Rattle.gen1_stats.specs.Members.{IsBetween};
 ghost use Rattle.gen1_requests.specs.Falls.{Decides, ask_next, fault_in};
 
+use gen1_events::EventSink;
 use gen1_layout::Packed;
-use gen1_machine::{Event, EventList, FaultCode, Outcome, Request, Side, TurnNumber};
+use gen1_machine::{Event, FaultCode, Outcome, Request, Side, TurnNumber};
 
 /// Closes an update whose last actor was `actor`: the side that acted, was skipped, or was sent out last in a turn, and side 1
 /// where there was no turn. The fallen who are out faint, the foe of `actor` first; then the battle ends with a win or a tie, or
 /// switches are asked of who has fallen, or the turn number rises by 1 and moves are asked of both. Where the outcome is a fault
 /// nobody faints, and nothing is asked any more. At most 3 events are written (docs/MECHANICS.md, "Falls and requests", "Turn
 /// limit").
-pub fn close(battle: &mut Packed, actor: Side, events: &mut EventList)
-    requires space { HasRoom 3 events.old }
+pub fn close<S: EventSink>(battle: &mut Packed, actor: Side, events: &mut S)
+    requires space { HasRoom S.room 3 events.old }
     ensures shown { (g : Frame) (p : Progress) → g.action.side ≡ actor
-        → Shows g battle.old events.old.items false p
+        → Shows g battle.old (S.tells events.old) false p
         → (stopped : Bool)
-        × Shows g battle.new events.new.items stopped
+        × Shows g battle.new (S.tells events.new) stopped
         (close (ruling_of g.setting.terms) p.field.outcome p) }
-    ensures room { AddsAtMost 3 events.old events.new }
+    ensures room { AddsAtMost S.room 3 events.old events.new }
 {
     match fault_in(battle.outcome()) {
         Some(number) => end_by_fault(battle, number, events),
@@ -48,12 +49,12 @@ fn fault_in(outcome: Outcome) -> Option<u8>
     }
 }
 
-fn end_by_fault(battle: &mut Packed, number: u8, events: &mut EventList)
-    requires space { HasRoom 1 events.old }
+fn end_by_fault<S: EventSink>(battle: &mut Packed, number: u8, events: &mut S)
+    requires space { HasRoom S.room 1 events.old }
     ensures shown { IsBetween 1 2 number
-        → Does battle.old events.old.items battle.new events.new.items false
+        → Does battle.old (S.tells events.old) battle.new (S.tells events.new) false
         (ask_nothing ▸ note λ f. told.Fault number) }
-    ensures room { AddsAtMost 1 events.old events.new }
+    ensures room { AddsAtMost S.room 1 events.old events.new }
 {
     ask_nothing(battle);
     if let Some(code) = FaultCode::new(number) {
@@ -61,14 +62,14 @@ fn end_by_fault(battle: &mut Packed, number: u8, events: &mut EventList)
     }
 }
 
-fn faint_and_settle(battle: &mut Packed, actor: Side, events: &mut EventList)
-    requires space { HasRoom 3 events.old }
+fn faint_and_settle<S: EventSink>(battle: &mut Packed, actor: Side, events: &mut S)
+    requires space { HasRoom S.room 3 events.old }
     ensures shown { (g : Frame) (p : Progress) → g.action.side ≡ actor
-        → Shows g battle.old events.old.items false p
+        → Shows g battle.old (S.tells events.old) false p
         → (stopped : Bool)
-        × Shows g battle.new events.new.items stopped
+        × Shows g battle.new (S.tells events.new) stopped
         ((the_fallen_faint ▸ settle (ruling_of g.setting.terms)) p) }
-    ensures room { AddsAtMost 3 events.old events.new }
+    ensures room { AddsAtMost S.room 3 events.old events.new }
 {
     if nobody_has_fallen(battle) {
         go_on(battle, events);
@@ -87,13 +88,13 @@ fn nobody_has_fallen(battle: &Packed) -> bool
 }
 
 // What is settled where both live who are out: neither side has lost.
-fn go_on(battle: &mut Packed, events: &mut EventList)
-    requires space { HasRoom 1 events.old }
+fn go_on<S: EventSink>(battle: &mut Packed, events: &mut S)
+    requires space { HasRoom S.room 1 events.old }
     ensures shown { (g : Frame) (p : Progress) → has_fallen_in sides.One p.field ≡ false
         → has_fallen_in sides.Two p.field ≡ false
-        → Shows g battle.old events.old.items false p → (stopped : Bool)
-        × Shows g battle.new events.new.items stopped (settle (ruling_of g.setting.terms) p) }
-    ensures room { AddsAtMost 1 events.old events.new }
+        → Shows g battle.old (S.tells events.old) false p → (stopped : Bool)
+        × Shows g battle.new (S.tells events.new) stopped (settle (ruling_of g.setting.terms) p) }
+    ensures room { AddsAtMost S.room 1 events.old events.new }
 {
     if is_last_turn(battle) {
         battle_ends(battle, Outcome::Tie, Event::Tie, events);
@@ -102,21 +103,21 @@ fn go_on(battle: &mut Packed, events: &mut EventList)
     }
 }
 
-fn faint_in_order(battle: &mut Packed, actor: Side, events: &mut EventList)
-    requires space { HasRoom 2 events.old }
-    ensures shown { Does battle.old events.old.items battle.new events.new.items false
+fn faint_in_order<S: EventSink>(battle: &mut Packed, actor: Side, events: &mut S)
+    requires space { HasRoom S.room 2 events.old }
+    ensures shown { Does battle.old (S.tells events.old) battle.new (S.tells events.new) false
         (faint_in_order actor) }
-    ensures room { AddsAtMost 2 events.old events.new }
+    ensures room { AddsAtMost S.room 2 events.old events.new }
 {
     faint_if_fallen(battle, actor.other(), events);
     faint_if_fallen(battle, actor, events);
 }
 
-fn faint_if_fallen(battle: &mut Packed, side: Side, events: &mut EventList)
-    requires space { HasRoom 1 events.old }
-    ensures shown { Does battle.old events.old.items battle.new events.new.items false
+fn faint_if_fallen<S: EventSink>(battle: &mut Packed, side: Side, events: &mut S)
+    requires space { HasRoom S.room 1 events.old }
+    ensures shown { Does battle.old (S.tells events.old) battle.new (S.tells events.new) false
         (faint_if_fallen side) }
-    ensures room { AddsAtMost 1 events.old events.new }
+    ensures room { AddsAtMost S.room 1 events.old events.new }
 {
     if !battle.has_fallen(side) {
         return;
@@ -125,12 +126,12 @@ fn faint_if_fallen(battle: &mut Packed, side: Side, events: &mut EventList)
     events.push(Event::Faint(battle.who(side)));
 }
 
-fn settle(battle: &mut Packed, events: &mut EventList)
-    requires space { HasRoom 1 events.old }
-    ensures shown { (g : Frame) (p : Progress) → Shows g battle.old events.old.items false p
+fn settle<S: EventSink>(battle: &mut Packed, events: &mut S)
+    requires space { HasRoom S.room 1 events.old }
+    ensures shown { (g : Frame) (p : Progress) → Shows g battle.old (S.tells events.old) false p
         → (stopped : Bool)
-        × Shows g battle.new events.new.items stopped (settle (ruling_of g.setting.terms) p) }
-    ensures room { AddsAtMost 1 events.old events.new }
+        × Shows g battle.new (S.tells events.new) stopped (settle (ruling_of g.setting.terms) p) }
+    ensures room { AddsAtMost S.room 1 events.old events.new }
 {
     if end_if_decided(battle, events) {
         return;
@@ -147,12 +148,12 @@ fn is_last_turn(battle: &Packed) -> bool
 }
 
 // Whether the battle has ended. A win in the last turn is a win.
-fn end_if_decided(battle: &mut Packed, events: &mut EventList) -> bool
-    requires space { HasRoom 1 events.old }
-    ensures shown { (g : Frame) (p : Progress) → Shows g battle.old events.old.items false p
-        → Decides g battle.new events.new.items result p }
-    ensures room { AddsAtMost 1 events.old events.new }
-    ensures quiet { result ≡ false → AddsNone events.old events.new }
+fn end_if_decided<S: EventSink>(battle: &mut Packed, events: &mut S) -> bool
+    requires space { HasRoom S.room 1 events.old }
+    ensures shown { (g : Frame) (p : Progress) → Shows g battle.old (S.tells events.old) false p
+        → Decides g battle.new (S.tells events.new) result p }
+    ensures room { AddsAtMost S.room 1 events.old events.new }
+    ensures quiet { result ≡ false → AddsNone S.room events.old events.new }
 {
     let one = has_living(battle, Side::One);
     let two = has_living(battle, Side::Two);
@@ -187,12 +188,12 @@ fn has_living(battle: &Packed, side: Side) -> bool
     true
 }
 
-fn battle_ends(battle: &mut Packed, outcome: Outcome, event: Event, events: &mut EventList)
-    requires space { HasRoom 1 events.old }
+fn battle_ends<S: EventSink>(battle: &mut Packed, outcome: Outcome, event: Event, events: &mut S)
+    requires space { HasRoom S.room 1 events.old }
     ensures shown { IsOutcome outcome
-        → Does battle.old events.old.items battle.new events.new.items true
+        → Does battle.old (S.tells events.old) battle.new (S.tells events.new) true
         (battle_ends outcome event) }
-    ensures room { AddsAtMost 1 events.old events.new }
+    ensures room { AddsAtMost S.room 1 events.old events.new }
 {
     battle.put_outcome(outcome);
     ask_nothing(battle);
@@ -201,18 +202,18 @@ fn battle_ends(battle: &mut Packed, outcome: Outcome, event: Event, events: &mut
 
 fn ask_nothing(battle: &mut Packed)
     ensures shown { (events : List EventOf)
-        → Does battle.old events battle.new events false ask_nothing }
+        → Does battle.old (Told events) battle.new (Told events) false ask_nothing }
 {
     battle.put_requests(Request::Pass, Request::Pass);
 }
 
 // A switch of each side that has fallen, and else moves of both in the next turn.
-fn ask_next(battle: &mut Packed, events: &mut EventList)
-    requires space { HasRoom 1 events.old }
+fn ask_next<S: EventSink>(battle: &mut Packed, events: &mut S)
+    requires space { HasRoom S.room 1 events.old }
     ensures shown { (g : Frame) (p : Progress) → p.field.turn < g.setting.terms.limit
-        → Shows g battle.old events.old.items false p
-        → Shows g battle.new events.new.items false (ask_next p) }
-    ensures room { AddsAtMost 1 events.old events.new }
+        → Shows g battle.old (S.tells events.old) false p
+        → Shows g battle.new (S.tells events.new) false (ask_next p) }
+    ensures room { AddsAtMost S.room 1 events.old events.new }
 {
     let one = battle.has_fallen(Side::One);
     let two = battle.has_fallen(Side::Two);
@@ -234,12 +235,12 @@ fn switch_if(fallen: bool) -> Request
     }
 }
 
-fn ask_for_moves(battle: &mut Packed, events: &mut EventList)
-    requires space { HasRoom 1 events.old }
+fn ask_for_moves<S: EventSink>(battle: &mut Packed, events: &mut S)
+    requires space { HasRoom S.room 1 events.old }
     ensures shown { (g : Frame) (p : Progress) → p.field.turn < g.setting.terms.limit
-        → Shows g battle.old events.old.items false p
-        → Shows g battle.new events.new.items false (ask_for_moves p) }
-    ensures room { AddsAtMost 1 events.old events.new }
+        → Shows g battle.old (S.tells events.old) false p
+        → Shows g battle.new (S.tells events.new) false (ask_for_moves p) }
+    ensures room { AddsAtMost S.room 1 events.old events.new }
 {
     battle.put_next_turn();
     battle.put_requests(Request::Move, Request::Move);

@@ -3,6 +3,8 @@
 //!
 //! - `offered_choices`: what each side may choose
 //! - `choice_test`: whether a choice is among that
+//! - `masks`: the same as a number of twelve binary digits, read straight from the bytes
+//! - `mask_choices`: the choices of such a number: how many, and which is at a place
 //! - `switching_in`: a member that comes out
 //! - `start_and_replace`: updates in which members come out and nobody acts
 //! - `falls`: the end of an update
@@ -12,12 +14,16 @@
 mod choice_test;
 mod falls;
 pub mod laws;
+mod mask_choices;
+mod masks;
 mod offered_choices;
 mod start_and_replace;
 mod switching_in;
 
 pub use choice_test::is_offered;
 pub use falls::close;
+pub use mask_choices::{choice_at, count_of};
+pub use masks::offered_mask;
 pub use offered_choices::{Choices, offered};
 pub use start_and_replace::{replace, send_both_first, start};
 pub use switching_in::send_out;

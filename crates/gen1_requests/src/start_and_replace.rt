@@ -16,21 +16,23 @@ ghost use Rattle.gen1_requests.specs.Updates.{Plays, Starts, Steps, Updated, beg
 
 use crate::switching_in::send_first;
 use crate::{close, send_out};
+use gen1_events::EventSink;
 use gen1_layout::Packed;
-use gen1_machine::{Choice, EventList, Place, Side};
+use gen1_machine::{Choice, Place, Side};
 
 /// The first update of a battle, by a Pass of both sides at turn 0: sends out the first member of side 1 and then of side 2,
 /// begins turn 1, and asks moves of both. Nothing is drawn. Into `events`, which is empty, go two `Switch` and a `Turn`
 /// (docs/MECHANICS.md, "Switching in", "Falls and requests").
-pub fn start(battle: &mut Packed, events: &mut EventList)
-    requires empty { events.old.items ≡ [] }
+pub fn start<S: EventSink>(battle: &mut Packed, events: &mut S)
+    requires empty { S.tells events.old [] }
+    requires room { HasRoom S.room 5 events.old }
     ensures updated { (s : State) → Stands battle.old s → Starts s
-        → Updated (setting_of s) battle.new events.new.items
+        → Updated (setting_of s) battle.new (S.tells events.new)
         (close_update (ruling_of s.terms) (start (opened s))) }
     ensures stepped { (s : State) → Stands battle.old s → Starts s
-        → Steps s Pass Pass battle.new events.new.items }
+        → Steps s Pass Pass battle.new (S.tells events.new) }
     // Whatever the bytes are.
-    ensures room { AddsAtMost 5 events.old events.new }
+    ensures room { AddsAtMost S.room 5 events.old events.new }
 {
     send_both_first(battle, events);
     close(battle, Side::One, events);
@@ -39,15 +41,16 @@ pub fn start(battle: &mut Packed, events: &mut EventList)
 /// The update by replacements for the fallen: sends out whom the sides chose by `Choice::Switch`, side 1's first, begins the next
 /// turn, and asks moves of both. Nothing is drawn. Into `events`, which is empty, go one or two `Switch` and a `Turn`
 /// (docs/MECHANICS.md, "Switching in", "Falls and requests").
-pub fn replace(battle: &mut Packed, one: Choice, two: Choice, events: &mut EventList)
-    requires empty { events.old.items ≡ [] }
+pub fn replace<S: EventSink>(battle: &mut Packed, one: Choice, two: Choice, events: &mut S)
+    requires empty { S.tells events.old [] }
+    requires room { HasRoom S.room 5 events.old }
     ensures updated { (s : State) → Stands battle.old s → Plays s Switch one two
-        → Updated (setting_of s) battle.new events.new.items
+        → Updated (setting_of s) battle.new (S.tells events.new)
         (close_update (ruling_of s.terms) (replace one two (opened s))) }
     ensures stepped { (s : State) → Stands battle.old s → Plays s Switch one two
-        → Steps s one two battle.new events.new.items }
+        → Steps s one two battle.new (S.tells events.new) }
     // Whatever the bytes are.
-    ensures room { AddsAtMost 5 events.old events.new }
+    ensures room { AddsAtMost S.room 5 events.old events.new }
 {
     send_both_chosen(battle, one, two, events);
     close(battle, Side::One, events);
@@ -56,12 +59,12 @@ pub fn replace(battle: &mut Packed, one: Choice, two: Choice, events: &mut Event
 /// Sends out the first member of side 1 and then of side 2, as the first update does before moves are asked: for who wants the two
 /// members that face each other, and no turn. The battle is at turn 0, and `events` is empty; two `Switch` go into it
 /// (docs/MECHANICS.md, "Switching in").
-pub fn send_both_first(battle: &mut Packed, events: &mut EventList)
-    requires space { HasRoom 2 events.old }
-    ensures shown { (s : State) → events.old.items ≡ [] → Stands battle.old s
+pub fn send_both_first<S: EventSink>(battle: &mut Packed, events: &mut S)
+    requires space { HasRoom S.room 2 events.old }
+    ensures shown { (s : State) → S.tells events.old [] → Stands battle.old s
         → IsUnstarted s.terms s.field
-        → Shows (beginning s) battle.new events.new.items false (start (opened s)) }
-    ensures room { AddsAtMost 2 events.old events.new }
+        → Shows (beginning s) battle.new (S.tells events.new) false (start (opened s)) }
+    ensures room { AddsAtMost S.room 2 events.old events.new }
 {
     if let Some(first) = Place::new(1) {
         send_first(battle, Side::One, first, events);
@@ -69,24 +72,24 @@ pub fn send_both_first(battle: &mut Packed, events: &mut EventList)
     }
 }
 
-fn send_both_chosen(battle: &mut Packed, one: Choice, two: Choice, events: &mut EventList)
-    requires space { HasRoom 2 events.old }
+fn send_both_chosen<S: EventSink>(battle: &mut Packed, one: Choice, two: Choice, events: &mut S)
+    requires space { HasRoom S.room 2 events.old }
     ensures shown { (g : Frame) (p : Progress) → Comes one sides.One p.field
         → Comes two sides.Two p.field
-        → Shows g battle.old events.old.items false p
-        → Shows g battle.new events.new.items false (replace one two p) }
-    ensures room { AddsAtMost 2 events.old events.new }
+        → Shows g battle.old (S.tells events.old) false p
+        → Shows g battle.new (S.tells events.new) false (replace one two p) }
+    ensures room { AddsAtMost S.room 2 events.old events.new }
 {
     send_if_chosen(battle, Side::One, one, events);
     send_if_chosen(battle, Side::Two, two, events);
 }
 
-fn send_if_chosen(battle: &mut Packed, side: Side, choice: Choice, events: &mut EventList)
-    requires space { HasRoom 1 events.old }
+fn send_if_chosen<S: EventSink>(battle: &mut Packed, side: Side, choice: Choice, events: &mut S)
+    requires space { HasRoom S.room 1 events.old }
     ensures shown { (g : Frame) (p : Progress) → Comes choice side p.field
-        → Shows g battle.old events.old.items false p
-        → Shows g battle.new events.new.items false (send_if_chosen side choice p) }
-    ensures room { AddsAtMost 1 events.old events.new }
+        → Shows g battle.old (S.tells events.old) false p
+        → Shows g battle.new (S.tells events.new) false (send_if_chosen side choice p) }
+    ensures room { AddsAtMost S.room 1 events.old events.new }
 {
     match choice {
         Choice::Switch(place) => send_out(battle, side, place, events),

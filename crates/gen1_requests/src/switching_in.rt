@@ -1,25 +1,26 @@
 //! Members that come out (docs/MECHANICS.md, "Switching in").
 ghost use Rattle.std.specs.Prelude.{[], ◌++◌, ◌≡◌, ◌∷◌};
-ghost use Rattle.gen1_layout.specs.Words.{AddsAtMost, Field, Frame, HasRoom, None, Packs, Progress, Setting, Shows, Some, Within, false, member_at, other, party, underway_in};
+ghost use Rattle.gen1_layout.specs.Words.{AddsAtMost, Event as EventOf, Field, Frame, HasRoom, List, None, Packs, Progress, Setting, Shows, Some, Within, false, member_at, other, party, underway_in};
 ghost use Rattle.gen1_machine.specs.Plans.{InRange};
 ghost use Rattle.gen1_machine.specs.SwitchingIn.{send_out};
 ghost use Rattle.gen1_layout.specs.Shows.{ShowsPacked};
 ghost use Rattle.gen1_requests.specs.SwitchingIn.{coming_out, stats_out, with_out};
 
+use gen1_events::EventSink;
 use gen1_layout::Packed;
-use gen1_machine::{Event, EventList, Place, Side, Who};
+use gen1_machine::{Event, Place, Side, Who};
 use gen1_stats::Status;
 
 /// Sends out the member of `side` at a place of its team: with all stages 0, no condition, no current and no picked move, and
 /// with one penalty if it is paralysed or burned. The foe's Trapping ends; members, last damage and header stay as they are.
 /// One event is written, `Switch` (docs/MECHANICS.md, "Switching in").
 #[inline(always)] // docs/SPEED.md, "Hints on inlining"
-pub fn send_out(battle: &mut Packed, side: Side, place: Place, events: &mut EventList)
-    requires space { HasRoom 1 events.old }
+pub fn send_out<S: EventSink>(battle: &mut Packed, side: Side, place: Place, events: &mut S)
+    requires space { HasRoom S.room 1 events.old }
     ensures shown { (g : Frame) (p : Progress) → InRange side place p.field
-        → Shows g battle.old events.old.items false p
-        → Shows g battle.new events.new.items false (send_out side place p) }
-    ensures room { AddsAtMost 1 events.old events.new }
+        → Shows g battle.old (S.tells events.old) false p
+        → Shows g battle.new (S.tells events.new) false (send_out side place p) }
+    ensures room { AddsAtMost S.room 1 events.old events.new }
 {
     tell_coming_out(battle, side, place, events);
     put_out(battle, side, place);
@@ -27,25 +28,30 @@ pub fn send_out(battle: &mut Packed, side: Side, place: Place, events: &mut Even
 }
 
 // The same while a side may still have nobody out, and where the foe is not trapping.
-pub(crate) fn send_first(battle: &mut Packed, side: Side, place: Place, events: &mut EventList)
-    requires space { HasRoom 1 events.old }
+pub(crate) fn send_first<S: EventSink>(
+    battle: &mut Packed,
+    side: Side,
+    place: Place,
+    events: &mut S,
+)
+    requires space { HasRoom S.room 1 events.old }
     ensures shown { (g : Frame) (p : Progress) → InRange side place p.field
         → (underway_in (other side) p.field).trapping ≡ None
-        → ShowsPacked g battle.old events.old.items p
-        → ShowsPacked g battle.new events.new.items (send_out side place p) }
-    ensures room { AddsAtMost 1 events.old events.new }
+        → ShowsPacked g battle.old (S.tells events.old) p
+        → ShowsPacked g battle.new (S.tells events.new) (send_out side place p) }
+    ensures room { AddsAtMost S.room 1 events.old events.new }
 {
     tell_coming_out(battle, side, place, events);
     put_out(battle, side, place);
 }
 
 // What is told of a member that comes out is known before it does.
-fn tell_coming_out(battle: &Packed, side: Side, place: Place, events: &mut EventList)
-    requires space { HasRoom 1 events.old }
-    ensures told { (g : Setting) (f : Field) → Packs g battle.now f → InRange side place f
-        → events.new.items ≡ events.old.items ++ coming_out side place
-        (member_at place (party side f)) ∷ [] }
-    ensures room { AddsAtMost 1 events.old events.new }
+fn tell_coming_out<S: EventSink>(battle: &Packed, side: Side, place: Place, events: &mut S)
+    requires space { HasRoom S.room 1 events.old }
+    ensures told { (g : Setting) (f : Field) (told : List EventOf) → Packs g battle.now f
+        → InRange side place f → S.tells events.old told
+        → S.tells events.new (told ++ coming_out side place (member_at place (party side f)) ∷ []) }
+    ensures room { AddsAtMost S.room 1 events.old events.new }
 {
     if let Some(event) = coming_out(battle, side, place) {
         events.push(event);

@@ -6,6 +6,8 @@ pub mod Offers
 pub mod Choosing
 -- A pair that ends.
 pub mod Ending
+-- Plain rooms.
+pub mod PlainRooms
 -- Submissions one after the other.
 pub mod Running
 -- The laws of replies.

@@ -5,11 +5,13 @@
 //! - `submission`: a submission
 //! - `reply`: what a submission is answered
 //! - `held`: what a room holds
+//! - `plain`: a room as a plain struct that its caller keeps
 //! - `laws`: what holds of all rooms
 #![tactic(auto)]
 
 mod held;
 mod laws;
+pub mod plain;
 mod reply;
 mod room;
 mod start;

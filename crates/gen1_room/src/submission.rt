@@ -46,7 +46,8 @@ fn has_chosen(held: &Held, side: Side) -> bool
     }
 }
 
-fn choice_by_byte(byte: u8, choices: &[Choice]) -> Option<Choice>
+/// The first of these choices whose byte this is.
+pub(crate) fn choice_by_byte(byte: u8, choices: &[Choice]) -> Option<Choice>
     ensures { result ≡ choice_by_byte byte choices.now }
 {
     for choice in choices {

@@ -3,3 +3,5 @@ pub mod Sights
 -- Log bytes that a view follows, and logs one after the other.
 pub mod Following
 pub mod Logs
+-- Views as plain structs.
+pub mod PlainViews

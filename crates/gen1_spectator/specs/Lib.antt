@@ -4,3 +4,5 @@ pub mod Sides
 pub mod Following
 -- What a view knows that was told all events of a battle.
 pub mod Watching
+-- A view as a plain struct.
+pub mod Plain

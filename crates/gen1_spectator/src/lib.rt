@@ -4,10 +4,12 @@
 //! - `side_view`: what shows of one side
 //! - `shown`: what shows of a member
 //! - `stages`: the stages of the member that is out
+//! - `plain`: a view as a plain struct that its caller keeps
 //! - `laws`: what holds of all views
 #![tactic(auto)]
 
 mod laws;
+pub mod plain;
 mod shown;
 mod side_view;
 mod stages;

@@ -1,7 +1,10 @@
 //! What shows of a member: its HP and its kind of status (docs/MECHANICS.md, "Spectator's view").
 ghost use Rattle.std.specs.Prelude.{◌≡◌};
+ghost use Rattle.gen1_machine.specs.LogBytes.{kind_or_0};
 ghost use Rattle.gen1_machine.specs.View.{not_shown};
+ghost use Rattle.gen1_spectator.specs.Plain.{kind_at, shown_of};
 
+use crate::plain::PlainMember;
 use gen1_machine::Kind;
 use std::marker::Model;
 
@@ -48,5 +51,48 @@ impl Shown {
         ensures { result ≡ self.kind }
     {
         self.kind
+    }
+
+    /// What a plain struct shows.
+    pub(crate) fn of_plain(plain: &PlainMember) -> Self
+        ensures { result ≡ shown_of plain.now }
+    {
+        Shown {
+            hp: plain.hp,
+            kind: kind_at(plain.status),
+        }
+    }
+
+    /// The same as a plain struct.
+    pub(crate) fn plain(self) -> PlainMember
+        ensures { shown_of result ≡ self }
+    {
+        PlainMember {
+            hp: self.hp,
+            status: number_of(self.kind),
+        }
+    }
+}
+
+fn kind_at(number: u8) -> Option<Kind>
+    ensures { result ≡ kind_at number }
+{
+    match number {
+        1 => Some(Kind::Sleep),
+        2 => Some(Kind::Poison),
+        3 => Some(Kind::Burn),
+        4 => Some(Kind::Freeze),
+        5 => Some(Kind::Paralysis),
+        _ => None,
+    }
+}
+
+fn number_of(kind: Option<Kind>) -> u8
+    ensures number { result ≡ kind_or_0 kind }
+    ensures back { kind_at result ≡ kind }
+{
+    match kind {
+        Some(kind) => kind.number(),
+        None => 0,
     }
 }

@@ -3,8 +3,10 @@ ghost use Rattle.std.specs.Prelude.{None, false, length, map, ◌≡◌, ◌≤�
 ghost use Rattle.gen1_stats.specs.Members.{Member as Begun};
 ghost use Rattle.gen1_machine.specs.CurrentStats.{stage_of};
 ghost use Rattle.gen1_machine.specs.View.{cleared, first_side_view, if_out, not_shown, on_shown, sees_drop, sees_rise, sees_switch, sees_volatile, shown_at};
+ghost use Rattle.gen1_spectator.specs.Plain.{IsPlainSide, shown_of, side_view_of};
 ghost use Rattle.gen1_spectator.specs.Sides.{member_shown, side_sees};
 
+use crate::plain::{PlainMember, PlainSide, bit};
 use crate::shown::Shown;
 use crate::stages::Stages;
 use arrayvec::ArrayVec;
@@ -67,6 +69,47 @@ impl SideView {
             confused: false,
             light_screen: false,
             reflect: false,
+        }
+    }
+
+    /// The view of a plain struct. Where its numbers are out of their ranges it is some view.
+    pub(crate) fn of_plain(plain: &PlainSide) -> Self
+        ensures { IsPlainSide plain.now → result ≡ side_view_of plain.now }
+    {
+        let count = usize::from(plain.count.min(6));
+        let members = shown_by(&plain.members[..count]);
+        SideView {
+            place: plain.place.min(members.len() as u8),
+            members,
+            stages: Stages::of_plain(&plain.stages),
+            substitute: plain.substitute != 0,
+            confused: plain.confused != 0,
+            light_screen: plain.light_screen != 0,
+            reflect: plain.reflect != 0,
+        }
+    }
+
+    /// The same as a plain struct.
+    pub(crate) fn plain(&self) -> PlainSide
+        ensures view { side_view_of result ≡ self.now }
+        ensures ranges { IsPlainSide result }
+    {
+        PlainSide {
+            members: [
+                self.member(1).plain(),
+                self.member(2).plain(),
+                self.member(3).plain(),
+                self.member(4).plain(),
+                self.member(5).plain(),
+                self.member(6).plain(),
+            ],
+            count: self.members.len() as u8,
+            place: self.place,
+            stages: self.stages.plain(),
+            substitute: bit(self.substitute),
+            confused: bit(self.confused),
+            light_screen: bit(self.light_screen),
+            reflect: bit(self.reflect),
         }
     }
 
@@ -251,6 +294,18 @@ fn unhurt(members: &[Member]) -> ArrayVec<Shown, 6>
     let mut shown = ArrayVec::new();
     for member in members {
         shown.push(Shown::new(member.max_hp(), None));
+    }
+    shown
+}
+
+// What these members show.
+fn shown_by(members: &[PlainMember]) -> ArrayVec<Shown, 6>
+    requires few { length members.now ≤ 6 }
+    ensures { result.items ≡ map shown_of members.now }
+{
+    let mut shown = ArrayVec::new();
+    for member in members {
+        shown.push(Shown::of_plain(member));
     }
     shown
 }

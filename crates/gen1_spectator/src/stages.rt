@@ -2,7 +2,9 @@
 ghost use Rattle.std.specs.Prelude.{min, ◌+◌, ◌-◌, ◌≡◌, ◌≤◌};
 ghost use Rattle.gen1_machine.specs.CurrentStats.{stage_of, with_stage};
 ghost use Rattle.gen1_machine.specs.State.{level_stages};
+ghost use Rattle.gen1_spectator.specs.Plain.{AreStages, stages_of};
 
+use crate::plain::PlainStages;
 use gen1_tables::Stat;
 use std::marker::Model;
 
@@ -102,5 +104,34 @@ impl Stages {
         ensures { result ≡ with_stage stat (stage_of stat self - count) self }
     {
         self.with(stat, self.stage(stat).saturating_sub(count))
+    }
+
+    /// The stages of a plain struct. One that is above 12 is taken for 12.
+    pub(crate) fn of_plain(plain: &PlainStages) -> Self
+        ensures { AreStages plain.now → result ≡ stages_of plain.now }
+    {
+        Stages {
+            attack: plain.attack.min(12),
+            defense: plain.defense.min(12),
+            speed: plain.speed.min(12),
+            special: plain.special.min(12),
+            accuracy: plain.accuracy.min(12),
+            evasion: plain.evasion.min(12),
+        }
+    }
+
+    /// The same as a plain struct.
+    pub(crate) fn plain(self) -> PlainStages
+        ensures stages { stages_of result ≡ self }
+        ensures ranges { AreStages result }
+    {
+        PlainStages {
+            attack: self.attack,
+            defense: self.defense,
+            speed: self.speed,
+            special: self.special,
+            accuracy: self.accuracy,
+            evasion: self.evasion,
+        }
     }
 }

@@ -1,5 +1,5 @@
 -- What a shift comes to: it fails at once, it fails once the stage has moved and moved back, or it succeeds.
-use Rattle.gen1_layout.proofs.Words.{Bool, Event, Frame, IsBetween, List, Parts, Phase, Progress, Shows, Side, add-one, arith, choose, choose-false, choose-true, false, goes, nat_tests, on_active, refl, subst, then-goes, true, ℕ, ◌∙◌, ◌▸◌}
+use Rattle.gen1_layout.proofs.Words.{Bool, Frame, IsBetween, Parts, Phase, Progress, Shows, Side, Telling, add-one, arith, choose, choose-false, choose-true, false, goes, nat_tests, on_active, refl, subst, then-goes, true, ℕ, ◌∙◌, ◌▸◌}
 use Rattle.std.proofs.Common.{negsuc, pos, ℤ, ◌≡◌}
 use Rattle.gen1_status.specs.StageShift.{IsShift, ShowsShifted, shift_stage}
 use lib.IntN.{nat_abs}
@@ -25,11 +25,11 @@ module _ (user target : Side) (stat : Stat) (tell : ℕ → Phase) (last stuck :
       (on_active target (at_new_stage stat back) ▸ tell back_by ▸ failing)
       (shift_to user target stat new ▸ tell new_by))
 
-  pub stays_last : {g : Frame} {parts : Parts} {events : List Event} (failing : Phase) (p : Progress) → last ≡ true → Shows g parts events false p
+  pub stays_last : {g : Frame} {parts : Parts} {events : Telling} (failing : Phase) (p : Progress) → last ≡ true → Shows g parts events false p
       → ShowsShifted g parts events false moves failing p
   stays_last failing p e h = (p, h, choose-true _ _ _ p e)
 
-  module _ {g : Frame} {parts parts' : Parts} {events events' : List Event} (failing : Phase) (p : Progress) where
+  module _ {g : Frame} {parts parts' : Parts} {events events' : Telling} (failing : Phase) (p : Progress) where
     pub moves_back : {stage stages : ℕ} → last ≡ false → stuck ≡ true → stage ≡ back → stages ≡ back_by
         → Shows g parts events false (on_active target (at_new_stage stat stage) p)
         → Shows g parts' events' false (tell stages (on_active target (at_new_stage stat stage) p)) → ShowsShifted g parts' events' false moves failing p
@@ -45,19 +45,19 @@ module _ (user target : Side) (stat : Stat) (tell : ℕ → Phase) (last stuck :
         rw is (goes _ _ moved told)
 
 -- for a caller: what is shown once it knows whether the shift succeeded
-module _ {g : Frame} {parts : Parts} {events : List Event} {result : Bool} {failing : Phase} {p : Progress} where
+module _ {g : Frame} {parts : Parts} {events : Telling} {result : Bool} {failing : Phase} {p : Progress} where
   pub succeeds : (shift : Phase → Phase) → result ≡ true → ShowsShifted g parts events result shift failing p → Shows g parts events false (shift failing p)
   succeeds shift e h = subst (λ (b : Bool). ShowsShifted g parts events b shift failing p) e h
 
   -- where it failed, what happens then is shown from where the shift left off
-  pub fails : {g' : Frame} {parts' : Parts} {events' : List Event} {b : Bool} (shift : Phase → Phase) → result ≡ false → ShowsShifted g parts events result shift failing p
+  pub fails : {g' : Frame} {parts' : Parts} {events' : Telling} {b : Bool} (shift : Phase → Phase) → result ≡ false → ShowsShifted g parts events result shift failing p
       → ((q : Progress) → Shows g parts events false q → Shows g' parts' events' b (failing q)) → Shows g' parts' events' b (shift failing p)
   fails shift e h then =
       let w = subst (λ (b : Bool). ShowsShifted g parts events b shift failing p) e h in
       rw w.2 (then w.0 w.1)
 
 -- a shift that is let fail
-pub shifted : (g : Frame) (parts : Parts) (events : List Event) (b : Bool) (shift : Phase → Phase) (p : Progress) → ShowsShifted g parts events b shift stay p → Shows g parts events false (shift stay p)
+pub shifted : (g : Frame) (parts : Parts) (events : Telling) (b : Bool) (shift : Phase → Phase) (p : Progress) → ShowsShifted g parts events b shift stay p → Shows g parts events false (shift stay p)
 unfolding stay
 shifted g parts events true shift p h = h
 shifted g parts events false shift p h = rw h.2 h.1

@@ -1,6 +1,6 @@
 -- How answers of the gate go through phases; and no test but the hit on itself says how the battle stands.
 use Rattle.std.proofs.Common.{◌+◌, ◌≡◌}
-use Rattle.gen1_layout.proofs.Words.{Action, ActiveConditions, Bool, Event, Field, Frame, List, Parts, Phase, Progress, Shows, ShowsDrawn, Side, Some, ap, changed_active, changed_conditions, changed_member, choose, choose-false, choose-true, draw, false, given, refl, still, subst, sym, then-goes, then-stops, true, with_last_damage, ℕ, ◌∙◌, ◌▸◌}
+use Rattle.gen1_layout.proofs.Words.{Action, ActiveConditions, Bool, Field, Frame, Parts, Phase, Progress, Shows, ShowsDrawn, Side, Some, Telling, ap, changed_active, changed_conditions, changed_member, choose, choose-false, choose-true, draw, false, given, refl, still, subst, sym, then-goes, then-stops, true, with_last_damage, ℕ, ◌∙◌, ◌▸◌}
 use Rattle.gen1_rolls.specs.Streams.{Stream, byte_at}
 use Rattle.gen1_rolls.proofs.Standing.{byte_drawn, stands_after_draw}
 use Rattle.gen1_machine.specs.declared.terms.Outcome.{Outcome}
@@ -54,11 +54,11 @@ known Go found left e = e
 known Stop found left e = e ∙ ap (λ (a : Action). record found { broke = a.broke }) (sym e)
 known Fault found left e = e ∙ ap (λ (a : Action). record found { broke = a.broke }) (sym e)
 
-pub known_so : {g : Frame} {parts : Parts} {events : List Event} {b : Bool} {p : Progress} (answer : Gate) → Shows g parts events b p → Shows (frame_after answer p g) parts events b p
+pub known_so : {g : Frame} {parts : Parts} {events : Telling} {b : Bool} {p : Progress} (answer : Gate) → Shows g parts events b p → Shows (frame_after answer p g) parts events b p
 known_so answer h = record { within = h.within; written = h.written; ends = h.ends; stream = h.stream; drawn = h.drawn; skips = h.skips; action = known answer _ _ h.action }
 
 -- a substitute may have been broken
-pub broken_so : (g : Frame) {parts : Parts} {events : List Event} {b : Bool} {p : Progress} (broke : Bool)
+pub broken_so : (g : Frame) {parts : Parts} {events : Telling} {b : Bool} {p : Progress} (broke : Bool)
     → Shows (record g { action = record g.action { broke = broke } }) parts events b p → Shows (frame_after Stop p g) parts events b p
 broken_so g broke h = record {
   within = h.within;
@@ -77,7 +77,7 @@ gone Fault e = cc
 
 -- without draws
 
-module _ {g : Frame} {parts : Parts} {events : List Event} {p : Progress} where
+module _ {g : Frame} {parts : Parts} {events : Telling} {p : Progress} where
   pub tells : (answer : Gate) (f : Phase) → outcome_after answer p.field.outcome ≡ p.field.outcome → Keeps (StaysAs p.field.outcome) f
       → Shows g parts events (stopped_by answer) (f p) → Tells g parts events answer p (f p)
   tells answer f e k h = record { shows = known_so answer h; outcome = k.kept p refl ∙ sym e }
@@ -92,16 +92,16 @@ module _ {g : Frame} {parts : Parts} {events : List Event} {p : Progress} where
   unfolding given ◌▸◌
   tells_given read f k e h = rw (← e) h
 
-  pub then_tells : {g' : Frame} {parts' : Parts} {events' : List Event} {answer : Gate} (f k : Phase) → Keeps (StaysAs p.field.outcome) f
+  pub then_tells : {g' : Frame} {parts' : Parts} {events' : Telling} {answer : Gate} (f k : Phase) → Keeps (StaysAs p.field.outcome) f
       → Shows g parts events false (f p) → Tells g' parts' events' answer (f p) (k (f p)) → Tells g' parts' events' answer p ((f ▸ k) p)
   then_tells {answer = answer} f k keeps h a =
       rw (then-goes f k p h.ends) (record { shows = a.shows; outcome = a.outcome ∙ ap (outcome_after answer) (keeps.kept p refl) })
 
 -- with a generator
 
-module _ {A : Type 0} {byte : A → ℕ} {next : A → A} {width : ℕ} {origin : A} {g : Frame} {parts : Parts} {events : List Event} {now : A} {p : Progress} where
+module _ {A : Type 0} {byte : A → ℕ} {next : A → A} {width : ℕ} {origin : A} {g : Frame} {parts : Parts} {events : Telling} {now : A} {p : Progress} where
   -- what code without draws told, for a generator that has not moved
-  pub still_tells : {parts' : Parts} {events' : List Event} {answer : Gate} {b : Bool} {q : Progress} → ShowsDrawn byte next width origin g parts events now b p
+  pub still_tells : {parts' : Parts} {events' : Telling} {answer : Gate} {b : Bool} {q : Progress} → ShowsDrawn byte next width origin g parts events now b p
       → Tells (record g { drawn = p.drawn }) parts' events' answer p q → TellsDrawn byte next width origin g parts' events' now answer p q
   still_tells {answer = answer} {q = q} h a = record { shows = still {g' = frame_after answer q g} h a.shows refl; outcome = a.outcome }
 
@@ -110,7 +110,7 @@ module _ {A : Type 0} {byte : A → ℕ} {next : A → A} {width : ℕ} {origin 
       → ShowsDrawn byte next width origin g parts events now (stopped_by answer) (f p) → TellsDrawn byte next width origin g parts events now answer p (f p)
   drawn_tells answer f e k h = record { shows = record { shows = known_so answer h.shows; stands = h.stands }; outcome = k.kept p refl ∙ sym e }
 
-  pub tells_goes : {g' : Frame} {parts' : Parts} {events' : List Event} {now' : A} {answer : Gate} (f k : Phase)
+  pub tells_goes : {g' : Frame} {parts' : Parts} {events' : Telling} {now' : A} {answer : Gate} (f k : Phase)
       → TellsDrawn byte next width origin g parts events now Go p (f p) → TellsDrawn byte next width origin g' parts' events' now' answer (f p) (k (f p))
       → TellsDrawn byte next width origin g' parts' events' now' answer p ((f ▸ k) p)
   tells_goes {answer = answer} f k a b =
@@ -134,7 +134,7 @@ module _ {A : Type 0} {byte : A → ℕ} {next : A → A} {width : ℕ} {origin 
   tells_seeing read f e h = rw (← e) h
 
   -- a draw
-  pub tells_drawing : {g' : Frame} {parts' : Parts} {events' : List Event} {old now' : A} {b : Bool} {answer : Gate} (f : ℕ → Phase) {drawn : ℕ}
+  pub tells_drawing : {g' : Frame} {parts' : Parts} {events' : Telling} {old now' : A} {b : Bool} {answer : Gate} (f : ℕ → Phase) {drawn : ℕ}
       → ShowsDrawn byte next width origin g parts events old b p → drawn ≡ byte old → now ≡ next old
       → (ShowsDrawn byte next width origin g parts events now b (record p { drawn = p.drawn + 1 })
       → TellsDrawn byte next width origin g' parts' events' now' answer (record p { drawn = p.drawn + 1 }) (f drawn (record p { drawn = p.drawn + 1 })))

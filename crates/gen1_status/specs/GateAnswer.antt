@@ -1,7 +1,7 @@
 -- What an answer of the gate tells of the phase that it stands for (docs/MECHANICS.md, "Gate"): whether that stopped, and how
 -- the battle stands then.
 use Rattle.std.specs.Prelude.{◌≡◌}
-use Rattle.gen1_layout.specs.Words.{Bool, Event, Frame, List, Phase, Progress, Shows, ShowsDrawn, false, true, ℕ}
+use Rattle.gen1_layout.specs.Words.{Bool, Frame, Phase, Progress, Shows, ShowsDrawn, Telling, false, true, ℕ}
 use Rattle.gen1_machine.specs.declared.terms.Outcome.{Outcome}
 use Rattle.gen1_machine.specs.declared.terms.Outcome.TheVariants as outcomes
 use Rattle.gen1_machine.specs.Progress.{Action}
@@ -27,17 +27,17 @@ outcome_after Fault outcome = outcomes.Fault 1
 outcome_after _ outcome = outcome
 
 -- the parts and the events stand for what came after
-pub record Tells (g : Frame) (parts : Parts) (events : List Event) (answer : Gate) (before after : Progress) : Type 0 where
+pub record Tells (g : Frame) (parts : Parts) (events : Telling) (answer : Gate) (before after : Progress) : Type 0 where
   pub shows : Shows (frame_after answer after g) parts events (stopped_by answer) after
   pub outcome : after.field.outcome ≡ outcome_after answer before.field.outcome
 
 -- the same with a generator
-pub record TellsDrawn {A : Type 0} (byte : A → ℕ) (next : A → A) (width : ℕ) (origin : A) (g : Frame) (parts : Parts) (events : List Event) (now : A) (answer : Gate) (before after : Progress) : Type 0 where
+pub record TellsDrawn {A : Type 0} (byte : A → ℕ) (next : A → A) (width : ℕ) (origin : A) (g : Frame) (parts : Parts) (events : Telling) (now : A) (answer : Gate) (before after : Progress) : Type 0 where
   pub shows : ShowsDrawn byte next width origin (frame_after answer after g) parts events now (stopped_by answer) after
   pub outcome : after.field.outcome ≡ outcome_after answer before.field.outcome
 
 -- code with draws does what a phase does, and its answer tells how that ended
-abbrev pub DoesTelling : {A : Type 0} → (A → ℕ) → (A → A) → ℕ → Parts → List Event → A → Parts → List Event → A → Gate → Phase → Type 0
+abbrev pub DoesTelling : {A : Type 0} → (A → ℕ) → (A → A) → ℕ → Parts → Telling → A → Parts → Telling → A → Gate → Phase → Type 0
 DoesTelling {A = A} byte next width parts events old parts' events' new answer phase =
     (origin : A) (g : Frame) (p : Progress) → ShowsDrawn byte next width origin g parts events old false p
     → TellsDrawn byte next width origin g parts' events' new answer p (phase p)

@@ -1,5 +1,5 @@
 -- A shift of a stage, whose failure is left to its caller (docs/MECHANICS.md, "Stage shift").
-use Rattle.gen1_layout.specs.Words.{Active, Bool, Event, Frame, IsBetween, List, Phase, Progress, Shows, Side, false, true, with_stage, ℕ}
+use Rattle.gen1_layout.specs.Words.{Active, Bool, Frame, IsBetween, Phase, Progress, Shows, Side, Telling, false, true, with_stage, ℕ}
 use Rattle.std.specs.Prelude.{ℤ, negsuc, pos, ◌+◌, ◌≡◌, ◌≤◌}
 use Rattle.gen1_tables.specs.declared.effect.Stat.{Stat}
 use Rattle.gen1_tables.specs.declared.effect.Stat.TheVariants.{Accuracy, Attack, Defense, Evasion, Special, Speed}
@@ -17,12 +17,12 @@ with_stage_after Evasion stage penalties a = record a { stages = with_stage Evas
 
 -- the parts and the events stand for what a shift comes to at p: where it succeeded, for all of it; where it failed, for
 -- some q, from which on the shift is nothing but what happens on failing
-abbrev pub ShowsShifted : Frame → Parts → List Event → Bool → (Phase → Phase) → Phase → Progress → Type 0
+abbrev pub ShowsShifted : Frame → Parts → Telling → Bool → (Phase → Phase) → Phase → Progress → Type 0
 ShowsShifted g parts events true shift failing p = Shows g parts events false (shift failing p)
 ShowsShifted g parts events false shift failing p = (q : Progress) × Shows g parts events false q × (shift failing p ≡ failing q)
 
 -- code with no draws, from these parts and events to those, does what a shift does, up to its failing: whatever happens then
-abbrev pub Shifts : Parts → List Event → Parts → List Event → Bool → (Phase → Phase) → Type 0
+abbrev pub Shifts : Parts → Telling → Parts → Telling → Bool → (Phase → Phase) → Type 0
 Shifts parts events parts' events' succeeded shift =
     (failing : Phase) (g : Frame) (p : Progress) → Shows g parts events false p
     → ShowsShifted g parts' events' succeeded shift failing p

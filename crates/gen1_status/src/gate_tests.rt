@@ -15,25 +15,26 @@ use crate::Gate;
 use by_move::{gate_of_move, is_idle};
 use by_status::gate_of_status;
 use by_turn::gate_of_turn;
+use gen1_events::EventSink;
 use gen1_layout::{Conditions, Packed};
-use gen1_machine::{CantReason, Event, EventList, Pick, Side};
+use gen1_machine::{CantReason, Event, Pick, Side};
 use gen1_rolls::Rolls;
 use gen1_stats::Status;
 
 /// Takes the tests of a member that is about to act, and writes what they change and tell, three events at most
 /// (docs/MECHANICS.md, "Gate"). Who was held as the turn began does not act, with no test and no draw, also where the holder
 /// has left since.
-pub fn gate<R: Rolls>(
+pub fn gate<R: Rolls, S: EventSink>(
     battle: &mut Packed,
     side: Side,
     pick: Pick,
     random: &mut R,
-    events: &mut EventList,
+    events: &mut S,
 ) -> Gate
-    requires room { HasRoom 3 events.old }
-    ensures shown { DoesTelling R.byte R.next R.SPAN battle.old events.old.items random.old
-        battle.new events.new.items random.new result (gate_or_held side pick) }
-    ensures room { AddsAtMost 3 events.old events.new }
+    requires room { HasRoom S.room 3 events.old }
+    ensures shown { DoesTelling R.byte R.next R.SPAN battle.old (S.tells events.old) random.old
+        battle.new (S.tells events.new) random.new result (gate_or_held side pick) }
+    ensures room { AddsAtMost S.room 3 events.old events.new }
 {
     if is_held(pick) {
         cant(battle, side, CantReason::PartiallyTrapped, events);
@@ -77,17 +78,17 @@ fn is_held(pick: Pick) -> bool
     matches!(pick, Pick::Held)
 }
 
-fn take_tests<R: Rolls>(
+fn take_tests<R: Rolls, S: EventSink>(
     battle: &mut Packed,
     side: Side,
     pick: Pick,
     random: &mut R,
-    events: &mut EventList,
+    events: &mut S,
 ) -> Gate
-    requires room { HasRoom 3 events.old }
-    ensures shown { DoesTelling R.byte R.next R.SPAN battle.old events.old.items random.old
-        battle.new events.new.items random.new result (gate side pick) }
-    ensures room { AddsAtMost 3 events.old events.new }
+    requires room { HasRoom S.room 3 events.old }
+    ensures shown { DoesTelling R.byte R.next R.SPAN battle.old (S.tells events.old) random.old
+        battle.new (S.tells events.new) random.new result (gate side pick) }
+    ensures room { AddsAtMost S.room 3 events.old events.new }
 {
     if gate_of_status(battle, side, events) {
         return Gate::Stop;
@@ -99,11 +100,11 @@ fn take_tests<R: Rolls>(
 }
 
 // The member does not act, for a reason that is told.
-fn cant(battle: &Packed, side: Side, why: CantReason, events: &mut EventList)
-    requires room { HasRoom 1 events.old }
-    ensures shown { Does battle.now events.old.items battle.now events.new.items true
+fn cant<S: EventSink>(battle: &Packed, side: Side, why: CantReason, events: &mut S)
+    requires room { HasRoom S.room 1 events.old }
+    ensures shown { Does battle.now (S.tells events.old) battle.now (S.tells events.new) true
         (cant side why) }
-    ensures room { AddsAtMost 1 events.old events.new }
+    ensures room { AddsAtMost S.room 1 events.old events.new }
 {
     events.push(Event::Cant(battle.who(side), why));
 }

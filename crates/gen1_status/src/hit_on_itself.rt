@@ -5,17 +5,18 @@ ghost use Rattle.gen1_machine.specs.HitOnItself.{hurt_itself, hurt_itself_by, la
 ghost use Rattle.gen1_status.specs.GateAnswer.{Tells, frame_after};
 
 use crate::Gate;
+use gen1_events::EventSink;
 use gen1_hits::{damage, land_on_hp, land_on_substitute, own_numbers};
 use gen1_layout::{Conditions, Packed};
-use gen1_machine::{DamageSource, EventList, Outcome, Side};
+use gen1_machine::{DamageSource, Outcome, Side};
 
 /// Breaks off what the member was about, and takes from it what it has the strength of: 40 in power, its own Attack against
 /// its own Defense. Writes one event at most (docs/MECHANICS.md, "Hit on itself").
-pub(crate) fn hurt_itself(battle: &mut Packed, side: Side, events: &mut EventList) -> Gate
-    requires room { HasRoom 1 events.old }
-    ensures shown { (g : Frame) (p : Progress) → Shows g battle.old events.old.items false p
-        → Tells g battle.new events.new.items result p (hurt_itself side p) }
-    ensures room { AddsAtMost 1 events.old events.new }
+pub(crate) fn hurt_itself<S: EventSink>(battle: &mut Packed, side: Side, events: &mut S) -> Gate
+    requires room { HasRoom S.room 1 events.old }
+    ensures shown { (g : Frame) (p : Progress) → Shows g battle.old (S.tells events.old) false p
+        → Tells g battle.new (S.tells events.new) result p (hurt_itself side p) }
+    ensures room { AddsAtMost S.room 1 events.old events.new }
     ensures stops { result ≢ Gate.Go }
 {
     battle.break_off(side);
@@ -26,16 +27,16 @@ pub(crate) fn hurt_itself(battle: &mut Packed, side: Side, events: &mut EventLis
 }
 
 // Behind a substitute of its own the member is not hurt.
-fn hurt_itself_by(
+fn hurt_itself_by<S: EventSink>(
     battle: &mut Packed,
     side: Side,
     damage: Option<u16>,
-    events: &mut EventList,
+    events: &mut S,
 ) -> Gate
-    requires room { HasRoom 1 events.old }
-    ensures shown { (g : Frame) (p : Progress) → Shows g battle.old events.old.items false p
-        → Tells g battle.new events.new.items result p ((hurt_itself_by side damage ▸ stop) p) }
-    ensures room { AddsAtMost 1 events.old events.new }
+    requires room { HasRoom S.room 1 events.old }
+    ensures shown { (g : Frame) (p : Progress) → Shows g battle.old (S.tells events.old) false p
+        → Tells g battle.new (S.tells events.new) result p ((hurt_itself_by side damage ▸ stop) p) }
+    ensures room { AddsAtMost S.room 1 events.old events.new }
     ensures stops { result ≢ Gate.Go }
 {
     let Some(damage) = damage else {
@@ -53,19 +54,19 @@ fn hurt_itself_by(
 }
 
 // The foe's substitute takes it, if there is one.
-fn land_on_foes_substitute(
+fn land_on_foes_substitute<S: EventSink>(
     battle: &mut Packed,
     side: Side,
     damage: u16,
     substitute: Option<u8>,
-    events: &mut EventList,
+    events: &mut S,
 )
-    requires room { HasRoom 1 events.old }
+    requires room { HasRoom S.room 1 events.old }
     ensures shown { (g : Frame) (p : Progress) → (conditions (other side) p).substitute ≡ substitute
-        → Shows g battle.old events.old.items false p
+        → Shows g battle.old (S.tells events.old) false p
         → Shows (frame_after Gate.Stop (land_on_foes_substitute side damage substitute p) g)
-        battle.new events.new.items false (land_on_foes_substitute side damage substitute p) }
-    ensures room { AddsAtMost 1 events.old events.new }
+        battle.new (S.tells events.new) false (land_on_foes_substitute side damage substitute p) }
+    ensures room { AddsAtMost S.room 1 events.old events.new }
 {
     let Some(hp) = substitute else {
         return;

@@ -6,38 +6,45 @@ ghost use Rattle.gen1_machine.specs.Valid.{IsStatus};
 ghost use Rattle.gen1_status.specs.Infliction.{IsCountOf, status_of_kind};
 
 use crate::take_penalty;
+use gen1_events::EventSink;
 use gen1_layout::Packed;
-use gen1_machine::{Event, EventList, Kind, Side};
+use gen1_machine::{Event, Kind, Side};
 use gen1_stats::Status;
 
 /// Gives the member of `target` that is out a status of this kind, in place of any that it has, lays its penalty on the member
 /// once, and writes `Status`: one place in `events` is to be free for it (docs/MECHANICS.md, "Penalties").
 ///
 /// Sleep lasts for `count` turns, from 1 to 7, and is unmarked. For another kind `count` is of no account.
-pub fn inflict(battle: &mut Packed, target: Side, kind: Kind, count: u8, events: &mut EventList)
-    requires room { HasRoom 1 events.old }
+pub fn inflict<S: EventSink>(
+    battle: &mut Packed,
+    target: Side,
+    kind: Kind,
+    count: u8,
+    events: &mut S,
+)
+    requires room { HasRoom S.room 1 events.old }
     ensures shown { IsCountOf kind count
-        → Does battle.old events.old.items battle.new events.new.items false
+        → Does battle.old (S.tells events.old) battle.new (S.tells events.new) false
         (inflict target (status_of_kind kind count) kind) }
-    ensures room { AddsAtMost 1 events.old events.new }
+    ensures room { AddsAtMost S.room 1 events.old events.new }
 {
     inflict_status(battle, target, status_of_kind(kind, count), kind, events);
 }
 
 /// The same as [`inflict`] with the status itself, whose kind `kind` is. Its sleep may be marked, but under the sleep clause
 /// alone (docs/MECHANICS.md, "Rules (sleep clause, freeze clause)").
-pub fn inflict_status(
+pub fn inflict_status<S: EventSink>(
     battle: &mut Packed,
     target: Side,
     status: Status,
     kind: Kind,
-    events: &mut EventList,
+    events: &mut S,
 )
-    requires room { HasRoom 1 events.old }
+    requires room { HasRoom S.room 1 events.old }
     ensures shown { (g : Frame) (p : Progress) → IsStatus g.setting.terms.rules status
-        → Shows g battle.old events.old.items false p
-        → Shows g battle.new events.new.items false (inflict target status kind p) }
-    ensures room { AddsAtMost 1 events.old events.new }
+        → Shows g battle.old (S.tells events.old) false p
+        → Shows g battle.new (S.tells events.new) false (inflict target status kind p) }
+    ensures room { AddsAtMost S.room 1 events.old events.new }
 {
     battle.put_status(target, status);
     take_penalty(battle, target, status);

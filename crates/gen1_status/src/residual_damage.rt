@@ -1,13 +1,14 @@
 //! What poison, a burn and Leech Seed take (docs/MECHANICS.md, "Residual damage").
 ghost use Rattle.std.specs.Prelude.{◌||◌, ◌≡◌, ◌≤◌};
-ghost use Rattle.gen1_layout.specs.Words.{AddsAtMost, Does, Event, HasRoom, List, Reads, conditions_in, false, is_living, member_in, status_in};
+ghost use Rattle.gen1_layout.specs.Words.{AddsAtMost, Does, Event, HasRoom, List, Reads, Told, conditions_in, false, is_living, member_in, status_in};
 ghost use Rattle.gen1_machine.specs.Conditions.{one_more};
 ghost use Rattle.gen1_machine.specs.ResidualDamage.{residual, residual_in, suffer, suffer_seed, suffer_status, times_poisoned, worsen};
 ghost use Rattle.gen1_status.specs.ResidualDamage.{takes_hp};
 
+use gen1_events::EventSink;
 use gen1_hits::{gain_hp, lose_hp};
 use gen1_layout::{Conditions, Packed};
-use gen1_machine::{DamageSource, EventList, Side};
+use gen1_machine::{DamageSource, Side};
 use gen1_stats::Status;
 
 /// What poison or a burn, and then Leech Seed, take from the member of `side` that is out, unless it has fallen before
@@ -17,11 +18,11 @@ use gen1_stats::Status;
 /// The seed heals the foe the full amount, also where less was left to take. `Damage` is written for what either takes, and
 /// `Heal` for what the foe gains: three places in `events` are to be free for them.
 #[inline(always)] // docs/SPEED.md, "Hints on inlining"
-pub fn residual(battle: &mut Packed, side: Side, events: &mut EventList)
-    requires room { HasRoom 3 events.old }
-    ensures shown { Does battle.old events.old.items battle.new events.new.items false
+pub fn residual<S: EventSink>(battle: &mut Packed, side: Side, events: &mut S)
+    requires room { HasRoom S.room 3 events.old }
+    ensures shown { Does battle.old (S.tells events.old) battle.new (S.tells events.new) false
         (residual side) }
-    ensures room { AddsAtMost 3 events.old events.new }
+    ensures room { AddsAtMost S.room 3 events.old events.new }
 {
     if !suffers(battle, side) {
         return;
@@ -61,11 +62,11 @@ fn is_living(battle: &Packed, side: Side) -> bool
 }
 
 // What a status takes: poison and a burn alone do.
-fn suffer_status(battle: &mut Packed, side: Side, status: Status, events: &mut EventList)
-    requires room { HasRoom 1 events.old }
-    ensures shown { Does battle.old events.old.items battle.new events.new.items false
+fn suffer_status<S: EventSink>(battle: &mut Packed, side: Side, status: Status, events: &mut S)
+    requires room { HasRoom S.room 1 events.old }
+    ensures shown { Does battle.old (S.tells events.old) battle.new (S.tells events.new) false
         (suffer_status side status) }
-    ensures room { AddsAtMost 1 events.old events.new }
+    ensures room { AddsAtMost S.room 1 events.old events.new }
 {
     match status {
         Status::Poisoned => suffer(battle, side, DamageSource::Poison, events),
@@ -77,11 +78,11 @@ fn suffer_status(battle: &mut Packed, side: Side, status: Status, events: &mut E
     }
 }
 
-fn suffer(battle: &mut Packed, side: Side, source: DamageSource, events: &mut EventList)
-    requires room { HasRoom 1 events.old }
-    ensures shown { Does battle.old events.old.items battle.new events.new.items false
+fn suffer<S: EventSink>(battle: &mut Packed, side: Side, source: DamageSource, events: &mut S)
+    requires room { HasRoom S.room 1 events.old }
+    ensures shown { Does battle.old (S.tells events.old) battle.new (S.tells events.new) false
         (suffer side source) }
-    ensures room { AddsAtMost 1 events.old events.new }
+    ensures room { AddsAtMost S.room 1 events.old events.new }
 {
     worsen(battle, side);
     let amount = residual_amount(battle, side);
@@ -89,11 +90,11 @@ fn suffer(battle: &mut Packed, side: Side, source: DamageSource, events: &mut Ev
 }
 
 // The foe is healed the full amount, also where less was left to take.
-fn suffer_seed(battle: &mut Packed, side: Side, events: &mut EventList)
-    requires room { HasRoom 2 events.old }
-    ensures shown { Does battle.old events.old.items battle.new events.new.items false
+fn suffer_seed<S: EventSink>(battle: &mut Packed, side: Side, events: &mut S)
+    requires room { HasRoom S.room 2 events.old }
+    ensures shown { Does battle.old (S.tells events.old) battle.new (S.tells events.new) false
         (suffer_seed side) }
-    ensures room { AddsAtMost 2 events.old events.new }
+    ensures room { AddsAtMost S.room 2 events.old events.new }
 {
     worsen(battle, side);
     let amount = residual_amount(battle, side);
@@ -103,7 +104,7 @@ fn suffer_seed(battle: &mut Packed, side: Side, events: &mut EventList)
 
 // The counter of bad poison rises, where there is one.
 fn worsen(battle: &mut Packed, side: Side)
-    ensures { (events : List Event) → Does battle.old events battle.new events false (worsen side) }
+    ensures { (events : List Event) → Does battle.old (Told events) battle.new (Told events) false (worsen side) }
 {
     let count = battle.bad_poison(side);
     battle.put_bad_poison(side, one_more(count));

@@ -1,13 +1,14 @@
 //! Stages that rise and fall in battle (docs/MECHANICS.md, "Stage shift").
 ghost use Rattle.std.specs.Prelude.{◌≤◌};
-ghost use Rattle.gen1_layout.specs.Words.{AddsAtMost, Does, Event, HasRoom, IsBetween, List, false};
+ghost use Rattle.gen1_layout.specs.Words.{AddsAtMost, Does, Event, HasRoom, IsBetween, List, Told, false};
 ghost use Rattle.gen1_machine.specs.StageShift.{lower_stage, note_boost, note_unboost, raise_stage, shift_to};
 ghost use Rattle.gen1_status.specs.StageShift.{IsShift, Shifts, shift_stage};
 
 use crate::stages::{put_stage, recompute, stands_at};
 use crate::take_penalty;
+use gen1_events::EventSink;
 use gen1_layout::Packed;
-use gen1_machine::{Event, EventList, Side, StageCount};
+use gen1_machine::{Event, Side, StageCount};
 use gen1_tables::Stat;
 
 // As the bytes have them, stages are numbered from 0 to 12, with 6 in the middle.
@@ -22,19 +23,19 @@ const HIGHEST_STAT: u16 = 999;
 /// Has `user` shift a stage of `target`, which is itself or its foe, up by 1 or 2 or down by -1 or -2; nothing is said of
 /// other numbers, which no move has. True where it succeeds, as [`raise_stage`] and [`lower_stage`] say. What else a failure
 /// brings about, as `Fail`, is left to the caller (docs/MECHANICS.md, "Stage shift").
-pub fn shift_stage(
+pub fn shift_stage<S: EventSink>(
     battle: &mut Packed,
     user: Side,
     target: Side,
     stat: Stat,
     by: i8,
-    events: &mut EventList,
+    events: &mut S,
 ) -> bool
-    requires room { HasRoom 1 events.old }
+    requires room { HasRoom S.room 1 events.old }
     ensures shown { IsShift by
-        → Shifts battle.old events.old.items battle.new events.new.items result
+        → Shifts battle.old (S.tells events.old) battle.new (S.tells events.new) result
         (shift_stage user target stat by) }
-    ensures room { AddsAtMost 1 events.old events.new }
+    ensures room { AddsAtMost S.room 1 events.old events.new }
 {
     let stages = by.unsigned_abs();
     if by > 0 {
@@ -49,19 +50,19 @@ pub fn shift_stage(
 ///
 /// False where it fails. At +6 nothing changes. A stat of 999 stays, but its stage rises all the same and falls back by 1;
 /// `Boost` is written if that is a change. One place in `events` is to be free (docs/MECHANICS.md, "Stage shift").
-pub fn raise_stage(
+pub fn raise_stage<S: EventSink>(
     battle: &mut Packed,
     user: Side,
     target: Side,
     stat: Stat,
     by: u8,
-    events: &mut EventList,
+    events: &mut S,
 ) -> bool
-    requires room { HasRoom 1 events.old }
+    requires room { HasRoom S.room 1 events.old }
     ensures shown { IsBetween 1 2 by
-        → Shifts battle.old events.old.items battle.new events.new.items result
+        → Shifts battle.old (S.tells events.old) battle.new (S.tells events.new) result
         (raise_stage user target stat by) }
-    ensures room { AddsAtMost 1 events.old events.new }
+    ensures room { AddsAtMost S.room 1 events.old events.new }
 {
     let stage = battle.stage(target, stat);
     if stage >= HIGHEST_STAGE {
@@ -85,19 +86,19 @@ pub fn raise_stage(
 ///
 /// False where it fails. At -6 nothing changes. A stat of 1 stays, but its stage falls all the same and rises back by 1;
 /// `Unboost` is written if that is a change. One place in `events` is to be free (docs/MECHANICS.md, "Stage shift").
-pub fn lower_stage(
+pub fn lower_stage<S: EventSink>(
     battle: &mut Packed,
     user: Side,
     target: Side,
     stat: Stat,
     by: u8,
-    events: &mut EventList,
+    events: &mut S,
 ) -> bool
-    requires room { HasRoom 1 events.old }
+    requires room { HasRoom S.room 1 events.old }
     ensures shown { IsBetween 1 2 by
-        → Shifts battle.old events.old.items battle.new events.new.items result
+        → Shifts battle.old (S.tells events.old) battle.new (S.tells events.new) result
         (lower_stage user target stat by) }
-    ensures room { AddsAtMost 1 events.old events.new }
+    ensures room { AddsAtMost S.room 1 events.old events.new }
 {
     let stage = battle.stage(target, stat);
     if stage == LOWEST_STAGE {
@@ -119,7 +120,7 @@ pub fn lower_stage(
 // Recomputes a stat at its new stage, and has the user's foe take its penalty once more.
 fn shift_to(battle: &mut Packed, user: Side, target: Side, stat: Stat, stage: u8)
     ensures { (events : List Event) → stage ≤ 12
-        → Does battle.old events battle.new events false (shift_to user target stat stage) }
+        → Does battle.old (Told events) battle.new (Told events) false (shift_to user target stat stage) }
 {
     recompute(battle, target, stat, stage);
     let foe = user.other();
@@ -128,12 +129,12 @@ fn shift_to(battle: &mut Packed, user: Side, target: Side, stat: Stat, stage: u8
 }
 
 // Tells by how much a stage rose, if it did.
-fn note_boost(battle: &Packed, side: Side, stat: Stat, stages: u8, events: &mut EventList)
-    requires room { HasRoom 1 events.old }
+fn note_boost<S: EventSink>(battle: &Packed, side: Side, stat: Stat, stages: u8, events: &mut S)
+    requires room { HasRoom S.room 1 events.old }
     ensures shown { stages ≤ 2
-        → Does battle.now events.old.items battle.now events.new.items false
+        → Does battle.now (S.tells events.old) battle.now (S.tells events.new) false
         (note_boost side stat stages) }
-    ensures room { AddsAtMost 1 events.old events.new }
+    ensures room { AddsAtMost S.room 1 events.old events.new }
 {
     if let Some(count) = StageCount::new(stages) {
         events.push(Event::Boost(battle.who(side), stat, count));
@@ -141,12 +142,12 @@ fn note_boost(battle: &Packed, side: Side, stat: Stat, stages: u8, events: &mut 
 }
 
 // Tells by how much a stage fell, if it did.
-fn note_unboost(battle: &Packed, side: Side, stat: Stat, stages: u8, events: &mut EventList)
-    requires room { HasRoom 1 events.old }
+fn note_unboost<S: EventSink>(battle: &Packed, side: Side, stat: Stat, stages: u8, events: &mut S)
+    requires room { HasRoom S.room 1 events.old }
     ensures shown { stages ≤ 2
-        → Does battle.now events.old.items battle.now events.new.items false
+        → Does battle.now (S.tells events.old) battle.now (S.tells events.new) false
         (note_unboost side stat stages) }
-    ensures room { AddsAtMost 1 events.old events.new }
+    ensures room { AddsAtMost S.room 1 events.old events.new }
 {
     if let Some(count) = StageCount::new(stages) {
         events.push(Event::Unboost(battle.who(side), stat, count));

@@ -1,6 +1,6 @@
 -- How an action goes on from the gate, and ends.
 use Rattle.std.proofs.Common.{◌≡◌}
-use Rattle.gen1_layout.proofs.Words.{Bool, Event, Frame, List, Parts, Progress, ShowsDrawn, sym, true, ℕ}
+use Rattle.gen1_layout.proofs.Words.{Bool, Frame, Parts, Progress, ShowsDrawn, Telling, sym, true, ℕ}
 use Rattle.gen1_machine.specs.State.{is_over}
 use Rattle.gen1_machine.specs.Action.{resume}
 use Rattle.gen1_status.specs.declared.gate_answer.Gate.{Gate}
@@ -11,13 +11,13 @@ use Rattle.gen1_action.specs.Knowing.{knowing, ShowsOver}
 
 module _ {A : Type 0} {byte : A → ℕ} {next : A → A} {width : ℕ} {origin : A} where
   -- an action that the gate ends may have broken a substitute
-  pub over_gate : (k : Known) (g : Frame) {parts : Parts} {events : List Event} {now : A} {p q : Progress} (answer : Gate) → stopped_by answer ≡ true
+  pub over_gate : (k : Known) (g : Frame) {parts : Parts} {events : Telling} {now : A} {p q : Progress} (answer : Gate) → stopped_by answer ≡ true
       → TellsDrawn byte next width origin (knowing k g) parts events now answer p q → ShowsOver byte next width origin k g parts events now true q
   over_gate k g Go e a = cc
   over_gate k g {q = q} Stop e a = (q.action.broke, a.shows)
   over_gate k g {q = q} Fault e a = (q.action.broke, a.shows)
 
-  pub resumed : {g : Frame} {parts : Parts} {events : List Event} {now : A} {b b' : Bool} {p : Progress} → b' ≡ is_over p.field.outcome
+  pub resumed : {g : Frame} {parts : Parts} {events : Telling} {now : A} {b b' : Bool} {p : Progress} → b' ≡ is_over p.field.outcome
       → ShowsDrawn byte next width origin g parts events now b p → ShowsDrawn byte next width origin g parts events now b' (resume p)
   unfolding resume
   resumed e a =

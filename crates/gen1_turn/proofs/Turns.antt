@@ -1,6 +1,6 @@
 -- How the parts of a turn follow one another, and what is planned as it goes on.
 use Rattle.std.proofs.Common.{◌+◌, ◌≡◌}
-use Rattle.gen1_layout.proofs.Words.{Bool, Event, Frame, List, Parts, Phase, Progress, Shows, ShowsDrawn, Side, active_in, ap, choose-false, choose-true, draw, drawn_goes, false, given, goes, if_not, if_so, length, member_in, nat_lt, on_active, on_conditions, on_field, refl, stay, stays, still, subst, sym, then-goes, true, ℕ, ◌∙◌, ◌▸◌}
+use Rattle.gen1_layout.proofs.Words.{Bool, Frame, Parts, Phase, Progress, Shows, ShowsDrawn, Side, Telling, active_in, ap, choose-false, choose-true, draw, drawn_goes, false, given, goes, if_not, if_so, length, member_in, nat_lt, on_active, on_conditions, on_field, refl, stay, stays, still, subst, sym, then-goes, true, ℕ, ◌∙◌, ◌▸◌}
 use Rattle.gen1_rolls.specs.Streams.{byte_at, Stream}
 use Rattle.gen1_rolls.proofs.Standing.{byte_drawn, stands_after_draw}
 use Rattle.gen1_stats.specs.Members.{IsBetween}
@@ -35,11 +35,11 @@ use Rattle.gen1_turn.specs.TurnParts.{suffering, Ends, LeavesRest, PartLeaves}
 
 -- what a side suffers, and whether the turn is then cut
 
-pub cut_before : (g : Frame) (parts : Parts) (events : List Event) (s : Side) (p : Progress) → is_cut p ≡ true → Shows g parts events false p
+pub cut_before : (g : Frame) (parts : Parts) (events : Telling) (s : Side) (p : Progress) → is_cut p ≡ true → Shows g parts events false p
     → LeavesRest (Shows g parts events) true (suffering s) (residual s) p
 cut_before g parts events s p cut h rest = (false, if_so _ _ _ cut (stays h))
 
-pub cut_after : (g : Frame) (parts : Parts) (events : List Event) (s : Side) (p : Progress) (cut : Bool) → is_cut (residual s p) ≡ cut → is_cut p ≡ false
+pub cut_after : (g : Frame) (parts : Parts) (events : Telling) (s : Side) (p : Progress) (cut : Bool) → is_cut (residual s p) ≡ cut → is_cut p ≡ false
     → Shows g parts events false (residual s p) → LeavesRest (Shows g parts events) cut (suffering s) (residual s) p
 cut_after g parts events s p true now whole a = λ rest. (false, if_not _ _ _ whole (goes _ _ a (if_so _ _ _ now (stays a))))
 cut_after g parts events s p false now whole a = (
@@ -50,14 +50,14 @@ cut_after g parts events s p false now whole a = (
 
 -- a part, and what its side then suffers
 
-pub sent_left : (g : Frame) {parts : Parts} {events : List Event} (parts' : Parts) (events' : List Event) (falls : Bool) (f : Phase) (s : Side) (p : Progress)
+pub sent_left : (g : Frame) {parts : Parts} {events : Telling} (parts' : Parts) (events' : Telling) (falls : Bool) (f : Phase) (s : Side) (p : Progress)
     → Shows g parts events false (f p) → LeavesRest (Shows g parts' events') falls (suffering s) (residual s) (f p)
     → PartLeaves (Shows g parts' events') falls f s p
 sent_left g parts' events' true f s p a left = λ rest. let x = left rest in (x.0, goes f _ a x.1)
 sent_left g parts' events' false f s p a left = (left.0, λ rest. then-goes f _ p a.ends ∙ left.1 rest)
 
 module _ {A : Type 0} {byte : A → ℕ} {next : A → A} {width : ℕ} {origin : A} where
-  pub acted_left : (k : Known) (g : Frame) {parts : Parts} {events : List Event} (parts' : Parts) (events' : List Event) (now : A) (falls : Bool) (f : Phase) (s : Side) (p : Progress)
+  pub acted_left : (k : Known) (g : Frame) {parts : Parts} {events : Telling} (parts' : Parts) (events' : Telling) (now : A) (falls : Bool) (f : Phase) (s : Side) (p : Progress)
       → (a : ShowsOver byte next width origin k g parts events now false (f p))
       → LeavesRest (Shows (record (knowing (with_broke a.0 k) g) { drawn = (f p).drawn }) parts' events') falls (suffering s) (residual s) (f p)
       → PartLeaves (λ b q. ShowsOver byte next width origin k g parts' events' now b q) falls f s p
@@ -69,33 +69,33 @@ module _ {A : Type 0} {byte : A → ℕ} {next : A → A} {width : ℕ} {origin 
   )
 
   -- beside a generator, what a switch shows
-  pub over_still : (k k' : Known) (g : Frame) {broke : Bool} {parts parts' : Parts} {events events' : List Event} {now : A} {b : Bool} {p q : Progress}
+  pub over_still : (k k' : Known) (g : Frame) {broke : Bool} {parts parts' : Parts} {events events' : Telling} {now : A} {b : Bool} {p q : Progress}
       → ShowsDrawn byte next width origin (knowing (with_broke broke k) g) parts events now false p → Shows (knowing k' (record g { drawn = p.drawn })) parts' events' b q
       → ShowsOver byte next width origin k' g parts' events' now b q
   over_still k k' g a h = (k'.broke, still {g' = knowing k' g} a h refl)
 
-  pub ends_still : (k k' : Known) (g : Frame) {broke : Bool} {parts parts' : Parts} {events events' : List Event} {now : A} {p q : Progress}
+  pub ends_still : (k k' : Known) (g : Frame) {broke : Bool} {parts parts' : Parts} {events events' : Telling} {now : A} {p q : Progress}
       → ShowsDrawn byte next width origin (knowing (with_broke broke k) g) parts events now false p
       → (stopped : Bool) × Shows (knowing k' (record g { drawn = p.drawn })) parts' events' stopped q → Ends byte next width origin k' g parts' events' now q
   ends_still k k' g a x = (x.0, over_still k k' g a x.1)
 
   -- the end of a turn
 
-  pub ends_as : (k : Known) (g : Frame) {parts : Parts} {events : List Event} {now : A} (q q' : Progress) → q ≡ q'
+  pub ends_as : (k : Known) (g : Frame) {parts : Parts} {events : Telling} {now : A} (q q' : Progress) → q ≡ q'
       → Ends byte next width origin k g parts events now q' → Ends byte next width origin k g parts events now q
   ends_as k g q q' e a = rw e a
 
-  pub ended : (k : Known) (g : Frame) {parts parts' : Parts} {events events' : List Event} {now : A} {p : Progress} (f : Phase)
+  pub ended : (k : Known) (g : Frame) {parts parts' : Parts} {events events' : Telling} {now : A} {p : Progress} (f : Phase)
       → Does parts events parts' events' false f → ShowsOver byte next width origin k g parts events now false p → Ends byte next width origin k g parts' events' now (f p)
   ended k g f does (broke, a) = (false, (broke, still {g' = knowing (with_broke broke k) g} a (does _ _ a.shows) refl))
 
   -- a draw
 
-  pub drawn_byte : {g : Frame} {parts : Parts} {events : List Event} {old : A} {b : Bool} {p : Progress} (d : ℕ)
+  pub drawn_byte : {g : Frame} {parts : Parts} {events : Telling} {old : A} {b : Bool} {p : Progress} (d : ℕ)
       → ShowsDrawn byte next width origin g parts events old b p → d ≡ byte old → d ≡ byte_at p.stream p.drawn
   drawn_byte {p = p} d a e = byte_drawn a.stands e ∙ ap (λ (s : Stream). byte_at s p.drawn) (sym a.shows.stream)
 
-  pub drawn_next : {g : Frame} {parts : Parts} {events : List Event} {old new : A} {b : Bool} {p : Progress}
+  pub drawn_next : {g : Frame} {parts : Parts} {events : Telling} {old new : A} {b : Bool} {p : Progress}
       → ShowsDrawn byte next width origin g parts events old b p → new ≡ next old → ShowsDrawn byte next width origin g parts events new b (record p { drawn = p.drawn + 1 })
   drawn_next {p = p} a left =
       let h = a.shows in
@@ -105,12 +105,12 @@ module _ {A : Type 0} {byte : A → ℕ} {next : A → A} {width : ℕ} {origin 
       }
 
 -- the same end with no generator beside it
-pub stops_as : {g : Frame} {parts : Parts} {events : List Event} (q q' : Progress) → q ≡ q' → (stopped : Bool) × Shows g parts events stopped q'
+pub stops_as : {g : Frame} {parts : Parts} {events : Telling} (q q' : Progress) → q ≡ q' → (stopped : Bool) × Shows g parts events stopped q'
     → (stopped : Bool) × Shows g parts events stopped q
 stops_as q q' e a = rw e a
 
 -- an action begins, of which nothing is known
-pub begun_still : (k k' : Known) (g : Frame) (broke : Bool) {parts : Parts} {events : List Event} {b : Bool} {p : Progress} (s : Side) → k' ≡ begun s k
+pub begun_still : (k k' : Known) (g : Frame) (broke : Bool) {parts : Parts} {events : Telling} {b : Bool} {p : Progress} (s : Side) → k' ≡ begun s k
     → Shows (knowing (with_broke broke k) g) parts events b p → Shows (knowing k' g) parts events b (begin s p)
 unfolding begin on_action
 begun_still k k' g broke s is h =

@@ -1,6 +1,6 @@
 -- The number of a move that is used, and a member that stays as it is.
 use Rattle.std.proofs.Common.{if◌then◌else◌, set, ◌&&◌, ◌-◌, ◌≡◌}
-use Rattle.gen1_layout.proofs.Words.{Active, Bool, Field, Frame, IsBetween, List, Member, None, Parts, Progress, Shows, Side, Some, active_in, ap, changed_active, changed_member, false, given, member_in, nat_le, nobody, on_active, on_field, refl, subst, sym, true, ℕ, ◌∙◌}
+use Rattle.gen1_layout.proofs.Words.{Active, Bool, Field, Frame, IsBetween, List, Member, None, Parts, Progress, Shows, Side, Some, Telling, active_in, ap, changed_active, changed_member, false, given, member_in, nat_le, nobody, on_active, on_field, refl, subst, sym, true, ℕ, ◌∙◌}
 use Rattle.gen1_layout.specs.Words.{Event}
 use Rattle.std.proofs.lemmas.List.{set-get_or}
 use Rattle.gen1_machine.specs.declared.side.Side.TheVariants.{One, Two}
@@ -42,7 +42,7 @@ unfolding changed_active with_picked_move
 same_picked One f = refl
 same_picked Two f = refl
 
-module _ {g : Frame} {parts : Parts} {events : List Event} (s : Side) (p : Progress) where
+module _ {g : Frame} {parts : Parts} {events : Telling} (s : Side) (p : Progress) where
   pub still_current : Shows g parts events false p → Shows g parts events false (given (active s) (λ (a : Active). on_active s (with_current_move a.current_move)) p)
   unfolding given on_active on_field
   still_current h = subst (λ (f : Field). Shows g parts events false (record p { field = f })) (sym (unchanged s p.field)) h

@@ -2,7 +2,7 @@
 -- of the last action, follows what is shown after, beside what is known then; but for a broken substitute, of which nobody asks
 -- once an action is over.
 use Rattle.std.specs.Prelude.{◌≡◌}
-use Rattle.gen1_layout.specs.Words.{Bool, Event, Frame, List, Phase, Progress, Side, false, ℕ}
+use Rattle.gen1_layout.specs.Words.{Bool, Frame, Phase, Progress, Side, Telling, false, ℕ}
 use Rattle.gen1_machine.specs.declared.picks.Pick.{Pick}
 use Rattle.gen1_machine.specs.Ruling.{Ruling, ruling_of}
 use Rattle.gen1_machine.specs.Plans.{FitsPick, Plan}
@@ -12,14 +12,14 @@ use Rattle.gen1_action.specs.Knowing.{ShowsKnown, ShowsOver}
 use Rattle.gen1_action.specs.Planned.{Follows}
 
 -- the parts of an action that has begun
-abbrev pub DoesParts : {A : Type 0} → (A → ℕ) → (A → A) → ℕ → Side → Pick → Parts → List Event → A → Known → Parts → List Event → A → Known → Bool → (Ruling → Phase) → Type 0
+abbrev pub DoesParts : {A : Type 0} → (A → ℕ) → (A → A) → ℕ → Side → Pick → Parts → Telling → A → Known → Parts → Telling → A → Known → Bool → (Ruling → Phase) → Type 0
 DoesParts {A = A} byte next width side pick parts events old k parts' events' new k' stopped phase =
     (origin : A) (g : Frame) (p : Progress) (plan : Side → Plan) → FitsPick pick (plan side) → Follows g.setting.terms plan p → p.action.letting_go ≡ false
     → ShowsKnown byte next width origin k g parts events old false p
     → ShowsOver byte next width origin k' g parts' events' new stopped (phase (ruling_of g.setting.terms) p)
 
 -- a whole action
-abbrev pub Acts : {A : Type 0} → (A → ℕ) → (A → A) → ℕ → Side → Pick → Parts → List Event → A → Known → Parts → List Event → A → Known → Bool → (Ruling → Phase) → Type 0
+abbrev pub Acts : {A : Type 0} → (A → ℕ) → (A → A) → ℕ → Side → Pick → Parts → Telling → A → Known → Parts → Telling → A → Known → Bool → (Ruling → Phase) → Type 0
 Acts {A = A} byte next width side pick parts events old k parts' events' new k' stopped phase =
     (origin : A) (g : Frame) (p : Progress) (plan : Side → Plan) → FitsPick pick (plan side) → Follows g.setting.terms plan p
     → ShowsOver byte next width origin k g parts events old false p

@@ -1,6 +1,6 @@
 -- What the parts of a turn show, each with what its side then suffers (docs/MECHANICS.md, "Order of a turn").
 use Rattle.std.specs.Prelude.{◌∷◌, ◌≡◌}
-use Rattle.gen1_layout.specs.Words.{Bool, Event, Frame, List, Phase, Progress, ShowsDrawn, Side, [], false, other, true, ℕ, ◌▸◌}
+use Rattle.gen1_layout.specs.Words.{Bool, Event, Frame, List, Phase, Progress, ShowsDrawn, Side, Telling, Told, [], false, other, true, ℕ, ◌▸◌}
 use Rattle.gen1_machine.specs.declared.choice.Choice.{Choice}
 use Rattle.gen1_machine.specs.declared.picks.Pick.{Pick}
 use Rattle.gen1_machine.specs.declared.side.Side.TheVariants.{One, Two}
@@ -17,8 +17,8 @@ use Rattle.gen1_action.specs.Planned.{Follows}
 -- who begins: nothing changes but the draws, and whatever follows in the machine follows with this side
 abbrev pub Orders : {A : Type 0} → (A → ℕ) → (A → A) → ℕ → Parts → A → A → Side → ((Side → Phase) → Phase) → Type 0
 Orders {A = A} byte next width parts old new result order =
-    (origin : A) (g : Frame) (events : List Event) (p : Progress) → ShowsDrawn byte next width origin g parts events old false p
-    → (n : ℕ) × ShowsDrawn byte next width origin g parts events new false (record p { drawn = n })
+    (origin : A) (g : Frame) (events : List Event) (p : Progress) → ShowsDrawn byte next width origin g parts (Told events) old false p
+    → (n : ℕ) × ShowsDrawn byte next width origin g parts (Told events) new false (record p { drawn = n })
     × ((begins : Side → Phase) → order begins p ≡ begins result (record p { drawn = n }))
 
 -- what is shown where the rest of a turn may fall away. Where it does, all of the turn is shown, whatever its rest is; else what
@@ -36,18 +36,18 @@ abbrev pub PartLeaves : (Bool → Progress → Type 0) → Bool → Phase → Si
 PartLeaves Shown falls part s = LeavesRest Shown falls (λ rest. part ▸ suffering s rest) (λ p. residual s (part p))
 
 -- a side's action by this pick, and what the side then suffers
-abbrev pub ActsAndSuffers : {A : Type 0} → (A → ℕ) → (A → A) → ℕ → Side → Pick → Parts → List Event → A → Known → Parts → List Event → A → Known → Bool → Type 0
+abbrev pub ActsAndSuffers : {A : Type 0} → (A → ℕ) → (A → A) → ℕ → Side → Pick → Parts → Telling → A → Known → Parts → Telling → A → Known → Bool → Type 0
 ActsAndSuffers {A = A} byte next width side pick parts events old k parts' events' new k' falls =
     (origin : A) (g : Frame) (p : Progress) (plan : Side → Plan) → FitsPick pick (plan side) → Follows g.setting.terms plan p
     → ShowsOver byte next width origin k g parts events old false p
     → PartLeaves (ShowsOver byte next width origin k' g parts' events' new) falls (do_part (ruling_of g.setting.terms) (Acts side pick)) side p
 
 -- code of a turn, of which nobody asks whether the rest then falls away
-abbrev pub Ends : {A : Type 0} → (A → ℕ) → (A → A) → ℕ → A → Known → Frame → Parts → List Event → A → Progress → Type 0
+abbrev pub Ends : {A : Type 0} → (A → ℕ) → (A → A) → ℕ → A → Known → Frame → Parts → Telling → A → Progress → Type 0
 Ends byte next width origin k g parts events now p = (stopped : Bool) × ShowsOver byte next width origin k g parts events now stopped p
 
 -- it does what a phase does under the rules of the battle, where so much is asked of what both sides plan
-abbrev pub DoesTurn : {A : Type 0} → (A → ℕ) → (A → A) → ℕ → Parts → List Event → A → Known → Parts → List Event → A → Known → ((Side → Plan) → Progress → Type 0) → (Ruling → Phase) → Type 0
+abbrev pub DoesTurn : {A : Type 0} → (A → ℕ) → (A → A) → ℕ → Parts → Telling → A → Known → Parts → Telling → A → Known → ((Side → Plan) → Progress → Type 0) → (Ruling → Phase) → Type 0
 DoesTurn {A = A} byte next width parts events old k parts' events' new k' Asks phase =
     (origin : A) (g : Frame) (p : Progress) (plan : Side → Plan) → Asks plan p → Follows g.setting.terms plan p
     → ShowsOver byte next width origin k g parts events old false p

@@ -1,6 +1,6 @@
 //! One side's action (docs/MECHANICS.md, "Action").
 ghost use Rattle.std.specs.Prelude.{◌||◌, ◌≡◌};
-ghost use Rattle.gen1_layout.specs.Words.{AddsAtMost, Bool, Event, Frame, HasRoom, List, Progress, Reads, Shows, active_in, is_some, underway_in};
+ghost use Rattle.gen1_layout.specs.Words.{AddsAtMost, Bool, Event, Frame, HasRoom, List, Progress, Reads, Shows, Told, active_in, is_some, underway_in};
 ghost use Rattle.gen1_machine.specs.Action.{accuracy_after, act, action_parts, keep_accuracy};
 ghost use Rattle.gen1_machine.specs.State.{is_over};
 ghost use Rattle.gen1_action.specs.Knowing.{IsUncounted};
@@ -9,26 +9,27 @@ ghost use Rattle.gen1_turn.specs.Action.{Acts, DoesParts};
 use crate::action_steps::carry_out;
 use crate::taken_move::{move_taken, see_if_going_on};
 use gen1_action::Known;
+use gen1_events::EventSink;
 use gen1_layout::{Conditions, Packed};
-use gen1_machine::{EventList, Pick, Side};
+use gen1_machine::{Pick, Side};
 use gen1_rolls::Rolls;
 use gen1_status::gate;
 
 /// Plays the action of `side`, by its pick, from its gate to the accuracy that is kept (docs/MECHANICS.md, "Action"). The answer
 /// is whether the battle is over then, as it is by a fault. At most 21 events are written, for which places in `events` are to be
 /// free. What is known of the last action is forgotten, but for who is skipped.
-pub fn act<R: Rolls>(
+pub fn act<R: Rolls, S: EventSink>(
     battle: &mut Packed,
     side: Side,
     pick: Pick,
     known: &mut Known,
     random: &mut R,
-    events: &mut EventList,
+    events: &mut S,
 ) -> bool
-    requires room { HasRoom 21 events.old }
-    ensures shown { Acts R.byte R.next R.SPAN side pick battle.old events.old.items random.old
-        known.old battle.new events.new.items random.new known.new result (λ r. act r side pick) }
-    ensures room { AddsAtMost 21 events.old events.new }
+    requires room { HasRoom S.room 21 events.old }
+    ensures shown { Acts R.byte R.next R.SPAN side pick battle.old (S.tells events.old) random.old
+        known.old battle.new (S.tells events.new) random.new known.new result (λ r. act r side pick) }
+    ensures room { AddsAtMost S.room 21 events.old events.new }
 {
     *known = known.begun(side);
     action_parts(battle, side, pick, known, random, events);
@@ -36,20 +37,20 @@ pub fn act<R: Rolls>(
     battle.outcome().is_over()
 }
 
-fn action_parts<R: Rolls>(
+fn action_parts<R: Rolls, S: EventSink>(
     battle: &mut Packed,
     side: Side,
     pick: Pick,
     known: &mut Known,
     random: &mut R,
-    events: &mut EventList,
+    events: &mut S,
 ) -> bool
-    requires room { HasRoom 21 events.old }
+    requires room { HasRoom S.room 21 events.old }
     requires counts { IsUncounted known.old }
-    ensures shown { DoesParts R.byte R.next R.SPAN side pick battle.old events.old.items random.old
-        known.old battle.new events.new.items random.new known.new result
+    ensures shown { DoesParts R.byte R.next R.SPAN side pick battle.old (S.tells events.old) random.old
+        known.old battle.new (S.tells events.new) random.new known.new result
         (λ r. action_parts r side pick) }
-    ensures room { AddsAtMost 21 events.old events.new }
+    ensures room { AddsAtMost S.room 21 events.old events.new }
 {
     if gate(battle, side, pick, random, events).stops() {
         return true;
@@ -64,8 +65,8 @@ fn action_parts<R: Rolls>(
 fn keep_accuracy(battle: &mut Packed, side: Side, tested: Option<u8>)
     ensures shown { (g : Frame) (p : Progress) (events : List Event) (stopped : Bool)
         → g.action.accuracy_tested ≡ tested
-        → Shows g battle.old events stopped p
-        → Shows g battle.new events stopped (keep_accuracy side p) }
+        → Shows g battle.old (Told events) stopped p
+        → Shows g battle.new (Told events) stopped (keep_accuracy side p) }
 {
     let byte = accuracy_to_keep(battle, side, tested);
     battle.put_kept_accuracy(side, byte);

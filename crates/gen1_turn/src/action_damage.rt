@@ -1,6 +1,6 @@
 //! What damage an action deals (docs/MECHANICS.md, "Action", step 7).
 ghost use Rattle.std.specs.Prelude.{◌≡◌};
-ghost use Rattle.gen1_layout.specs.Words.{Event, List, move_at, nat_lt};
+ghost use Rattle.gen1_layout.specs.Words.{Event, List, Told, move_at, nat_lt};
 ghost use Rattle.gen1_machine.specs.Action.{damage_of, usual_damage};
 ghost use Rattle.gen1_machine.specs.Damage.{roll_damage};
 ghost use Rattle.gen1_machine.specs.Progress.{choose, set_last_damage};
@@ -44,8 +44,8 @@ pub(crate) fn damage_of<R: Rolls>(
     random: &mut R,
 ) -> bool
     ensures shown { (events : List Event)
-        → DoesKnowingDrawing R.byte R.next R.SPAN battle.old events random.old known.old battle.new
-        events random.new known.new result (damage_of side (move_at id) (move_at id).effect) }
+        → DoesKnowingDrawing R.byte R.next R.SPAN battle.old (Told events) random.old known.old battle.new
+        (Told events) random.new known.new result (damage_of side (move_at id) (move_at id).effect) }
     ensures counts { IsUncounted known.old → IsUncounted known.new }
 {
     match way_of(id.effect()) {
@@ -70,8 +70,8 @@ fn damage_by_power<R: Rolls>(
     random: &mut R,
 ) -> bool
     ensures shown { (events : List Event)
-        → DoesKnowingDrawing R.byte R.next R.SPAN battle.old events random.old known.old battle.new
-        events random.new known.new result
+        → DoesKnowingDrawing R.byte R.next R.SPAN battle.old (Told events) random.old known.old battle.new
+        (Told events) random.new known.new result
         (choose (λ _. nat_lt 0 (move_at id).power) (usual_damage side (move_at id))
         (set_last_damage 0)) }
     ensures counts { IsUncounted known.old → IsUncounted known.new }
@@ -97,8 +97,8 @@ fn roll_damage<R: Rolls>(
     random: &mut R,
 ) -> bool
     ensures shown { (events : List Event)
-        → DoesKnowingDrawing R.byte R.next R.SPAN battle.old events random.old known.old battle.new
-        events random.new known.new result (roll_damage side (move_at id)) }
+        → DoesKnowingDrawing R.byte R.next R.SPAN battle.old (Told events) random.old known.old battle.new
+        (Told events) random.new known.new result (roll_damage side (move_at id)) }
     ensures counts { IsUncounted known.old → IsUncounted known.new }
 {
     let numbers = numbers(battle, side, id, known.critical);

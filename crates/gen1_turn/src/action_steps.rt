@@ -1,6 +1,6 @@
 //! An action once it is settled which move is used (docs/MECHANICS.md, "Action", from step 2 on).
 ghost use Rattle.std.specs.Prelude.{◌&&◌, ◌||◌, ◌≡◌};
-ghost use Rattle.gen1_layout.specs.Words.{AddsAtMost, AddsNone, Event, HasRoom, List, false, move_at, stop, ◌▸◌};
+ghost use Rattle.gen1_layout.specs.Words.{AddsAtMost, AddsNone, Event, HasRoom, List, Told, false, move_at, stop, ◌▸◌};
 ghost use Rattle.gen1_machine.specs.Action.{carry_out, damage_of, lands_at_once, lead_up, lets_energy_go};
 ghost use Rattle.gen1_machine.specs.LateEffects.{is_late, late_effect};
 ghost use Rattle.gen1_tables.specs.Effects.{traps};
@@ -14,28 +14,29 @@ use crate::lead_up::lead_up;
 use crate::strike::strike;
 use gen1_action::Known;
 use gen1_effects::{is_late_but_bide, late_effect_knowing};
+use gen1_events::EventSink;
 use gen1_layout::Packed;
-use gen1_machine::{EventList, Pick, Side};
+use gen1_machine::{Pick, Side};
 use gen1_multiturn::{bide_knowing, start_bide};
 use gen1_rolls::Rolls;
 use gen1_tables::{Effect, MoveId};
 
 // The energy of Bide enters late. The answer is whether the rest of the action fell away.
-pub(crate) fn carry_out<R: Rolls>(
+pub(crate) fn carry_out<R: Rolls, S: EventSink>(
     battle: &mut Packed,
     side: Side,
     pick: Pick,
     id: MoveId,
     known: &mut Known,
     random: &mut R,
-    events: &mut EventList,
+    events: &mut S,
 ) -> bool
-    requires room { HasRoom 18 events.old }
+    requires room { HasRoom S.room 18 events.old }
     requires counts { IsUncounted known.old }
     ensures shown { DoesTaking R.byte R.next R.SPAN side pick (move_at id).effect battle.old
-        events.old.items random.old known.old battle.new events.new.items random.new known.new
+        (S.tells events.old) random.old known.old battle.new (S.tells events.new) random.new known.new
         result (λ r. carry_out r side pick (move_at id)) }
-    ensures room { AddsAtMost 18 events.old events.new }
+    ensures room { AddsAtMost S.room 18 events.old events.new }
 {
     if bide_knowing(battle, side, known, events) {
         return true;
@@ -46,22 +47,22 @@ pub(crate) fn carry_out<R: Rolls>(
     damage_and_strike(battle, side, id, known, random, events)
 }
 
-fn lead_up_unless_let_go<R: Rolls>(
+fn lead_up_unless_let_go<R: Rolls, S: EventSink>(
     battle: &mut Packed,
     side: Side,
     pick: Pick,
     id: MoveId,
     known: &mut Known,
     random: &mut R,
-    events: &mut EventList,
+    events: &mut S,
 ) -> bool
-    requires room { HasRoom 4 events.old }
+    requires room { HasRoom S.room 4 events.old }
     ensures shown { DoesTaking R.byte R.next R.SPAN side pick (move_at id).effect battle.old
-        events.old.items random.old known.old battle.new events.new.items random.new known.new
+        (S.tells events.old) random.old known.old battle.new (S.tells events.new) random.new known.new
         result (λ r. unless lets_energy_go (lead_up side pick (move_at id))) }
     ensures same { result ≡ false → known.new ≡ known.old }
-    ensures room { AddsAtMost 4 events.old events.new }
-    ensures few { result ≡ false → AddsAtMost 3 events.old events.new }
+    ensures room { AddsAtMost S.room 4 events.old events.new }
+    ensures few { result ≡ false → AddsAtMost S.room 3 events.old events.new }
 {
     if known.letting_go {
         return false;
@@ -70,20 +71,20 @@ fn lead_up_unless_let_go<R: Rolls>(
 }
 
 // What comes after the move was led up to.
-fn damage_and_strike<R: Rolls>(
+fn damage_and_strike<R: Rolls, S: EventSink>(
     battle: &mut Packed,
     side: Side,
     id: MoveId,
     known: &mut Known,
     random: &mut R,
-    events: &mut EventList,
+    events: &mut S,
 ) -> bool
-    requires room { HasRoom 14 events.old }
+    requires room { HasRoom S.room 14 events.old }
     requires counts { IsUncounted known.old }
-    ensures shown { DoesAt R.byte R.next R.SPAN side (move_at id).effect battle.old events.old.items
-        random.old known.old battle.new events.new.items random.new known.new result
+    ensures shown { DoesAt R.byte R.next R.SPAN side (move_at id).effect battle.old (S.tells events.old)
+        random.old known.old battle.new (S.tells events.new) random.new known.new result
         (λ r. damage_and_strike r side (move_at id)) }
-    ensures room { AddsAtMost 14 events.old events.new }
+    ensures room { AddsAtMost S.room 14 events.old events.new }
 {
     if damage_unless_landing(battle, side, id, known, random) {
         return true;
@@ -102,8 +103,8 @@ fn damage_unless_landing<R: Rolls>(
     random: &mut R,
 ) -> bool
     ensures shown { (events : List Event)
-        → DoesKnowingDrawing R.byte R.next R.SPAN battle.old events random.old known.old battle.new
-        events random.new known.new result
+        → DoesKnowingDrawing R.byte R.next R.SPAN battle.old (Told events) random.old known.old battle.new
+        (Told events) random.new known.new result
         (unless (lands_at_once (move_at id)) (damage_of side (move_at id) (move_at id).effect)) }
     ensures counts { IsUncounted known.old → IsUncounted known.new }
 {
@@ -120,21 +121,21 @@ fn lands_at_once(known: &Known, effect: Effect) -> bool
     known.letting_go || (known.going_on && effect.traps())
 }
 
-fn late_part<R: Rolls>(
+fn late_part<R: Rolls, S: EventSink>(
     battle: &mut Packed,
     side: Side,
     id: MoveId,
     known: &mut Known,
     random: &mut R,
-    events: &mut EventList,
+    events: &mut S,
 ) -> bool
-    requires room { HasRoom 2 events.old }
-    ensures shown { DoesAt R.byte R.next R.SPAN side (move_at id).effect battle.old events.old.items
-        random.old known.old battle.new events.new.items random.new known.new result
+    requires room { HasRoom S.room 2 events.old }
+    ensures shown { DoesAt R.byte R.next R.SPAN side (move_at id).effect battle.old (S.tells events.old)
+        random.old known.old battle.new (S.tells events.new) random.new known.new result
         (λ r. late_part r side (move_at id)) }
     ensures same { result ≡ false → known.new ≡ known.old }
-    ensures room { AddsAtMost 2 events.old events.new }
-    ensures quiet { result ≡ false → AddsNone events.old events.new }
+    ensures room { AddsAtMost S.room 2 events.old events.new }
+    ensures quiet { result ≡ false → AddsNone S.room events.old events.new }
 {
     if known.letting_go {
         return false;
@@ -143,22 +144,22 @@ fn late_part<R: Rolls>(
 }
 
 // The action ends with a late effect, for which the answer is true; other moves have none.
-fn late_effect<R: Rolls>(
+fn late_effect<R: Rolls, S: EventSink>(
     battle: &mut Packed,
     side: Side,
     id: MoveId,
     known: &mut Known,
     random: &mut R,
-    events: &mut EventList,
+    events: &mut S,
 ) -> bool
-    requires room { HasRoom 2 events.old }
-    ensures shown { DoesAt R.byte R.next R.SPAN side (move_at id).effect battle.old events.old.items
-        random.old known.old battle.new events.new.items random.new known.new result
+    requires room { HasRoom S.room 2 events.old }
+    ensures shown { DoesAt R.byte R.next R.SPAN side (move_at id).effect battle.old (S.tells events.old)
+        random.old known.old battle.new (S.tells events.new) random.new known.new result
         (λ r. only (is_late (move_at id).effect)
         (late_effect r side (move_at id) (move_at id).effect ▸ stop)) }
     ensures same { result ≡ false → known.new ≡ known.old }
-    ensures room { AddsAtMost 2 events.old events.new }
-    ensures quiet { result ≡ false → AddsNone events.old events.new }
+    ensures room { AddsAtMost S.room 2 events.old events.new }
+    ensures quiet { result ≡ false → AddsNone S.room events.old events.new }
 {
     if is_late_but_bide(id.effect()) {
         late_effect_knowing(battle, side, id, known, random, events);

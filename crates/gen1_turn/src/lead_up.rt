@@ -13,28 +13,29 @@ ghost use Rattle.gen1_turn.specs.ByEffect.{makes_substitute};
 use crate::used_move::use_move;
 use gen1_action::Known;
 use gen1_effects::{early_effect_knowing, is_early_but_substitute};
+use gen1_events::EventSink;
 use gen1_layout::Packed;
-use gen1_machine::{EventList, Pick, Side};
+use gen1_machine::{Pick, Side};
 use gen1_multiturn::{charge_knowing, make_substitute, thrash_knowing, trap_knowing};
 use gen1_rolls::Rolls;
 use gen1_tables::{Effect, MoveId};
 
-pub(crate) fn lead_up<R: Rolls>(
+pub(crate) fn lead_up<R: Rolls, S: EventSink>(
     battle: &mut Packed,
     side: Side,
     pick: Pick,
     id: MoveId,
     known: &mut Known,
     random: &mut R,
-    events: &mut EventList,
+    events: &mut S,
 ) -> bool
-    requires room { HasRoom 4 events.old }
+    requires room { HasRoom S.room 4 events.old }
     ensures shown { DoesTaking R.byte R.next R.SPAN side pick (move_at id).effect battle.old
-        events.old.items random.old known.old battle.new events.new.items random.new known.new
+        (S.tells events.old) random.old known.old battle.new (S.tells events.new) random.new known.new
         result (λ r. lead_up side pick (move_at id)) }
     ensures same { result ≡ false → known.new ≡ known.old }
-    ensures room { AddsAtMost 4 events.old events.new }
-    ensures few { result ≡ false → AddsAtMost 3 events.old events.new }
+    ensures room { AddsAtMost S.room 4 events.old events.new }
+    ensures few { result ≡ false → AddsAtMost S.room 3 events.old events.new }
 {
     if charge_knowing(battle, side, pick, id, known, random, events) {
         return true;
@@ -44,21 +45,21 @@ pub(crate) fn lead_up<R: Rolls>(
 }
 
 // Once the move is used.
-fn begin_move<R: Rolls>(
+fn begin_move<R: Rolls, S: EventSink>(
     battle: &mut Packed,
     side: Side,
     id: MoveId,
     known: &mut Known,
     random: &mut R,
-    events: &mut EventList,
+    events: &mut S,
 ) -> bool
-    requires room { HasRoom 2 events.old }
-    ensures shown { DoesAt R.byte R.next R.SPAN side (move_at id).effect battle.old events.old.items
-        random.old known.old battle.new events.new.items random.new known.new result
+    requires room { HasRoom S.room 2 events.old }
+    ensures shown { DoesAt R.byte R.next R.SPAN side (move_at id).effect battle.old (S.tells events.old)
+        random.old known.old battle.new (S.tells events.new) random.new known.new result
         (λ r. begin_move side (move_at id)) }
     ensures same { result ≡ false → known.new ≡ known.old }
-    ensures room { AddsAtMost 2 events.old events.new }
-    ensures few { result ≡ false → AddsAtMost 1 events.old events.new }
+    ensures room { AddsAtMost S.room 2 events.old events.new }
+    ensures few { result ≡ false → AddsAtMost S.room 1 events.old events.new }
 {
     if early_effect(battle, side, id, known, random, events) {
         return true;
@@ -68,23 +69,23 @@ fn begin_move<R: Rolls>(
 }
 
 // The action ends with an early effect, for which the answer is true; other moves have none.
-fn early_effect<R: Rolls>(
+fn early_effect<R: Rolls, S: EventSink>(
     battle: &mut Packed,
     side: Side,
     id: MoveId,
     known: &mut Known,
     random: &mut R,
-    events: &mut EventList,
+    events: &mut S,
 ) -> bool
-    requires room { HasRoom 2 events.old }
-    ensures shown { DoesKnowingDrawing R.byte R.next R.SPAN battle.old events.old.items random.old
-        known.old battle.new events.new.items random.new known.new result
+    requires room { HasRoom S.room 2 events.old }
+    ensures shown { DoesKnowingDrawing R.byte R.next R.SPAN battle.old (S.tells events.old) random.old
+        known.old battle.new (S.tells events.new) random.new known.new result
         (only (is_early (move_at id).effect) (early_effect side (move_at id) (move_at id).effect
         ▸ stop)) }
     ensures early { result ≡ is_early (move_at id).effect }
     ensures same { result ≡ false → known.new ≡ known.old }
-    ensures room { AddsAtMost 2 events.old events.new }
-    ensures quiet { result ≡ false → AddsNone events.old events.new }
+    ensures room { AddsAtMost S.room 2 events.old events.new }
+    ensures quiet { result ≡ false → AddsNone S.room events.old events.new }
 {
     if is_early_but_substitute(id.effect()) {
         early_effect_knowing(battle, side, id, known, random, events);
@@ -98,19 +99,19 @@ fn early_effect<R: Rolls>(
 }
 
 // What trapping and thrashing do before their damage.
-fn prelude<R: Rolls>(
+fn prelude<R: Rolls, S: EventSink>(
     battle: &mut Packed,
     side: Side,
     id: MoveId,
     known: &Known,
     random: &mut R,
-    events: &mut EventList,
+    events: &mut S,
 )
-    requires room { HasRoom 1 events.old }
-    ensures shown { DoesAt R.byte R.next R.SPAN side (move_at id).effect battle.old events.old.items
-        random.old known.now battle.new events.new.items random.new known.now false
+    requires room { HasRoom S.room 1 events.old }
+    ensures shown { DoesAt R.byte R.next R.SPAN side (move_at id).effect battle.old (S.tells events.old)
+        random.old known.now battle.new (S.tells events.new) random.new known.now false
         (λ r. prelude side (move_at id)) }
-    ensures room { AddsAtMost 1 events.old events.new }
+    ensures room { AddsAtMost S.room 1 events.old events.new }
 {
     if id.effect().traps() {
         trap_knowing(battle, side, known, random);

@@ -9,25 +9,26 @@ ghost use Rattle.gen1_turn.specs.ActionSteps.{hits_with_effect};
 
 use gen1_action::Known;
 use gen1_effects::side_effect_knowing;
+use gen1_events::EventSink;
 use gen1_layout::Packed;
-use gen1_machine::{EventList, Side};
+use gen1_machine::Side;
 use gen1_multiturn::{hits, missed_move};
 use gen1_rolls::Rolls;
 use gen1_tables::MoveId;
 
-pub(crate) fn strike<R: Rolls>(
+pub(crate) fn strike<R: Rolls, S: EventSink>(
     battle: &mut Packed,
     side: Side,
     id: MoveId,
     known: &mut Known,
     random: &mut R,
-    events: &mut EventList,
+    events: &mut S,
 ) -> bool
-    requires room { HasRoom 14 events.old }
+    requires room { HasRoom S.room 14 events.old }
     requires counts { IsUncounted known.old }
-    ensures shown { DoesUnder R.byte R.next R.SPAN battle.old events.old.items random.old known.old
-        battle.new events.new.items random.new known.new result (λ r. strike r side (move_at id)) }
-    ensures room { AddsAtMost 14 events.old events.new }
+    ensures shown { DoesUnder R.byte R.next R.SPAN battle.old (S.tells events.old) random.old known.old
+        battle.new (S.tells events.new) random.new known.new result (λ r. strike r side (move_at id)) }
+    ensures room { AddsAtMost S.room 14 events.old events.new }
 {
     if known.missed {
         missed_move(battle, side, id, events);
@@ -37,20 +38,20 @@ pub(crate) fn strike<R: Rolls>(
 }
 
 // Once it is known to hit.
-fn hits_with_effect<R: Rolls>(
+fn hits_with_effect<R: Rolls, S: EventSink>(
     battle: &mut Packed,
     side: Side,
     id: MoveId,
     known: &mut Known,
     random: &mut R,
-    events: &mut EventList,
+    events: &mut S,
 ) -> bool
-    requires room { HasRoom 14 events.old }
+    requires room { HasRoom S.room 14 events.old }
     requires counts { IsUncounted known.old }
-    ensures shown { DoesUnder R.byte R.next R.SPAN battle.old events.old.items random.old known.old
-        battle.new events.new.items random.new known.new result
+    ensures shown { DoesUnder R.byte R.next R.SPAN battle.old (S.tells events.old) random.old known.old
+        battle.new (S.tells events.new) random.new known.new result
         (λ r. hits_with_effect r side (move_at id)) }
-    ensures room { AddsAtMost 14 events.old events.new }
+    ensures room { AddsAtMost S.room 14 events.old events.new }
 {
     hits(battle, side, id, known, random, events);
     if has_no_effect(battle, side, known) {

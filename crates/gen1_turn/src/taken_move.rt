@@ -1,6 +1,6 @@
 //! Which move an action takes, and whether that goes on (docs/MECHANICS.md, "Picks", "Going on").
 ghost use Rattle.std.specs.Prelude.{◌&&◌, ◌≡◌, ◌≤◌};
-ghost use Rattle.gen1_layout.specs.Words.{Event, Field, IsBetween, List, Reads, Setting, Within, active_in, false, length, member_in, not, underway_in};
+ghost use Rattle.gen1_layout.specs.Words.{Event, Field, IsBetween, List, Reads, Setting, Told, Within, active_in, false, length, member_in, not, underway_in};
 ghost use Rattle.gen1_machine.specs.Action.{keeps_going, see_if_going_on};
 ghost use Rattle.gen1_machine.specs.Picks.{is_use, number_in, used_by};
 ghost use Rattle.gen1_machine.specs.Valid.{IsUsedMove};
@@ -15,7 +15,7 @@ use gen1_tables::{MoveId, STRUGGLE};
 // What goes on by itself keeps its PP, unless its condition is gone: then the move is used anew.
 pub(crate) fn see_if_going_on(battle: &Packed, side: Side, pick: Pick, known: &mut Known)
     ensures shown { (events : List Event)
-        → DoesKnowing battle.now events known.old battle.now events known.new false
+        → DoesKnowing battle.now (Told events) known.old battle.now (Told events) known.new false
         (see_if_going_on side pick) }
     ensures counts { IsUncounted known.old → IsUncounted known.new }
 {

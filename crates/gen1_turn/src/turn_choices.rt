@@ -1,6 +1,6 @@
 //! A turn, by what both sides choose (docs/MECHANICS.md, "Order of a turn").
 ghost use Rattle.std.specs.Prelude.{◌≡◌};
-ghost use Rattle.gen1_layout.specs.Words.{AddsAtMost, Bool, Does, Event, Frame, HasRoom, List, Progress, Shows, false, length, member_in, other};
+ghost use Rattle.gen1_layout.specs.Words.{AddsAtMost, Bool, Does, Event, Frame, HasRoom, List, Progress, Shows, Told, false, length, member_in, other};
 ghost use Rattle.gen1_machine.specs.declared.side.Side.TheVariants as sides;
 ghost use Rattle.gen1_machine.specs.Conditions.{without_flinch};
 ghost use Rattle.gen1_machine.specs.State.{active_in};
@@ -17,24 +17,25 @@ use crate::by_side::BySide;
 use crate::turn_order::first_side;
 use crate::turn_parts::{act_and_suffer, end_turn, sends_and_suffers};
 use gen1_action::Known;
+use gen1_events::EventSink;
 use gen1_layout::{Conditions, Packed};
-use gen1_machine::{Choice, EventList, Pick, Place, Side, UsedMove};
+use gen1_machine::{Choice, Pick, Place, Side, UsedMove};
 use gen1_rolls::Rolls;
 use gen1_status::pick;
 
 // A whole turn, after which nobody has fainted yet.
-pub(crate) fn take_turn<R: Rolls>(
+pub(crate) fn take_turn<R: Rolls, S: EventSink>(
     battle: &mut Packed,
     one: Choice,
     two: Choice,
     known: &mut Known,
     random: &mut BySide<R>,
-    events: &mut EventList,
+    events: &mut S,
 )
-    requires room { HasRoom 48 events.old }
-    ensures shown { DoesTurn R.byte R.next R.SPAN battle.old events.old.items random.old known.old
-        battle.new events.new.items random.new known.new (Chooses one two) (λ r. turn r one two) }
-    ensures room { AddsAtMost 48 events.old events.new }
+    requires room { HasRoom S.room 48 events.old }
+    ensures shown { DoesTurn R.byte R.next R.SPAN battle.old (S.tells events.old) random.old known.old
+        battle.new (S.tells events.new) random.new known.new (Chooses one two) (λ r. turn r one two) }
+    ensures room { AddsAtMost S.room 48 events.old events.new }
 {
     end_flinch(battle, Side::One);
     end_flinch(battle, Side::Two);
@@ -43,24 +44,24 @@ pub(crate) fn take_turn<R: Rolls>(
 
 fn end_flinch(battle: &mut Packed, side: Side)
     ensures shown { (events : List Event)
-        → Does battle.old events battle.new events false (on_conditions side without_flinch) }
+        → Does battle.old (Told events) battle.new (Told events) false (on_conditions side without_flinch) }
 {
     battle.put_flag(side, Conditions::FLINCH, false);
 }
 
-fn play_choices<R: Rolls>(
+fn play_choices<R: Rolls, S: EventSink>(
     battle: &mut Packed,
     one: Choice,
     two: Choice,
     known: &mut Known,
     random: &mut BySide<R>,
-    events: &mut EventList,
+    events: &mut S,
 )
-    requires room { HasRoom 48 events.old }
-    ensures shown { DoesTurn R.byte R.next R.SPAN battle.old events.old.items random.old known.old
-        battle.new events.new.items random.new known.new (Chooses one two)
+    requires room { HasRoom S.room 48 events.old }
+    ensures shown { DoesTurn R.byte R.next R.SPAN battle.old (S.tells events.old) random.old known.old
+        battle.new (S.tells events.new) random.new known.new (Chooses one two)
         (λ r. play_turn r one two) }
-    ensures room { AddsAtMost 48 events.old events.new }
+    ensures room { AddsAtMost S.room 48 events.old events.new }
 {
     match one {
         Choice::Move(_) => match two {
@@ -87,20 +88,20 @@ fn play_choices<R: Rolls>(
     }
 }
 
-fn both_pick<R: Rolls>(
+fn both_pick<R: Rolls, S: EventSink>(
     battle: &mut Packed,
     one: Pick,
     two: Pick,
     known: &mut Known,
     random: &mut BySide<R>,
-    events: &mut EventList,
+    events: &mut S,
 )
-    requires room { HasRoom 48 events.old }
-    ensures shown { DoesTurn R.byte R.next R.SPAN battle.old events.old.items random.old known.old
-        battle.new events.new.items random.new known.new
+    requires room { HasRoom S.room 48 events.old }
+    ensures shown { DoesTurn R.byte R.next R.SPAN battle.old (S.tells events.old) random.old known.old
+        battle.new (S.tells events.new) random.new known.new
         (λ plan p. FitsPick one (plan sides.One) × FitsPick two (plan sides.Two))
         (λ r. both_pick r one two) }
-    ensures room { AddsAtMost 48 events.old events.new }
+    ensures room { AddsAtMost S.room 48 events.old events.new }
 {
     set_picked(battle, Side::One, one);
     set_picked(battle, Side::Two, two);
@@ -114,8 +115,8 @@ fn set_picked(battle: &mut Packed, side: Side, pick: Pick)
     ensures shown { (g : Frame) (p : Progress) (events : List Event)
         → IsUsedMove (length (member_in side p.field).moves)
         (picked_after pick (active_in side p.field).picked_move)
-        → Shows g battle.old events false p
-        → Shows g battle.new events false (set_picked side pick p) }
+        → Shows g battle.old (Told events) false p
+        → Shows g battle.new (Told events) false (set_picked side pick p) }
 {
     match pick {
         Pick::Use(used) => battle.put_picked_move(side, used),
@@ -126,21 +127,21 @@ fn set_picked(battle: &mut Packed, side: Side, pick: Pick)
 }
 
 // Both use a move, this side first.
-fn both_act<R: Rolls>(
+fn both_act<R: Rolls, S: EventSink>(
     battle: &mut Packed,
     side: Side,
     mine: Pick,
     others: Pick,
     known: &mut Known,
     random: &mut BySide<R>,
-    events: &mut EventList,
+    events: &mut S,
 )
-    requires room { HasRoom 48 events.old }
-    ensures shown { DoesTurn R.byte R.next R.SPAN battle.old events.old.items random.old known.old
-        battle.new events.new.items random.new known.new
+    requires room { HasRoom S.room 48 events.old }
+    ensures shown { DoesTurn R.byte R.next R.SPAN battle.old (S.tells events.old) random.old known.old
+        battle.new (S.tells events.new) random.new known.new
         (λ plan p. FitsPick mine (plan side) × FitsPick others (plan (other side)))
         (λ r. do_parts r (acts_in_turn side mine others)) }
-    ensures room { AddsAtMost 48 events.old events.new }
+    ensures room { AddsAtMost S.room 48 events.old events.new }
 {
     if act_and_suffer(battle, side, mine, known, random, events) {
         return;
@@ -153,21 +154,21 @@ fn both_act<R: Rolls>(
 
 // One side uses a move; the other switches first.
 #[inline(always)] // docs/SPEED.md, "Hints on inlining"
-fn one_picks<R: Rolls>(
+fn one_picks<R: Rolls, S: EventSink>(
     battle: &mut Packed,
     side: Side,
     pick: Pick,
     place: Place,
     known: &mut Known,
     random: &mut BySide<R>,
-    events: &mut EventList,
+    events: &mut S,
 )
-    requires room { HasRoom 48 events.old }
-    ensures shown { DoesTurn R.byte R.next R.SPAN battle.old events.old.items random.old known.old
-        battle.new events.new.items random.new known.new
+    requires room { HasRoom S.room 48 events.old }
+    ensures shown { DoesTurn R.byte R.next R.SPAN battle.old (S.tells events.old) random.old known.old
+        battle.new (S.tells events.new) random.new known.new
         (λ plan p. FitsPick pick (plan side) × (plan (other side) ≡ Any)
         × InRange (other side) place p.field) (λ r. one_picks r side pick place) }
-    ensures room { AddsAtMost 48 events.old events.new }
+    ensures room { AddsAtMost S.room 48 events.old events.new }
 {
     set_picked(battle, side, pick);
     if sends_and_suffers(battle, side.other(), place, known, events) {
@@ -180,21 +181,21 @@ fn one_picks<R: Rolls>(
 }
 
 // Both switch, side 1 first.
-fn both_switch(
+fn both_switch<S: EventSink>(
     battle: &mut Packed,
     one: Place,
     two: Place,
     known: &mut Known,
-    events: &mut EventList,
+    events: &mut S,
 )
-    requires room { HasRoom 48 events.old }
+    requires room { HasRoom S.room 48 events.old }
     ensures shown { (g : Frame) (p : Progress) (broke : Bool) → InRange sides.One one p.field
         → InRange sides.Two two p.field
-        → Shows (knowing (with_broke broke known.old) g) battle.old events.old.items false p
+        → Shows (knowing (with_broke broke known.old) g) battle.old (S.tells events.old) false p
         → (stopped : Bool)
-        × Shows (knowing known.new g) battle.new events.new.items stopped
+        × Shows (knowing known.new g) battle.new (S.tells events.new) stopped
         (do_parts (ruling_of g.setting.terms) (both_switch one two) p) }
-    ensures room { AddsAtMost 48 events.old events.new }
+    ensures room { AddsAtMost S.room 48 events.old events.new }
 {
     if sends_and_suffers(battle, Side::One, one, known, events) {
         return;

@@ -1,6 +1,6 @@
 //! The parts of a turn, each with what its side then suffers (docs/MECHANICS.md, "Order of a turn").
 ghost use Rattle.std.specs.Prelude.{◌||◌, ◌≡◌};
-ghost use Rattle.gen1_layout.specs.Words.{AddsAtMost, Bool, Does, Event, Frame, HasRoom, List, Progress, Reads, Shows, false};
+ghost use Rattle.gen1_layout.specs.Words.{AddsAtMost, Bool, Does, Event, Frame, HasRoom, List, Progress, Reads, Shows, Told, false};
 ghost use Rattle.gen1_machine.specs.declared.side.Side.TheVariants as sides;
 ghost use Rattle.gen1_machine.specs.State.{has_fallen_in, is_over};
 ghost use Rattle.gen1_machine.specs.Plans.{InRange};
@@ -14,26 +14,27 @@ ghost use Rattle.gen1_turn.specs.TurnParts.{ActsAndSuffers, LeavesRest, PartLeav
 use crate::act;
 use crate::by_side::BySide;
 use gen1_action::Known;
+use gen1_events::EventSink;
 use gen1_layout::Packed;
-use gen1_machine::{EventList, Pick, Place, Side};
+use gen1_machine::{Pick, Place, Side};
 use gen1_requests::send_out;
 use gen1_rolls::Rolls;
 use gen1_status::{residual, suffers};
 
 // A side's action, and what it then suffers, by code of its own for each side. The answer is whether the rest of the turn falls
 // away.
-pub(crate) fn act_and_suffer<R: Rolls>(
+pub(crate) fn act_and_suffer<R: Rolls, S: EventSink>(
     battle: &mut Packed,
     side: Side,
     pick: Pick,
     known: &mut Known,
     random: &mut BySide<R>,
-    events: &mut EventList,
+    events: &mut S,
 ) -> bool
-    requires room { HasRoom 24 events.old }
-    ensures shown { ActsAndSuffers R.byte R.next R.SPAN side pick battle.old events.old.items
-        random.old known.old battle.new events.new.items random.new known.new result }
-    ensures room { AddsAtMost 24 events.old events.new }
+    requires room { HasRoom S.room 24 events.old }
+    ensures shown { ActsAndSuffers R.byte R.next R.SPAN side pick battle.old (S.tells events.old)
+        random.old known.old battle.new (S.tells events.new) random.new known.new result }
+    ensures room { AddsAtMost S.room 24 events.old events.new }
 {
     match side {
         Side::One => act_and_suffer_as(battle, Side::One, pick, known, &mut random.0, events),
@@ -42,18 +43,18 @@ pub(crate) fn act_and_suffer<R: Rolls>(
 }
 
 // The same, by code that is compiled for one side.
-fn act_and_suffer_as<R: Rolls>(
+fn act_and_suffer_as<R: Rolls, S: EventSink>(
     battle: &mut Packed,
     side: Side,
     pick: Pick,
     known: &mut Known,
     random: &mut R,
-    events: &mut EventList,
+    events: &mut S,
 ) -> bool
-    requires room { HasRoom 24 events.old }
-    ensures shown { ActsAndSuffers R.byte R.next R.SPAN side pick battle.old events.old.items
-        random.old known.old battle.new events.new.items random.new known.new result }
-    ensures room { AddsAtMost 24 events.old events.new }
+    requires room { HasRoom S.room 24 events.old }
+    ensures shown { ActsAndSuffers R.byte R.next R.SPAN side pick battle.old (S.tells events.old)
+        random.old known.old battle.new (S.tells events.new) random.new known.new result }
+    ensures room { AddsAtMost S.room 24 events.old events.new }
 {
     if act_unless_skipped(battle, side, pick, known, random, events) {
         return true;
@@ -62,19 +63,19 @@ fn act_and_suffer_as<R: Rolls>(
 }
 
 // The answer is whether a fault ended the battle.
-fn act_unless_skipped<R: Rolls>(
+fn act_unless_skipped<R: Rolls, S: EventSink>(
     battle: &mut Packed,
     side: Side,
     pick: Pick,
     known: &mut Known,
     random: &mut R,
-    events: &mut EventList,
+    events: &mut S,
 ) -> bool
-    requires room { HasRoom 21 events.old }
-    ensures shown { Acts R.byte R.next R.SPAN side pick battle.old events.old.items random.old
-        known.old battle.new events.new.items random.new known.new result
+    requires room { HasRoom S.room 21 events.old }
+    ensures shown { Acts R.byte R.next R.SPAN side pick battle.old (S.tells events.old) random.old
+        known.old battle.new (S.tells events.new) random.new known.new result
         (λ r. do_part r (ActsPart side pick)) }
-    ensures room { AddsAtMost 21 events.old events.new }
+    ensures room { AddsAtMost S.room 21 events.old events.new }
 {
     *known = known.begun(side);
     if known.skips {
@@ -85,20 +86,20 @@ fn act_unless_skipped<R: Rolls>(
 
 // A member that comes out, and what it then suffers. The answer is whether the rest of the turn falls away.
 #[inline(always)] // docs/SPEED.md, "Hints on inlining"
-pub(crate) fn sends_and_suffers(
+pub(crate) fn sends_and_suffers<S: EventSink>(
     battle: &mut Packed,
     side: Side,
     place: Place,
     known: &mut Known,
-    events: &mut EventList,
+    events: &mut S,
 ) -> bool
-    requires room { HasRoom 4 events.old }
+    requires room { HasRoom S.room 4 events.old }
     ensures shown { (g : Frame) (p : Progress) (broke : Bool) (r : Ruling)
         → InRange side place p.field
-        → Shows (knowing (with_broke broke known.old) g) battle.old events.old.items false p
-        → PartLeaves (Shows (knowing known.new g) battle.new events.new.items) result
+        → Shows (knowing (with_broke broke known.old) g) battle.old (S.tells events.old) false p
+        → PartLeaves (Shows (knowing known.new g) battle.new (S.tells events.new)) result
         (do_part r (Sends side place)) side p }
-    ensures room { AddsAtMost 4 events.old events.new }
+    ensures room { AddsAtMost S.room 4 events.old events.new }
 {
     *known = known.begun(side);
     send_out(battle, side, place, events);
@@ -107,12 +108,12 @@ pub(crate) fn sends_and_suffers(
 
 // What a side suffers unless the turn was cut. The answer is whether it is cut now.
 #[inline(always)] // docs/SPEED.md, "Hints on inlining"
-fn suffer(battle: &mut Packed, side: Side, events: &mut EventList) -> bool
-    requires room { HasRoom 3 events.old }
-    ensures shown { (g : Frame) (p : Progress) → Shows g battle.old events.old.items false p
-        → LeavesRest (Shows g battle.new events.new.items) result (suffering side) (residual side)
+fn suffer<S: EventSink>(battle: &mut Packed, side: Side, events: &mut S) -> bool
+    requires room { HasRoom S.room 3 events.old }
+    ensures shown { (g : Frame) (p : Progress) → Shows g battle.old (S.tells events.old) false p
+        → LeavesRest (Shows g battle.new (S.tells events.new)) result (suffering side) (residual side)
         p }
-    ensures room { AddsAtMost 3 events.old events.new }
+    ensures room { AddsAtMost S.room 3 events.old events.new }
 {
     if is_cut(battle) {
         return true;
@@ -136,7 +137,7 @@ fn is_cut(battle: &Packed) -> bool
 // Trapping with a count of 0 ends with a turn that nothing cut.
 pub(crate) fn end_turn(battle: &mut Packed)
     ensures shown { (events : List Event)
-        → Does battle.old events battle.new events false end_turn }
+        → Does battle.old (Told events) battle.new (Told events) false end_turn }
 {
     end_spent_trapping(battle, Side::One);
     end_spent_trapping(battle, Side::Two);
@@ -144,7 +145,7 @@ pub(crate) fn end_turn(battle: &mut Packed)
 
 fn end_spent_trapping(battle: &mut Packed, side: Side)
     ensures shown { (events : List Event)
-        → Does battle.old events battle.new events false (end_spent_trapping side) }
+        → Does battle.old (Told events) battle.new (Told events) false (end_spent_trapping side) }
 {
     if is_spent(battle.trapping(side)) {
         battle.end_trapping(side);

@@ -1,7 +1,6 @@
 //! The update of a battle that asks both sides for a move: a turn, and what follows at its end (docs/MECHANICS.md, "Order of a
 //! turn", "Falls and requests").
-ghost use Rattle.std.specs.Prelude.{◌≡◌};
-ghost use Rattle.gen1_layout.specs.Words.{AddsAtMost, [], ℕ};
+ghost use Rattle.gen1_layout.specs.Words.{AddsAtMost, HasRoom, [], ℕ};
 ghost use Rattle.gen1_rolls.specs.Draws.{StandsAt};
 ghost use Rattle.gen1_rolls.specs.Streams.{IsStream, Stream};
 ghost use Rattle.gen1_machine.specs.declared.terms.Request.TheVariants.{Move};
@@ -15,8 +14,9 @@ ghost use Rattle.gen1_requests.specs.Updates.{Plays, UpdatedDrawing, drawing_on}
 use crate::by_side::BySide;
 use crate::turn_choices::take_turn;
 use gen1_action::Known;
+use gen1_events::EventSink;
 use gen1_layout::Packed;
-use gen1_machine::{Choice, EventList};
+use gen1_machine::Choice;
 use gen1_requests::close;
 use gen1_rolls::Rolls;
 
@@ -26,22 +26,23 @@ use gen1_rolls::Rolls;
 ///
 /// Draws come from `random` alone, which is given back as they leave it: the index and the numbers in the bytes stay as they
 /// are. The events of the update, 51 at most, are written to `events`, which is to be empty.
-pub fn turn<R: Rolls>(
+pub fn turn<R: Rolls, S: EventSink>(
     battle: &mut Packed,
     one: Choice,
     two: Choice,
     random: R,
-    events: &mut EventList,
+    events: &mut S,
 ) -> R
-    requires empty { events.old.items ≡ [] }
+    requires empty { S.tells events.old [] }
+    requires room { HasRoom S.room 51 events.old }
     ensures updated { (s : State) (origin : R) (stream : Stream) (drawn : ℕ) → Stands battle.old s
         → Plays s Move one two
         → IsStream stream → StandsAt R.byte R.next R.SPAN origin stream drawn random
         → UpdatedDrawing R.byte R.next R.SPAN origin stream (setting_of s) battle.new
-        events.new.items result
+        (S.tells events.new) result
         (close_update (ruling_of s.terms)
         (turn (ruling_of s.terms) one two (drawing_on stream drawn s))) }
-    ensures room { AddsAtMost 51 events.old events.new }
+    ensures room { AddsAtMost S.room 51 events.old events.new }
 {
     let mut known = Known::new();
     let mut by_side = BySide(random);

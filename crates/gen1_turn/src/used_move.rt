@@ -1,6 +1,6 @@
 //! A move that is used: it becomes the current one, and costs PP (docs/MECHANICS.md, "Action", step 4).
 ghost use Rattle.std.specs.Prelude.{if◌then◌else◌, ◌-◌, ◌==◌, ◌≡◌, ◌≤◌};
-ghost use Rattle.gen1_layout.specs.Words.{AddsAtMost, Does, Event, Frame, HasRoom, IsBetween, List, Progress, Shows, active_in, false, length, member_in, move_at, not, other, who_in};
+ghost use Rattle.gen1_layout.specs.Words.{AddsAtMost, Does, Event, Frame, HasRoom, IsBetween, List, Progress, Shows, Told, active_in, false, length, member_in, move_at, not, other, who_in};
 ghost use Rattle.gen1_machine.specs.Charging.{make_current};
 ghost use Rattle.gen1_machine.specs.Action.{spend_pp, use_move};
 ghost use Rattle.gen1_tables.specs.Effects.{bides};
@@ -12,29 +12,30 @@ ghost use Rattle.gen1_action.specs.Knowing.{DoesKnowing, knowing};
 
 use crate::taken_move::among_slots;
 use gen1_action::Known;
+use gen1_events::EventSink;
 use gen1_layout::Packed;
-use gen1_machine::{Event, EventList, Pick, Side, UsedMove};
+use gen1_machine::{Event, Pick, Side, UsedMove};
 use gen1_multiturn::make_current;
 use gen1_tables::MoveId;
 
 // A move is used; Bide has no event for it.
 #[inline(always)] // docs/SPEED.md, "Hints on inlining"
-pub(crate) fn use_move(
+pub(crate) fn use_move<S: EventSink>(
     battle: &mut Packed,
     side: Side,
     pick: Pick,
     id: MoveId,
     known: &Known,
-    events: &mut EventList,
+    events: &mut S,
 )
-    requires room { HasRoom 1 events.old }
+    requires room { HasRoom S.room 1 events.old }
     ensures shown { (g : Frame) (p : Progress)
         → IsUsedMove (length (member_in side p.field).moves)
         (used_by pick (active_in side p.field).current_move)
-        → Shows (knowing known.now g) battle.old events.old.items false p
-        → Shows (knowing known.now g) battle.new events.new.items false
+        → Shows (knowing known.now g) battle.old (S.tells events.old) false p
+        → Shows (knowing known.now g) battle.new (S.tells events.new) false
         (use_move side pick (move_at id) p) }
-    ensures room { AddsAtMost 1 events.old events.new }
+    ensures room { AddsAtMost S.room 1 events.old events.new }
 {
     take_up(battle, side, pick);
     spend_pp_unless_going(battle, side, known);
@@ -46,8 +47,8 @@ fn take_up(battle: &mut Packed, side: Side, pick: Pick)
     ensures shown { (g : Frame) (p : Progress) (events : List Event)
         → IsUsedMove (length (member_in side p.field).moves)
         (used_by pick (active_in side p.field).current_move)
-        → Shows g battle.old events false p
-        → Shows g battle.new events false (make_current side pick p) }
+        → Shows g battle.old (Told events) false p
+        → Shows g battle.new (Told events) false (make_current side pick p) }
 {
     match pick {
         Pick::Use(_) => make_current(battle, side, pick),
@@ -59,7 +60,7 @@ fn take_up(battle: &mut Packed, side: Side, pick: Pick)
 
 fn spend_pp_unless_going(battle: &mut Packed, side: Side, known: &Known)
     ensures shown { (events : List Event)
-        → DoesKnowing battle.old events known.now battle.new events known.now false
+        → DoesKnowing battle.old (Told events) known.now battle.new (Told events) known.now false
         (unless goes_on_now (spend_pp side)) }
 {
     if known.going_on {
@@ -71,8 +72,8 @@ fn spend_pp_unless_going(battle: &mut Packed, side: Side, known: &Known)
 fn spend_pp(battle: &mut Packed, side: Side, used: UsedMove)
     ensures shown { (g : Frame) (p : Progress) (events : List Event)
         → (active_in side p.field).current_move ≡ used
-        → Shows g battle.old events false p
-        → Shows g battle.new events false (on_member side (with_pp_spent used) p) }
+        → Shows g battle.old (Told events) false p
+        → Shows g battle.new (Told events) false (on_member side (with_pp_spent used) p) }
 {
     match used {
         UsedMove::Nothing => {}
@@ -84,8 +85,8 @@ fn spend_pp(battle: &mut Packed, side: Side, used: UsedMove)
 fn spend_pp_of(battle: &mut Packed, side: Side, slot: u8)
     ensures shown { (g : Frame) (p : Progress) (events : List Event)
         → IsBetween 1 (length (member_in side p.field).moves) slot
-        → Shows g battle.old events false p
-        → Shows g battle.new events false (on_member side (with_pp_spent (UsedMove.Slot slot)) p) }
+        → Shows g battle.old (Told events) false p
+        → Shows g battle.new (Told events) false (on_member side (with_pp_spent (UsedMove.Slot slot)) p) }
 {
     let slot = among_slots(slot);
     let left = less_pp(battle.pp(side, slot));
@@ -103,12 +104,12 @@ fn less_pp(pp: u8) -> u8
     }
 }
 
-fn note_move(battle: &Packed, side: Side, id: MoveId, events: &mut EventList)
-    requires room { HasRoom 1 events.old }
-    ensures shown { Does battle.now events.old.items battle.now events.new.items false
+fn note_move<S: EventSink>(battle: &Packed, side: Side, id: MoveId, events: &mut S)
+    requires room { HasRoom S.room 1 events.old }
+    ensures shown { Does battle.now (S.tells events.old) battle.now (S.tells events.new) false
         (only (not (bides (move_at id).effect))
         (note (λ f. Event.Move (who_in side f) id (who_in (other side) f)))) }
-    ensures room { AddsAtMost 1 events.old events.new }
+    ensures room { AddsAtMost S.room 1 events.old events.new }
 {
     if id.effect().bides() {
         return;

@@ -2,9 +2,12 @@
 //!
 //! - `tests`: `run`, `calc`, `print` and the command line
 //! - `rooms`: `room`
+//! - `explained`: `--explain` and `log`
 //! - `setting`: what both share
 #![tactic(auto)]
 
+#[cfg(test)]
+mod explained;
 #[cfg(test)]
 mod rooms;
 #[cfg(test)]

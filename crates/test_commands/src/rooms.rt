@@ -1,9 +1,10 @@
 //! The example of `room`, on devices that fail or take one byte in a call, and inputs that are cut or changed (docs/PROGRAM.md,
 //! "room").
 use crate::setting::{
-    Command, Printing, assert_long_is_refused, assert_ran, assert_refused, assert_same, battle,
+    Command, JSON_LINE, Printing, assert_long_is_refused, assert_ran, assert_refused, assert_same,
+    battle,
 };
-use battle_commands::{ToolFault, play_room};
+use battle_commands::play_room;
 use gen1_machine::Device;
 use std::alloc::AllocError;
 use std::test::Fail;
@@ -74,7 +75,7 @@ fn a_byte_that_is_no_text_is_no_json(rt: HostRuntime) -> Result<(), Fail> {
         let mut bytes = Vec::new(rt.alloc());
         bytes.extend_from_slice(whole.as_bytes())?;
         bytes.as_mut_slice()[place] = 0xFF;
-        assert_refused(&rt, Command::Room, &bytes, ToolFault::Json, &place);
+        assert_refused(&rt, Command::Room, &bytes, JSON_LINE, &place);
     }
     Ok(())
 }
@@ -98,13 +99,7 @@ fn submissions_have_ranges(rt: HostRuntime) -> Result<(), Fail> {
         "null",
     ] {
         let input = input(&rt, submission)?;
-        assert_refused(
-            &rt,
-            Command::Room,
-            input.as_bytes(),
-            ToolFault::Json,
-            &submission,
-        );
+        assert_refused(&rt, Command::Room, input.as_bytes(), JSON_LINE, &submission);
     }
     let input = input(&rt, "[2,4294967295,255]")?;
     let mut out = Device::new(Vec::new(rt.alloc()));

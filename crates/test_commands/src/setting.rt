@@ -8,6 +8,9 @@ use std::rt::Files;
 use std::test::Fail;
 use test_devices::{Broken, Failing};
 
+/// What standard error has of an input that is not the JSON that is asked for.
+pub(crate) const JSON_LINE: &str = "error: json\n";
+
 /// A Tauros of this level, as JSON.
 pub(crate) fn tauros(rt: &HostRuntime, level: &str) -> Result<String, AllocError> {
     format!(in rt.alloc();
@@ -44,17 +47,19 @@ fn answer<R: Source, W: Sink>(
     }
 }
 
-/// Asserts that the subcommand answers this fault and prints nothing, at a place or an input that a failure names.
+/// Asserts that the subcommand answers the fault with this line and prints nothing, at a place or an input that a failure names.
 pub(crate) fn assert_refused(
     rt: &(impl AllocGlobal + Abort),
     command: Command,
     input: &[u8],
-    fault: ToolFault,
+    line: &str,
     at: &impl Debug,
 ) {
     let mut out = Device::new(Vec::new(rt.alloc()));
-    let result = answer(rt, command, &mut Device::new(input), &mut out);
-    assert_eq!(rt; result, Err(fault), "at {at:?}");
+    match answer(rt, command, &mut Device::new(input), &mut out) {
+        Ok(()) => panic!(rt; "nothing is wrong at {at:?}"),
+        Err(fault) => assert!(rt; fault.line().as_str() == line, "at {at:?}"),
+    }
     assert!(rt; out.into_inner().is_empty(), "at {at:?}");
 }
 
@@ -63,12 +68,12 @@ pub(crate) fn assert_long_is_refused(
     rt: &(impl AllocGlobal + Abort),
     command: Command,
 ) -> Result<(), Fail> {
-    for (length, fault) in [
-        (1_048_576usize, ToolFault::Json),
-        (1_048_577, ToolFault::TooLong),
+    for (length, line) in [
+        (1_048_576usize, JSON_LINE),
+        (1_048_577, "error: too long\n"),
     ] {
         let bytes = vec![in rt.alloc(); b' '; length]?;
-        assert_refused(rt, command, bytes.as_slice(), fault, &length);
+        assert_refused(rt, command, bytes.as_slice(), line, &length);
     }
     Ok(())
 }
@@ -138,7 +143,7 @@ impl Printing<'_> {
     pub(crate) fn assert_cuts_are_refused(&self, rt: &(impl AllocGlobal + Abort)) {
         let whole = self.input.as_bytes();
         for end in 0..whole.len() {
-            assert_refused(rt, self.command, &whole[..end], ToolFault::Json, &end);
+            assert_refused(rt, self.command, &whole[..end], JSON_LINE, &end);
         }
     }
 }
@@ -196,6 +201,18 @@ pub(crate) fn ran(
     input: &[u8],
 ) -> (u8, Vec<u8>, Vec<u8>) {
     ran_words(rt, &["battle_tool", word], input)
+}
+
+/// Asserts that `battle_tool` with this word and `--explain` prints nothing, and tells this fault in two lines.
+pub(crate) fn assert_explained(
+    rt: &(impl AllocGlobal + Files + Abort),
+    word: &str,
+    input: &[u8],
+    told: &str,
+) {
+    let (_, out, err) = ran_words(rt, &["battle_tool", word, "--explain"], input);
+    assert!(rt; out.is_empty(), "for {told}");
+    assert!(rt; err.as_slice() == told.as_bytes(), "for {told}");
 }
 
 /// Asserts that `battle_tool` with this word ends with this status, text and fault, at an input that a failure names.

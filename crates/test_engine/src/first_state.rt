@@ -1,5 +1,6 @@
 //! A battle before its first update (docs/LAYOUT.md, "The 384 bytes of a battle", "Turn, outcome and requests").
 use crate::two_tauros::{SEED, assert_same, bytes_of, stands_at, team, two_tauros};
+use gen1_engine::packed::{choice_at, count_of};
 use gen1_engine::{Battle, BattleResult};
 use gen1_machine::{Choice, Outcome, Request, Rules, Side, TurnLimit};
 use std::test::Fail;
@@ -44,6 +45,31 @@ fn both_pass_first(rt: HostRuntime) -> Result<(), Fail> {
         battle.choices(Side::Two).as_slice(),
         [Choice::Pass].as_slice(),
     );
+    Ok(())
+}
+
+// The choice of a mask at a place, where it has so many.
+fn chosen(mask: u16, place: u8) -> Option<Choice> {
+    if mask >= 4096 {
+        return None;
+    }
+    if place >= count_of(mask) {
+        return None;
+    }
+    Some(choice_at(mask, place))
+}
+
+// Digit 0 is Pass; digits 2 and 11 are the first move and the switch to the last place (docs/MECHANICS.md, "Offered choices").
+#[test]
+fn choices_of_masks(rt: HostRuntime) -> Result<(), Fail> {
+    let battle = two_tauros()?;
+    assert_same(&rt, battle.offered_mask(Side::Two), 1);
+    assert_same(&rt, chosen(1, 0), Some(Choice::Pass));
+    assert_same(&rt, chosen(1, 1), None);
+    assert_same(&rt, chosen(0x804, 0), Choice::from_byte(0x11));
+    assert_same(&rt, chosen(0x804, 1), Choice::from_byte(0x26));
+    assert_same(&rt, chosen(0x804, 2), None);
+    assert_same(&rt, chosen(0, 0), None);
     Ok(())
 }
 

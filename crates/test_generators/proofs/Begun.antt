@@ -1,5 +1,5 @@
 -- What is shown where an operation begins on a field: any generator, at the beginning of its own stream.
-use Rattle.gen1_layout.proofs.Words.{Event, Field, Frame, List, Parts, Progress, Setting, ShowsDrawn, Side, Within, false, refl, ℕ}
+use Rattle.gen1_layout.proofs.Words.{Event, Field, Frame, List, Parts, Progress, Setting, ShowsDrawn, Side, Told, Within, false, refl, ℕ}
 use Rattle.gen1_rolls.specs.Draws.{stream_of}
 use Rattle.gen1_rolls.specs.Streams.{Stream}
 use Rattle.gen1_rolls.proofs.Standing.{stands_at_itself}
@@ -20,7 +20,7 @@ abbrev pub frame : Setting → Stream → Side → Frame
 frame g stream side = record { setting = g; stream = stream; drawn = 0; skips = false; action = new_action side }
 
 pub begun-shown : {A : Type 0} (byte : A → ℕ) (next : A → A) (width : ℕ) (r : A) (side : Side) {g : Setting} {parts : Parts} {f : Field} (events : List Event) → Within g parts f
-    → ShowsDrawn byte next width r (frame g (stream_of byte next width r) side) parts events r false (begun f (stream_of byte next width r) side events)
+    → ShowsDrawn byte next width r (frame g (stream_of byte next width r) side) parts (Told events) r false (begun f (stream_of byte next width r) side events)
 begun-shown byte next width r side events w = record {
   shows = record { within = w; written = refl; ends = refl; stream = refl; drawn = refl; skips = refl; action = refl };
   stands = stands_at_itself byte next width r;

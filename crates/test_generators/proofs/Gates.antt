@@ -1,6 +1,6 @@
 -- What the clause of the gate says of a generator that begins at its own stream, and of a member that is free.
 use Rattle.std.proofs.Common.{◌≡◌}
-use Rattle.gen1_layout.proofs.Words.{Bool, Event, Field, List, Parts, Progress, Setting, Side, ap, choose, choose-true, draw, false, nat_lt, note, on_conditions, on_field, refl, stay, stop, sym, true, ℕ, ◌∙◌, ◌▸◌}
+use Rattle.gen1_layout.proofs.Words.{Bool, Event, Field, List, Parts, Progress, Setting, Side, Told, ap, choose, choose-true, draw, false, nat_lt, note, on_conditions, on_field, refl, stay, stop, sym, true, ℕ, ◌∙◌, ◌▸◌}
 use Rattle.gen1_rolls.specs.Draws.{stream_of}
 use Rattle.gen1_rolls.specs.Streams.{byte_at, iterate}
 use Rattle.gen1_stats.specs.declared.status.Status.TheVariants.{Healthy, Paralysed}
@@ -33,7 +33,7 @@ paralysed true s p e = rw e (refl, refl)
 paralysed false s p e = rw e (refl, refl)
 
 module _ {A : Type 0} (byte : A → ℕ) (next : A → A) (width : ℕ) (r new : A) (s : Side) (used : UsedMove) (g : Setting) (parts : Parts) (f : Field) (before after : List Event) (answer : Gate)
-    (h : TellsDrawn byte next width r (frame g (stream_of byte next width r) s) parts after new answer (begun f (stream_of byte next width r) s before)
+    (h : TellsDrawn byte next width r (frame g (stream_of byte next width r) s) parts (Told after) new answer (begun f (stream_of byte next width r) s before)
     (gate_or_held s (Use used) (begun f (stream_of byte next width r) s before)))
     (free : IsFree s f) where
   abbrev p : Progress

@@ -1,5 +1,5 @@
 -- What the clauses of the operations of a hit say of a generator that begins at its own stream.
-use Rattle.gen1_layout.proofs.Words.{Action, Bool, Field, None, Option, Parts, Progress, Setting, ShowsDrawn, Side, Some, [], ap, arith, choose, draw, false, given, nat_le, nat_lt, nat_tests, on_conditions, on_field, refl, set_last_damage, stay, sym, true, with_last_damage, ℕ, ◌∙◌, ◌▸◌}
+use Rattle.gen1_layout.proofs.Words.{Action, Bool, Field, None, Option, Parts, Progress, Setting, ShowsDrawn, Side, Some, Told, [], ap, arith, choose, draw, false, given, nat_le, nat_lt, nat_tests, on_conditions, on_field, refl, set_last_damage, stay, sym, true, with_last_damage, ℕ, ◌∙◌, ◌▸◌}
 use Rattle.std.proofs.Common.{if◌then◌else◌, not, ◌+◌, ◌<◌, ◌≡◌, ◌≤◌}
 use Rattle.gen1_rolls.specs.Draws.{draws_of, stream_of}
 use Rattle.gen1_rolls.specs.Streams.{byte_at, first, iterate, Stream}
@@ -20,7 +20,7 @@ module _ {A : Type 0} (byte : A → ℕ) (next : A → A) (width : ℕ) (r new :
   own = stream_of byte next width r
 
   pub critical-is : (side : Side) (move : Move) (g : Setting) (parts : Parts) (f : Field) (result : Bool)
-      → ShowsDrawn byte next width r (record (frame g own side) { action = record (new_action side) { critical = result } }) parts [] new false
+      → ShowsDrawn byte next width r (record (frame g own side) { action = record (new_action side) { critical = result } }) parts (Told []) new false
       (roll_critical side move (begun f own side []))
       → (result ≡ nat_lt (rotated_left_3 (byte r)) (critical_bound_in side move f)) × (new ≡ next r)
   unfolding roll_critical critical_by set_critical draw given on_action byte_at
@@ -64,7 +64,7 @@ hit-of false false e = refl
 
 module _ {A : Type 0} (byte : A → ℕ) (next : A → A) (width : ℕ) (r new : A) where
   pub hit_test-is : (side : Side) (move : Move) (base : ℕ) (g : Setting) (parts : Parts) (f : Field) (hit : Bool) (kept : ℕ) → settled_hit_in side move f ≡ None
-      → ShowsDrawn byte next width r (with_test hit kept (frame g (stream_of byte next width r) side)) parts [] new false (hit_test side move base (begun f (stream_of byte next width r) side []))
+      → ShowsDrawn byte next width r (with_test hit kept (frame g (stream_of byte next width r) side)) parts (Told []) new false (hit_test side move base (begun f (stream_of byte next width r) side []))
       → (hit ≡ nat_lt (byte r) (scaled_in side base f)) × (new ≡ next r)
   unfolding hit_test test_by set_tested hits_below given on_action draw byte_at ◌▸◌ unless_stopped
   hit_test-is side move base g parts f hit kept unsettled h =

@@ -1,5 +1,6 @@
 //! The operations that draw, with any generator: what a caller knows that is itself generic, from their contracts alone.
 ghost use Rattle.std.specs.Prelude.{◌+◌, ◌<◌, ◌≡◌, ◌≤◌};
+ghost use Rattle.gen1_events.specs.Sink.{events_room};
 ghost use Rattle.gen1_layout.specs.Words.{Field, HasRoom, None, Setting, Some, Within, move_at, nat_lt, status_in, ℕ};
 ghost use Rattle.gen1_rolls.specs.Draws.{draws_of, stream_of};
 ghost use Rattle.gen1_rolls.specs.Streams.{first, iterate};
@@ -64,7 +65,7 @@ pub fn gate_by<R: Rolls>(
     random: &mut R,
     events: &mut EventList,
 ) -> Gate
-    requires room { HasRoom 3 events.old }
+    requires room { HasRoom events_room 3 events.old }
     ensures healthy { (g : Setting) (f : Field) → Within g battle.old f → IsFree side f
         → status_in side f ≡ Healthy
         → (result ≡ Gate.Go) × (random.new ≡ random.old) }

@@ -1,5 +1,6 @@
 //! The same with a countdown that begins at a number: its first draw is that number.
 ghost use Rattle.std.specs.Prelude.{◌<◌, ◌≡◌, ◌≤◌};
+ghost use Rattle.gen1_events.specs.Sink.{events_room};
 ghost use Rattle.gen1_layout.specs.Words.{Field, HasRoom, None, Reads, Setting, Within, move_at, nat_lt, status_in, true};
 ghost use Rattle.gen1_rolls.specs.Draws.{stream_of};
 ghost use Rattle.gen1_rolls.specs.Streams.{IsStream};
@@ -61,7 +62,7 @@ pub fn gate_at(
     number: u8,
     events: &mut EventList,
 ) -> bool
-    requires { HasRoom 3 events.old }
+    requires { HasRoom events_room 3 events.old }
     ensures { (g : Setting) (f : Field) → Within g battle.old f → IsFree side f
         → status_in side f ≡ Paralysed → result ≡ nat_lt number 63 }
 {

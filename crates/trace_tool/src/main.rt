@@ -4,7 +4,7 @@
 #![tactic(auto)]
 
 use anyhow::{Result, anyhow};
-use battle_input::{Sheet, read_sheet};
+use battle_input::{Key, Sheet, read_sheet};
 use gen1_engine::{Battle, BattleResult};
 use gen1_events::LogBuf;
 use gen1_layout::Packed;
@@ -21,7 +21,7 @@ fn main(rt: HostRuntime) -> Result<()> {
     let alloc = rt.alloc();
     let mut out = BufWriter::new(alloc, io::writer(&rt))?;
     for line in BufReader::new(alloc, rt.reader())?.lines(alloc) {
-        let sheet = match read_sheet(alloc, line?.as_bytes(), "choices") {
+        let sheet = match read_sheet(alloc, line?.as_bytes(), Key::Choices) {
             Ok(sheet) => sheet,
             Err(_) => return Err(anyhow!("a line asks for no battle")),
         };

@@ -7,75 +7,43 @@
  *
  * The words are files with the teams as Pokemon Showdown's team builder exports them. Without words the input is a battle as decimal
  * numbers, as ../play.c says; its choices are not looked at. Both members are at full HP, just sent out. A row has the move, the least
- * and most damage of a usual hit with its percent of the foe's HP, the same of a critical hit, and how many usual hits are enough at
- * the worst.
+ * and most damage of a usual hit with its percent of the foe's HP, the same of a critical hit, how many usual hits are enough at the
+ * worst, and of 256 draws how many hit and how many are critical.
  */
 #include "battle_file.h"
 
-/* The numbers of a hit at the least factor and the greatest. */
-typedef struct range {
-    uint16_t least, most;
-} range;
-
-/* A battle of two members alone, both of them out; a fault as gen1_new answers it. */
-static uint32_t face(gen1_battle *battle, const gen1_member *one, const gen1_member *two, uint16_t *hp)
+/* The least and the most of damages, and their percents of the foe's HP. */
+static void print_range(const char *before, const gen1_damages *it, uint16_t hp)
 {
-    static const uint8_t seed[10] = {0};
-    gen1_team first = {.count = 1, .members = {*one}}, second = {.count = 1, .members = {*two}};
-    uint8_t log[GEN1_LOG_ROOM];
-    size_t length = 0, at = 0;
-    gen1_event event = {0};
-    uint32_t fault = gen1_new(battle, &first, &second, seed, 0, GEN1_LIMIT);
-    if (fault != 0)
-        return fault;
-    gen1_update(battle, GEN1_PASS, GEN1_PASS, log, sizeof log, &length);
-    while (gen1_next_event(log, length, &at, &event) == 0)
-        if (event.tag == GEN1_SWITCHED && event.side == GEN1_TWO)
-            *hp = event.max_hp;
-    return 0;
+    uint16_t least = it->numbers[0], most = it->numbers[it->count - 1];
+    printf("%s%3d to %3d, %3d to %3d%%", before, least, most, least * 100 / hp, most * 100 / hp);
 }
 
-static uint8_t hit(const gen1_battle *battle, uint8_t move, bool critical, range *found)
+static void print_row(const gen1_hit *hit, uint8_t move, uint16_t hp)
 {
-    uint16_t damages[39];
-    uint8_t code = gen1_damage(battle, GEN1_ONE, move, critical, damages);
-    if (code == 0)
-        *found = (range){damages[0], damages[38]};
-    return code;
-}
-
-static void print_row(const gen1_battle *battle, uint8_t move, uint16_t hp)
-{
-    range usual, critical;
-    uint8_t code = hit(battle, move, false, &usual);
-    if (code == 0)
-        code = hit(battle, move, true, &critical);
     printf("  move %3d: ", move);
-    if (code != 0) {
-        printf("no usual damage (code %d)\n", code);
+    if (hit->usual.count == 0 || hit->critical.count == 0) {
+        printf("no usual damage (code %d); %d of 256 hit\n", hit->usual.count == 0 ? hit->usual.code : hit->critical.code, hit->hit_draws);
         return;
     }
-    printf("%3d to %3d, %3d to %3d%%; critical %3d to %3d, %3d to %3d%%", usual.least, usual.most, usual.least * 100 / hp,
-           usual.most * 100 / hp, critical.least, critical.most, critical.least * 100 / hp, critical.most * 100 / hp);
-    if (usual.least == 0)
-        puts("; no number of hits is enough");
+    uint16_t least = hit->usual.numbers[0];
+    print_range("", &hit->usual, hp);
+    print_range("; critical ", &hit->critical, hp);
+    if (least == 0)
+        printf("; no number of hits is enough");
     else
-        printf("; %d hits\n", (hp + usual.least - 1) / usual.least);
+        printf("; %d hits", (hp + least - 1) / least);
+    printf("; %d of 256 hit, %d of 256 critical\n", hit->hit_draws, hit->critical_draws);
 }
 
-/* The table of a member against another; a fault as gen1_new answers it. */
-static uint32_t print_table(const gen1_member *user, const gen1_member *foe)
+/* The table of a member against another, who has so many HP. */
+static void print_table(const gen1_member *user, const gen1_member *foe, uint16_t hp)
 {
-    gen1_battle battle;
-    uint16_t hp = 0;
-    uint32_t fault = face(&battle, user, foe, &hp);
-    if (fault != 0)
-        return fault;
+    gen1_hit hit;
     printf("species %d at level %d on species %d at level %d, %d HP\n", user->species, user->level, foe->species, foe->level, hp);
     for (int at = 0; at < 4; at++)
-        if (user->moves[at] != 0)
-            print_row(&battle, user->moves[at], hp);
-    return 0;
+        if (gen1_hit_between(user, foe, user->moves[at], &hit) == 0)
+            print_row(&hit, user->moves[at], hp);
 }
 
 /* Both teams, from two files of text or from standard input; what is wrong is printed. */
@@ -93,15 +61,17 @@ static bool read_teams(int count, char **words, battle_file *to)
 int main(int count, char **words)
 {
     battle_file file;
-    gen1_battle battle;
+    gen1_spectator watched;
     if (!read_teams(count, words, &file))
         return 1;
-    /* Both teams are tested whole before anything is printed. */
-    uint32_t fault = gen1_new(&battle, &file.one, &file.two, file.seed, file.rules, file.limit);
-    for (int one = 0; fault == 0 && one < file.one.count; one++)
-        for (int two = 0; fault == 0 && two < file.two.count; two++)
-            fault = print_table(&file.one.members[one], &file.two.members[two]);
-    if (fault != 0)
+    /* Both teams are tested whole before anything is printed. A watcher knows the HP of both. */
+    uint32_t fault = gen1_spectator_begin(&watched, &file.one, &file.two);
+    if (fault != 0) {
         print_team_fault(fault);
-    return fault == 0 ? 0 : 1;
+        return 1;
+    }
+    for (int one = 0; one < file.one.count; one++)
+        for (int two = 0; two < file.two.count; two++)
+            print_table(&file.one.members[one], &file.two.members[two], watched.sides[1].members[two].hp);
+    return 0;
 }

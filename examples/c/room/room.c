@@ -1,14 +1,14 @@
 /*
  * Plays a battle of two players, each of them a process of its own at the other end of two pipes.
  *
- *     cc -O2 -I ../common room.c table.c ../common/battle_file.c $(pkg-config --cflags --libs gen1) -o room
+ *     cc -O2 -I ../common room.c ../common/battle_file.c $(pkg-config --cflags --libs gen1) -o room
  *     ./room ../../tauros.txt 'COMMAND OF PLAYER 1' 'COMMAND OF PLAYER 2' [SECONDS]
  *
  * The first word is a file with a battle as decimal numbers (../play.c); its choices are not looked at. What a player reads and writes
  * are lines:
  *
  *     ask NUMBER CHOICE ..   the number of the pair that is current, and the bytes of what may be chosen for it
- *     taken | refused CODE   what became of the player's last line (table.h has the codes)
+ *     taken | refused CODE   what became of the player's last line: the codes of gen1_room_submit, or 5 for what is no choice at all
  *     line TEXT              a line of the battle
  *     NUMBER CHOICE          (the player) a choice for a pair
  *
@@ -19,7 +19,6 @@
  */
 #define _POSIX_C_SOURCE 200809L
 #include "battle_file.h"
-#include "table.h"
 
 #include <errno.h>
 #include <fcntl.h>
@@ -34,13 +33,16 @@
 
 enum { USUAL_PATIENCE = 10, LINE_MOST = 32, READ_AT_ONCE = 4096 };
 
+/* The code of a line that is no number of a pair with a choice, behind those of gen1_room_submit. */
+enum { RUBBISH = GEN1_ROOM_NOT_OFFERED + 1, CODES };
+
 typedef struct player {
     uint8_t side;
     pid_t pid;
     int to, from;         /* the room's ends of both pipes; -1 once closed */
     char line[LINE_MOST]; /* what came of a line that is not yet whole; longer ones are cut, and so refused */
     size_t filled;
-    long refused[TABLE_CODES];
+    long refused[CODES];
 } player;
 
 /* ---- what goes over the pipes ---- */
@@ -60,11 +62,11 @@ static void send(player *to, const char *format, ...)
 }
 
 /* Asks a player for its choice, where one is due. */
-static void ask(player *of, const table *at)
+static void ask(player *of, const gen1_room *at)
 {
     uint8_t choices[9];
     char words[9 * 4 + 1] = "";
-    uint8_t count = table_choices(at, of->side, choices);
+    uint8_t count = gen1_room_choices(at, of->side, choices);
     for (int k = 0; k < count; k++)
         snprintf(words + strlen(words), sizeof words - strlen(words), " %d", choices[k]);
     if (count > 0)
@@ -72,7 +74,7 @@ static void ask(player *of, const table *at)
 }
 
 /* Prints the lines of the last update, and sends them to both. */
-static void tell_both(player players[2], const table *at)
+static void tell_both(player players[2], const gen1_room *at)
 {
     char line[GEN1_LINE_ROOM];
     size_t place = 0, length = 0;
@@ -102,13 +104,13 @@ static bool read_line(const char *line, uint32_t *number, uint8_t *choice)
 }
 
 /* A line has come from a player: it is taken, or refused by its code. */
-static void take_line(player players[2], player *from, table *at)
+static void take_line(player players[2], player *from, gen1_room *at)
 {
     uint32_t number, before = at->number;
-    uint8_t choice, code = TABLE_RUBBISH;
+    uint8_t choice, code = RUBBISH;
     from->line[from->filled < LINE_MOST ? from->filled : LINE_MOST - 1] = '\0';
     if (from->filled < LINE_MOST && strlen(from->line) == from->filled && read_line(from->line, &number, &choice))
-        code = table_submit(at, from->side, number, choice);
+        code = gen1_room_submit(at, from->side, number, choice);
     from->filled = 0;
     from->refused[code]++;
     if (code == 0)
@@ -120,7 +122,7 @@ static void take_line(player players[2], player *from, table *at)
 }
 
 /* Reads what a player has sent, no more than a share at a time. */
-static void listen_to(player players[2], player *from, table *at)
+static void listen_to(player players[2], player *from, gen1_room *at)
 {
     char bytes[READ_AT_ONCE];
     ssize_t count = read(from->from, bytes, sizeof bytes);
@@ -136,13 +138,13 @@ static void listen_to(player players[2], player *from, table *at)
 }
 
 /* Chooses what is offered first for each player that has left, or, where the time is up, for each that has not chosen. */
-static void choose_for_missing(player players[2], table *at, bool is_time_up)
+static void choose_for_missing(player players[2], gen1_room *at, bool is_time_up)
 {
     uint32_t before = at->number;
     for (int k = 0; k < 2 && at->number == before; k++) {
         uint8_t choices[9];
-        if ((is_time_up || players[k].from < 0) && table_choices(at, players[k].side, choices) > 0)
-            table_submit(at, players[k].side, at->number, choices[0]);
+        if ((is_time_up || players[k].from < 0) && gen1_room_choices(at, players[k].side, choices) > 0)
+            gen1_room_submit(at, players[k].side, at->number, choices[0]);
     }
     if (at->number != before)
         tell_both(players, at);
@@ -151,7 +153,7 @@ static void choose_for_missing(player players[2], table *at, bool is_time_up)
 /* ---- the battle ---- */
 
 /* Waits for either player until a time, and reads what there is. */
-static void listen_to_both(player players[2], table *at, time_t until)
+static void listen_to_both(player players[2], gen1_room *at, time_t until)
 {
     struct pollfd ends[2] = {{.fd = players[0].from, .events = POLLIN}, {.fd = players[1].from, .events = POLLIN}};
     time_t now = time(NULL);
@@ -161,11 +163,11 @@ static void listen_to_both(player players[2], table *at, time_t until)
                 listen_to(players, &players[k], at);
 }
 
-static void play(player players[2], table *at, int patience)
+static void play(player players[2], gen1_room *at, int patience)
 {
     time_t until = time(NULL) + patience;
     tell_both(players, at);
-    while (!table_is_over(at)) {
+    while (GEN1_OUTCOME(gen1_result(&at->battle)) == GEN1_ONGOING) {
         uint32_t number = at->number;
         choose_for_missing(players, at, time(NULL) >= until);
         if (at->number == number)
@@ -214,7 +216,7 @@ static void end(player *of)
 {
     kill(-of->pid, SIGTERM);
     waitpid(of->pid, NULL, 0);
-    for (int code = 1; code < TABLE_CODES; code++)
+    for (int code = 1; code < CODES; code++)
         if (of->refused[code] > 0)
             fprintf(stderr, "side %d: refused %d: %ld\n", of->side, code, of->refused[code]);
 }
@@ -222,7 +224,7 @@ static void end(player *of)
 int main(int count, char **words)
 {
     battle_file file;
-    table at;
+    gen1_room at;
     int patience = count == 5 ? atoi(words[4]) : USUAL_PATIENCE;
     if (count < 4 || count > 5 || patience < 1) {
         fputs("usage: room BATTLE PLAYER PLAYER [SECONDS]\n", stderr);
@@ -234,11 +236,12 @@ int main(int count, char **words)
         return 2;
     }
     fclose(from);
-    uint32_t fault = table_open(&at, &file);
+    uint32_t fault = gen1_new(&at.battle, &file.one, &file.two, file.seed, file.rules, file.limit);
     if (fault != 0) {
         print_team_fault(fault);
         return 1;
     }
+    gen1_room_begin(&at);
     signal(SIGPIPE, SIG_IGN);
     player players[2] = {begin(GEN1_ONE, words[2]), begin(GEN1_TWO, words[3])};
     play(players, &at, patience);

@@ -3,14 +3,15 @@ ghost use Rattle.gen1_layout.specs.Words.{AddsAtMost, Does, HasRoom, stop, true,
 ghost use Rattle.gen1_machine.specs.EarlyEffects.{convert};
 
 use gen1_action::fail;
+use gen1_events::EventSink;
 use gen1_layout::{Conditions, Packed};
-use gen1_machine::{Event, EventList, Side, Volatile};
+use gen1_machine::{Event, Side, Volatile};
 
-pub(super) fn convert(battle: &mut Packed, side: Side, events: &mut EventList)
-    requires room { HasRoom 1 events.old }
-    ensures shown { Does battle.old events.old.items battle.new events.new.items true
+pub(super) fn convert<S: EventSink>(battle: &mut Packed, side: Side, events: &mut S)
+    requires room { HasRoom S.room 1 events.old }
+    ensures shown { Does battle.old (S.tells events.old) battle.new (S.tells events.new) true
         (convert side ▸ stop) }
-    ensures room { AddsAtMost 1 events.old events.new }
+    ensures room { AddsAtMost S.room 1 events.old events.new }
 {
     let foe = side.other();
     if battle.is_on(foe, Conditions::INVULNERABLE) {

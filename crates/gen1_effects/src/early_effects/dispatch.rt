@@ -16,8 +16,9 @@ use super::poison_moves::poison_foe;
 use super::recovery::heal;
 use super::splash::splash;
 use gen1_action::{Known, fail};
+use gen1_events::EventSink;
 use gen1_layout::Packed;
-use gen1_machine::{EventList, Side};
+use gen1_machine::Side;
 use gen1_rolls::Rolls;
 use gen1_tables::{Effect, MoveId};
 
@@ -47,19 +48,19 @@ pub fn is_early_but_substitute(effect: Effect) -> bool
 ///
 /// The action has just begun. At most two draws are taken, and two events written at most, for which two places in `events`
 /// are to be free. A move that fails, or misses, says so by an event, and changes nothing but what a miss changes.
-pub fn early_effect<R: Rolls>(
+pub fn early_effect<R: Rolls, S: EventSink>(
     battle: &mut Packed,
     side: Side,
     id: MoveId,
     random: &mut R,
-    events: &mut EventList,
+    events: &mut S,
 )
-    requires room { HasRoom 2 events.old }
+    requires room { HasRoom S.room 2 events.old }
     requires early { is_early_but_substitute (move_at id).effect ≡ true }
-    ensures shown { DoesAlone R.byte R.next R.SPAN side battle.old events.old.items random.old
-        battle.new events.new.items random.new
+    ensures shown { DoesAlone R.byte R.next R.SPAN side battle.old (S.tells events.old) random.old
+        battle.new (S.tells events.new) random.new
         (λ rules. early_effect side (move_at id) (move_at id).effect ▸ stop) }
-    ensures room { AddsAtMost 2 events.old events.new }
+    ensures room { AddsAtMost S.room 2 events.old events.new }
 {
     let mut known = Known::new().begun(side);
     early_effect_knowing(battle, side, id, &mut known, random, events);
@@ -68,21 +69,21 @@ pub fn early_effect<R: Rolls>(
 /// The same as [`early_effect`] in the middle of an action, of which `known` tells: whether a hit test was missed, and at which
 /// byte it was made, is known then, and after Haze whether the foe is skipped in this turn.
 #[inline(never)] // docs/SPEED.md, "Hints on inlining"
-pub fn early_effect_knowing<R: Rolls>(
+pub fn early_effect_knowing<R: Rolls, S: EventSink>(
     battle: &mut Packed,
     side: Side,
     id: MoveId,
     known: &mut Known,
     random: &mut R,
-    events: &mut EventList,
+    events: &mut S,
 )
-    requires room { HasRoom 2 events.old }
+    requires room { HasRoom S.room 2 events.old }
     requires early { is_early_but_substitute (move_at id).effect ≡ true }
-    ensures shown { DoesKnowingDrawing R.byte R.next R.SPAN battle.old events.old.items random.old
-        known.old battle.new events.new.items random.new known.new true
+    ensures shown { DoesKnowingDrawing R.byte R.next R.SPAN battle.old (S.tells events.old) random.old
+        known.old battle.new (S.tells events.new) random.new known.new true
         (early_effect side (move_at id) (move_at id).effect ▸ stop) }
     ensures counts { IsUncounted known.old → IsUncounted known.new }
-    ensures room { AddsAtMost 2 events.old events.new }
+    ensures room { AddsAtMost S.room 2 events.old events.new }
 {
     match way_of(id.effect()) {
         Way::Fails => fail(battle, side, events),

@@ -8,25 +8,26 @@ ghost use Rattle.gen1_action.specs.Knowing.{DoesKnowingDrawing, IsUncounted};
 
 use crate::targets::has_type;
 use gen1_action::{Known, fail, must_hit};
+use gen1_events::EventSink;
 use gen1_layout::{Conditions, Packed};
-use gen1_machine::{Event, EventList, Side, Volatile};
+use gen1_machine::{Event, Side, Volatile};
 use gen1_rolls::Rolls;
 use gen1_tables::{Element, MoveId};
 
-pub(super) fn seed_foe<R: Rolls>(
+pub(super) fn seed_foe<R: Rolls, S: EventSink>(
     battle: &mut Packed,
     side: Side,
     id: MoveId,
     known: &mut Known,
     random: &mut R,
-    events: &mut EventList,
+    events: &mut S,
 )
-    requires room { HasRoom 2 events.old }
-    ensures shown { DoesKnowingDrawing R.byte R.next R.SPAN battle.old events.old.items random.old
-        known.old battle.new events.new.items random.new known.new true
+    requires room { HasRoom S.room 2 events.old }
+    ensures shown { DoesKnowingDrawing R.byte R.next R.SPAN battle.old (S.tells events.old) random.old
+        known.old battle.new (S.tells events.new) random.new known.new true
         (seed_foe side (move_at id) ▸ stop) }
     ensures counts { IsUncounted known.old → IsUncounted known.new }
-    ensures room { AddsAtMost 2 events.old events.new }
+    ensures room { AddsAtMost S.room 2 events.old events.new }
 {
     if must_hit(battle, side, id, known, random, events) {
         return;

@@ -8,24 +8,25 @@ ghost use Rattle.gen1_machine.specs.Progress.{fails_if, starts};
 ghost use Rattle.gen1_layout.specs.Flags.{SameNumbers};
 
 use gen1_action::fail;
+use gen1_events::EventSink;
 use gen1_layout::{Conditions, Packed};
-use gen1_machine::{Event, EventList, Side, Volatile};
+use gen1_machine::{Event, Side, Volatile};
 use gen1_tables::MoveId;
 
-pub(super) fn set_mist(battle: &mut Packed, side: Side, events: &mut EventList)
-    requires room { HasRoom 1 events.old }
-    ensures shown { Does battle.old events.old.items battle.new events.new.items true
+pub(super) fn set_mist<S: EventSink>(battle: &mut Packed, side: Side, events: &mut S)
+    requires room { HasRoom S.room 1 events.old }
+    ensures shown { Does battle.old (S.tells events.old) battle.new (S.tells events.new) true
         (set_mist side ▸ stop) }
-    ensures room { AddsAtMost 1 events.old events.new }
+    ensures room { AddsAtMost S.room 1 events.old events.new }
 {
     put_up(battle, side, Conditions::MIST, Volatile::Mist, events);
 }
 
-pub(super) fn set_focus_energy(battle: &mut Packed, side: Side, events: &mut EventList)
-    requires room { HasRoom 1 events.old }
-    ensures shown { Does battle.old events.old.items battle.new events.new.items true
+pub(super) fn set_focus_energy<S: EventSink>(battle: &mut Packed, side: Side, events: &mut S)
+    requires room { HasRoom S.room 1 events.old }
+    ensures shown { Does battle.old (S.tells events.old) battle.new (S.tells events.new) true
         (set_focus_energy side ▸ stop) }
-    ensures room { AddsAtMost 1 events.old events.new }
+    ensures room { AddsAtMost S.room 1 events.old events.new }
 {
     put_up(
         battle,
@@ -37,11 +38,11 @@ pub(super) fn set_focus_energy(battle: &mut Packed, side: Side, events: &mut Eve
 }
 
 // Light Screen or Reflect, by the move.
-pub(super) fn set_screen(battle: &mut Packed, side: Side, id: MoveId, events: &mut EventList)
-    requires room { HasRoom 1 events.old }
-    ensures shown { Does battle.old events.old.items battle.new events.new.items true
+pub(super) fn set_screen<S: EventSink>(battle: &mut Packed, side: Side, id: MoveId, events: &mut S)
+    requires room { HasRoom S.room 1 events.old }
+    ensures shown { Does battle.old (S.tells events.old) battle.new (S.tells events.new) true
         (set_screen side (move_at id) ▸ stop) }
-    ensures room { AddsAtMost 1 events.old events.new }
+    ensures room { AddsAtMost S.room 1 events.old events.new }
 {
     if is_light_screen(id) {
         put_up(
@@ -65,22 +66,22 @@ fn is_light_screen(id: MoveId) -> bool
 }
 
 // Sets a condition that has no number, and fails where it is on. The place of its bit is k.
-fn put_up(
+fn put_up<S: EventSink>(
     battle: &mut Packed,
     side: Side,
     which: Conditions,
     what: Volatile,
-    events: &mut EventList,
+    events: &mut S,
 )
-    requires room { HasRoom 1 events.old }
+    requires room { HasRoom S.room 1 events.old }
     ensures shown { (k : ℕ) → which.0 ≡ 2 ^ k → k < 17
         → (change : ActiveConditions → ActiveConditions)
         → ((c : ActiveConditions) → condition_bits (change c) ≡ slice_set (condition_bits c) k true)
         → ((c : ActiveConditions) → SameNumbers (change c) c)
-        → Does battle.old events.old.items battle.new events.new.items true
+        → Does battle.old (S.tells events.old) battle.new (S.tells events.new) true
         ((fails_if side (λ p. slice_index_or (condition_bits (conditions side p)) k false)
         ▸ starts side what change) ▸ stop) }
-    ensures room { AddsAtMost 1 events.old events.new }
+    ensures room { AddsAtMost S.room 1 events.old events.new }
 {
     if battle.is_on(side, which) {
         fail(battle, side, events);

@@ -11,26 +11,27 @@ ghost use Rattle.gen1_action.specs.Knowing.{DoesKnowingDrawing, IsUncounted};
 
 use crate::targets::{has_status, has_substitute, has_type};
 use gen1_action::{Known, fail, must_hit};
+use gen1_events::EventSink;
 use gen1_layout::Packed;
-use gen1_machine::{EventList, Kind, Side};
+use gen1_machine::{Kind, Side};
 use gen1_rolls::Rolls;
 use gen1_status::inflict;
 use gen1_tables::{Element, MoveId};
 
-pub(super) fn poison_foe<R: Rolls>(
+pub(super) fn poison_foe<R: Rolls, S: EventSink>(
     battle: &mut Packed,
     side: Side,
     id: MoveId,
     known: &mut Known,
     random: &mut R,
-    events: &mut EventList,
+    events: &mut S,
 )
-    requires room { HasRoom 2 events.old }
-    ensures shown { DoesKnowingDrawing R.byte R.next R.SPAN battle.old events.old.items random.old
-        known.old battle.new events.new.items random.new known.new true
+    requires room { HasRoom S.room 2 events.old }
+    ensures shown { DoesKnowingDrawing R.byte R.next R.SPAN battle.old (S.tells events.old) random.old
+        known.old battle.new (S.tells events.new) random.new known.new true
         (poison_foe side (move_at id) ▸ stop) }
     ensures counts { IsUncounted known.old → IsUncounted known.new }
-    ensures room { AddsAtMost 2 events.old events.new }
+    ensures room { AddsAtMost S.room 2 events.old events.new }
 {
     let foe = side.other();
     if has_substitute(battle, foe) {
@@ -51,12 +52,12 @@ pub(super) fn poison_foe<R: Rolls>(
     poison(battle, foe, id, events);
 }
 
-fn poison(battle: &mut Packed, side: Side, id: MoveId, events: &mut EventList)
-    requires room { HasRoom 1 events.old }
-    ensures shown { Does battle.old events.old.items battle.new events.new.items false
+fn poison<S: EventSink>(battle: &mut Packed, side: Side, id: MoveId, events: &mut S)
+    requires room { HasRoom S.room 1 events.old }
+    ensures shown { Does battle.old (S.tells events.old) battle.new (S.tells events.new) false
         (inflict side Poisoned kinds.Poison
         ▸ only ((move_at id).number == toxic) (on_conditions side with_bad_poison)) }
-    ensures room { AddsAtMost 1 events.old events.new }
+    ensures room { AddsAtMost S.room 1 events.old events.new }
 {
     inflict(battle, side, Kind::Poison, 0, events);
     if is_toxic(id) {

@@ -5,17 +5,18 @@ ghost use Rattle.gen1_machine.specs.EarlyEffects.{heal, recover, resists_healing
 ghost use Rattle.gen1_machine.specs.Moves.{rest};
 
 use gen1_action::fail;
+use gen1_events::EventSink;
 use gen1_hits::gain_hp;
 use gen1_layout::Packed;
-use gen1_machine::{Event, EventList, Kind, Side};
+use gen1_machine::{Event, Kind, Side};
 use gen1_stats::Status;
 use gen1_tables::MoveId;
 
-pub(super) fn heal(battle: &mut Packed, side: Side, id: MoveId, events: &mut EventList)
-    requires room { HasRoom 2 events.old }
-    ensures shown { Does battle.old events.old.items battle.new events.new.items true
+pub(super) fn heal<S: EventSink>(battle: &mut Packed, side: Side, id: MoveId, events: &mut S)
+    requires room { HasRoom S.room 2 events.old }
+    ensures shown { Does battle.old (S.tells events.old) battle.new (S.tells events.new) true
         (heal side (move_at id) ▸ stop) }
-    ensures room { AddsAtMost 2 events.old events.new }
+    ensures room { AddsAtMost S.room 2 events.old events.new }
 {
     if cannot_heal(battle, side) {
         fail(battle, side, events);
@@ -51,11 +52,11 @@ fn is_rest(id: MoveId) -> bool
 }
 
 // The penalties of the status that sleep replaces stay.
-fn rest_up(battle: &mut Packed, side: Side, events: &mut EventList)
-    requires room { HasRoom 2 events.old }
-    ensures shown { Does battle.old events.old.items battle.new events.new.items false
+fn rest_up<S: EventSink>(battle: &mut Packed, side: Side, events: &mut S)
+    requires room { HasRoom S.room 2 events.old }
+    ensures shown { Does battle.old (S.tells events.old) battle.new (S.tells events.new) false
         (rest_up side) }
-    ensures room { AddsAtMost 2 events.old events.new }
+    ensures room { AddsAtMost S.room 2 events.old events.new }
 {
     let asleep = Status::Asleep {
         turns: 2,
@@ -67,11 +68,11 @@ fn rest_up(battle: &mut Packed, side: Side, events: &mut EventList)
     gain_hp(battle, side, most, events);
 }
 
-fn recover(battle: &mut Packed, side: Side, events: &mut EventList)
-    requires room { HasRoom 1 events.old }
-    ensures shown { Does battle.old events.old.items battle.new events.new.items false
+fn recover<S: EventSink>(battle: &mut Packed, side: Side, events: &mut S)
+    requires room { HasRoom S.room 1 events.old }
+    ensures shown { Does battle.old (S.tells events.old) battle.new (S.tells events.new) false
         (recover side) }
-    ensures room { AddsAtMost 1 events.old events.new }
+    ensures room { AddsAtMost S.room 1 events.old events.new }
 {
     let half = battle.max_hp(side) / 2;
     gain_hp(battle, side, half, events);

@@ -7,27 +7,28 @@ ghost use Rattle.gen1_action.specs.Knowing.{DoesKnowingDrawing};
 ghost use Rattle.gen1_action.specs.Planned.{DoesUnder};
 
 use gen1_action::{Known, fail, has_marked_sleeper, must_hit};
+use gen1_events::EventSink;
 use gen1_layout::{Conditions, Packed};
-use gen1_machine::{EventList, Kind, Side};
+use gen1_machine::{Kind, Side};
 use gen1_rolls::{Rolls, until};
 use gen1_stats::Status;
 use gen1_status::inflict_status;
 use gen1_tables::MoveId;
 
 // True where it fails or misses, which is told.
-pub(super) fn put_to_sleep<R: Rolls>(
+pub(super) fn put_to_sleep<R: Rolls, S: EventSink>(
     battle: &mut Packed,
     side: Side,
     id: MoveId,
     known: &mut Known,
     random: &mut R,
-    events: &mut EventList,
+    events: &mut S,
 ) -> bool
-    requires room { HasRoom 2 events.old }
-    ensures shown { DoesUnder R.byte R.next R.SPAN battle.old events.old.items random.old known.old
-        battle.new events.new.items random.new known.new result
+    requires room { HasRoom S.room 2 events.old }
+    ensures shown { DoesUnder R.byte R.next R.SPAN battle.old (S.tells events.old) random.old known.old
+        battle.new (S.tells events.new) random.new known.new result
         (λ r. put_to_sleep r side (move_at id)) }
-    ensures room { AddsAtMost 2 events.old events.new }
+    ensures room { AddsAtMost S.room 2 events.old events.new }
 {
     if ready_to_sleep(battle, side, id, known, random, events) {
         return true;
@@ -36,19 +37,19 @@ pub(super) fn put_to_sleep<R: Rolls>(
 }
 
 // A foe that must recharge need not any more, and takes no test.
-fn ready_to_sleep<R: Rolls>(
+fn ready_to_sleep<R: Rolls, S: EventSink>(
     battle: &mut Packed,
     side: Side,
     id: MoveId,
     known: &mut Known,
     random: &mut R,
-    events: &mut EventList,
+    events: &mut S,
 ) -> bool
-    requires room { HasRoom 1 events.old }
-    ensures shown { DoesKnowingDrawing R.byte R.next R.SPAN battle.old events.old.items random.old
-        known.old battle.new events.new.items random.new known.new result
+    requires room { HasRoom S.room 1 events.old }
+    ensures shown { DoesKnowingDrawing R.byte R.next R.SPAN battle.old (S.tells events.old) random.old
+        known.old battle.new (S.tells events.new) random.new known.new result
         (ready_to_sleep side (move_at id)) }
-    ensures room { AddsAtMost 1 events.old events.new }
+    ensures room { AddsAtMost S.room 1 events.old events.new }
 {
     let foe = side.other();
     if battle.is_on(foe, Conditions::RECHARGE) {
@@ -63,18 +64,18 @@ fn ready_to_sleep<R: Rolls>(
 }
 
 // What a sleep move does once it has hit, by the rules of the battle.
-fn sleep_by_rules<R: Rolls>(
+fn sleep_by_rules<R: Rolls, S: EventSink>(
     battle: &mut Packed,
     side: Side,
     random: &mut R,
-    events: &mut EventList,
+    events: &mut S,
 ) -> bool
-    requires room { HasRoom 1 events.old }
+    requires room { HasRoom S.room 1 events.old }
     ensures shown { (origin : R) (g : Frame) (p : Progress)
-        → ShowsDrawn R.byte R.next R.SPAN origin g battle.old events.old.items random.old false p
-        → ShowsDrawn R.byte R.next R.SPAN origin g battle.new events.new.items random.new result
+        → ShowsDrawn R.byte R.next R.SPAN origin g battle.old (S.tells events.old) random.old false p
+        → ShowsDrawn R.byte R.next R.SPAN origin g battle.new (S.tells events.new) random.new result
         (sleeps_under g.setting.terms.rules.sleep_clause side p) }
-    ensures room { AddsAtMost 1 events.old events.new }
+    ensures room { AddsAtMost S.room 1 events.old events.new }
 {
     if battle.sleep_clause() {
         return sleep_only_one(battle, side, random, events);
@@ -84,19 +85,19 @@ fn sleep_by_rules<R: Rolls>(
 }
 
 // Under the sleep clause one living member of the foe's at a time sleeps by the user's moves.
-fn sleep_only_one<R: Rolls>(
+fn sleep_only_one<R: Rolls, S: EventSink>(
     battle: &mut Packed,
     side: Side,
     random: &mut R,
-    events: &mut EventList,
+    events: &mut S,
 ) -> bool
-    requires room { HasRoom 1 events.old }
+    requires room { HasRoom S.room 1 events.old }
     ensures shown { (origin : R) (g : Frame) (p : Progress)
         → g.setting.terms.rules.sleep_clause ≡ true
-        → ShowsDrawn R.byte R.next R.SPAN origin g battle.old events.old.items random.old false p
-        → ShowsDrawn R.byte R.next R.SPAN origin g battle.new events.new.items random.new result
+        → ShowsDrawn R.byte R.next R.SPAN origin g battle.old (S.tells events.old) random.old false p
+        → ShowsDrawn R.byte R.next R.SPAN origin g battle.new (S.tells events.new) random.new result
         (sleep_only_one side p) }
-    ensures room { AddsAtMost 1 events.old events.new }
+    ensures room { AddsAtMost S.room 1 events.old events.new }
 {
     let foe = side.other();
     if has_marked_sleeper(battle, foe) {
@@ -108,20 +109,20 @@ fn sleep_only_one<R: Rolls>(
 }
 
 // Draws until a byte has a count for the sleep, which is marked under the sleep clause.
-fn fall_asleep<R: Rolls>(
+fn fall_asleep<R: Rolls, S: EventSink>(
     battle: &mut Packed,
     side: Side,
     marked: bool,
     random: &mut R,
-    events: &mut EventList,
+    events: &mut S,
 )
-    requires room { HasRoom 1 events.old }
+    requires room { HasRoom S.room 1 events.old }
     ensures shown { (origin : R) (g : Frame) (p : Progress)
         → g.setting.terms.rules.sleep_clause ≡ marked
-        → ShowsDrawn R.byte R.next R.SPAN origin g battle.old events.old.items random.old false p
-        → ShowsDrawn R.byte R.next R.SPAN origin g battle.new events.new.items random.new false
+        → ShowsDrawn R.byte R.next R.SPAN origin g battle.old (S.tells events.old) random.old false p
+        → ShowsDrawn R.byte R.next R.SPAN origin g battle.new (S.tells events.new) random.new false
         (fall_asleep marked side p) }
-    ensures room { AddsAtMost 1 events.old events.new }
+    ensures room { AddsAtMost S.room 1 events.old events.new }
 {
     let Some(byte) = until(random, |byte| byte % 8 != 0) else {
         return;
@@ -130,13 +131,13 @@ fn fall_asleep<R: Rolls>(
 }
 
 // A sleep of 1 to 7 turns, by the byte that was drawn.
-fn sleep_for(battle: &mut Packed, side: Side, marked: bool, byte: u8, events: &mut EventList)
-    requires room { HasRoom 1 events.old }
+fn sleep_for<S: EventSink>(battle: &mut Packed, side: Side, marked: bool, byte: u8, events: &mut S)
+    requires room { HasRoom S.room 1 events.old }
     ensures shown { (g : Frame) (p : Progress) → g.setting.terms.rules.sleep_clause ≡ marked
         → is_sleep_count byte ≡ true
-        → Shows g battle.old events.old.items false p
-        → Shows g battle.new events.new.items false (sleep_for marked side byte p) }
-    ensures room { AddsAtMost 1 events.old events.new }
+        → Shows g battle.old (S.tells events.old) false p
+        → Shows g battle.new (S.tells events.new) false (sleep_for marked side byte p) }
+    ensures room { AddsAtMost S.room 1 events.old events.new }
 {
     let turns = byte % 8;
     let status = Status::Asleep { turns, marked };

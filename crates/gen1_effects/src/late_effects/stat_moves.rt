@@ -6,25 +6,26 @@ ghost use Rattle.gen1_machine.specs.StageShift.{lower_stage, raise_stage};
 ghost use Rattle.gen1_action.specs.Knowing.{DoesKnowingDrawing};
 
 use gen1_action::{Known, fail, must_hit};
+use gen1_events::EventSink;
 use gen1_layout::{Conditions, Packed};
-use gen1_machine::{EventList, Side};
+use gen1_machine::Side;
 use gen1_rolls::Rolls;
 use gen1_status::{lower_stage, raise_stage};
 use gen1_tables::{MoveId, Stat};
 
 // Raises a stat of the user's by 1 or 2 stages. True where it fails, which is told.
-pub(super) fn raise_own_stat(
+pub(super) fn raise_own_stat<S: EventSink>(
     battle: &mut Packed,
     side: Side,
     stat: Stat,
     by: u8,
-    events: &mut EventList,
+    events: &mut S,
 ) -> bool
-    requires room { HasRoom 2 events.old }
+    requires room { HasRoom S.room 2 events.old }
     ensures shown { IsBetween 1 2 by
-        → Does battle.old events.old.items battle.new events.new.items result
+        → Does battle.old (S.tells events.old) battle.new (S.tells events.new) result
         (raise_stage side side stat by (fail side)) }
-    ensures room { AddsAtMost 2 events.old events.new }
+    ensures room { AddsAtMost S.room 2 events.old events.new }
 {
     if raise_stage(battle, side, side, stat, by, events) {
         return false;
@@ -34,7 +35,7 @@ pub(super) fn raise_own_stat(
 }
 
 // Lowers a stat of the foe's by 1 or 2 stages. True where it fails or misses, which is told.
-pub(super) fn lower_foes_stat<R: Rolls>(
+pub(super) fn lower_foes_stat<R: Rolls, S: EventSink>(
     battle: &mut Packed,
     side: Side,
     id: MoveId,
@@ -42,14 +43,14 @@ pub(super) fn lower_foes_stat<R: Rolls>(
     by: u8,
     known: &mut Known,
     random: &mut R,
-    events: &mut EventList,
+    events: &mut S,
 ) -> bool
-    requires room { HasRoom 2 events.old }
+    requires room { HasRoom S.room 2 events.old }
     ensures shown { IsBetween 1 2 by
-        → DoesKnowingDrawing R.byte R.next R.SPAN battle.old events.old.items random.old known.old
-        battle.new events.new.items random.new known.new result
+        → DoesKnowingDrawing R.byte R.next R.SPAN battle.old (S.tells events.old) random.old known.old
+        battle.new (S.tells events.new) random.new known.new result
         (lower_foes_stat side (move_at id) stat by) }
-    ensures room { AddsAtMost 2 events.old events.new }
+    ensures room { AddsAtMost S.room 2 events.old events.new }
 {
     let foe = side.other();
     if battle.is_on(foe, Conditions::SUBSTITUTE) {
@@ -63,19 +64,19 @@ pub(super) fn lower_foes_stat<R: Rolls>(
 }
 
 // What follows the hit test.
-fn lower_unless_away(
+fn lower_unless_away<S: EventSink>(
     battle: &mut Packed,
     side: Side,
     stat: Stat,
     by: u8,
-    events: &mut EventList,
+    events: &mut S,
 ) -> bool
-    requires room { HasRoom 2 events.old }
+    requires room { HasRoom S.room 2 events.old }
     ensures shown { IsBetween 1 2 by
-        → Does battle.old events.old.items battle.new events.new.items result
+        → Does battle.old (S.tells events.old) battle.new (S.tells events.new) result
         (fails_if side (is_invulnerable (other side))
         ▸ lower_stage side (other side) stat by (fail side)) }
-    ensures room { AddsAtMost 2 events.old events.new }
+    ensures room { AddsAtMost S.room 2 events.old events.new }
 {
     let foe = side.other();
     if battle.is_on(foe, Conditions::INVULNERABLE) {

@@ -4,22 +4,23 @@ ghost use Rattle.gen1_machine.specs.SideEffects.{may_confuse};
 
 use super::chance::is_drawn_below;
 use gen1_action::confuse;
+use gen1_events::EventSink;
 use gen1_layout::{Conditions, Packed};
-use gen1_machine::{EventList, Side};
+use gen1_machine::Side;
 use gen1_rolls::Rolls;
 
 // The draw comes first, also where the foe is confused already.
-pub(super) fn may_confuse<R: Rolls>(
+pub(super) fn may_confuse<R: Rolls, S: EventSink>(
     battle: &mut Packed,
     side: Side,
     bound: u8,
     random: &mut R,
-    events: &mut EventList,
+    events: &mut S,
 )
-    requires room { HasRoom 1 events.old }
-    ensures shown { DoesDrawing R.byte R.next R.SPAN battle.old events.old.items random.old
-        battle.new events.new.items random.new false (may_confuse side bound) }
-    ensures room { AddsAtMost 1 events.old events.new }
+    requires room { HasRoom S.room 1 events.old }
+    ensures shown { DoesDrawing R.byte R.next R.SPAN battle.old (S.tells events.old) random.old
+        battle.new (S.tells events.new) random.new false (may_confuse side bound) }
+    ensures room { AddsAtMost S.room 1 events.old events.new }
 {
     let foe = side.other();
     if !is_drawn_below(bound, random) {

@@ -7,25 +7,26 @@ ghost use Rattle.gen1_action.specs.Knowing.{DoesKnowingDrawing, IsUncounted};
 ghost use Rattle.gen1_effects.specs.SideEffects.{draw_slot};
 
 use gen1_action::{Known, fail, must_hit};
+use gen1_events::EventSink;
 use gen1_layout::{Conditions, Packed};
-use gen1_machine::{DisabledSlot, Event, EventList, Side, Volatile};
+use gen1_machine::{DisabledSlot, Event, Side, Volatile};
 use gen1_rolls::{Rolls, until};
 use gen1_tables::MoveId;
 
-pub(super) fn disable<R: Rolls>(
+pub(super) fn disable<R: Rolls, S: EventSink>(
     battle: &mut Packed,
     side: Side,
     id: MoveId,
     known: &mut Known,
     random: &mut R,
-    events: &mut EventList,
+    events: &mut S,
 ) -> bool
-    requires room { HasRoom 1 events.old }
-    ensures shown { DoesKnowingDrawing R.byte R.next R.SPAN battle.old events.old.items random.old
-        known.old battle.new events.new.items random.new known.new result
+    requires room { HasRoom S.room 1 events.old }
+    ensures shown { DoesKnowingDrawing R.byte R.next R.SPAN battle.old (S.tells events.old) random.old
+        known.old battle.new (S.tells events.new) random.new known.new result
         (disable side (move_at id)) }
     ensures counts { IsUncounted known.old → IsUncounted known.new }
-    ensures room { AddsAtMost 1 events.old events.new }
+    ensures room { AddsAtMost S.room 1 events.old events.new }
 {
     if must_hit(battle, side, id, known, random, events) {
         return true;
@@ -38,16 +39,16 @@ pub(super) fn disable<R: Rolls>(
 }
 
 // Draws until a byte names a slot. Where no slot has PP it fails at the first that holds a move.
-fn draw_slot<R: Rolls>(
+fn draw_slot<R: Rolls, S: EventSink>(
     battle: &mut Packed,
     side: Side,
     random: &mut R,
-    events: &mut EventList,
+    events: &mut S,
 ) -> bool
-    requires room { HasRoom 1 events.old }
-    ensures shown { DoesDrawing R.byte R.next R.SPAN battle.old events.old.items random.old
-        battle.new events.new.items random.new result (draw_slot side) }
-    ensures room { AddsAtMost 1 events.old events.new }
+    requires room { HasRoom S.room 1 events.old }
+    ensures shown { DoesDrawing R.byte R.next R.SPAN battle.old (S.tells events.old) random.old
+        battle.new (S.tells events.new) random.new result (draw_slot side) }
+    ensures room { AddsAtMost S.room 1 events.old events.new }
 {
     let foe = side.other();
     let any_pp = has_pp(battle, foe);
@@ -61,22 +62,22 @@ fn draw_slot<R: Rolls>(
     }
 }
 
-fn disable_slot<R: Rolls>(
+fn disable_slot<R: Rolls, S: EventSink>(
     battle: &mut Packed,
     side: Side,
     any_pp: bool,
     byte: u8,
     random: &mut R,
-    events: &mut EventList,
+    events: &mut S,
 ) -> bool
-    requires room { HasRoom 1 events.old }
+    requires room { HasRoom S.room 1 events.old }
     ensures shown { (origin : R) (g : Frame) (p : Progress)
         → any_pp ≡ has_pp (member (other side) p).moves
         → names_slot (member (other side) p).moves byte ≡ true
-        → ShowsDrawn R.byte R.next R.SPAN origin g battle.old events.old.items random.old false p
-        → ShowsDrawn R.byte R.next R.SPAN origin g battle.new events.new.items random.new result
+        → ShowsDrawn R.byte R.next R.SPAN origin g battle.old (S.tells events.old) random.old false p
+        → ShowsDrawn R.byte R.next R.SPAN origin g battle.new (S.tells events.new) random.new result
         (disable_slot side (member (other side) p).moves byte p) }
-    ensures room { AddsAtMost 1 events.old events.new }
+    ensures room { AddsAtMost S.room 1 events.old events.new }
 {
     if !any_pp {
         fail(battle, side, events);
@@ -87,11 +88,11 @@ fn disable_slot<R: Rolls>(
     false
 }
 
-fn disable_for(battle: &mut Packed, foe: Side, byte: u8, count: u8, events: &mut EventList)
-    requires room { HasRoom 1 events.old }
+fn disable_for<S: EventSink>(battle: &mut Packed, foe: Side, byte: u8, count: u8, events: &mut S)
+    requires room { HasRoom S.room 1 events.old }
     ensures shown { DoesSeeing (λ p. names_slot (member foe p).moves byte) true battle.old
-        events.old.items battle.new events.new.items false (disable_for foe byte count) }
-    ensures room { AddsAtMost 1 events.old events.new }
+        (S.tells events.old) battle.new (S.tells events.new) false (disable_for foe byte count) }
+    ensures room { AddsAtMost S.room 1 events.old events.new }
 {
     let disabled = DisabledSlot {
         slot: byte % 4 + 1,

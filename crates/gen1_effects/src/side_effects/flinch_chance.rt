@@ -1,5 +1,5 @@
 //! Flinching by chance (docs/MECHANICS.md, "Side effects").
-ghost use Rattle.gen1_layout.specs.Words.{Does, DoesDrawing, Event, List, false, other};
+ghost use Rattle.gen1_layout.specs.Words.{Does, DoesDrawing, Event, List, Told, false, other};
 ghost use Rattle.gen1_machine.specs.SideEffects.{by_chance, flinch};
 
 use super::chance::is_drawn_below;
@@ -9,7 +9,7 @@ use gen1_rolls::Rolls;
 
 pub(super) fn may_flinch<R: Rolls>(battle: &mut Packed, side: Side, bound: u8, random: &mut R)
     ensures shown { (events : List Event)
-        → DoesDrawing R.byte R.next R.SPAN battle.old events random.old battle.new events random.new
+        → DoesDrawing R.byte R.next R.SPAN battle.old (Told events) random.old battle.new (Told events) random.new
         false (by_chance bound (flinch (other side))) }
 {
     if !is_drawn_below(bound, random) {
@@ -21,7 +21,7 @@ pub(super) fn may_flinch<R: Rolls>(battle: &mut Packed, side: Side, bound: u8, r
 // A flinch also spares its member the recharging.
 fn flinch(battle: &mut Packed, side: Side)
     ensures shown { (events : List Event)
-        → Does battle.old events battle.new events false (flinch side) }
+        → Does battle.old (Told events) battle.new (Told events) false (flinch side) }
 {
     battle.put_flag(side, Conditions::FLINCH, true);
     battle.put_flag(side, Conditions::RECHARGE, false);

@@ -5,25 +5,26 @@ ghost use Rattle.gen1_machine.specs.SideEffects.{by_chance};
 ghost use Rattle.gen1_machine.specs.StageShift.{lower_stage};
 
 use super::chance::is_drawn_below;
+use gen1_events::EventSink;
 use gen1_layout::Packed;
-use gen1_machine::{EventList, Side};
+use gen1_machine::Side;
 use gen1_rolls::Rolls;
 use gen1_status::lower_stage;
 use gen1_tables::Stat;
 
 // A drop that fails does nothing more.
-pub(super) fn may_lower<R: Rolls>(
+pub(super) fn may_lower<R: Rolls, S: EventSink>(
     battle: &mut Packed,
     side: Side,
     stat: Stat,
     random: &mut R,
-    events: &mut EventList,
+    events: &mut S,
 )
-    requires room { HasRoom 1 events.old }
-    ensures shown { DoesDrawing R.byte R.next R.SPAN battle.old events.old.items random.old
-        battle.new events.new.items random.new false
+    requires room { HasRoom S.room 1 events.old }
+    ensures shown { DoesDrawing R.byte R.next R.SPAN battle.old (S.tells events.old) random.old
+        battle.new (S.tells events.new) random.new false
         (by_chance 85 (lower_stage side (other side) stat 1 stay)) }
-    ensures room { AddsAtMost 1 events.old events.new }
+    ensures room { AddsAtMost S.room 1 events.old events.new }
 {
     let foe = side.other();
     if !is_drawn_below(85, random) {

@@ -13,25 +13,26 @@ ghost use Rattle.gen1_effects.specs.SideEffects.{DoesByRules, afflict, is_freeze
 use super::chance::is_drawn_below;
 use crate::targets::{has_status, has_type};
 use gen1_action::has_frozen_member;
+use gen1_events::EventSink;
 use gen1_layout::{Conditions, Packed};
-use gen1_machine::{Event, EventList, Kind, Side};
+use gen1_machine::{Event, Kind, Side};
 use gen1_rolls::Rolls;
 use gen1_stats::Status;
 use gen1_status::inflict;
 use gen1_tables::{Element, MoveId};
 
 // A status, and a type of Poison, rule it out before the draw.
-pub(super) fn may_poison<R: Rolls>(
+pub(super) fn may_poison<R: Rolls, S: EventSink>(
     battle: &mut Packed,
     side: Side,
     bound: u8,
     random: &mut R,
-    events: &mut EventList,
+    events: &mut S,
 )
-    requires room { HasRoom 1 events.old }
-    ensures shown { DoesDrawing R.byte R.next R.SPAN battle.old events.old.items random.old
-        battle.new events.new.items random.new false (may_poison side bound) }
-    ensures room { AddsAtMost 1 events.old events.new }
+    requires room { HasRoom S.room 1 events.old }
+    ensures shown { DoesDrawing R.byte R.next R.SPAN battle.old (S.tells events.old) random.old
+        battle.new (S.tells events.new) random.new false (may_poison side bound) }
+    ensures room { AddsAtMost S.room 1 events.old events.new }
 {
     let foe = side.other();
     if resists_poison(battle, foe) {
@@ -53,21 +54,21 @@ fn resists_poison(battle: &Packed, side: Side) -> bool
 }
 
 // A burn, a freeze or paralysis: a status, which a Fire move may thaw, and the move's own type rule it out before the draw.
-pub(super) fn may_inflict<R: Rolls>(
+pub(super) fn may_inflict<R: Rolls, S: EventSink>(
     battle: &mut Packed,
     side: Side,
     id: MoveId,
     kind: Kind,
     bound: u8,
     random: &mut R,
-    events: &mut EventList,
+    events: &mut S,
 )
-    requires room { HasRoom 1 events.old }
+    requires room { HasRoom S.room 1 events.old }
     ensures shown { IsCountOf kind 0
-        → DoesByRules R.byte R.next R.SPAN battle.old events.old.items random.old battle.new
-        events.new.items random.new
+        → DoesByRules R.byte R.next R.SPAN battle.old (S.tells events.old) random.old battle.new
+        (S.tells events.new) random.new
         (λ r. may_inflict side (move_at id) bound (afflict r side kind)) }
-    ensures room { AddsAtMost 1 events.old events.new }
+    ensures room { AddsAtMost S.room 1 events.old events.new }
 {
     let foe = side.other();
     if has_status(battle, foe) {
@@ -83,11 +84,11 @@ pub(super) fn may_inflict<R: Rolls>(
     afflict(battle, side, kind, events);
 }
 
-fn thaw(battle: &mut Packed, side: Side, id: MoveId, events: &mut EventList)
-    requires room { HasRoom 1 events.old }
-    ensures shown { Does battle.old events.old.items battle.new events.new.items false
+fn thaw<S: EventSink>(battle: &mut Packed, side: Side, id: MoveId, events: &mut S)
+    requires room { HasRoom S.room 1 events.old }
+    ensures shown { Does battle.old (S.tells events.old) battle.new (S.tells events.new) false
         (thaw side (move_at id)) }
-    ensures room { AddsAtMost 1 events.old events.new }
+    ensures room { AddsAtMost S.room 1 events.old events.new }
 {
     let foe = side.other();
     if !thaws(id.kind(), battle.status(foe)) {
@@ -97,13 +98,13 @@ fn thaw(battle: &mut Packed, side: Side, id: MoveId, events: &mut EventList)
     events.push(Event::Cure(battle.who(foe), Kind::Freeze));
 }
 
-fn afflict(battle: &mut Packed, side: Side, kind: Kind, events: &mut EventList)
-    requires room { HasRoom 1 events.old }
+fn afflict<S: EventSink>(battle: &mut Packed, side: Side, kind: Kind, events: &mut S)
+    requires room { HasRoom S.room 1 events.old }
     ensures shown { (g : Frame) (p : Progress) → IsCountOf kind 0
-        → Shows g battle.old events.old.items false p
-        → Shows g battle.new events.new.items false
+        → Shows g battle.old (S.tells events.old) false p
+        → Shows g battle.new (S.tells events.new) false
         (afflict (ruling_of g.setting.terms) side kind p) }
-    ensures room { AddsAtMost 1 events.old events.new }
+    ensures room { AddsAtMost S.room 1 events.old events.new }
 {
     if is_freeze(kind) {
         freeze(battle, side, events);
@@ -113,12 +114,12 @@ fn afflict(battle: &mut Packed, side: Side, kind: Kind, events: &mut EventList)
 }
 
 // The freeze clause lets one living member of the foe's be frozen at a time. A freeze spares the foe its recharging.
-fn freeze(battle: &mut Packed, side: Side, events: &mut EventList)
-    requires room { HasRoom 1 events.old }
-    ensures shown { (g : Frame) (p : Progress) → Shows g battle.old events.old.items false p
-        → Shows g battle.new events.new.items false
+fn freeze<S: EventSink>(battle: &mut Packed, side: Side, events: &mut S)
+    requires room { HasRoom S.room 1 events.old }
+    ensures shown { (g : Frame) (p : Progress) → Shows g battle.old (S.tells events.old) false p
+        → Shows g battle.new (S.tells events.new) false
         (freezes_under g.setting.terms.rules.freeze_clause side p) }
-    ensures room { AddsAtMost 1 events.old events.new }
+    ensures room { AddsAtMost S.room 1 events.old events.new }
 {
     let foe = side.other();
     if is_refused(battle, foe) {

@@ -1,6 +1,6 @@
 //! Bide, which begins, stores the last damage, and lets it out twice over (docs/MECHANICS.md, "Going on").
 ghost use Rattle.std.specs.Prelude.{◌-◌, ◌≡◌};
-ghost use Rattle.gen1_layout.specs.Words.{Adds, AddsAtMost, Frame, HasRoom, None, Progress, Reads, Shows, Some, false, true, underway_in, ℕ};
+ghost use Rattle.gen1_layout.specs.Words.{AddsAtMost, Frame, HasRoom, None, Progress, Reads, Shows, Some, false, true, underway_in, ℕ};
 ghost use Rattle.gen1_tables.specs.declared.effect.Effect.{Effect};
 ghost use Rattle.gen1_tables.specs.declared.effect.Effect.TheVariants.{Bide};
 ghost use Rattle.gen1_machine.specs.Conditions.{Storing, energy_with};
@@ -15,26 +15,27 @@ ghost use Rattle.gen1_action.specs.Planned.{DoesAt};
 ghost use Rattle.gen1_multiturn.specs.Bide.{energy_let_out, use_bide};
 
 use gen1_action::Known;
+use gen1_events::EventSink;
 use gen1_layout::{Conditions, Packed};
-use gen1_machine::{Event, EventList, Side, Volatile};
+use gen1_machine::{Event, Side, Volatile};
 use gen1_rolls::Rolls;
 
 /// Uses Bide: `side` begins to store, for two or three turns of one draw, with `Start`; or it stores the last damage, with
 /// `Activate`; or in its last turn it ends, with `End`, and the last damage becomes twice the energy, which is answered: from 0
 /// to 65,535, as 16 bits hold it. 0 is a miss. A place in `events` is to be free, and nothing else changes (docs/MECHANICS.md,
 /// "Going on").
-pub fn bide<R: Rolls>(
+pub fn bide<R: Rolls, S: EventSink>(
     battle: &mut Packed,
     side: Side,
     random: &mut R,
-    events: &mut EventList,
+    events: &mut S,
 ) -> Option<u16>
-    requires room { HasRoom 1 events.old }
-    ensures left { DoesAloneAt R.byte R.next R.SPAN side Bide battle.old events.old.items random.old
-        battle.new events.new.items random.new (λ r. use_bide side) }
+    requires room { HasRoom S.room 1 events.old }
+    ensures left { DoesAloneAt R.byte R.next R.SPAN side Bide battle.old (S.tells events.old) random.old
+        battle.new (S.tells events.new) random.new (λ r. use_bide side) }
     ensures energy { Reads battle.old result λ f. energy_let_out f.last_damage
         (underway_in side f).bide }
-    ensures room { AddsAtMost 1 events.old events.new }
+    ensures room { AddsAtMost S.room 1 events.old events.new }
 {
     let energy = energy_let_out(battle, side);
     match battle.bide(side) {
@@ -49,17 +50,17 @@ pub fn bide<R: Rolls>(
 /// Goes on with the Bide of `side`, if it is on: it stores, and the action ends with that, for which the answer is `true`; or it
 /// lets its energy go, and what is known then is that, and whether it is a miss. A place in `events` is to be free, and nothing
 /// else changes (docs/MECHANICS.md, "Going on").
-pub fn bide_knowing(
+pub fn bide_knowing<S: EventSink>(
     battle: &mut Packed,
     side: Side,
     known: &mut Known,
-    events: &mut EventList,
+    events: &mut S,
 ) -> bool
-    requires room { HasRoom 1 events.old }
-    ensures shown { DoesKnowing battle.old events.old.items known.old battle.new events.new.items
+    requires room { HasRoom S.room 1 events.old }
+    ensures shown { DoesKnowing battle.old (S.tells events.old) known.old battle.new (S.tells events.new)
         known.new result (bide_goes_on side) }
     ensures counts { IsUncounted known.old → IsUncounted known.new }
-    ensures room { AddsAtMost 1 events.old events.new }
+    ensures room { AddsAtMost S.room 1 events.old events.new }
 {
     let Some(turns) = battle.bide(side) else {
         return false;
@@ -75,25 +76,30 @@ pub fn bide_knowing(
 
 /// Begins the Bide of `side`, with `Start`: for two or three turns of one draw, with no energy yet. A place in `events` is to be
 /// free for it, and nothing else changes (docs/MECHANICS.md, "Going on").
-pub fn start_bide<R: Rolls>(battle: &mut Packed, side: Side, random: &mut R, events: &mut EventList)
-    requires room { HasRoom 1 events.old }
+pub fn start_bide<R: Rolls, S: EventSink>(
+    battle: &mut Packed,
+    side: Side,
+    random: &mut R,
+    events: &mut S,
+)
+    requires room { HasRoom S.room 1 events.old }
     ensures shown { (known : Knowledge) (effect : Effect) → bides effect ≡ true
-        → DoesAt R.byte R.next R.SPAN side effect battle.old events.old.items random.old known
-        battle.new events.new.items random.new known false (λ r. start_bide side) }
-    ensures room { Adds 1 events.old events.new }
+        → DoesAt R.byte R.next R.SPAN side effect battle.old (S.tells events.old) random.old known
+        battle.new (S.tells events.new) random.new known false (λ r. start_bide side) }
+    ensures room { AddsAtMost S.room 1 events.old events.new }
 {
     let byte = random.draw();
     bide_for(battle, side, byte, events);
 }
 
 // Neither thrashing nor trapping is on.
-fn bide_for(battle: &mut Packed, side: Side, byte: u8, events: &mut EventList)
-    requires room { HasRoom 1 events.old }
+fn bide_for<S: EventSink>(battle: &mut Packed, side: Side, byte: u8, events: &mut S)
+    requires room { HasRoom S.room 1 events.old }
     ensures shown { (g : Frame) (p : Progress) → (underway side p).thrash ≡ None
         → (underway side p).trapping ≡ None
-        → Shows g battle.old events.old.items false p
-        → Shows g battle.new events.new.items false (bide_for side byte p) }
-    ensures room { Adds 1 events.old events.new }
+        → Shows g battle.old (S.tells events.old) false p
+        → Shows g battle.new (S.tells events.new) false (bide_for side byte p) }
+    ensures room { AddsAtMost S.room 1 events.old events.new }
 {
     battle.put_bide(side, byte % 2 + 2, 0);
     events.push(Event::Start(battle.who(side), Volatile::Bide));
@@ -114,19 +120,19 @@ fn energy_let_out(battle: &Packed, side: Side) -> Option<u16>
 }
 
 // The damage is twice the energy; 0 is a miss.
-fn let_energy_go(
+fn let_energy_go<S: EventSink>(
     battle: &mut Packed,
     side: Side,
     damage: u16,
     known: &mut Known,
-    events: &mut EventList,
+    events: &mut S,
 )
-    requires room { HasRoom 1 events.old }
+    requires room { HasRoom S.room 1 events.old }
     ensures shown { (energy : ℕ) → damage ≡ let_out energy
-        → DoesKnowing battle.old events.old.items known.old battle.new events.new.items known.new
+        → DoesKnowing battle.old (S.tells events.old) known.old battle.new (S.tells events.new) known.new
         false (let_energy_go side energy) }
     ensures counts { IsUncounted known.old → IsUncounted known.new }
-    ensures room { Adds 1 events.old events.new }
+    ensures room { AddsAtMost S.room 1 events.old events.new }
 {
     battle.end_bide(side);
     events.push(Event::End(battle.who(side), Volatile::Bide));
@@ -135,13 +141,19 @@ fn let_energy_go(
     known.missed = damage == 0;
 }
 
-fn store_energy(battle: &mut Packed, side: Side, turns: u8, energy: u16, events: &mut EventList)
-    requires room { HasRoom 1 events.old }
+fn store_energy<S: EventSink>(
+    battle: &mut Packed,
+    side: Side,
+    turns: u8,
+    energy: u16,
+    events: &mut S,
+)
+    requires room { HasRoom S.room 1 events.old }
     ensures shown { (g : Frame) (p : Progress) (damage : ℕ) (b : Storing)
         → (underway side p).bide ≡ Some b → turns ≡ b.turns - 1 → energy ≡ energy_with damage b
-        → Shows g battle.old events.old.items false p
-        → Shows g battle.new events.new.items true (store_energy side damage p) }
-    ensures room { Adds 1 events.old events.new }
+        → Shows g battle.old (S.tells events.old) false p
+        → Shows g battle.new (S.tells events.new) true (store_energy side damage p) }
+    ensures room { AddsAtMost S.room 1 events.old events.new }
 {
     battle.put_bide(side, turns, energy);
     events.push(Event::Activate(battle.who(side), Volatile::Bide));

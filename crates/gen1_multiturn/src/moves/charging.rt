@@ -1,6 +1,6 @@
 //! Moves that charge for a turn before they strike (docs/MECHANICS.md, "Charging").
 ghost use Rattle.std.specs.Prelude.{◌≡◌};
-ghost use Rattle.gen1_layout.specs.Words.{Adds, AddsAtMost, Does, Event, Frame, HasRoom, List, Progress, Shows, active_in, false, length, member_in, move_at, true};
+ghost use Rattle.gen1_layout.specs.Words.{AddsAtMost, Does, Event, Frame, HasRoom, List, Progress, Shows, Told, active_in, false, length, member_in, move_at, true};
 ghost use Rattle.gen1_machine.specs.Charging.{begin_charge, charge, end_charge, make_current};
 ghost use Rattle.gen1_machine.specs.Conditions.{with_invulnerability};
 ghost use Rattle.gen1_tables.specs.Effects.{hides};
@@ -11,8 +11,9 @@ ghost use Rattle.gen1_action.specs.Planned.{DoesTaking};
 ghost use Rattle.gen1_multiturn.specs.Charging.{charge_picked};
 
 use gen1_action::Known;
+use gen1_events::EventSink;
 use gen1_layout::{Conditions, Packed};
-use gen1_machine::{Event, EventList, Pick, Side, UsedMove};
+use gen1_machine::{Event, Pick, Side, UsedMove};
 use gen1_rolls::Rolls;
 use gen1_tables::{Effect, MoveId};
 
@@ -20,11 +21,11 @@ use gen1_tables::{Effect, MoveId};
 /// Charging, and for Fly and Dig also Invulnerable, and `Prepare` is written; `true` says that the action ends with that. In the
 /// second turn, in which Charging is on, both conditions are cleared. A place in `events` is to be free, and nothing else
 /// changes (docs/MECHANICS.md, "Charging").
-pub fn charge(battle: &mut Packed, side: Side, id: MoveId, events: &mut EventList) -> bool
-    requires room { HasRoom 1 events.old }
-    ensures shown { Does battle.old events.old.items battle.new events.new.items result
+pub fn charge<S: EventSink>(battle: &mut Packed, side: Side, id: MoveId, events: &mut S) -> bool
+    requires room { HasRoom S.room 1 events.old }
+    ensures shown { Does battle.old (S.tells events.old) battle.new (S.tells events.new) result
         (charge_picked side (move_at id)) }
-    ensures room { AddsAtMost 1 events.old events.new }
+    ensures room { AddsAtMost S.room 1 events.old events.new }
 {
     let pick = Pick::Use(battle.picked_move(side));
     charge_by(battle, side, pick, id, events)
@@ -32,20 +33,20 @@ pub fn charge(battle: &mut Packed, side: Side, id: MoveId, events: &mut EventLis
 
 /// The same of the move that a pick takes up, in an action of which something is known. The answer is `true` where the action
 /// ends with it: in the first turn, where the move becomes the current one (docs/MECHANICS.md, "Charging").
-pub fn charge_knowing<R: Rolls>(
+pub fn charge_knowing<R: Rolls, S: EventSink>(
     battle: &mut Packed,
     side: Side,
     pick: Pick,
     id: MoveId,
     known: &Known,
     random: &R,
-    events: &mut EventList,
+    events: &mut S,
 ) -> bool
-    requires room { HasRoom 1 events.old }
+    requires room { HasRoom S.room 1 events.old }
     ensures shown { DoesTaking R.byte R.next R.SPAN side pick (move_at id).effect battle.old
-        events.old.items random.now known.now battle.new events.new.items random.now known.now
+        (S.tells events.old) random.now known.now battle.new (S.tells events.new) random.now known.now
         result (λ r. charge side pick (move_at id)) }
-    ensures room { AddsAtMost 1 events.old events.new }
+    ensures room { AddsAtMost S.room 1 events.old events.new }
 {
     charge_by(battle, side, pick, id, events)
 }
@@ -55,8 +56,8 @@ pub fn make_current(battle: &mut Packed, side: Side, pick: Pick)
     ensures shown { (g : Frame) (p : Progress) (events : List Event)
         → IsUsedMove (length (member_in side p.field).moves)
         (used_by pick (active_in side p.field).current_move)
-        → Shows g battle.old events false p
-        → Shows g battle.new events false (make_current side pick p) }
+        → Shows g battle.old (Told events) false p
+        → Shows g battle.new (Told events) false (make_current side pick p) }
 {
     let used = used_by(pick, battle.current_move(side));
     battle.put_current_move(side, used);
@@ -75,20 +76,20 @@ pub fn used_by(pick: Pick, current: UsedMove) -> UsedMove
 }
 
 // True where the action ends with it.
-fn charge_by(
+fn charge_by<S: EventSink>(
     battle: &mut Packed,
     side: Side,
     pick: Pick,
     id: MoveId,
-    events: &mut EventList,
+    events: &mut S,
 ) -> bool
-    requires room { HasRoom 1 events.old }
+    requires room { HasRoom S.room 1 events.old }
     ensures shown { (g : Frame) (p : Progress)
         → IsUsedMove (length (member_in side p.field).moves)
         (used_by pick (active_in side p.field).current_move)
-        → Shows g battle.old events.old.items false p
-        → Shows g battle.new events.new.items result (charge side pick (move_at id) p) }
-    ensures room { AddsAtMost 1 events.old events.new }
+        → Shows g battle.old (S.tells events.old) false p
+        → Shows g battle.new (S.tells events.new) result (charge side pick (move_at id) p) }
+    ensures room { AddsAtMost S.room 1 events.old events.new }
 {
     if !id.effect().charges() {
         return false;
@@ -102,14 +103,20 @@ fn charge_by(
 }
 
 // The first turn.
-fn begin_charge(battle: &mut Packed, side: Side, pick: Pick, id: MoveId, events: &mut EventList)
-    requires room { HasRoom 1 events.old }
+fn begin_charge<S: EventSink>(
+    battle: &mut Packed,
+    side: Side,
+    pick: Pick,
+    id: MoveId,
+    events: &mut S,
+)
+    requires room { HasRoom S.room 1 events.old }
     ensures shown { (g : Frame) (p : Progress)
         → IsUsedMove (length (member_in side p.field).moves)
         (used_by pick (active_in side p.field).current_move)
-        → Shows g battle.old events.old.items false p
-        → Shows g battle.new events.new.items true (begin_charge side pick (move_at id) p) }
-    ensures room { Adds 1 events.old events.new }
+        → Shows g battle.old (S.tells events.old) false p
+        → Shows g battle.new (S.tells events.new) true (begin_charge side pick (move_at id) p) }
+    ensures room { AddsAtMost S.room 1 events.old events.new }
 {
     make_current(battle, side, pick);
     battle.put_flag(side, Conditions::CHARGING, true);
@@ -120,7 +127,7 @@ fn begin_charge(battle: &mut Packed, side: Side, pick: Pick, id: MoveId, events:
 // Who flies up or digs in can't be hit meanwhile.
 fn hide(battle: &mut Packed, side: Side, effect: Effect)
     ensures shown { (events : List Event)
-        → Does battle.old events battle.new events false
+        → Does battle.old (Told events) battle.new (Told events) false
         (only (hides effect) (on_conditions side with_invulnerability)) }
 {
     if hides(effect) {
@@ -137,7 +144,7 @@ fn hides(effect: Effect) -> bool
 // The second turn.
 fn end_charge(battle: &mut Packed, side: Side)
     ensures shown { (events : List Event)
-        → Does battle.old events battle.new events false (end_charge side) }
+        → Does battle.old (Told events) battle.new (Told events) false (end_charge side) }
 {
     battle.put_flag(side, Conditions::CHARGING, false);
     battle.put_flag(side, Conditions::INVULNERABLE, false);

@@ -1,6 +1,6 @@
 //! Counter, which gives the last damage back twice over (docs/MECHANICS.md, "Counter").
 ghost use Rattle.std.specs.Prelude.{◌≡◌, ◌≤◌};
-ghost use Rattle.gen1_layout.specs.Words.{Event, List, Reads, false, move_at};
+ghost use Rattle.gen1_layout.specs.Words.{Event, List, Reads, Told, false, move_at};
 ghost use Rattle.gen1_machine.specs.Counter.{can_be_countered, counter};
 ghost use Rattle.gen1_machine.specs.Picks.{picked_move_in};
 ghost use Rattle.gen1_action.specs.Knowing.{DoesKnowingDrawing, IsUncounted};
@@ -36,8 +36,8 @@ pub fn counter_knowing<R: Rolls>(
     random: &mut R,
 )
     ensures shown { (events : List Event)
-        → DoesKnowingDrawing R.byte R.next R.SPAN battle.old events random.old known.old battle.new
-        events random.new known.new false (counter side (move_at id)) }
+        → DoesKnowingDrawing R.byte R.next R.SPAN battle.old (Told events) random.old known.old battle.new
+        (Told events) random.new known.new false (counter side (move_at id)) }
     ensures counts { IsUncounted known.old → IsUncounted known.new }
 {
     known.critical = critical(battle, side, id, random);

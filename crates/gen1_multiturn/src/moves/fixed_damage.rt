@@ -1,6 +1,6 @@
 //! Moves of fixed damage, Super Fang and Psywave (docs/MECHANICS.md, "Fixed damage and one-hit moves").
 ghost use Rattle.std.specs.Prelude.{◌≡◌};
-ghost use Rattle.gen1_layout.specs.Words.{Event, List, Reads, false, member_in, move_at};
+ghost use Rattle.gen1_layout.specs.Words.{Event, List, Reads, Told, false, member_in, move_at};
 ghost use Rattle.gen1_layout.specs.Parts.{Parts};
 ghost use Rattle.gen1_machine.specs.FixedDamage.{deal_fixed, fixed_damage, half_hp, is_psywave, psywave};
 ghost use Rattle.gen1_action.specs.Knowing.{DoesKnowingDrawing, IsUncounted};
@@ -54,8 +54,8 @@ pub fn fixed_knowing<R: Rolls>(
     random: &mut R,
 ) -> bool
     ensures shown { (events : List Event)
-        → DoesKnowingDrawing R.byte R.next R.SPAN battle.old events random.old known.old battle.new
-        events random.new known.new result (fixed_damage side (move_at id)) }
+        → DoesKnowingDrawing R.byte R.next R.SPAN battle.old (Told events) random.old known.old battle.new
+        (Told events) random.new known.new result (fixed_damage side (move_at id)) }
     ensures counts { IsUncounted known.old → IsUncounted known.new }
 {
     hit_or_miss(battle, side, id, known, random);

@@ -1,5 +1,5 @@
 //! One-hit moves (docs/MECHANICS.md, "Fixed damage and one-hit moves").
-ghost use Rattle.gen1_layout.specs.Words.{DoesDrawing, Event, List, Reads, false, move_at, now_in, nat_lt, other};
+ghost use Rattle.gen1_layout.specs.Words.{DoesDrawing, Event, List, Reads, Told, false, move_at, nat_lt, now_in, other};
 ghost use Rattle.gen1_tables.specs.declared.effect.Stat.TheVariants.{Speed};
 ghost use Rattle.gen1_machine.specs.Damage.{is_factor};
 ghost use Rattle.gen1_machine.specs.FixedDamage.{deal_everything, knock_out, knock_out_by_type};
@@ -26,8 +26,8 @@ pub fn knock_out<R: Rolls>(
     random: &mut R,
 )
     ensures shown { (events : List Event)
-        → DoesKnowingDrawing R.byte R.next R.SPAN battle.old events random.old known.old battle.new
-        events random.new known.new false (knock_out side (move_at id)) }
+        → DoesKnowingDrawing R.byte R.next R.SPAN battle.old (Told events) random.old known.old battle.new
+        (Told events) random.new known.new false (knock_out side (move_at id)) }
     ensures counts { IsUncounted known.old → IsUncounted known.new }
 {
     battle.put_last_damage(0);
@@ -55,8 +55,8 @@ fn knock_out_by_type<R: Rolls>(
     random: &mut R,
 )
     ensures shown { (events : List Event)
-        → DoesKnowingDrawing R.byte R.next R.SPAN battle.old events random.old known.old battle.new
-        events random.new known.new false (knock_out_by_type side (move_at id)) }
+        → DoesKnowingDrawing R.byte R.next R.SPAN battle.old (Told events) random.old known.old battle.new
+        (Told events) random.new known.new false (knock_out_by_type side (move_at id)) }
     ensures counts { IsUncounted known.old → IsUncounted known.new }
 {
     if is_immune(battle, side.other(), id.kind()) {
@@ -69,7 +69,7 @@ fn knock_out_by_type<R: Rolls>(
 // The draws of a factor, which is not used.
 fn deal_everything<R: Rolls>(battle: &mut Packed, random: &mut R)
     ensures shown { (events : List Event)
-        → DoesDrawing R.byte R.next R.SPAN battle.old events random.old battle.new events random.new
+        → DoesDrawing R.byte R.next R.SPAN battle.old (Told events) random.old battle.new (Told events) random.new
         false (draw_until is_factor deal_everything) }
 {
     let Some(_) = until(random, |byte| is_factor(byte)) else {

@@ -3,19 +3,20 @@ ghost use Rattle.gen1_layout.specs.Words.{AddsAtMost, Does, HasRoom, false, othe
 ghost use Rattle.gen1_machine.specs.ManyHits.{build_rage};
 ghost use Rattle.gen1_machine.specs.Progress.{has_fallen, unless};
 
+use gen1_events::EventSink;
 use gen1_layout::{Conditions, Packed};
-use gen1_machine::{EventList, Side};
+use gen1_machine::Side;
 use gen1_status::raise_stage;
 use gen1_tables::Stat;
 
 /// Builds the Rage of the foe of `side`, after a landing on it: if the foe lives and Rage is on, its Attack is shifted up by 1.
 /// `Boost` is written if its stage rises, and one place in `events` is to be free for it; at +6 nothing happens, and a failure
 /// is not written. Nothing else changes but what a shift brings (docs/MECHANICS.md, "Going on", "Stage shift").
-pub fn rage(battle: &mut Packed, side: Side, events: &mut EventList)
-    requires room { HasRoom 1 events.old }
-    ensures shown { Does battle.old events.old.items battle.new events.new.items false
+pub fn rage<S: EventSink>(battle: &mut Packed, side: Side, events: &mut S)
+    requires room { HasRoom S.room 1 events.old }
+    ensures shown { Does battle.old (S.tells events.old) battle.new (S.tells events.new) false
         (unless (has_fallen (other side)) (build_rage (other side))) }
-    ensures room { AddsAtMost 1 events.old events.new }
+    ensures room { AddsAtMost S.room 1 events.old events.new }
 {
     let foe = side.other();
     if battle.has_fallen(foe) {
@@ -24,11 +25,11 @@ pub fn rage(battle: &mut Packed, side: Side, events: &mut EventList)
     build_rage(battle, foe, events);
 }
 
-fn build_rage(battle: &mut Packed, side: Side, events: &mut EventList)
-    requires room { HasRoom 1 events.old }
-    ensures shown { Does battle.old events.old.items battle.new events.new.items false
+fn build_rage<S: EventSink>(battle: &mut Packed, side: Side, events: &mut S)
+    requires room { HasRoom S.room 1 events.old }
+    ensures shown { Does battle.old (S.tells events.old) battle.new (S.tells events.new) false
         (build_rage side) }
-    ensures room { AddsAtMost 1 events.old events.new }
+    ensures room { AddsAtMost S.room 1 events.old events.new }
 {
     if !battle.is_on(side, Conditions::RAGE) {
         return;

@@ -5,30 +5,31 @@ ghost use Rattle.gen1_machine.specs.EarlyEffects.{make_substitute, pay_for_subst
 ghost use Rattle.gen1_multiturn.specs.Anyway.{DoesAnyway};
 
 use gen1_action::fail;
+use gen1_events::EventSink;
 use gen1_hits::lose_hp;
 use gen1_layout::{Conditions, Packed};
-use gen1_machine::{DamageSource, Event, EventList, Side, Volatile};
+use gen1_machine::{DamageSource, Event, Side, Volatile};
 
 /// Makes a Substitute for the member of `side` that is out: it costs a quarter of its maximum HP, and has as many. It fails
 /// where one is up, or where the member has fewer HP than that; with exactly a quarter it is made, and the member falls. `Fail`
 /// is written, or `Start` and `Damage`: two places in `events` are to be free. Nothing else changes (docs/MECHANICS.md, "Early
 /// effects").
-pub fn substitute(battle: &mut Packed, side: Side, events: &mut EventList)
-    requires room { HasRoom 2 events.old }
-    ensures shown { DoesAnyway battle.old events.old.items battle.new events.new.items
+pub fn substitute<S: EventSink>(battle: &mut Packed, side: Side, events: &mut S)
+    requires room { HasRoom S.room 2 events.old }
+    ensures shown { DoesAnyway battle.old (S.tells events.old) battle.new (S.tells events.new)
         (make_substitute side) }
-    ensures room { AddsAtMost 2 events.old events.new }
+    ensures room { AddsAtMost S.room 2 events.old events.new }
 {
     make_substitute(battle, side, events);
 }
 
 /// The same, as a part of an action. The answer is `true` where it fails, which ends the action (docs/MECHANICS.md, "Early
 /// effects").
-pub fn make_substitute(battle: &mut Packed, side: Side, events: &mut EventList) -> bool
-    requires room { HasRoom 2 events.old }
-    ensures shown { Does battle.old events.old.items battle.new events.new.items result
+pub fn make_substitute<S: EventSink>(battle: &mut Packed, side: Side, events: &mut S) -> bool
+    requires room { HasRoom S.room 2 events.old }
+    ensures shown { Does battle.old (S.tells events.old) battle.new (S.tells events.new) result
         (make_substitute side) }
-    ensures room { AddsAtMost 2 events.old events.new }
+    ensures room { AddsAtMost S.room 2 events.old events.new }
 {
     if battle.is_on(side, Conditions::SUBSTITUTE) {
         fail(battle, side, events);
@@ -51,12 +52,12 @@ fn quarter(battle: &Packed, side: Side) -> u8
     (battle.max_hp(side) / 4).min(249) as u8
 }
 
-fn pay_for_substitute(battle: &mut Packed, side: Side, cost: u8, events: &mut EventList)
-    requires room { HasRoom 2 events.old }
+fn pay_for_substitute<S: EventSink>(battle: &mut Packed, side: Side, cost: u8, events: &mut S)
+    requires room { HasRoom S.room 2 events.old }
     requires most { cost ≤ 249 }
-    ensures shown { Does battle.old events.old.items battle.new events.new.items false
+    ensures shown { Does battle.old (S.tells events.old) battle.new (S.tells events.new) false
         (pay_for_substitute side cost) }
-    ensures room { AddsAtMost 2 events.old events.new }
+    ensures room { AddsAtMost S.room 2 events.old events.new }
 {
     battle.put_substitute(side, Some(cost));
     events.push(Event::Start(battle.who(side), Volatile::Substitute));

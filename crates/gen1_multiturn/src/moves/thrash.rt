@@ -1,6 +1,6 @@
 //! Thrashing, which begins, goes on, and ends in confusion (docs/MECHANICS.md, "Going on").
 ghost use Rattle.std.specs.Prelude.{◌≡◌};
-ghost use Rattle.gen1_layout.specs.Words.{AddsAtMost, Event, Frame, HasRoom, List, None, Progress, ShowsDrawn, draw, false, move_at, true};
+ghost use Rattle.gen1_layout.specs.Words.{AddsAtMost, Event, Frame, HasRoom, List, None, Progress, ShowsDrawn, Told, draw, false, move_at, true};
 ghost use Rattle.gen1_tables.specs.declared.effect.Effect.{Effect};
 ghost use Rattle.gen1_tables.specs.declared.effect.Effect.TheVariants.{Thrash};
 ghost use Rattle.gen1_tables.specs.Effects.{thrashes};
@@ -13,8 +13,9 @@ ghost use Rattle.gen1_multiturn.specs.GoingOn.{use_thrash};
 
 use crate::moves::going_on::seen_going_on;
 use gen1_action::{Known, confuse};
+use gen1_events::EventSink;
 use gen1_layout::Packed;
-use gen1_machine::{EventList, Side};
+use gen1_machine::Side;
 use gen1_rolls::Rolls;
 use gen1_tables::MoveId;
 
@@ -25,12 +26,17 @@ const ACCURACY: u8 = 255;
 /// the accuracy byte of these moves, 255, kept for them; where it is, a turn less is left, and after the last the user is
 /// confused, by a draw, with `Start`. A place in `events` is to be free for that. Nothing else changes (docs/MECHANICS.md,
 /// "Going on").
-pub fn thrash<R: Rolls>(battle: &mut Packed, side: Side, random: &mut R, events: &mut EventList)
-    requires room { HasRoom 1 events.old }
+pub fn thrash<R: Rolls, S: EventSink>(
+    battle: &mut Packed,
+    side: Side,
+    random: &mut R,
+    events: &mut S,
+)
+    requires room { HasRoom S.room 1 events.old }
     ensures left { (move : Move) → accuracy_byte move ≡ 255
-        → DoesAloneAt R.byte R.next R.SPAN side Thrash battle.old events.old.items random.old
-        battle.new events.new.items random.new (λ r. use_thrash side move) }
-    ensures room { AddsAtMost 1 events.old events.new }
+        → DoesAloneAt R.byte R.next R.SPAN side Thrash battle.old (S.tells events.old) random.old
+        battle.new (S.tells events.new) random.new (λ r. use_thrash side move) }
+    ensures room { AddsAtMost S.room 1 events.old events.new }
 {
     let known = seen_going_on(battle, side);
     thrash_with(battle, side, ACCURACY, &known, random, events);
@@ -38,39 +44,39 @@ pub fn thrash<R: Rolls>(battle: &mut Packed, side: Side, random: &mut R, events:
 
 /// The same for a move that thrashes, in an action of which something is known, which says whether it goes on
 /// (docs/MECHANICS.md, "Going on").
-pub fn thrash_knowing<R: Rolls>(
+pub fn thrash_knowing<R: Rolls, S: EventSink>(
     battle: &mut Packed,
     side: Side,
     id: MoveId,
     known: &Known,
     random: &mut R,
-    events: &mut EventList,
+    events: &mut S,
 )
-    requires room { HasRoom 1 events.old }
+    requires room { HasRoom S.room 1 events.old }
     requires tie { thrashes (move_at id).effect ≡ true }
-    ensures shown { DoesAt R.byte R.next R.SPAN side (move_at id).effect battle.old events.old.items
-        random.old known.now battle.new events.new.items random.new known.now false
+    ensures shown { DoesAt R.byte R.next R.SPAN side (move_at id).effect battle.old (S.tells events.old)
+        random.old known.now battle.new (S.tells events.new) random.new known.now false
         (λ r. thrash_about side (move_at id)) }
-    ensures room { AddsAtMost 1 events.old events.new }
+    ensures room { AddsAtMost S.room 1 events.old events.new }
 {
     thrash_with(battle, side, id.accuracy_byte(), known, random, events);
 }
 
 // The same for a move with this accuracy byte.
-fn thrash_with<R: Rolls>(
+fn thrash_with<R: Rolls, S: EventSink>(
     battle: &mut Packed,
     side: Side,
     accuracy: u8,
     known: &Known,
     random: &mut R,
-    events: &mut EventList,
+    events: &mut S,
 )
-    requires room { HasRoom 1 events.old }
+    requires room { HasRoom S.room 1 events.old }
     ensures shown { (move : Move) (effect : Effect) → accuracy_byte move ≡ accuracy
         → thrashes effect ≡ true
-        → DoesAt R.byte R.next R.SPAN side effect battle.old events.old.items random.old known.now
-        battle.new events.new.items random.new known.now false (λ r. thrash_about side move) }
-    ensures room { AddsAtMost 1 events.old events.new }
+        → DoesAt R.byte R.next R.SPAN side effect battle.old (S.tells events.old) random.old known.now
+        battle.new (S.tells events.new) random.new known.now false (λ r. thrash_about side move) }
+    ensures room { AddsAtMost S.room 1 events.old events.new }
 {
     if known.going_on {
         thrash_on(battle, side, battle.thrash(side), random, events);
@@ -80,19 +86,19 @@ fn thrash_with<R: Rolls>(
 }
 
 // A turn less is left; after the last it ends, and the user is confused.
-fn thrash_on<R: Rolls>(
+fn thrash_on<R: Rolls, S: EventSink>(
     battle: &mut Packed,
     side: Side,
     left: Option<u8>,
     random: &mut R,
-    events: &mut EventList,
+    events: &mut S,
 )
-    requires room { HasRoom 1 events.old }
+    requires room { HasRoom S.room 1 events.old }
     ensures shown { (origin : R) (g : Frame) (p : Progress) → (underway side p).thrash ≡ left
-        → ShowsDrawn R.byte R.next R.SPAN origin g battle.old events.old.items random.old false p
-        → ShowsDrawn R.byte R.next R.SPAN origin g battle.new events.new.items random.new false
+        → ShowsDrawn R.byte R.next R.SPAN origin g battle.old (S.tells events.old) random.old false p
+        → ShowsDrawn R.byte R.next R.SPAN origin g battle.new (S.tells events.new) random.new false
         (thrash_less side left p) }
-    ensures room { AddsAtMost 1 events.old events.new }
+    ensures room { AddsAtMost S.room 1 events.old events.new }
 {
     let Some(turns) = left else {
         return;
@@ -111,8 +117,8 @@ fn begin_thrashing<R: Rolls>(battle: &mut Packed, side: Side, accuracy: u8, rand
     ensures shown { (events : List Event) (move : Move) (origin : R) (g : Frame) (p : Progress)
         → accuracy_byte move ≡ accuracy
         → (underway side p).bide ≡ None → (underway side p).trapping ≡ None
-        → ShowsDrawn R.byte R.next R.SPAN origin g battle.old events random.old false p
-        → ShowsDrawn R.byte R.next R.SPAN origin g battle.new events random.new false
+        → ShowsDrawn R.byte R.next R.SPAN origin g battle.old (Told events) random.old false p
+        → ShowsDrawn R.byte R.next R.SPAN origin g battle.new (Told events) random.new false
         (draw (thrash_for side move) p) }
 {
     let byte = random.draw();

@@ -1,6 +1,6 @@
 //! Trapping, which begins or goes on (docs/MECHANICS.md, "Going on").
 ghost use Rattle.std.specs.Prelude.{◌≡◌};
-ghost use Rattle.gen1_layout.specs.Words.{Does, Event, Frame, List, None, Progress, ShowsDrawn, false, other, true, ◌▸◌};
+ghost use Rattle.gen1_layout.specs.Words.{Does, Event, Frame, List, None, Progress, ShowsDrawn, Told, false, other, true, ◌▸◌};
 ghost use Rattle.gen1_tables.specs.declared.effect.Effect.{Effect};
 ghost use Rattle.gen1_tables.specs.declared.effect.Effect.TheVariants.{Trapping};
 ghost use Rattle.gen1_machine.specs.Conditions.{with_trapping_one_less, without_recharge};
@@ -22,8 +22,8 @@ use gen1_rolls::Rolls;
 /// else changes, and no event is written (docs/MECHANICS.md, "Going on").
 pub fn trap<R: Rolls>(battle: &mut Packed, side: Side, random: &mut R)
     ensures left { (events : List Event)
-        → DoesAloneAt R.byte R.next R.SPAN side Trapping battle.old events random.old battle.new
-        events random.new (λ r. use_trap side) }
+        → DoesAloneAt R.byte R.next R.SPAN side Trapping battle.old (Told events) random.old battle.new
+        (Told events) random.new (λ r. use_trap side) }
 {
     let known = seen_going_on(battle, side);
     trap_knowing(battle, side, &known, random);
@@ -33,8 +33,8 @@ pub fn trap<R: Rolls>(battle: &mut Packed, side: Side, random: &mut R)
 /// (docs/MECHANICS.md, "Going on").
 pub fn trap_knowing<R: Rolls>(battle: &mut Packed, side: Side, known: &Known, random: &mut R)
     ensures shown { (events : List Event) (effect : Effect) → traps effect ≡ true
-        → DoesAt R.byte R.next R.SPAN side effect battle.old events random.old known.now battle.new
-        events random.new known.now false (λ r. trap side) }
+        → DoesAt R.byte R.next R.SPAN side effect battle.old (Told events) random.old known.now battle.new
+        (Told events) random.new known.now false (λ r. trap side) }
 {
     if known.going_on {
         trap_one_turn_less(battle, side);
@@ -45,7 +45,7 @@ pub fn trap_knowing<R: Rolls>(battle: &mut Packed, side: Side, known: &Known, ra
 
 fn trap_one_turn_less(battle: &mut Packed, side: Side)
     ensures shown { (events : List Event)
-        → Does battle.old events battle.new events false
+        → Does battle.old (Told events) battle.new (Told events) false
         (on_conditions side with_trapping_one_less) }
 {
     match battle.trapping(side) {
@@ -58,8 +58,8 @@ fn trap_one_turn_less(battle: &mut Packed, side: Side)
 fn begin_trapping<R: Rolls>(battle: &mut Packed, side: Side, random: &mut R)
     ensures shown { (events : List Event) (origin : R) (g : Frame) (p : Progress)
         → (underway side p).bide ≡ None → (underway side p).thrash ≡ None
-        → ShowsDrawn R.byte R.next R.SPAN origin g battle.old events random.old false p
-        → ShowsDrawn R.byte R.next R.SPAN origin g battle.new events random.new false
+        → ShowsDrawn R.byte R.next R.SPAN origin g battle.old (Told events) random.old false p
+        → ShowsDrawn R.byte R.next R.SPAN origin g battle.new (Told events) random.new false
         ((on_conditions (other side) without_recharge ▸ draw_count (trap_for side)) p) }
 {
     battle.put_flag(side.other(), Conditions::RECHARGE, false);

@@ -8,22 +8,23 @@ ghost use Rattle.gen1_status.specs.GateAnswer.{DoesTelling};
 use super::cant;
 use super::confusion::confusion_test;
 use crate::Gate;
+use gen1_events::EventSink;
 use gen1_layout::{Conditions, Packed};
-use gen1_machine::{CantReason, DisabledSlot, EventList, Pick, Side, UsedMove};
+use gen1_machine::{CantReason, DisabledSlot, Pick, Side, UsedMove};
 use gen1_rolls::Rolls;
 use gen1_stats::Status;
 
-pub(super) fn gate_of_move<R: Rolls>(
+pub(super) fn gate_of_move<R: Rolls, S: EventSink>(
     battle: &mut Packed,
     side: Side,
     pick: Pick,
     random: &mut R,
-    events: &mut EventList,
+    events: &mut S,
 ) -> Gate
-    requires room { HasRoom 2 events.old }
-    ensures shown { DoesTelling R.byte R.next R.SPAN battle.old events.old.items random.old
-        battle.new events.new.items random.new result (gate_of_move side pick) }
-    ensures room { AddsAtMost 2 events.old events.new }
+    requires room { HasRoom S.room 2 events.old }
+    ensures shown { DoesTelling R.byte R.next R.SPAN battle.old (S.tells events.old) random.old
+        battle.new (S.tells events.new) random.new result (gate_of_move side pick) }
+    ensures room { AddsAtMost S.room 2 events.old events.new }
 {
     let confused = confusion_test(battle, side, battle.confused(side), random, events);
     if confused.stops() {
@@ -42,12 +43,12 @@ pub(super) fn gate_of_move<R: Rolls>(
 }
 
 // A move that is disabled is not used, and its charge is lost.
-fn disabled_test(battle: &mut Packed, side: Side, pick: Pick, events: &mut EventList) -> bool
-    requires room { HasRoom 1 events.old }
-    ensures shown { Does battle.old events.old.items battle.new events.new.items result
+fn disabled_test<S: EventSink>(battle: &mut Packed, side: Side, pick: Pick, events: &mut S) -> bool
+    requires room { HasRoom S.room 1 events.old }
+    ensures shown { Does battle.old (S.tells events.old) battle.new (S.tells events.new) result
         (disabled_test side pick) }
-    ensures room { AddsAtMost 1 events.old events.new }
-    ensures quiet { result ≡ false → AddsNone events.old events.new }
+    ensures room { AddsAtMost S.room 1 events.old events.new }
+    ensures quiet { result ≡ false → AddsNone S.room events.old events.new }
 {
     if !is_disabled(battle, side, pick) {
         return false;
@@ -60,17 +61,17 @@ fn disabled_test(battle: &mut Packed, side: Side, pick: Pick, events: &mut Event
 const FULLY_PARALYSED_BELOW: u8 = 63;
 
 // Full paralysis, one time in four.
-fn paralysis_test<R: Rolls>(
+fn paralysis_test<R: Rolls, S: EventSink>(
     battle: &mut Packed,
     side: Side,
     random: &mut R,
-    events: &mut EventList,
+    events: &mut S,
 ) -> bool
-    requires room { HasRoom 1 events.old }
-    ensures shown { DoesDrawing R.byte R.next R.SPAN battle.old events.old.items random.old
-        battle.new events.new.items random.new result (paralysis_test side) }
-    ensures room { AddsAtMost 1 events.old events.new }
-    ensures quiet { result ≡ false → AddsNone events.old events.new }
+    requires room { HasRoom S.room 1 events.old }
+    ensures shown { DoesDrawing R.byte R.next R.SPAN battle.old (S.tells events.old) random.old
+        battle.new (S.tells events.new) random.new result (paralysis_test side) }
+    ensures room { AddsAtMost S.room 1 events.old events.new }
+    ensures quiet { result ≡ false → AddsNone S.room events.old events.new }
 {
     if !is_paralysed(battle.status(side)) {
         return false;

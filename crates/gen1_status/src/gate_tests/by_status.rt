@@ -4,17 +4,18 @@ ghost use Rattle.gen1_layout.specs.Words.{AddsAtMost, AddsNone, Does, DoesSeeing
 ghost use Rattle.gen1_machine.specs.Gate.{frozen_test, gate_of_status, sleep_test, trapped_test};
 
 use super::cant;
+use gen1_events::EventSink;
 use gen1_layout::{Conditions, Packed};
-use gen1_machine::{CantReason, Event, EventList, Kind, Side};
+use gen1_machine::{CantReason, Event, Kind, Side};
 use gen1_stats::Status;
 
 #[inline(always)] // docs/SPEED.md, "Hints on inlining"
-pub(super) fn gate_of_status(battle: &mut Packed, side: Side, events: &mut EventList) -> bool
-    requires room { HasRoom 1 events.old }
-    ensures shown { Does battle.old events.old.items battle.new events.new.items result
+pub(super) fn gate_of_status<S: EventSink>(battle: &mut Packed, side: Side, events: &mut S) -> bool
+    requires room { HasRoom S.room 1 events.old }
+    ensures shown { Does battle.old (S.tells events.old) battle.new (S.tells events.new) result
         (gate_of_status side) }
-    ensures room { AddsAtMost 1 events.old events.new }
-    ensures quiet { result ≡ false → AddsNone events.old events.new }
+    ensures room { AddsAtMost S.room 1 events.old events.new }
+    ensures quiet { result ≡ false → AddsNone S.room events.old events.new }
 {
     if sleep_test(battle, side, battle.status(side), events) {
         return true;
@@ -25,12 +26,12 @@ pub(super) fn gate_of_status(battle: &mut Packed, side: Side, events: &mut Event
     trapped_test(battle, side, events)
 }
 
-fn sleep_test(battle: &mut Packed, side: Side, status: Status, events: &mut EventList) -> bool
-    requires room { HasRoom 1 events.old }
-    ensures shown { DoesSeeing (status_of side) status battle.old events.old.items battle.new
-        events.new.items result (sleep_test side status) }
-    ensures room { AddsAtMost 1 events.old events.new }
-    ensures quiet { result ≡ false → AddsNone events.old events.new }
+fn sleep_test<S: EventSink>(battle: &mut Packed, side: Side, status: Status, events: &mut S) -> bool
+    requires room { HasRoom S.room 1 events.old }
+    ensures shown { DoesSeeing (status_of side) status battle.old (S.tells events.old) battle.new
+        (S.tells events.new) result (sleep_test side status) }
+    ensures room { AddsAtMost S.room 1 events.old events.new }
+    ensures quiet { result ≡ false → AddsNone S.room events.old events.new }
 {
     match status {
         Status::Asleep { turns, marked } => {
@@ -46,12 +47,18 @@ fn sleep_test(battle: &mut Packed, side: Side, status: Status, events: &mut Even
 }
 
 // A turn of sleep is over, and who wakes up does nothing either.
-fn sleep_turn(battle: &mut Packed, side: Side, turns: u8, marked: bool, events: &mut EventList)
-    requires room { HasRoom 1 events.old }
+fn sleep_turn<S: EventSink>(
+    battle: &mut Packed,
+    side: Side,
+    turns: u8,
+    marked: bool,
+    events: &mut S,
+)
+    requires room { HasRoom S.room 1 events.old }
     ensures shown { DoesSeeing (status_of side) (Status.Asleep turns marked) battle.old
-        events.old.items battle.new events.new.items true
+        (S.tells events.old) battle.new (S.tells events.new) true
         (sleep_test side (Status.Asleep turns marked)) }
-    ensures room { AddsAtMost 1 events.old events.new }
+    ensures room { AddsAtMost S.room 1 events.old events.new }
 {
     if turns <= 1 {
         battle.put_status(side, Status::Healthy);
@@ -63,12 +70,12 @@ fn sleep_turn(battle: &mut Packed, side: Side, turns: u8, marked: bool, events: 
     cant(battle, side, CantReason::Asleep, events);
 }
 
-fn frozen_test(battle: &Packed, side: Side, events: &mut EventList) -> bool
-    requires room { HasRoom 1 events.old }
-    ensures shown { Does battle.now events.old.items battle.now events.new.items result
+fn frozen_test<S: EventSink>(battle: &Packed, side: Side, events: &mut S) -> bool
+    requires room { HasRoom S.room 1 events.old }
+    ensures shown { Does battle.now (S.tells events.old) battle.now (S.tells events.new) result
         (frozen_test side) }
-    ensures room { AddsAtMost 1 events.old events.new }
-    ensures quiet { result ≡ false → AddsNone events.old events.new }
+    ensures room { AddsAtMost S.room 1 events.old events.new }
+    ensures quiet { result ≡ false → AddsNone S.room events.old events.new }
 {
     if !is_frozen(battle.status(side)) {
         return false;
@@ -77,12 +84,12 @@ fn frozen_test(battle: &Packed, side: Side, events: &mut EventList) -> bool
     true
 }
 
-fn trapped_test(battle: &Packed, side: Side, events: &mut EventList) -> bool
-    requires room { HasRoom 1 events.old }
-    ensures shown { Does battle.now events.old.items battle.now events.new.items result
+fn trapped_test<S: EventSink>(battle: &Packed, side: Side, events: &mut S) -> bool
+    requires room { HasRoom S.room 1 events.old }
+    ensures shown { Does battle.now (S.tells events.old) battle.now (S.tells events.new) result
         (trapped_test side) }
-    ensures room { AddsAtMost 1 events.old events.new }
-    ensures quiet { result ≡ false → AddsNone events.old events.new }
+    ensures room { AddsAtMost S.room 1 events.old events.new }
+    ensures quiet { result ≡ false → AddsNone S.room events.old events.new }
 {
     if !battle.is_on(side.other(), Conditions::TRAPPING) {
         return false;

@@ -4,15 +4,16 @@ ghost use Rattle.gen1_layout.specs.Words.{AddsAtMost, AddsNone, Does, DoesSeeing
 ghost use Rattle.gen1_machine.specs.Gate.{disable_count, flinch_test, gate_of_turn, recharge_test};
 
 use super::cant;
+use gen1_events::EventSink;
 use gen1_layout::{Conditions, Packed};
-use gen1_machine::{CantReason, DisabledSlot, Event, EventList, Side, Volatile};
+use gen1_machine::{CantReason, DisabledSlot, Event, Side, Volatile};
 
 #[inline(always)] // docs/SPEED.md, "Hints on inlining"
-pub(super) fn gate_of_turn(battle: &mut Packed, side: Side, events: &mut EventList) -> bool
-    requires room { HasRoom 1 events.old }
-    ensures shown { Does battle.old events.old.items battle.new events.new.items result
+pub(super) fn gate_of_turn<S: EventSink>(battle: &mut Packed, side: Side, events: &mut S) -> bool
+    requires room { HasRoom S.room 1 events.old }
+    ensures shown { Does battle.old (S.tells events.old) battle.new (S.tells events.new) result
         (gate_of_turn side) }
-    ensures room { AddsAtMost 1 events.old events.new }
+    ensures room { AddsAtMost S.room 1 events.old events.new }
 {
     if flinch_test(battle, side, events) {
         return true;
@@ -24,12 +25,12 @@ pub(super) fn gate_of_turn(battle: &mut Packed, side: Side, events: &mut EventLi
     false
 }
 
-fn flinch_test(battle: &mut Packed, side: Side, events: &mut EventList) -> bool
-    requires room { HasRoom 1 events.old }
-    ensures shown { Does battle.old events.old.items battle.new events.new.items result
+fn flinch_test<S: EventSink>(battle: &mut Packed, side: Side, events: &mut S) -> bool
+    requires room { HasRoom S.room 1 events.old }
+    ensures shown { Does battle.old (S.tells events.old) battle.new (S.tells events.new) result
         (flinch_test side) }
-    ensures room { AddsAtMost 1 events.old events.new }
-    ensures quiet { result ≡ false → AddsNone events.old events.new }
+    ensures room { AddsAtMost S.room 1 events.old events.new }
+    ensures quiet { result ≡ false → AddsNone S.room events.old events.new }
 {
     if !battle.is_on(side, Conditions::FLINCH) {
         return false;
@@ -39,12 +40,12 @@ fn flinch_test(battle: &mut Packed, side: Side, events: &mut EventList) -> bool
     true
 }
 
-fn recharge_test(battle: &mut Packed, side: Side, events: &mut EventList) -> bool
-    requires room { HasRoom 1 events.old }
-    ensures shown { Does battle.old events.old.items battle.new events.new.items result
+fn recharge_test<S: EventSink>(battle: &mut Packed, side: Side, events: &mut S) -> bool
+    requires room { HasRoom S.room 1 events.old }
+    ensures shown { Does battle.old (S.tells events.old) battle.new (S.tells events.new) result
         (recharge_test side) }
-    ensures room { AddsAtMost 1 events.old events.new }
-    ensures quiet { result ≡ false → AddsNone events.old events.new }
+    ensures room { AddsAtMost S.room 1 events.old events.new }
+    ensures quiet { result ≡ false → AddsNone S.room events.old events.new }
 {
     if !battle.is_on(side, Conditions::RECHARGE) {
         return false;
@@ -55,16 +56,16 @@ fn recharge_test(battle: &mut Packed, side: Side, events: &mut EventList) -> boo
 }
 
 // Disable counts down, and ends at 0.
-fn disable_count(
+fn disable_count<S: EventSink>(
     battle: &mut Packed,
     side: Side,
     disabled: Option<DisabledSlot>,
-    events: &mut EventList,
+    events: &mut S,
 )
-    requires room { HasRoom 1 events.old }
+    requires room { HasRoom S.room 1 events.old }
     ensures shown { DoesSeeing (λ p. (conditions side p).disabled) disabled battle.old
-        events.old.items battle.new events.new.items false (disable_count side disabled) }
-    ensures room { AddsAtMost 1 events.old events.new }
+        (S.tells events.old) battle.new (S.tells events.new) false (disable_count side disabled) }
+    ensures room { AddsAtMost S.room 1 events.old events.new }
 {
     let Some(DisabledSlot { slot, turns }) = disabled else {
         return;

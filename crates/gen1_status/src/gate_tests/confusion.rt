@@ -9,25 +9,26 @@ ghost use Rattle.gen1_status.specs.GateAnswer.{TellsDrawn};
 
 use crate::Gate;
 use crate::hit_on_itself::hurt_itself;
+use gen1_events::EventSink;
 use gen1_layout::Packed;
-use gen1_machine::{Event, EventList, Side, Volatile};
+use gen1_machine::{Event, Side, Volatile};
 use gen1_rolls::Rolls;
 
-pub(super) fn confusion_test<R: Rolls>(
+pub(super) fn confusion_test<R: Rolls, S: EventSink>(
     battle: &mut Packed,
     side: Side,
     confused: Option<u8>,
     random: &mut R,
-    events: &mut EventList,
+    events: &mut S,
 ) -> Gate
-    requires room { HasRoom 2 events.old }
+    requires room { HasRoom S.room 2 events.old }
     ensures shown { (origin : R) (g : Frame) (p : Progress)
         → (conditions side p).confused ≡ confused
-        → ShowsDrawn R.byte R.next R.SPAN origin g battle.old events.old.items random.old false p
-        → TellsDrawn R.byte R.next R.SPAN origin g battle.new events.new.items random.new result p
+        → ShowsDrawn R.byte R.next R.SPAN origin g battle.old (S.tells events.old) random.old false p
+        → TellsDrawn R.byte R.next R.SPAN origin g battle.new (S.tells events.new) random.new result p
         (confusion_test side confused p) }
-    ensures room { AddsAtMost 2 events.old events.new }
-    ensures quiet { result ≡ Gate.Go → AddsAtMost 1 events.old events.new }
+    ensures room { AddsAtMost S.room 2 events.old events.new }
+    ensures quiet { result ≡ Gate.Go → AddsAtMost S.room 1 events.old events.new }
 {
     let Some(turns) = confused else {
         return Gate::Go;
@@ -39,11 +40,11 @@ pub(super) fn confusion_test<R: Rolls>(
     confusion_lasts(battle, side, turns, random, events)
 }
 
-fn confusion_ends(battle: &mut Packed, side: Side, events: &mut EventList)
-    requires room { HasRoom 1 events.old }
-    ensures shown { Does battle.old events.old.items battle.new events.new.items false
+fn confusion_ends<S: EventSink>(battle: &mut Packed, side: Side, events: &mut S)
+    requires room { HasRoom S.room 1 events.old }
+    ensures shown { Does battle.old (S.tells events.old) battle.new (S.tells events.new) false
         (ends side volatiles.Confusion without_confusion) }
-    ensures room { AddsAtMost 1 events.old events.new }
+    ensures room { AddsAtMost S.room 1 events.old events.new }
 {
     battle.put_confused(side, None);
     events.push(Event::End(battle.who(side), Volatile::Confusion));
@@ -52,21 +53,21 @@ fn confusion_ends(battle: &mut Packed, side: Side, events: &mut EventList)
 const HITS_ITSELF_FROM: u8 = 128;
 
 // One time in two the member hits itself.
-fn confusion_lasts<R: Rolls>(
+fn confusion_lasts<R: Rolls, S: EventSink>(
     battle: &mut Packed,
     side: Side,
     turns: u8,
     random: &mut R,
-    events: &mut EventList,
+    events: &mut S,
 ) -> Gate
-    requires room { HasRoom 2 events.old }
+    requires room { HasRoom S.room 2 events.old }
     ensures shown { (origin : R) (g : Frame) (p : Progress)
         → (conditions side p).confused ≡ Some turns
-        → ShowsDrawn R.byte R.next R.SPAN origin g battle.old events.old.items random.old false p
-        → TellsDrawn R.byte R.next R.SPAN origin g battle.new events.new.items random.new result p
+        → ShowsDrawn R.byte R.next R.SPAN origin g battle.old (S.tells events.old) random.old false p
+        → TellsDrawn R.byte R.next R.SPAN origin g battle.new (S.tells events.new) random.new result p
         ((lasts side volatiles.Confusion with_confusion_one_less ▸ draw (may_hurt_itself side)) p) }
-    ensures room { AddsAtMost 2 events.old events.new }
-    ensures quiet { result ≡ Gate.Go → AddsAtMost 1 events.old events.new }
+    ensures room { AddsAtMost S.room 2 events.old events.new }
+    ensures quiet { result ≡ Gate.Go → AddsAtMost S.room 1 events.old events.new }
 {
     battle.put_confused(side, Some(turns.saturating_sub(1)));
     events.push(Event::Activate(battle.who(side), Volatile::Confusion));

@@ -10,7 +10,7 @@ returns g c =
     let one = c.as_slice.ensures.value in
     let two = c.as_slice-2.ensures.value in (
       record { state = begins asked.0; items = asked.1 },
-      asks_for c.args.key.now g.T.Item.meaning c.args.input.now asked c.requires c.in-Ok.ensures (rw one at c.in-Ok-new.ensures.allowed) (rw two at c.in-Ok-new-2.ensures.allowed),
+      asks_for c.args.key g.T.Item.meaning c.args.input.now asked c.requires c.in-Ok.ensures (rw one at c.in-Ok-new.ensures.allowed) (rw two at c.in-Ok-new-2.ensures.allowed),
       stands_begun _ _ _ _ _ asked.0.one asked.0.two (rw one at c.in-Ok-new.ensures.made) (rw two at c.in-Ok-new-2.ensures.made) c.with_limit-battle.ensures,
       refl,
     )

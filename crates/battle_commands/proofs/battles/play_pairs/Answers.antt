@@ -1,4 +1,5 @@
 use Rattle.std.proofs.Common.{Some, ap, arith, get_or, length, refl, sym, ◌<◌, ◌∙◌}
+use Rattle.gen1_machine.specs.Lines.{lines}
 use Rattle.gen1_engine.specs.Replay.{step_by_bytes}
 use Rattle.gen1_engine.specs.Update.{refusal_number}
 use Rattle.battle_commands.specs.declared.fault.ToolFault.TheVariants.{Pair}
@@ -7,7 +8,7 @@ use Rattle.battle_commands.proofs.Standing.{answered_err, answered_ok, answers_m
 use Rattle.battle_commands.proofs.battles.play_pairs.Goals as goal
 
 pub loop-number-init : goal.loop-number-init
-loop-number-init g c = (refl, λ s h. stood_first s c.args.pairs.now c.args.battle.now _ h)
+loop-number-init g c = (refl, λ s h. stood_first lines s c.args.pairs.now c.args.battle.now _ h)
 
 pub returns-in-Err-clause-answers : goal.returns-in-Err-clause-answers
 returns-in-Err-clause-answers g c s h =

@@ -1,5 +1,6 @@
 -- The lines of the pairs before a number were written.
 use Rattle.std.proofs.Common.{◌≡◌}
+use Rattle.gen1_machine.specs.Lines.{lines}
 use Rattle.gen1_machine.specs.State.{State}
 use Rattle.gen1_layout.specs.Within.{Stands}
 use Rattle.battle_commands.proofs.Standing.{Stood}
@@ -8,4 +9,4 @@ use Rattle.battle_commands.proofs.battles.play_pairs.Given as goal
 abbrev pub invariant-loop-number : goal.invariant-loop-number
 invariant-loop-number g l =
     (g.W.Sink.has_failed l.sink ≡ g.W.Sink.has_failed l.initial.sink)
-    × ((s : State) → Stands l.initial.battle s → Stood s l.pairs l.number l.battle (g.W.Sink.contents l.initial.sink) (g.W.Sink.contents l.sink))
+    × ((s : State) → Stands l.initial.battle s → Stood lines s l.pairs l.number l.battle (g.W.Sink.contents l.initial.sink) (g.W.Sink.contents l.sink))

@@ -1,7 +1,7 @@
 use Rattle.std.proofs.Common.{Err}
-use Rattle.std.specs.Prelude.{codes}
 use Rattle.gen1_machine.specs.Room.{room_of}
 use Rattle.battle_input.specs.Sheets.{submission_of}
+use Rattle.battle_input.specs.declared.misfit.Key.TheVariants.{Submissions}
 use Rattle.battle_commands.specs.Asked.{asked_of_room}
 use Rattle.battle_commands.specs.Rooms.{replies_due, submissions_due, room_due}
 use Rattle.battle_commands.proofs.Heard.{answers_behind, fault_first}
@@ -10,7 +10,7 @@ use Rattle.battle_commands.proofs.rooms.play_room.Goals as goal
 
 pub returns-in-Err-clause-answers : goal.returns-in-Err-clause-answers
 returns-in-Err-clause-answers g c =
-    answers_no_input room_due c.in-Err.fault _ _ (λ input long. answers_too_long submissions_due (codes "submissions") submission_of input _ long) c.in-Err.ensures.fault
+    answers_no_input room_due c.in-Err.fault _ _ (λ input long. answers_too_long submissions_due Submissions submission_of input _ long) c.in-Err.ensures.fault
 
 pub returns-in-Err-clause-write : goal.returns-in-Err-clause-write
 returns-in-Err-clause-write g c = unread_writes (Unit {0}) c.in-Err.fault _ _ c.in-Err.ensures.fault

@@ -5,4 +5,4 @@ use Rattle.gen1_action.proofs.action_hit_test.note_miss.Goals as goal
 
 pub returns-clause-shown : goal.returns-clause-shown
 unfolding note_miss
-returns-clause-shown c g p h = noted h (miss_event c.args.side (move_at c.args.id)) c.push.ensures.items (c.miss_event.ensures.stands _ _ h.within)
+returns-clause-shown t c g p h = noted h (miss_event c.args.side (move_at c.args.id)) c.push.ensures.told (c.miss_event.ensures.stands _ _ h.within)

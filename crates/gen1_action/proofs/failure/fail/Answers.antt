@@ -5,7 +5,7 @@ use Rattle.gen1_action.proofs.failure.fail.Goals as goal
 
 pub returns-clause-shown : goal.returns-clause-shown
 unfolding fail
-returns-clause-shown c g p h =
-    let a = noted h (λ (f : Field). events.Fail (who_in c.args.side f)) c.push.ensures.items
+returns-clause-shown t c g p h =
+    let a = noted h (λ (f : Field). events.Fail (who_in c.args.side f)) c.push.ensures.told
     (ap (λ (w : Who). events.Fail w) (c.who.ensures.stands _ _ h.within)) in
     goes _ _ a (halted a)

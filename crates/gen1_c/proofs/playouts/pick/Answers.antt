@@ -1,13 +1,18 @@
-use Rattle.std.proofs.Common.{ap, arith, get_or, length, ◌∙◌, ◌≡◌}
+use Rattle.std.proofs.Common.{ap, arith, ◌∙◌}
 use Rattle.gen1_machine.specs.declared.choice.Choice.{Choice}
+use Rattle.gen1_machine.specs.declared.choice.Choice.TheVariants.{Pass}
 use Rattle.gen1_machine.specs.Step.{is_among}
+use Rattle.gen1_requests.specs.OfferedMask.{choices_in}
 use Rattle.gen1_c.proofs.Offers.{among-at}
 use Rattle.gen1_c.proofs.playouts.pick.Goals as goal
 
-pub returns-in_default : goal.returns-in_default
-returns-in_default c some =
-    let items = c.args.choices.now.items in
-    let place = c.below-place.result in
-    let is : c.index-choices-place.result ≡ get_or items place c.index-choices-place.result = rw c.as_slice-choices.ensures.value at c.index-choices-place.is in
-    ap (λ (x : Choice). is_among x items) is
-    ∙ among-at items place c.index-choices-place.result (omega (arith, c.below-place.ensures.bound, ap length c.as_slice-choices.ensures.value))
+pub returns-then-count-eq0 : goal.returns-then-count-eq0
+returns-then-count-eq0 c some = absurd (omega (arith, some, c.if-count-eq0.true, c.count_of-count.ensures.value))
+
+pub choice_at-requires-clause-inside : goal.choice_at-requires-clause-inside
+choice_at-requires-clause-inside c = omega (arith, c.below-place.ensures.bound, c.count_of-count.ensures.value)
+
+pub returns : goal.returns
+returns c some =
+    ap (λ (x : Choice). is_among x (choices_in c.args.mask)) c.choice_at.ensures.value
+    ∙ among-at (choices_in c.args.mask) c.below-place.result Pass (omega (arith, c.below-place.ensures.bound, c.count_of-count.ensures.value))

@@ -6,6 +6,8 @@ use Rattle.gen1_machine.specs.Laws.{accepted_in}
 use Rattle.gen1_machine.specs.State.{is_over}
 use Rattle.gen1_machine.specs.Step.{run}
 use Rattle.gen1_machine.proofs.RunsEnd.{runs_end}
+use Rattle.gen1_requests.specs.OfferedMask.{choices_in}
+use Rattle.gen1_requests.proofs.MaskChoices.{offered_chosen}
 use Rattle.gen1_engine.specs.declared.result.BattleResult.{BattleResult}
 use Rattle.gen1_c.proofs.Accepting.{accepts-more, accepts-none, accepts-offered}
 use Rattle.gen1_c.proofs.Offers.{picked}
@@ -27,16 +29,18 @@ returns-in-Err c =
     let s = some.state in
     let going : is_over s.field.outcome ≡ false =
     ap (λ (r : BattleResult). is_over r.outcome) (sym (c.result-now.ensures.stands s some.stands)) ∙ sym c.is_over.ensures ∙ c.if-is_over.false in
-    let one = picked One s _ _ some.stands.valid going (c.choices.ensures s some.stands) c.pick-one.ensures in
-    let two = picked Two s _ _ some.stands.valid going (c.choices-in-updates.ensures s some.stands) c.pick-two.ensures in
-    let ok = accepts-offered s c.pick-one.result c.pick-two.result _ _ c.update_events.result one two (c.update_events.ensures.answers s some.stands) in
+    let one = picked One s (choices_in c.offered_mask.result) c.pick-one.result some.stands.valid going
+    (ap choices_in (c.offered_mask.ensures.stands s some.stands) ∙ offered_chosen s One some.stands.valid) c.pick-one.ensures in
+    let two = picked Two s (choices_in c.offered_mask-in-updates.result) c.pick-two.result some.stands.valid going
+    (ap choices_in (c.offered_mask-in-updates.ensures.stands s some.stands) ∙ offered_chosen s Two some.stands.valid) c.pick-two.ensures in
+    let ok = accepts-offered s c.pick-one.result c.pick-two.result _ _ c.update_silent.result one two (c.update_silent.ensures.answers s some.stands) in
     absurd (false≢true (sym (ap is_ok c.in-Err.is) ∙ ok))
 
 pub updates-preserved : goal.updates-preserved
 updates-preserved c s h =
     let so_far = c.updates.invariant s h in
-    accepts-more _ c.pick-one.result c.pick-two.result c.update_events.result so_far (ap is_ok c.in-Ok.is)
-    (c.update_events.ensures.answers (run s so_far.pairs).state so_far.stands)
+    accepts-more _ c.pick-one.result c.pick-two.result c.update_silent.result so_far (ap is_ok c.in-Ok.is)
+    (c.update_silent.ensures.answers (run s so_far.pairs).state so_far.stands)
 
 pub returns : goal.returns
 returns c s h =

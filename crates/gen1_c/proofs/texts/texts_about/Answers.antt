@@ -25,5 +25,8 @@ returns-in-7 c = rw c.in-7.is refl
 pub returns-in-8 : goal.returns-in-8
 returns-in-8 c = rw c.in-8.is refl
 
+pub returns-in-9 : goal.returns-in-9
+returns-in-9 c = rw c.in-9.is refl
+
 pub returns-in_default : goal.returns-in_default
 returns-in_default c = search rules

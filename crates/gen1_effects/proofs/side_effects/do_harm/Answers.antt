@@ -1,4 +1,4 @@
-use Rattle.gen1_layout.proofs.Chain.{drawn_stays}
+use Rattle.gen1_layout.proofs.Chain.{drawn_quietly, drawn_stays}
 use Rattle.gen1_effects.proofs.side_effects.do_harm.Goals as goal
 
 pub returns-in-Poison-clause-shown : goal.returns-in-Poison-clause-shown
@@ -14,7 +14,7 @@ pub returns-in-Paralysis-clause-shown : goal.returns-in-Paralysis-clause-shown
 returns-in-Paralysis-clause-shown t c origin g p h = rw c.in-Paralysis.is (c.may_inflict-in-Paralysis.ensures.shown tt origin g p h)
 
 pub returns-in-Flinch-clause-shown : goal.returns-in-Flinch-clause-shown
-returns-in-Flinch-clause-shown t c origin g p h = rw c.in-Flinch.is (c.may_flinch.ensures.shown _ origin g p h)
+returns-in-Flinch-clause-shown t c origin g p h = rw c.in-Flinch.is (drawn_quietly h (c.may_flinch.ensures.shown _ origin g p))
 
 pub returns-in-Drop-clause-shown : goal.returns-in-Drop-clause-shown
 returns-in-Drop-clause-shown t c origin g p h = rw c.in-Drop.is (c.may_lower.ensures.shown origin g p h)

@@ -14,7 +14,7 @@ use Rattle.gen1_engine.proofs.Making.{both_move, turn_made, turned_so}
 use Rattle.gen1_engine.proofs.update.play_turn.Goals as goal
 
 pub returns-in-Some-clause-stepped : goal.returns-in-Some-clause-stepped
-returns-in-Some-clause-stepped c s h plays =
+returns-in-Some-clause-stepped t c s h plays =
     let both = both_move s h.valid plays.goes_on plays.asked_for in
     let apart : (requests.Pass ≡ requests.Move → ⊥) = λ e. cc in
     let w = within_asked One h both.0 apart in
@@ -27,7 +27,7 @@ returns-in-Some-clause-stepped c s h plays =
     (c.put_generator.ensures.stands (setting_of s) q.field q.drawn left.within (ring-stands left.stands long)) left.written
 
 pub returns-in-None-clause-stepped : goal.returns-in-None-clause-stepped
-returns-in-None-clause-stepped c s h plays =
+returns-in-None-clause-stepped t c s h plays =
     let both = both_move s h.valid plays.goes_on plays.asked_for in
     let apart : (requests.Pass ≡ requests.Move → ⊥) = λ e. cc in
     let w = within_asked One h both.0 apart in

@@ -1,17 +1,25 @@
-use Rattle.std.proofs.Common.{refl}
+use Rattle.gen1_machine.specs.State.{State}
 use Rattle.gen1_machine.specs.Step.{step}
-use Rattle.gen1_engine.proofs.Answering.{logs_events, logs_nothing}
+use Rattle.gen1_layout.specs.Within.{Stands}
+use Rattle.gen1_engine.specs.Update.{AreOffered}
+use Rattle.gen1_engine.proofs.Answering.{answers_accepted, answers_refused, logs_accepted, logs_refused, none_left}
 use Rattle.gen1_engine.proofs.update.update.Goals as goal
 
-pub write_log-requires : goal.write_log-requires
-write_log-requires c = record { room = c.in-Ok.ensures.short refl }
+pub returns-in-Some-clause-answers : goal.returns-in-Some-clause-answers
+returns-in-Some-clause-answers c s h = answers_refused s c.args.one c.args.two c.args.battle.now c.in-Some.why (rw c.in-Some.is at (c.refusal.ensures s h))
 
-pub returns-in-Ok-clause-logs : goal.returns-in-Ok-clause-logs
-returns-in-Ok-clause-logs c s h =
-    let t = step s c.args.one c.args.two in
-    logs_events t.answer t.state _ _ _ _ _ _ _ (c.in-Ok.ensures.answers s h) (c.in-Ok.ensures.tells s h) c.write_log.ensures
+pub returns-in-Some-clause-logs : goal.returns-in-Some-clause-logs
+returns-in-Some-clause-logs c s h = logs_refused s c.args.one c.args.two c.args.log.now c.in-Some.why (rw c.in-Some.is at (c.refusal.ensures s h))
 
-pub returns-in-Err-clause-logs : goal.returns-in-Err-clause-logs
-returns-in-Err-clause-logs c s h =
-    let t = step s c.args.one c.args.two in
-    logs_nothing t.answer t.state _ _ _ _ (c.in-Err.ensures.answers s h)
+pub returns : goal.returns
+returns c =
+    let none = none_left c.refusal.result c.in_default.not-Some in
+    let offered : (s : State) → Stands c.args.battle.now s → AreOffered s c.args.one c.args.two = λ s h. rw none at (c.refusal.ensures s h) in
+    record {
+      answers = λ s h.
+          let t = c.update_offered.ensures.steps s h (offered s h) in
+          answers_accepted c.args.battle.now c.update_offered.result t (c.update_offered.ensures.result (step s c.args.one c.args.two).state t.stands);
+      logs = λ s h. logs_accepted c.args.log.now c.update_offered.new.events (c.update_offered.ensures.steps s h (offered s h));
+      valid = λ m. record { state = (step m.state c.args.one c.args.two).state; stands = (c.update_offered.ensures.steps m.state m.stands (offered m.state m.stands)).stands };
+      kept = tt;
+    }

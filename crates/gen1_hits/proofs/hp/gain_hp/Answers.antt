@@ -6,18 +6,18 @@ use Rattle.gen1_hits.proofs.hp.gain_hp.Goals as goal
 
 pub returns-then-not-gains-clause-shown : goal.returns-then-not-gains-clause-shown
 unfolding gain_hp
-returns-then-not-gains-clause-shown c g p h = if_not _ _ _ (sym (c.gains.ensures.stands _ _ h.within) ∙ c.if-not-gains.true) (stays h)
+returns-then-not-gains-clause-shown t c g p h = if_not _ _ _ (sym (c.gains.ensures.stands _ _ h.within) ∙ c.if-not-gains.true) (stays h)
 
 pub returns-in-Some-clause-shown : goal.returns-in-Some-clause-shown
 unfolding gain_hp
-returns-in-Some-clause-shown c g p h =
+returns-in-Some-clause-shown t c g p h =
     let s = c.args.side in
     let w = c.heal.ensures.stands _ _ h.within in
     let who = c.who.ensures.stands _ _ w in
     let health = c.in-Some.ensures.stands _ _ w in
     if_so _ _ _ (sym (c.gains.ensures.stands _ _ h.within) ∙ c.if-not-gains.false)
-    (told_so h (changed_member s (healed_by c.args.amount)) (λ f. events.Heal (who_in s f) (health_in s f)) w c.push.ensures.items cc)
+    (told_so h (changed_member s (healed_by c.args.amount)) (λ f. events.Heal (who_in s f) (health_in s f)) w c.push.ensures.told cc)
 
 pub returns-in_default-clause-shown : goal.returns-in_default-clause-shown
-returns-in_default-clause-shown c g p h =
+returns-in_default-clause-shown t c g p h =
     let none = c.in_default.ensures.stands _ _ (c.heal.ensures.stands _ _ h.within) in cc

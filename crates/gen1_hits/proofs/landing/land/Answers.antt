@@ -4,12 +4,12 @@ use Rattle.gen1_machine.specs.Landing.{land_by, land_damage}
 use Rattle.gen1_hits.proofs.landing.land.Goals as goal
 
 pub returns-then-damage-eq0-clause-shown : goal.returns-then-damage-eq0-clause-shown
-returns-then-damage-eq0-clause-shown c g p h =
+returns-then-damage-eq0-clause-shown t c g p h =
     let none : nat_lt 0 c.args.damage ≡ false = grind (arith, nat_tests) in if_not _ _ _ none (stays h)
 
 pub returns-then-land_on_substitute-clause-shown : goal.returns-then-land_on_substitute-clause-shown
 unfolding land_damage land_by
-returns-then-land_on_substitute-clause-shown c g p h =
+returns-then-land_on_substitute-clause-shown t c g p h =
     let hp = c.in-Some.ensures.stands _ _ h.within in
     let some : nat_lt 0 c.args.damage ≡ true = grind (arith, nat_tests) in
     rw (← c.other-target.ensures)
@@ -17,7 +17,7 @@ returns-then-land_on_substitute-clause-shown c g p h =
 
 pub returns-else-land_on_substitute-clause-shown : goal.returns-else-land_on_substitute-clause-shown
 unfolding land_damage land_by
-returns-else-land_on_substitute-clause-shown c g p h =
+returns-else-land_on_substitute-clause-shown t c g p h =
     let hp = c.in-Some.ensures.stands _ _ h.within in
     let some : nat_lt 0 c.args.damage ≡ true = grind (arith, nat_tests) in
     rw (← c.other-target.ensures)
@@ -25,7 +25,7 @@ returns-else-land_on_substitute-clause-shown c g p h =
 
 pub returns-in-None-clause-shown : goal.returns-in-None-clause-shown
 unfolding land_damage land_by
-returns-in-None-clause-shown c g p h =
+returns-in-None-clause-shown t c g p h =
     let hp = c.in-None.ensures.stands _ _ h.within in
     let some : nat_lt 0 c.args.damage ≡ true = grind (arith, nat_tests) in
     rw (← c.other-target.ensures)

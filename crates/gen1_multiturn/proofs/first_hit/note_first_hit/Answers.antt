@@ -5,11 +5,11 @@ use Rattle.gen1_multiturn.proofs.first_hit.note_first_hit.Goals as goal
 
 pub returns-then-not-known-clause-shown : goal.returns-then-not-known-clause-shown
 unfolding note_first_hit
-returns-then-not-known-clause-shown c g p h = if_not _ _ _ (ap (λ (a : Action). a.through_types) h.action ∙ c.if-not-known.true) (stays h)
+returns-then-not-known-clause-shown t c g p h = if_not _ _ _ (ap (λ (a : Action). a.through_types) h.action ∙ c.if-not-known.true) (stays h)
 
 pub returns-clause-shown : goal.returns-clause-shown
 unfolding note_first_hit
-returns-clause-shown c g p h =
+returns-clause-shown t c g p h =
     let a = rw c.other.ensures at (c.note_critical.ensures.shown g p h) in
     if_so _ _ _ (ap (λ (x : Action). x.through_types) h.action ∙ c.if-not-known.false)
     (goes _ _ a (c.note_effectiveness.ensures.shown (knowing c.args.known.now g) _ a))

@@ -7,5 +7,5 @@ use Rattle.gen1_multiturn.proofs.hit_effects.recoil.Goals as goal
 
 pub returns-clause-shown : goal.returns-clause-shown
 unfolding recoil
-returns-clause-shown c g p h =
+returns-clause-shown t c g p h =
     seeing _ (lose_hp c.args.side sources.Recoil) (c.recoil_of-amount.ensures ∙ ap (recoil_of (move_at c.args.id)) (c.last_damage.ensures.stands _ _ h.within)) (c.lose_hp.ensures.shown g p h)

@@ -5,7 +5,7 @@ use Rattle.gen1_multiturn.proofs.many_hits.hit_once.Goals as goal
 
 pub returns-clause-shown : goal.returns-clause-shown
 unfolding hit_once count_hit
-returns-clause-shown c g p h =
+returns-clause-shown t c g p h =
     let a = c.land_hit.ensures.shown g p h in
     let b = rw c.effect.ensures at (c.note_knock_out.ensures.shown _ _ _ a) in
     let d = acted (λ (x : Action). record x { hits_made = x.hits_made + 1 }) b in

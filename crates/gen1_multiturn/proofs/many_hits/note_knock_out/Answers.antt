@@ -3,8 +3,8 @@ use Rattle.gen1_machine.specs.declared.event.Event.TheVariants as events
 use Rattle.gen1_multiturn.proofs.many_hits.note_knock_out.Goals as goal
 
 pub returns-then-knocks_out-clause-shown : goal.returns-then-knocks_out-clause-shown
-returns-then-knocks_out-clause-shown c parts g p h =
-    if_so _ _ _ (sym c.knocks_out.ensures ∙ c.if-knocks_out.true) (noted h (λ f. events.OneHitKnockOut) c.push.ensures.items refl)
+returns-then-knocks_out-clause-shown t c parts g p h =
+    if_so _ _ _ (sym c.knocks_out.ensures ∙ c.if-knocks_out.true) (noted h (λ f. events.OneHitKnockOut) c.push.ensures.told refl)
 
 pub returns-else-knocks_out-clause-shown : goal.returns-else-knocks_out-clause-shown
-returns-else-knocks_out-clause-shown c parts g p h = if_not _ _ _ (sym c.knocks_out.ensures ∙ c.if-knocks_out.false) (stays h)
+returns-else-knocks_out-clause-shown t c parts g p h = if_not _ _ _ (sym c.knocks_out.ensures ∙ c.if-knocks_out.false) (stays h)

@@ -9,7 +9,7 @@ use Rattle.gen1_requests.proofs.falls.ask_for_moves.Goals as goal
 
 pub returns-in-Some-clause-shown : goal.returns-in-Some-clause-shown
 unfolding ask_for_moves on_field with_next_turn with_requests
-returns-in-Some-clause-shown c g p left h =
+returns-in-Some-clause-shown t c g p left h =
     let first = c.put_next_turn.ensures.stands _ _ h.within left in
     let both = c.put_requests.ensures.stands _ _ first in
     let turn = c.turn.ensures.stands _ _ both in
@@ -17,11 +17,11 @@ returns-in-Some-clause-shown c g p left h =
     let limit = h.within.terms.limit.1 in
     let number : c.in-Some.number ≡ n = let e = rw turn at c.in-Some.ensures in let f = e ∙ taken 1 9999 n n (omega arith, omega (arith, left, limit)) in cc in
     let a = put h with_next_turn first in
-    goes _ _ a (told_so a (with_requests requests.Move requests.Move) (λ f. events.Turn f.turn) both c.push.ensures.items (rw number refl))
+    goes _ _ a (told_so a (with_requests requests.Move requests.Move) (λ f. events.Turn f.turn) both c.push.ensures.told (rw number refl))
 
 pub returns-in_default-clause-shown : goal.returns-in_default-clause-shown
 unfolding with_next_turn with_requests
-returns-in_default-clause-shown c g p left h =
+returns-in_default-clause-shown t c g p left h =
     let first = c.put_next_turn.ensures.stands _ _ h.within left in
     let both = c.put_requests.ensures.stands _ _ first in
     let turn = c.turn.ensures.stands _ _ both in

@@ -6,14 +6,14 @@ use Rattle.gen1_requests.proofs.falls.end_if_decided.Goals as goal
 
 pub returns-then-neither-clause-shown : goal.returns-then-neither-clause-shown
 unfolding end_if_decided
-returns-then-neither-clause-shown c g p h =
+returns-then-neither-clause-shown t c g p h =
     let one = c.has_living-one.ensures _ _ h.within in
     let two = c.has_living-two.ensures _ _ h.within in
     stops _ _ (if_so _ _ _ (rw (one, two) at c.if-neither.true) (c.battle_ends.ensures.shown tt g p h))
 
 pub returns-then-not-one-clause-shown : goal.returns-then-not-one-clause-shown
 unfolding end_if_decided
-returns-then-not-one-clause-shown c g p h =
+returns-then-not-one-clause-shown t c g p h =
     let one = c.has_living-one.ensures _ _ h.within in
     let two = c.has_living-two.ensures _ _ h.within in
     past _ _ _ (rw (one, two) at c.if-neither.false) h
@@ -21,7 +21,7 @@ returns-then-not-one-clause-shown c g p h =
 
 pub returns-then-not-two-clause-shown : goal.returns-then-not-two-clause-shown
 unfolding end_if_decided
-returns-then-not-two-clause-shown c g p h =
+returns-then-not-two-clause-shown t c g p h =
     let one = c.has_living-one.ensures _ _ h.within in
     let two = c.has_living-two.ensures _ _ h.within in
     past _ _ _ (rw (one, two) at c.if-neither.false) h
@@ -30,7 +30,7 @@ returns-then-not-two-clause-shown c g p h =
 
 pub returns-then-late-clause-shown : goal.returns-then-late-clause-shown
 unfolding end_if_decided
-returns-then-late-clause-shown c g p h =
+returns-then-late-clause-shown t c g p h =
     let one = c.has_living-one.ensures _ _ h.within in
     let two = c.has_living-two.ensures _ _ h.within in
     past _ _ _ (rw (one, two) at c.if-neither.false) h
@@ -40,7 +40,7 @@ returns-then-late-clause-shown c g p h =
 
 pub returns-clause-shown : goal.returns-clause-shown
 unfolding end_if_decided stay
-returns-clause-shown c g p h =
+returns-clause-shown t c g p h =
     let one = c.has_living-one.ensures _ _ h.within in
     let two = c.has_living-two.ensures _ _ h.within in
     let late = sym (c.is_last_turn-late.ensures.stands _ _ h.within) ∙ c.if-late.false in (

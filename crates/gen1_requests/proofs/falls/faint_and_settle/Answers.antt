@@ -8,7 +8,7 @@ use Rattle.gen1_requests.proofs.falls.faint_and_settle.Goals as goal
 
 pub returns-then-nobody_has_fallen-clause-shown : goal.returns-then-nobody_has_fallen-clause-shown
 unfolding the_fallen_faint faint_in_order
-returns-then-nobody_has_fallen-clause-shown c g p acted h =
+returns-then-nobody_has_fallen-clause-shown t c g p acted h =
     let actor = c.args.actor in
     let is = c.if-nobody_has_fallen.true in
     let a = faints_not (other actor) (nobody_fell _ _ (c.nobody_has_fallen.ensures.stands _ _ h.within) is (other actor)) h in
@@ -20,7 +20,7 @@ returns-then-nobody_has_fallen-clause-shown c g p acted h =
 
 pub returns-clause-shown : goal.returns-clause-shown
 unfolding the_fallen_faint
-returns-clause-shown c g p acted h =
+returns-clause-shown t c g p acted h =
     let a = c.faint_in_order.ensures.shown g p h in
     let b = seeing (λ q. q.action.side) faint_in_order (sym (ap (λ (x : Action). x.side) h.action ∙ acted)) a in
     let d = c.settle.ensures.shown g _ b in

@@ -8,7 +8,7 @@ use Rattle.gen1_requests.proofs.falls.go_on.Goals as goal
 
 pub returns-then-is_last_turn-clause-shown : goal.returns-then-is_last_turn-clause-shown
 unfolding end_if_decided settle
-returns-then-is_last_turn-clause-shown c g p one two h =
+returns-then-is_last_turn-clause-shown t c g p one two h =
     let w = h.within.storable in
     let first = lives_out One p.field (party_in g.setting p.field One w).place one in
     let second = lives_out Two p.field (party_in g.setting p.field Two w).place two in
@@ -22,7 +22,7 @@ returns-then-is_last_turn-clause-shown c g p one two h =
 
 pub returns-else-is_last_turn-clause-shown : goal.returns-else-is_last_turn-clause-shown
 unfolding end_if_decided settle stay
-returns-else-is_last_turn-clause-shown c g p one two h =
+returns-else-is_last_turn-clause-shown t c g p one two h =
     let w = h.within.storable in
     let first = lives_out One p.field (party_in g.setting p.field One w).place one in
     let second = lives_out Two p.field (party_in g.setting p.field Two w).place two in

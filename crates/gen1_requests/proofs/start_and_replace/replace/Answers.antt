@@ -15,10 +15,10 @@ use Rattle.gen1_requests.proofs.start_and_replace.replace.Goals as goal
 
 pub returns : goal.returns
 unfolding close_update
-returns c = record { updated = left; stepped = λ s stands plays. replaced-so s c.args.one c.args.two stands.valid plays (left s stands plays); room = omega (arith, c.send_both_chosen.ensures.room, c.close.ensures.room) }
+returns t c = record { updated = left; stepped = λ s stands plays. replaced-so s c.args.one c.args.two stands.valid plays (left s stands plays); room = omega (arith, c.send_both_chosen.ensures.room, c.close.ensures.room) }
   where
     left : (s : State) → Stands c.args.battle.now s → Plays s Switch c.args.one c.args.two
-        → Updated (setting_of s) c.close.new.battle c.close.new.events.items (close_update (ruling_of s.terms) (replace c.args.one c.args.two (opened s)))
+        → Updated (setting_of s) c.close.new.battle (t.S.EventSink.tells c.close.new.events) (close_update (ruling_of s.terms) (replace c.args.one c.args.two (opened s)))
     left s stands plays =
         let apart : (Pass ≡ Switch → ⊥) = λ e. cc in
         let v = started s Switch c.args.one c.args.two stands.valid apart plays in

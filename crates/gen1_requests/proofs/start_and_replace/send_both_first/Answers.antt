@@ -7,7 +7,7 @@ use Rattle.gen1_requests.proofs.SwitchingIn.{both_begun, free_one, room_two}
 use Rattle.gen1_requests.proofs.start_and_replace.send_both_first.Goals as goal
 
 pub returns-in-Some-clause-shown : goal.returns-in-Some-clause-shown
-returns-in-Some-clause-shown c s empty stands un =
+returns-in-Some-clause-shown t c s empty stands un =
     let place : c.in-Some.first ≡ 1 = let e = c.in-Some.ensures in cc in
     let one = rw place at c.send_first.ensures.shown in
     let two = rw place at c.send_first-in-Some.ensures.shown in
@@ -16,4 +16,4 @@ returns-in-Some-clause-shown c s empty stands un =
     both_begun s un (two (beginning s) _ (room_two s un) (free_one s) a)
 
 pub returns-in_default-clause-shown : goal.returns-in_default-clause-shown
-returns-in_default-clause-shown c s empty stands un = let none = c.in_default.ensures in cc
+returns-in_default-clause-shown t c s empty stands un = let none = c.in_default.ensures in cc

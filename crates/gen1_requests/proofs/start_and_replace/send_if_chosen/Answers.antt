@@ -4,12 +4,12 @@ use Rattle.gen1_requests.proofs.start_and_replace.send_if_chosen.Goals as goal
 
 pub returns-in-Switch-clause-shown : goal.returns-in-Switch-clause-shown
 unfolding send_if_chosen
-returns-in-Switch-clause-shown c g p there h = rw c.in-Switch.is (c.send_out.ensures.shown g p (rw c.in-Switch.is at there) h)
+returns-in-Switch-clause-shown t c g p there h = rw c.in-Switch.is (c.send_out.ensures.shown g p (rw c.in-Switch.is at there) h)
 
 pub returns-in-Move-clause-shown : goal.returns-in-Move-clause-shown
 unfolding send_if_chosen
-returns-in-Move-clause-shown c g p there h = rw c.in-Move.is (stays h)
+returns-in-Move-clause-shown t c g p there h = rw c.in-Move.is (stays h)
 
 pub returns-in-Pass-clause-shown : goal.returns-in-Pass-clause-shown
 unfolding send_if_chosen
-returns-in-Pass-clause-shown c g p there h = rw c.in-Pass.is (stays h)
+returns-in-Pass-clause-shown t c g p there h = rw c.in-Pass.is (stays h)

@@ -12,9 +12,9 @@ use Rattle.gen1_requests.proofs.start_and_replace.start.Goals as goal
 
 pub returns : goal.returns
 unfolding close_update
-returns c = record { updated = left; stepped = λ s stands starts. started-so s stands.valid starts (left s stands starts); room = omega (arith, c.send_both_first.ensures.room, c.close.ensures.room) }
+returns t c = record { updated = left; stepped = λ s stands starts. started-so s stands.valid starts (left s stands starts); room = omega (arith, c.send_both_first.ensures.room, c.close.ensures.room) }
   where
-    left : (s : State) → Stands c.args.battle.now s → Starts s → Updated (setting_of s) c.close.new.battle c.close.new.events.items (close_update (ruling_of s.terms) (start (opened s)))
+    left : (s : State) → Stands c.args.battle.now s → Starts s → Updated (setting_of s) c.close.new.battle (t.S.EventSink.tells c.close.new.events) (close_update (ruling_of s.terms) (start (opened s)))
     left s stands starts =
         let a = c.send_both_first.ensures.shown s c.requires.empty stands starts.unstarted in
         let d = c.close.ensures.shown (beginning s) (record (start (opened s)) { stopped = false }) refl (reopened a) in

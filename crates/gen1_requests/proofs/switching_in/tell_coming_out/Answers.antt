@@ -5,10 +5,10 @@ use Rattle.gen1_requests.specs.SwitchingIn.{coming_out}
 use Rattle.gen1_requests.proofs.switching_in.tell_coming_out.Goals as goal
 
 pub returns-in-Some-clause-told : goal.returns-in-Some-clause-told
-returns-in-Some-clause-told c g f h there =
+returns-in-Some-clause-told t c g f told h there before =
     let s = c.args.side in let place = c.args.place in
     let event : c.in-Some.event ≡ coming_out s place (member_at place (party s f)) = let e = sym c.in-Some.is ∙ c.coming_out.ensures.packs g f h there in cc in
-    rw (c.push.ensures.items, event) refl
+    rw (← event) (c.push.ensures.told told before)
 
 pub returns-in_default-clause-told : goal.returns-in_default-clause-told
-returns-in_default-clause-told c g f h there = let told = c.coming_out.ensures.packs g f h there in cc
+returns-in_default-clause-told t c g f told h there before = let none = c.coming_out.ensures.packs g f h there in cc

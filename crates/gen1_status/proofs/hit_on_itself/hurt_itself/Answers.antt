@@ -9,7 +9,7 @@ use Rattle.gen1_status.proofs.hit_on_itself.hurt_itself.Goals as goal
 
 pub returns-clause-shown : goal.returns-clause-shown
 unfolding hurt_itself without_flinch without_invulnerability
-returns-clause-shown c g p h =
+returns-clause-shown t c g p h =
     let s = c.args.side in
     let a = put_on_conditions h s broken_off (c.break_off.ensures.stands _ _ h.within) in
     let b = put_on_conditions a s without_flinch (c.put_flag.ensures.stands 3 refl (lit< tt) _ _ without_flinch a.within refl (flinch-same _)) in

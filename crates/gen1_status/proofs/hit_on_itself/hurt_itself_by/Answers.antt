@@ -10,7 +10,7 @@ use Rattle.gen1_status.proofs.hit_on_itself.hurt_itself_by.Goals as goal
 
 pub returns-in_default-clause-shown : goal.returns-in_default-clause-shown
 unfolding hurt_itself_by fault stop on_field with_outcome
-returns-in_default-clause-shown c g p h =
+returns-in_default-clause-shown t c g p h =
     let a = put h (with_outcome (outcomes.Fault 1)) (c.put_outcome.ensures.stands _ p.field h.within (lit≤ tt, lit≤ tt)) in
     let b = goes (on_field (with_outcome (outcomes.Fault 1))) stop a (halted a) in
     let first = ap (λ (q : Progress). q.field.outcome) (then-goes (on_field (with_outcome (outcomes.Fault 1))) stop p a.ends) in
@@ -19,14 +19,14 @@ returns-in_default-clause-shown c g p h =
 
 pub returns-then-not-is_on-clause-shown : goal.returns-then-not-is_on-clause-shown
 unfolding hurt_itself_by
-returns-then-not-is_on-clause-shown c g p h =
+returns-then-not-is_on-clause-shown t c g p h =
     let a = put_damage h c.in-Some.damage (c.put_last_damage.ensures.stands _ _ h.within) in
     let b = goes _ _ a (if_not _ _ _ (sym (c.is_on.ensures.stands 9 refl _ _ a.within) ∙ c.if-not-is_on.true) (c.land_on_hp.ensures.shown _ _ a)) in
     rw c.in-Some.is (tells Stop (hurt_itself_by c.args.side (Some c.in-Some.damage) ▸ stop) refl (then-keeps (hit-keeps _ c.args.side c.in-Some.damage) stop-keeps) (goes _ _ b (halted b)))
 
 pub returns-clause-shown : goal.returns-clause-shown
 unfolding hurt_itself_by
-returns-clause-shown c g p h =
+returns-clause-shown t c g p h =
     let a = put_damage h c.in-Some.damage (c.put_last_damage.ensures.stands _ _ h.within) in
     let foe = c.substitute-substitute.ensures.stands _ _ a.within
     ∙ ap (λ (s : Side). (conditions_in s (set_last_damage c.in-Some.damage p).field).substitute) c.other.ensures in

@@ -6,11 +6,11 @@ use Rattle.gen1_status.proofs.hit_on_itself.land_on_foes_substitute.Goals as goa
 
 pub returns-in_default-clause-shown : goal.returns-in_default-clause-shown
 unfolding land_on_foes_substitute
-returns-in_default-clause-shown c g p is h = rw c.in_default.is (broken_so g g.action.broke (stays h))
+returns-in_default-clause-shown t c g p is h = rw c.in_default.is (broken_so g g.action.broke (stays h))
 
 pub returns-clause-shown : goal.returns-clause-shown
 unfolding land_on_foes_substitute
-returns-clause-shown c g p is h =
+returns-clause-shown t c g p is h =
     let foe = is ∙ c.in-Some.is in
     let a = c.land_on_substitute.ensures.shown g p h (rw c.other.ensures foe) in
     rw c.in-Some.is (broken_so g (c.land_on_substitute.result || g.action.broke) (rw (← c.other.ensures) a))

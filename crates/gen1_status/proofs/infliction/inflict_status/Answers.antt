@@ -6,8 +6,8 @@ use Rattle.gen1_status.proofs.infliction.inflict_status.Goals as goal
 
 pub returns-clause-shown : goal.returns-clause-shown
 unfolding inflict with_status
-returns-clause-shown c g p ok h =
+returns-clause-shown t c g p ok h =
     let status = c.args.status in
     let a = put_on_member h c.args.target (with_status status) (c.put_status.ensures.stands g.setting p.field (with_status status) h.within refl ok) in
     let penalised = c.take_penalty.ensures.stands _ _ a.within in
-    goes _ _ a (told_so a (changed_active c.args.target (with_penalty_of status)) _ penalised c.push.ensures.items (rw (c.who.ensures.stands _ _ penalised) refl))
+    goes _ _ a (told_so a (changed_active c.args.target (with_penalty_of status)) _ penalised c.push.ensures.told (rw (c.who.ensures.stands _ _ penalised) refl))

@@ -1,5 +1,5 @@
 use Rattle.std.proofs.Common.{◌+◌, ◌-◌, ◌≡◌}
-use Rattle.gen1_layout.proofs.Words.{active_in, active_ok, arith, false, given, member_in, nat_le, nat_tests, put_on_active, sym, true, ◌∙◌}
+use Rattle.gen1_layout.proofs.Words.{active_in, active_ok, arith, false, given, member_in, nat_le, nat_tests, put_on_active, quietly, sym, true, ◌∙◌}
 use Rattle.gen1_machine.specs.CurrentStats.{at_new_stage, penalties_of, unmodified}
 use Rattle.gen1_machine.specs.StageShift.{lower_from, lower_stage, note_unboost, stage_in}
 use Rattle.gen1_status.proofs.Fitting.{stage_of-fits}
@@ -10,14 +10,14 @@ use Rattle.gen1_status.proofs.stage_shift.lower_stage.Goals as goal
 
 pub returns-then-stage-eq-LOWEST_STAGE-clause-shown : goal.returns-then-stage-eq-LOWEST_STAGE-clause-shown
 unfolding lower_stage lower_from given
-returns-then-stage-eq-LOWEST_STAGE-clause-shown c by failing g p h =
+returns-then-stage-eq-LOWEST_STAGE-clause-shown t c by failing g p h =
     let at = c.stage-stage.ensures.stands _ _ h.within in
     let lowest : nat_le (stage_in c.args.stat c.args.target p.field) 0 ≡ true = grind (arith, nat_tests) in
     stays_last c.args.user c.args.target c.args.stat (note_unboost c.args.target c.args.stat) _ _ _ _ _ _ failing p lowest h
 
 pub returns-then-stands_at-clause-shown : goal.returns-then-stands_at-clause-shown
 unfolding lower_stage lower_from given
-returns-then-stands_at-clause-shown c by failing g p h =
+returns-then-stands_at-clause-shown t c by failing g p h =
     let s = c.args.target in
     let stat = c.args.stat in
     let a = active_in s p.field in
@@ -37,7 +37,7 @@ returns-then-stands_at-clause-shown c by failing g p h =
 
 pub returns-clause-shown : goal.returns-clause-shown
 unfolding lower_stage lower_from given
-returns-clause-shown c by failing g p h =
+returns-clause-shown t c by failing g p h =
     let n = stage_in c.args.stat c.args.target p.field in
     let at = c.stage-stage.ensures.stands _ _ h.within in
     let most = stage_of-fits c.args.stat (active_in c.args.target p.field).stages (active_ok c.args.target h.within).stages in
@@ -45,6 +45,6 @@ returns-clause-shown c by failing g p h =
     let more = sym (c.stands_at.ensures.stands _ _ h.within) ∙ c.if-stands_at.false in
     let is : c.saturating_sub-lowered.result ≡ n - c.args.by = omega arith in
     let told : c.saturating_sub.result ≡ n - (n - c.args.by) = omega arith in
-    let shifted = c.shift_to.ensures c.args.events.now.items (omega arith) g p h in
+    let shifted = quietly h (c.shift_to.ensures p.events (omega arith) g p) in
     moves_on c.args.user c.args.target c.args.stat (note_unboost c.args.target c.args.stat) _ _ _ _ _ _ failing p high more is told shifted
     (c.note_unboost-2.ensures.shown (omega arith) g _ shifted)

@@ -1,4 +1,4 @@
-use Rattle.gen1_layout.proofs.Words.{ap, refl, still, ◌∙◌}
+use Rattle.gen1_layout.proofs.Words.{ap, quietly, refl, still, ◌∙◌}
 use Rattle.gen1_machine.specs.Action.{act}
 use Rattle.gen1_machine.specs.State.{is_over}
 use Rattle.gen1_machine.proofs.Acts.{begin-quiet}
@@ -12,5 +12,5 @@ returns-clause-shown t c origin g p plan begins v h =
     let a = begun_so c.args.known.now c.begun.result g c.args.side c.begun.ensures h in
     let quiet = (begin-quiet g.setting.terms plan c.args.side).led p v in
     let b = c.action_parts.ensures.shown origin g _ plan begins quiet.0 quiet.1 a in
-    let kept = c.keep_accuracy.ensures.shown _ _ _ _ refl b.1.shows in
+    let kept = quietly b.1.shows (c.keep_accuracy.ensures.shown _ _ _ _ refl) in
     (b.0, resumed (c.is_over.ensures ∙ ap is_over (c.outcome.ensures.stands _ _ kept.within)) (still b.1 kept refl))

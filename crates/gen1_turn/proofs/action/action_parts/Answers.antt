@@ -1,4 +1,4 @@
-use Rattle.gen1_layout.proofs.Words.{ap, drawn_goes, drawn_seeing, sym, ◌∙◌}
+use Rattle.gen1_layout.proofs.Words.{ap, drawn_goes, drawn_quietly, drawn_seeing, sym, ◌∙◌}
 use Rattle.gen1_machine.specs.Action.{action_parts, carry_out}
 use Rattle.gen1_machine.specs.Moves.{move_at}
 use Rattle.gen1_machine.specs.Ruling.{ruling_of}
@@ -20,7 +20,7 @@ returns-clause-shown t c origin g p plan begins v quiet h =
     let s = c.args.side in
     let pick = c.args.pick in
     let a = (went (sym c.stops.ensures ∙ c.if-stops.false) (c.gate.ensures.shown _ _ _ h)).shows in
-    let b = does_still g _ (c.see_if_going_on.ensures.shown _) a in
+    let b = drawn_quietly a (does_still g _ (c.see_if_going_on.ensures.shown _)) in
     let up = awake s pick p a.shows.ends in
     let valid = (sees terms plan s pick).kept _ ((gates terms plan s pick).kept p (v, quiet)) in
     let number = taken-number terms plan s pick _ _ _ up begins valid.0 in

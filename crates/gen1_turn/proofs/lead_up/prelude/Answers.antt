@@ -1,5 +1,5 @@
 use Rattle.std.proofs.Common.{◌≡◌}
-use Rattle.gen1_layout.proofs.Words.{ap, drawn_goes, drawn_if_not, drawn_if_so, drawn_stays, false, sym, true, ◌∙◌}
+use Rattle.gen1_layout.proofs.Words.{ap, drawn_goes, drawn_if_not, drawn_if_so, drawn_quietly, drawn_stays, false, sym, true, ◌∙◌}
 use Rattle.gen1_machine.specs.Action.{prelude}
 use Rattle.gen1_tables.specs.Effects.{thrashes, traps}
 use Rattle.gen1_machine.specs.Moves.{move_at}
@@ -10,7 +10,7 @@ pub returns-then-traps-clause-shown : goal.returns-then-traps-clause-shown
 unfolding prelude
 returns-then-traps-clause-shown t c origin g p plan doing v h =
     let on : traps (move_at c.args.id).effect ≡ true = sym (c.traps.ensures ∙ ap traps c.effect.ensures) ∙ c.if-traps.true in
-    let a = drawn_if_so _ _ _ on (c.trap_knowing.ensures.shown _ _ on origin g p plan doing v h) in
+    let a = drawn_if_so _ _ _ on (drawn_quietly h (c.trap_knowing.ensures.shown _ _ on origin g p plan doing v)) in
     drawn_goes _ _ a (drawn_if_not _ _ _ (not-both _ on) (drawn_stays a))
 
 pub returns-then-thrashes-clause-shown : goal.returns-then-thrashes-clause-shown

@@ -1,5 +1,5 @@
 use Rattle.std.proofs.Common.{◌∷◌}
-use Rattle.gen1_layout.proofs.Words.{[], Phase, subst, sym, ◌∙◌}
+use Rattle.gen1_layout.proofs.Words.{[], Phase, quietly, subst, sym, ◌∙◌}
 use Rattle.gen1_machine.specs.Ruling.{ruling_of}
 use Rattle.gen1_machine.specs.Sides.{other}
 use Rattle.gen1_machine.specs.Turn.{do_part, do_parts, end_turn, Acts, Suffers}
@@ -39,4 +39,4 @@ returns-clause-shown t c origin g p plan (mine, others) v h =
     let next = subst (λ (x : Plan). FitsPick c.args.others x) (sym (with_plan-other s Any plan)) others in
     let second = rw c.other.ensures at c.act_and_suffer-2.ensures.shown in
     let b = rw c.if-act_and_suffer-2.false at (second origin g _ (with_plan s Any plan) next valid a.0) in
-    ends_as c.act_and_suffer-2.new.known g _ _ (a.1 rest ∙ b.1 end_turn) (ended c.act_and_suffer-2.new.known g end_turn (c.end_turn.ensures.shown _) b.0)
+    ends_as c.act_and_suffer-2.new.known g _ _ (a.1 rest ∙ b.1 end_turn) (ended c.act_and_suffer-2.new.known g end_turn (λ g p k. quietly k (c.end_turn.ensures.shown _ g p)) b.0)

@@ -1,4 +1,4 @@
-use Rattle.gen1_layout.proofs.Words.{refl, still, then-goes, ◌∙◌}
+use Rattle.gen1_layout.proofs.Words.{drawn_as_list, drawn_from_list, quietly, refl, still, then-goes, ◌∙◌}
 use Rattle.gen1_machine.specs.declared.side.Side.TheVariants.{One, Two}
 use Rattle.gen1_machine.specs.Ruling.{ruling_of}
 use Rattle.gen1_machine.specs.Turn.{both_act, both_pick, do_parts, set_picked}
@@ -11,12 +11,12 @@ pub returns-in-One-clause-shown : goal.returns-in-One-clause-shown
 unfolding both_pick
 returns-in-One-clause-shown t c origin g p plan (one, two) v h =
     let terms = g.setting.terms in
-    let a = still {g' = knowing (with_broke h.0 c.args.known.now) g} h.1 (c.set_picked.ensures.shown _ _ _ (picked-fits terms plan One c.args.one p one v) h.1.shows) refl in
+    let a = still {g' = knowing (with_broke h.0 c.args.known.now) g} h.1 (quietly h.1.shows (c.set_picked.ensures.shown _ _ _ (picked-fits terms plan One c.args.one p one v))) refl in
     let va = (set_picked-keeps terms plan One c.args.one one).kept p v in
-    let b = still {g' = knowing (with_broke h.0 c.args.known.now) g} a (c.set_picked-2.ensures.shown _ _ _ (picked-fits terms plan Two c.args.two (set_picked One c.args.one p) two va) a.shows) refl in
+    let b = still {g' = knowing (with_broke h.0 c.args.known.now) g} a (quietly a.shows (c.set_picked-2.ensures.shown _ _ _ (picked-fits terms plan Two c.args.two (set_picked One c.args.one p) two va))) refl in
     let vb = (set_picked-keeps terms plan Two c.args.two two).kept _ va in
-    let d = rw c.in-One.is at (c.first_side.ensures.shown origin _ _ _ b) in
-    let q = c.both_act.ensures.shown origin g _ plan (one, two) vb (h.0, d.1) in
+    let d = rw c.in-One.is at (c.first_side.ensures.shown origin _ _ _ (drawn_as_list b)) in
+    let q = c.both_act.ensures.shown origin g _ plan (one, two) vb (h.0, drawn_from_list b d.1) in
     ends_as c.both_act.new.known g _ _
     (then-goes (set_picked One c.args.one) _ p a.shows.ends ∙ then-goes (set_picked Two c.args.two) _ _ b.shows.ends
     ∙ d.2 (λ s. do_parts (ruling_of terms) (both_act c.args.one c.args.two s))) q
@@ -25,12 +25,12 @@ pub returns-in-Two-clause-shown : goal.returns-in-Two-clause-shown
 unfolding both_pick
 returns-in-Two-clause-shown t c origin g p plan (one, two) v h =
     let terms = g.setting.terms in
-    let a = still {g' = knowing (with_broke h.0 c.args.known.now) g} h.1 (c.set_picked.ensures.shown _ _ _ (picked-fits terms plan One c.args.one p one v) h.1.shows) refl in
+    let a = still {g' = knowing (with_broke h.0 c.args.known.now) g} h.1 (quietly h.1.shows (c.set_picked.ensures.shown _ _ _ (picked-fits terms plan One c.args.one p one v))) refl in
     let va = (set_picked-keeps terms plan One c.args.one one).kept p v in
-    let b = still {g' = knowing (with_broke h.0 c.args.known.now) g} a (c.set_picked-2.ensures.shown _ _ _ (picked-fits terms plan Two c.args.two (set_picked One c.args.one p) two va) a.shows) refl in
+    let b = still {g' = knowing (with_broke h.0 c.args.known.now) g} a (quietly a.shows (c.set_picked-2.ensures.shown _ _ _ (picked-fits terms plan Two c.args.two (set_picked One c.args.one p) two va))) refl in
     let vb = (set_picked-keeps terms plan Two c.args.two two).kept _ va in
-    let d = rw c.in-Two.is at (c.first_side.ensures.shown origin _ _ _ b) in
-    let q = c.both_act-in-Two.ensures.shown origin g _ plan (two, one) vb (h.0, d.1) in
+    let d = rw c.in-Two.is at (c.first_side.ensures.shown origin _ _ _ (drawn_as_list b)) in
+    let q = c.both_act-in-Two.ensures.shown origin g _ plan (two, one) vb (h.0, drawn_from_list b d.1) in
     ends_as c.both_act-in-Two.new.known g _ _
     (then-goes (set_picked One c.args.one) _ p a.shows.ends ∙ then-goes (set_picked Two c.args.two) _ _ b.shows.ends
     ∙ d.2 (λ s. do_parts (ruling_of terms) (both_act c.args.one c.args.two s))) q

@@ -1,5 +1,5 @@
 use Rattle.std.proofs.Common.{◌∷◌}
-use Rattle.gen1_layout.proofs.Words.{[], false, Phase, ◌∙◌}
+use Rattle.gen1_layout.proofs.Words.{[], false, Phase, quietly, ◌∙◌}
 use Rattle.gen1_machine.specs.declared.side.Side.TheVariants.{Two}
 use Rattle.gen1_machine.specs.Ruling.{ruling_of}
 use Rattle.gen1_machine.specs.Turn.{do_part, do_parts, end_turn, Sends, Suffers}
@@ -8,13 +8,13 @@ use Rattle.gen1_turn.proofs.turn_choices.both_switch.Goals as goal
 
 pub returns-then-sends_and_suffers-clause-shown : goal.returns-then-sends_and_suffers-clause-shown
 unfolding do_parts do_part
-returns-then-sends_and_suffers-clause-shown c g p broke x y h =
+returns-then-sends_and_suffers-clause-shown t c g p broke x y h =
     let r = ruling_of g.setting.terms in
     (rw c.if-sends_and_suffers.true at (c.sends_and_suffers.ensures.shown g p broke r x h)) (do_parts r (Sends Two c.args.two ∷ Suffers Two ∷ []))
 
 pub returns-then-sends_and_suffers-2-clause-shown : goal.returns-then-sends_and_suffers-2-clause-shown
 unfolding do_parts do_part
-returns-then-sends_and_suffers-2-clause-shown c g p broke x y h =
+returns-then-sends_and_suffers-2-clause-shown t c g p broke x y h =
     let r = ruling_of g.setting.terms in
     let rest : Phase = do_parts r (Sends Two c.args.two ∷ Suffers Two ∷ []) in
     let a = rw c.if-sends_and_suffers.false at (c.sends_and_suffers.ensures.shown g p broke r x h) in
@@ -24,10 +24,10 @@ returns-then-sends_and_suffers-2-clause-shown c g p broke x y h =
 
 pub returns-clause-shown : goal.returns-clause-shown
 unfolding do_parts do_part
-returns-clause-shown c g p broke x y h =
+returns-clause-shown t c g p broke x y h =
     let r = ruling_of g.setting.terms in
     let rest : Phase = do_parts r (Sends Two c.args.two ∷ Suffers Two ∷ []) in
     let a = rw c.if-sends_and_suffers.false at (c.sends_and_suffers.ensures.shown g p broke r x h) in
     let there = room-after g.setting.terms c.args.one c.args.two p y in
     let b = rw c.if-sends_and_suffers-2.false at (c.sends_and_suffers-2.ensures.shown g _ c.sends_and_suffers.new.known.broke r there a.0) in
-    stops_as _ _ (a.1 rest ∙ b.1 end_turn) (false, c.end_turn.ensures.shown _ _ _ b.0)
+    stops_as _ _ (a.1 rest ∙ b.1 end_turn) (false, quietly b.0 (c.end_turn.ensures.shown _ _ _))

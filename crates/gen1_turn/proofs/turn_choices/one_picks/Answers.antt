@@ -1,5 +1,5 @@
 use Rattle.std.proofs.Common.{◌∷◌}
-use Rattle.gen1_layout.proofs.Words.{[], Phase, refl, still, then-goes, ◌∙◌}
+use Rattle.gen1_layout.proofs.Words.{[], Phase, quietly, refl, still, then-goes, ◌∙◌}
 use Rattle.gen1_machine.specs.Ruling.{ruling_of}
 use Rattle.gen1_machine.specs.Sides.{other}
 use Rattle.gen1_machine.specs.Turn.{do_part, do_parts, end_turn, one_picks, set_picked, Acts, Suffers}
@@ -15,7 +15,7 @@ returns-then-sends_and_suffers-clause-shown t c origin g p plan (fits, any, ther
     let s = c.args.side in
     let k = c.sends_and_suffers.new.known in
     let rest : Phase = do_parts (ruling_of terms) (Acts s c.args.pick ∷ Suffers s ∷ []) in
-    let a = still {g' = knowing (with_broke h.0 c.args.known.now) g} h.1 (c.set_picked.ensures.shown _ _ _ (picked-fits terms plan s c.args.pick p fits v) h.1.shows) refl in
+    let a = still {g' = knowing (with_broke h.0 c.args.known.now) g} h.1 (quietly h.1.shows (c.set_picked.ensures.shown _ _ _ (picked-fits terms plan s c.args.pick p fits v))) refl in
     let first = rw c.other.ensures at c.sends_and_suffers.ensures.shown in
     let x = rw c.if-sends_and_suffers.true at (first (record g { drawn = (set_picked s c.args.pick p).drawn }) _ h.0 (ruling_of terms) (picked-range s (other s) c.args.pick c.args.place p there) a.shows) in
     ends_as k g _ _ (then-goes (set_picked s c.args.pick) _ p a.shows.ends) (ends_still c.args.known.now k g a (x rest))
@@ -27,7 +27,7 @@ returns-then-act_and_suffer-clause-shown t c origin g p plan (fits, any, there) 
     let s = c.args.side in
     let k = c.sends_and_suffers.new.known in
     let rest : Phase = do_parts (ruling_of terms) (Acts s c.args.pick ∷ Suffers s ∷ []) in
-    let a = still {g' = knowing (with_broke h.0 c.args.known.now) g} h.1 (c.set_picked.ensures.shown _ _ _ (picked-fits terms plan s c.args.pick p fits v) h.1.shows) refl in
+    let a = still {g' = knowing (with_broke h.0 c.args.known.now) g} h.1 (quietly h.1.shows (c.set_picked.ensures.shown _ _ _ (picked-fits terms plan s c.args.pick p fits v))) refl in
     let va = (set_picked-keeps terms plan s c.args.pick fits).kept p v in
     let range = picked-range s (other s) c.args.pick c.args.place p there in
     let first = rw c.other.ensures at c.sends_and_suffers.ensures.shown in
@@ -43,11 +43,11 @@ returns-clause-shown t c origin g p plan (fits, any, there) v h =
     let s = c.args.side in
     let k = c.sends_and_suffers.new.known in
     let rest : Phase = do_parts (ruling_of terms) (Acts s c.args.pick ∷ Suffers s ∷ []) in
-    let a = still {g' = knowing (with_broke h.0 c.args.known.now) g} h.1 (c.set_picked.ensures.shown _ _ _ (picked-fits terms plan s c.args.pick p fits v) h.1.shows) refl in
+    let a = still {g' = knowing (with_broke h.0 c.args.known.now) g} h.1 (quietly h.1.shows (c.set_picked.ensures.shown _ _ _ (picked-fits terms plan s c.args.pick p fits v))) refl in
     let va = (set_picked-keeps terms plan s c.args.pick fits).kept p v in
     let range = picked-range s (other s) c.args.pick c.args.place p there in
     let first = rw c.other.ensures at c.sends_and_suffers.ensures.shown in
     let x = rw c.if-sends_and_suffers.false at (first (record g { drawn = (set_picked s c.args.pick p).drawn }) _ h.0 (ruling_of terms) range a.shows) in
     let vx = (suffers_part terms plan (other s)).kept _ ((send_part terms plan (other s) c.args.place any).led _ (va, range)) in
     let y = rw c.if-act_and_suffer.false at (c.act_and_suffer.ensures.shown origin g _ plan fits vx (over_still c.args.known.now k g a x.0)) in
-    ends_as c.act_and_suffer.new.known g _ _ (then-goes (set_picked s c.args.pick) _ p a.shows.ends ∙ x.1 rest ∙ y.1 end_turn) (ended c.act_and_suffer.new.known g end_turn (c.end_turn.ensures.shown _) y.0)
+    ends_as c.act_and_suffer.new.known g _ _ (then-goes (set_picked s c.args.pick) _ p a.shows.ends ∙ x.1 rest ∙ y.1 end_turn) (ended c.act_and_suffer.new.known g end_turn (λ g p k. quietly k (c.end_turn.ensures.shown _ g p)) y.0)

@@ -1,4 +1,4 @@
-use Rattle.gen1_layout.proofs.Words.{on_conditions, refl, still, then-goes, ◌∙◌}
+use Rattle.gen1_layout.proofs.Words.{on_conditions, quietly, refl, still, then-goes, ◌∙◌}
 use Rattle.gen1_machine.specs.declared.side.Side.TheVariants.{One, Two}
 use Rattle.gen1_machine.specs.Conditions.{without_flinch}
 use Rattle.gen1_machine.specs.Turn.{turn}
@@ -10,9 +10,9 @@ pub returns-clause-shown : goal.returns-clause-shown
 unfolding turn
 returns-clause-shown t c origin g p plan (one, two, x, y) v h =
     let terms = g.setting.terms in
-    let a = still {g' = knowing (with_broke h.0 c.args.known.now) g} h.1 (c.end_flinch.ensures.shown _ _ _ h.1.shows) refl in
+    let a = still {g' = knowing (with_broke h.0 c.args.known.now) g} h.1 (quietly h.1.shows (c.end_flinch.ensures.shown _ _ _)) refl in
     let va = (flinch-planned terms plan One).kept p v in
-    let b = still {g' = knowing (with_broke h.0 c.args.known.now) g} a (c.end_flinch-2.ensures.shown _ _ _ a.shows) refl in
+    let b = still {g' = knowing (with_broke h.0 c.args.known.now) g} a (quietly a.shows (c.end_flinch-2.ensures.shown _ _ _)) refl in
     let vb = (flinch-planned terms plan Two).kept _ va in
     let still_one = flinch-comes c.args.one Two One _ (flinch-comes c.args.one One One p x) in
     let still_two = flinch-comes c.args.two Two Two _ (flinch-comes c.args.two One Two p y) in

@@ -6,7 +6,7 @@ use Rattle.gen1_effects.proofs.early_effects.haze.cure.Goals as goal
 
 pub returns-clause-shown : goal.returns-clause-shown
 unfolding haze_cures given
-returns-clause-shown c g p h =
+returns-clause-shown t c g p h =
     let skips = c.sleeps_or_freezes-known.ensures ∙ ap sleeps_or_freezes (c.status.ensures.stands _ _ h.within) in
     let a = skipped c.sleeps_or_freezes-known.result h in
     let kind = c.kind.ensures.stands _ _ h.within in

@@ -30,7 +30,7 @@ returns-clause-shown t c origin g p h =
     let foe = c.other-foe.result in
     let a = drawn_settled c.if-must_hit.false (c.must_hit.ensures.shown origin g p h) in
     let w = c.put_flag.ensures.stands 12 refl (lit< tt) _ _ with_seed a.shows.within refl (seed-same (conditions_in foe _)) in
-    let b = told_so a.shows (changed_conditions foe with_seed) (λ (f : Field). events.Start (who_in foe f) volatiles.LeechSeed) w c.push.ensures.items
+    let b = told_so a.shows (changed_conditions foe with_seed) (λ (f : Field). events.Start (who_in foe f) volatiles.LeechSeed) w c.push.ensures.told
     (ap (λ (who : Who). events.Start who volatiles.LeechSeed) (c.who.ensures.stands _ _ w)) in
     rw (← c.other-foe.ensures) (drawn_ended _ (drawn_goes _ _ a (drawn_past c.args.side (unseeded foe) _
     (sym (c.takes_no_seed.ensures.stands _ _ a.shows.within) ∙ c.if-takes_no_seed.false) a (still a b refl))))

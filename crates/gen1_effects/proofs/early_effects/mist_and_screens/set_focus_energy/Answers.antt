@@ -6,4 +6,4 @@ use Rattle.gen1_effects.proofs.early_effects.mist_and_screens.set_focus_energy.G
 
 pub returns-clause-shown : goal.returns-clause-shown
 unfolding set_focus_energy with_focus_energy
-returns-clause-shown c = c.put_up.ensures.shown 8 refl (lit< tt) with_focus_energy (λ d. refl) focus_energy-same
+returns-clause-shown t c = c.put_up.ensures.shown 8 refl (lit< tt) with_focus_energy (λ d. refl) focus_energy-same

@@ -6,4 +6,4 @@ use Rattle.gen1_effects.proofs.early_effects.mist_and_screens.set_mist.Goals as 
 
 pub returns-clause-shown : goal.returns-clause-shown
 unfolding set_mist with_mist
-returns-clause-shown c = c.put_up.ensures.shown 7 refl (lit< tt) with_mist (λ d. refl) mist-same
+returns-clause-shown t c = c.put_up.ensures.shown 7 refl (lit< tt) with_mist (λ d. refl) mist-same

@@ -7,6 +7,6 @@ use Rattle.gen1_effects.proofs.early_effects.splash.splash.Goals as goal
 
 pub returns-clause-shown : goal.returns-clause-shown
 unfolding splash
-returns-clause-shown c g p h =
-    ended _ (noted h (λ (f : Field). events.Activate (who_in c.args.side f) volatiles.Splash) c.push.ensures.items
+returns-clause-shown t c g p h =
+    ended _ (noted h (λ (f : Field). events.Activate (who_in c.args.side f) volatiles.Splash) c.push.ensures.told
     (ap (λ (w : Who). events.Activate w volatiles.Splash) (c.who.ensures.stands _ _ h.within)))

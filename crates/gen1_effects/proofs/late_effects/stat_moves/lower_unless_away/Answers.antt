@@ -6,12 +6,12 @@ use Rattle.gen1_effects.proofs.late_effects.stat_moves.lower_unless_away.Goals a
 
 pub returns-then-is_on-clause-shown : goal.returns-then-is_on-clause-shown
 unfolding fails_if
-returns-then-is_on-clause-shown c by g p h =
+returns-then-is_on-clause-shown t c by g p h =
     rw (← c.other-foe.ensures) (stops _ _ (if_so _ _ _ (sym (c.is_on.ensures.stands 5 refl _ p.field h.within) ∙ c.if-is_on.true) (c.fail.ensures.shown g p h)))
 
 pub returns-then-lower_stage-clause-shown : goal.returns-then-lower_stage-clause-shown
 unfolding fails_if
-returns-then-lower_stage-clause-shown c by g p h =
+returns-then-lower_stage-clause-shown t c by g p h =
     let s = c.args.side in
     let foe = c.other-foe.result in
     let a = if_not (is_invulnerable foe) (fail s) stay (sym (c.is_on.ensures.stands 5 refl _ p.field h.within) ∙ c.if-is_on.false) (stays h) in
@@ -20,7 +20,7 @@ returns-then-lower_stage-clause-shown c by g p h =
 
 pub returns-clause-shown : goal.returns-clause-shown
 unfolding fails_if
-returns-clause-shown c by g p h =
+returns-clause-shown t c by g p h =
     let s = c.args.side in
     let foe = c.other-foe.result in
     let a = if_not (is_invulnerable foe) (fail s) stay (sym (c.is_on.ensures.stands 5 refl _ p.field h.within) ∙ c.if-is_on.false) (stays h) in

@@ -4,10 +4,10 @@ use Rattle.gen1_status.proofs.Shifting.{fails, succeeds}
 use Rattle.gen1_effects.proofs.late_effects.stat_moves.raise_own_stat.Goals as goal
 
 pub returns-then-raise_stage-clause-shown : goal.returns-then-raise_stage-clause-shown
-returns-then-raise_stage-clause-shown c by g p h =
+returns-then-raise_stage-clause-shown t c by g p h =
     succeeds (raise_stage c.args.side c.args.side c.args.stat c.args.by) c.if-raise_stage.true (c.raise_stage.ensures.shown by (fail c.args.side) g p h)
 
 pub returns-clause-shown : goal.returns-clause-shown
-returns-clause-shown c by g p h =
+returns-clause-shown t c by g p h =
     fails (raise_stage c.args.side c.args.side c.args.stat c.args.by) c.if-raise_stage.false (c.raise_stage.ensures.shown by (fail c.args.side) g p h)
     (λ q a. c.fail.ensures.shown g q a)

@@ -7,8 +7,8 @@ use Rattle.gen1_effects.proofs.side_effects.recharge.must_recharge.Goals as goal
 
 pub returns-clause-shown : goal.returns-clause-shown
 unfolding must_recharge with_recharge
-returns-clause-shown c g p h =
+returns-clause-shown t c g p h =
     let s = c.args.side in
     let w = c.put_flag.ensures.stands 10 refl (lit< tt) _ p.field with_recharge h.within refl (recharging-same (conditions_in s p.field)) in
-    told_so h (changed_conditions s with_recharge) (λ (f : Field). events.MustRecharge (who_in s f)) w c.push.ensures.items
+    told_so h (changed_conditions s with_recharge) (λ (f : Field). events.MustRecharge (who_in s f)) w c.push.ensures.told
     (ap (λ (who : Who). events.MustRecharge who) (c.who.ensures.stands _ _ w))

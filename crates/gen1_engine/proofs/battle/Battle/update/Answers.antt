@@ -1,6 +1,9 @@
 use Rattle.gen1_engine.proofs.Making.{bounded}
 use Rattle.gen1_engine.proofs.battle.Battle.update.Goals as goal
 
+pub invariant_of-self : goal.invariant_of-self
+invariant_of-self c = c.update.ensures.valid c.self.invariant
+
 pub returns-clause-answers : goal.returns-clause-answers
 returns-clause-answers c = rw (← c.self.view_is) c.update.ensures.answers
 

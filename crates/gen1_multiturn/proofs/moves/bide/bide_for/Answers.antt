@@ -9,9 +9,9 @@ use Rattle.gen1_multiturn.proofs.moves.bide.bide_for.Goals as goal
 
 pub returns-clause-shown : goal.returns-clause-shown
 unfolding bide_for starts with_bide
-returns-clause-shown c g p thrash trapping h =
+returns-clause-shown t c g p thrash trapping h =
     let s = c.args.side in
     let turns = c.args.byte % 2 + 2 in
     let w = c.put_bide.ensures.stands _ p.field (with_bide turns) h.within refl (omega arith) thrash trapping in
-    told_so h (changed_conditions s (with_bide turns)) (λ (f : Field). events.Start (who_in s f) volatiles.Bide) w c.push.ensures.items
+    told_so h (changed_conditions s (with_bide turns)) (λ (f : Field). events.Start (who_in s f) volatiles.Bide) w c.push.ensures.told
     (ap (λ (who : Who). events.Start who volatiles.Bide) (c.who.ensures.stands _ _ w))

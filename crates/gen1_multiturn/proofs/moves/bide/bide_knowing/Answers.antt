@@ -9,14 +9,14 @@ use Rattle.gen1_multiturn.proofs.moves.bide.bide_knowing.Goals as goal
 
 pub returns-in_default-clause-shown : goal.returns-in_default-clause-shown
 unfolding bide_goes_on bide_on
-returns-in_default-clause-shown c g p h =
+returns-in_default-clause-shown t c g p h =
     let s = c.args.side in
     let none = not-stored (underway_in s p.field).bide (sym (c.bide.ensures.stands _ _ h.within) ∙ c.in_default.is) in
     seeing _ (λ (o : Option Storing). given last_damage (bide_on s o)) (sym none) (seeing last_damage (bide_on s None) refl (stays h))
 
 pub returns-then-turns-le1-clause-shown : goal.returns-then-turns-le1-clause-shown
 unfolding bide_goes_on bide_on
-returns-then-turns-le1-clause-shown c g p h =
+returns-then-turns-le1-clause-shown t c g p h =
     let s = c.args.side in
     let o = (underway_in s p.field).bide in
     let b : Storing = record { turns = c.in-Some.turns; energy = energy_of o } in
@@ -29,7 +29,7 @@ returns-then-turns-le1-clause-shown c g p h =
 
 pub returns-clause-shown : goal.returns-clause-shown
 unfolding bide_goes_on bide_on
-returns-clause-shown c g p h =
+returns-clause-shown t c g p h =
     let s = c.args.side in
     let o = (underway_in s p.field).bide in
     let b : Storing = record { turns = c.in-Some.turns; energy = energy_of o } in

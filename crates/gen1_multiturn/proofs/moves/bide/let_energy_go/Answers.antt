@@ -9,11 +9,11 @@ use Rattle.gen1_multiturn.proofs.moves.bide.let_energy_go.Goals as goal
 
 pub returns-clause-shown : goal.returns-clause-shown
 unfolding let_energy_go ends set_letting_go set_missed without_bide
-returns-clause-shown c energy is g p h =
+returns-clause-shown t c energy is g p h =
     let s = c.args.side in
     let damage = c.args.damage in
     let w = c.end_bide.ensures.stands _ p.field without_bide h.within refl in
-    let a = told_so h (changed_conditions s without_bide) (λ (f : Field). events.End (who_in s f) volatiles.Bide) w c.push.ensures.items
+    let a = told_so h (changed_conditions s without_bide) (λ (f : Field). events.End (who_in s f) volatiles.Bide) w c.push.ensures.told
     (ap (λ (who : Who). events.End who volatiles.Bide) (c.who.ensures.stands _ _ w)) in
     let b = put_damage a damage (c.put_last_damage.ensures.stands _ _ a.within) in
     let d = acted (λ (x : Action). record x { letting_go = true }) b in

@@ -10,7 +10,7 @@ use Rattle.gen1_multiturn.proofs.moves.bide.store_energy.Goals as goal
 
 pub returns-clause-shown : goal.returns-clause-shown
 unfolding store_energy lasts
-returns-clause-shown c g p damage b is few much h =
+returns-clause-shown t c g p damage b is few much h =
     let s = c.args.side in
     let now = conditions_in s p.field in
     let change = with_bide_storing damage in
@@ -18,6 +18,6 @@ returns-clause-shown c g p damage b is few much h =
     let known = subst (λ (o : Option Storing). IsStorableBide o) is ok.bide in
     let alone = beside-bide now.underway b ok is in
     let w = c.put_bide.ensures.stands _ p.field change h.within (more_energy now damage b c.args.turns c.args.energy is few much) (omega (arith, few, known.0)) alone.0 alone.1 in
-    let a = told_so h (changed_conditions s change) (λ (f : Field). events.Activate (who_in s f) volatiles.Bide) w c.push.ensures.items
+    let a = told_so h (changed_conditions s change) (λ (f : Field). events.Activate (who_in s f) volatiles.Bide) w c.push.ensures.told
     (ap (λ (who : Who). events.Activate who volatiles.Bide) (c.who.ensures.stands _ _ w)) in
     goes _ _ a (halted a)

@@ -7,7 +7,7 @@ use Rattle.gen1_machine.specs.Valid.{IsUsedMove}
 use Rattle.gen1_multiturn.proofs.moves.charging.charge.Goals as goal
 
 pub returns-clause-shown : goal.returns-clause-shown
-returns-clause-shown c g p h =
+returns-clause-shown t c g p h =
     let s = c.args.side in
     let picked = c.picked_move.ensures.stands _ p.field h.within in
     let fits = subst (λ (u : UsedMove). IsUsedMove (length (member_in s p.field).moves) u) (sym picked) (active_ok s h.within).picked_move in

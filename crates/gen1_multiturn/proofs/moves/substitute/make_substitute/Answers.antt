@@ -6,12 +6,12 @@ use Rattle.gen1_multiturn.proofs.moves.substitute.make_substitute.Goals as goal
 
 pub returns-then-is_on-clause-shown : goal.returns-then-is_on-clause-shown
 unfolding make_substitute fails_if
-returns-then-is_on-clause-shown c g p h =
+returns-then-is_on-clause-shown t c g p h =
     stops _ _ (if_so _ _ _ (sym (c.is_on.ensures.stands 9 refl _ p.field h.within) ∙ c.if-is_on.true) (c.fail.ensures.shown g p h))
 
 pub returns-then-hp-from-clause-shown : goal.returns-then-hp-from-clause-shown
 unfolding make_substitute fails_if
-returns-then-hp-from-clause-shown c g p h =
+returns-then-hp-from-clause-shown t c g p h =
     let none = sym (c.is_on.ensures.stands 9 refl _ p.field h.within) ∙ c.if-is_on.false in
     let hp = c.hp.ensures.stands _ p.field h.within in
     let cost = c.quarter-cost.ensures.stands _ p.field h.within in
@@ -19,7 +19,7 @@ returns-then-hp-from-clause-shown c g p h =
 
 pub returns-clause-shown : goal.returns-clause-shown
 unfolding make_substitute fails_if
-returns-clause-shown c g p h =
+returns-clause-shown t c g p h =
     let none = sym (c.is_on.ensures.stands 9 refl _ p.field h.within) ∙ c.if-is_on.false in
     let hp = c.hp.ensures.stands _ p.field h.within in
     let cost = c.quarter-cost.ensures.stands _ p.field h.within in

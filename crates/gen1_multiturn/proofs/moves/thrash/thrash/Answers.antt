@@ -1,4 +1,4 @@
-use Rattle.gen1_layout.proofs.Words.{drawn_goes, refl}
+use Rattle.gen1_layout.proofs.Words.{drawn_goes, drawn_quietly, refl}
 use Rattle.gen1_tables.specs.declared.effect.Effect.TheVariants.{Thrash}
 use Rattle.gen1_machine.specs.declared.picks.Pick.TheVariants.{Continue}
 use Rattle.gen1_machine.specs.Action.{see_if_going_on}
@@ -13,6 +13,6 @@ pub returns-clause-left : goal.returns-clause-left
 returns-clause-left t c move is origin g p plan doing v h =
     let s = c.args.side in
     let k = c.seen_going_on-known.result in
-    let a = does_still {k = just_begun s} {k' = k} g (see_if_going_on s Continue) (c.seen_going_on-known.ensures.shown _) h in
+    let a = drawn_quietly h (does_still {k = just_begun s} {k' = k} g (see_if_going_on s Continue) (c.seen_going_on-known.ensures.shown _)) in
     let w = (see_if_going_on-sound (planned-sound g.setting.terms plan) s Continue).kept p v in
     leaves {k = k} g (drawn_goes (see_if_going_on s Continue) (thrash_about s move) a (c.thrash_with.ensures.shown move Thrash is refl origin g _ plan doing w a))

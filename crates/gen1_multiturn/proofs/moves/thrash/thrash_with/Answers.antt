@@ -1,4 +1,4 @@
-use Rattle.gen1_layout.proofs.Words.{Action, Option, ap, drawn_if_not, drawn_if_so, drawn_seeing, sym, ℕ, ◌∙◌}
+use Rattle.gen1_layout.proofs.Words.{Action, Option, ap, drawn_if_not, drawn_if_so, drawn_quietly, drawn_seeing, sym, ℕ, ◌∙◌}
 use Rattle.gen1_machine.specs.GoingOn.{thrash_about, thrash_less}
 use Rattle.gen1_action.specs.Knowing.{knowing}
 use Rattle.gen1_multiturn.proofs.Underways.{alone-thrashing}
@@ -16,4 +16,4 @@ unfolding thrash_about
 returns-clause-shown t c move effect is tie origin g p plan doing v h =
     let alone = alone-thrashing g.setting.terms plan c.args.side effect p doing tie v in
     drawn_if_not _ _ _ (ap (λ (a : Action). a.going_on) h.shows.action ∙ c.if-known.false)
-    (c.begin_thrashing.ensures.shown _ move origin (knowing c.args.known.now g) p is alone.0 alone.1 h)
+    (drawn_quietly h (c.begin_thrashing.ensures.shown _ move origin (knowing c.args.known.now g) p is alone.0 alone.1))

@@ -11,15 +11,15 @@ use Rattle.gen1_status.proofs.gate_tests.by_status.sleep_turn.Goals as goal
 
 pub returns-then-turns-le1-clause-shown : goal.returns-then-turns-le1-clause-shown
 unfolding sleep_test wake
-returns-then-turns-le1-clause-shown c g p asleep h =
+returns-then-turns-le1-clause-shown t c g p asleep h =
     let w = c.put_status.ensures.stands _ p.field with_sleep_one_less h.within (wakes (member_in c.args.side p.field) asleep c.if-turns-le1.true) tt in
-    let a = told_so h (changed_member c.args.side with_sleep_one_less) (λ (f : Field). events.Cure (who_in c.args.side f) kinds.Sleep) w c.push.ensures.items
+    let a = told_so h (changed_member c.args.side with_sleep_one_less) (λ (f : Field). events.Cure (who_in c.args.side f) kinds.Sleep) w c.push.ensures.told
     (ap (λ (who : Who). events.Cure who kinds.Sleep) (c.who.ensures.stands _ _ w)) in
     if_so _ _ _ (at_most c.args.turns 1 c.if-turns-le1.true) (goes _ _ a (halted a))
 
 pub returns-clause-shown : goal.returns-clause-shown
 unfolding sleep_test sleep_on
-returns-clause-shown c g p asleep h =
+returns-clause-shown t c g p asleep h =
     let known = subst (λ (s : Status). IsStatus g.setting.terms.rules s) asleep (member_ok c.args.side h.within).status in
     let w = c.put_status-2.ensures.stands _ p.field with_sleep_one_less h.within (sleeps_on (member_in c.args.side p.field) asleep (omega arith))
     (one_turn_less g.setting.terms.rules known (omega arith)) in

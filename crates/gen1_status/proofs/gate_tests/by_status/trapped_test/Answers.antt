@@ -4,12 +4,12 @@ use Rattle.gen1_status.proofs.gate_tests.by_status.trapped_test.Goals as goal
 
 pub returns-then-not-is_on-clause-shown : goal.returns-then-not-is_on-clause-shown
 unfolding trapped_test
-returns-then-not-is_on-clause-shown c g p h =
+returns-then-not-is_on-clause-shown t c g p h =
     let foe = ap (λ (s : Side). is_some (underway_in s p.field).trapping) c.other.ensures in
     if_not _ _ _ (sym (c.is_on.ensures.stands 2 refl _ p.field h.within ∙ foe) ∙ c.if-not-is_on.true) (stays h)
 
 pub returns-clause-shown : goal.returns-clause-shown
 unfolding trapped_test
-returns-clause-shown c g p h =
+returns-clause-shown t c g p h =
     let foe = ap (λ (s : Side). is_some (underway_in s p.field).trapping) c.other.ensures in
     if_so _ _ _ (sym (c.is_on.ensures.stands 2 refl _ p.field h.within ∙ foe) ∙ c.if-not-is_on.false) (c.cant.ensures.shown _ _ h)

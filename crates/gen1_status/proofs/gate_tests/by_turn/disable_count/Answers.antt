@@ -10,19 +10,19 @@ use Rattle.gen1_status.proofs.gate_tests.by_turn.disable_count.Goals as goal
 
 pub returns-in_default-clause-shown : goal.returns-in_default-clause-shown
 unfolding disable_count
-returns-in_default-clause-shown c g p is h = rw c.in_default.is (stays h)
+returns-in_default-clause-shown t c g p is h = rw c.in_default.is (stays h)
 
 pub returns-then-turns-le1-clause-shown : goal.returns-then-turns-le1-clause-shown
 unfolding disable_count ends without_disable
-returns-then-turns-le1-clause-shown c g p is h =
+returns-then-turns-le1-clause-shown t c g p is h =
     let w = c.put_disabled.ensures.stands _ p.field without_disable h.within refl tt in
     rw c.in-Some.is (if_so _ _ _ (at_most _ 1 c.if-turns-le1.true)
-    (told_so h (changed_conditions c.args.side without_disable) (λ (f : Field). events.End (who_in c.args.side f) volatiles.Disable) w c.push.ensures.items
+    (told_so h (changed_conditions c.args.side without_disable) (λ (f : Field). events.End (who_in c.args.side f) volatiles.Disable) w c.push.ensures.told
     (ap (λ (who : Who). events.End who volatiles.Disable) (c.who.ensures.stands _ _ w))))
 
 pub returns-clause-shown : goal.returns-clause-shown
 unfolding disable_count
-returns-clause-shown c g p is h =
+returns-clause-shown t c g p is h =
     let now = is ∙ c.in-Some.is in
     let known = subst (λ (o : Option DisabledSlot). IsStorableDisabled (length (member_in c.args.side p.field).moves) o) now (active_ok c.args.side h.within).conditions.disabled in
     let w = c.put_disabled-2.ensures.stands _ p.field with_disable_one_less h.within (less_disabled (conditions_in c.args.side p.field) _ now)

@@ -4,17 +4,17 @@ use Rattle.gen1_status.proofs.gate_tests.by_turn.gate_of_turn.Goals as goal
 
 pub returns-then-flinch_test-clause-shown : goal.returns-then-flinch_test-clause-shown
 unfolding gate_of_turn
-returns-then-flinch_test-clause-shown c g p h = stops _ _ (settled c.if-flinch_test.true (c.flinch_test.ensures.shown g p h))
+returns-then-flinch_test-clause-shown t c g p h = stops _ _ (settled c.if-flinch_test.true (c.flinch_test.ensures.shown g p h))
 
 pub returns-then-recharge_test-clause-shown : goal.returns-then-recharge_test-clause-shown
 unfolding gate_of_turn
-returns-then-recharge_test-clause-shown c g p h =
+returns-then-recharge_test-clause-shown t c g p h =
     let a = settled c.if-flinch_test.false (c.flinch_test.ensures.shown g p h) in
     goes _ _ a (stops _ _ (settled c.if-recharge_test.true (c.recharge_test.ensures.shown _ _ a)))
 
 pub returns-clause-shown : goal.returns-clause-shown
 unfolding gate_of_turn
-returns-clause-shown c g p h =
+returns-clause-shown t c g p h =
     let a = settled c.if-flinch_test.false (c.flinch_test.ensures.shown g p h) in
     let b = settled c.if-recharge_test.false (c.recharge_test.ensures.shown _ _ a) in
     let is = c.disabled.ensures.stands _ _ b.within in

@@ -19,7 +19,7 @@ returns-then-draw-lt-HITS_ITSELF_FROM-clause-shown t c origin g p is h =
     let less = less_confused (conditions_in c.args.side p.field) c.args.turns is
     ∙ ap (λ (n : ℕ). record (conditions_in c.args.side p.field) { confused = Some n }) (sym c.saturating_sub.ensures) in
     let w = c.put_confused.ensures.stands _ p.field with_confusion_one_less h.shows.within less (omega arith, omega (arith, known.1, c.saturating_sub.ensures)) in
-    let a = told_so h.shows {events' = c.push.new.self.items} (changed_conditions c.args.side with_confusion_one_less) (λ (f : Field). events.Activate (who_in c.args.side f) volatiles.Confusion) w c.push.ensures.items
+    let a = told_so h.shows {events' = t.S.EventSink.tells c.push.new.self} (changed_conditions c.args.side with_confusion_one_less) (λ (f : Field). events.Activate (who_in c.args.side f) volatiles.Confusion) w c.push.ensures.told
     (ap (λ (who : Who). events.Activate who volatiles.Confusion) (c.who.ensures.stands _ _ w)) in
     let b = still_tells h (tells Go (lasts c.args.side volatiles.Confusion with_confusion_one_less) refl (lasts-keeps c.args.side volatiles.Confusion with_confusion_one_less (conditions-spare _ c.args.side with_confusion_one_less)) a) in
     tells_goes _ _ b (tells_drawing (may_hurt_itself c.args.side) b.shows c.draw.ensures.drawn c.draw.ensures.left
@@ -32,7 +32,7 @@ returns-clause-shown t c origin g p is h =
     let less = less_confused (conditions_in c.args.side p.field) c.args.turns is
     ∙ ap (λ (n : ℕ). record (conditions_in c.args.side p.field) { confused = Some n }) (sym c.saturating_sub.ensures) in
     let w = c.put_confused.ensures.stands _ p.field with_confusion_one_less h.shows.within less (omega arith, omega (arith, known.1, c.saturating_sub.ensures)) in
-    let a = told_so h.shows {events' = c.push.new.self.items} (changed_conditions c.args.side with_confusion_one_less) (λ (f : Field). events.Activate (who_in c.args.side f) volatiles.Confusion) w c.push.ensures.items
+    let a = told_so h.shows {events' = t.S.EventSink.tells c.push.new.self} (changed_conditions c.args.side with_confusion_one_less) (λ (f : Field). events.Activate (who_in c.args.side f) volatiles.Confusion) w c.push.ensures.told
     (ap (λ (who : Who). events.Activate who volatiles.Confusion) (c.who.ensures.stands _ _ w)) in
     let b = still_tells h (tells Go (lasts c.args.side volatiles.Confusion with_confusion_one_less) refl (lasts-keeps c.args.side volatiles.Confusion with_confusion_one_less (conditions-spare _ c.args.side with_confusion_one_less)) a) in
     tells_goes _ _ b (tells_drawing (may_hurt_itself c.args.side) b.shows c.draw.ensures.drawn c.draw.ensures.left

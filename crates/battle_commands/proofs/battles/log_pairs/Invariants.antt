@@ -1,0 +1,12 @@
+-- The log bytes of the pairs before a number were written.
+use Rattle.std.proofs.Common.{◌≡◌}
+use Rattle.gen1_machine.specs.LogBytes.{codes_of}
+use Rattle.gen1_machine.specs.State.{State}
+use Rattle.gen1_layout.specs.Within.{Stands}
+use Rattle.battle_commands.proofs.Standing.{Stood}
+use Rattle.battle_commands.proofs.battles.log_pairs.Given as goal
+
+abbrev pub invariant-loop-number : goal.invariant-loop-number
+invariant-loop-number g l =
+    (g.W.Sink.has_failed l.sink ≡ g.W.Sink.has_failed l.initial.sink)
+    × ((s : State) → Stands l.initial.battle s → Stood codes_of s l.pairs l.number l.battle (g.W.Sink.contents l.initial.sink) (g.W.Sink.contents l.sink))

@@ -1,0 +1,13 @@
+use Rattle.std.proofs.Common.{rules, arith, length, sym, ◌<◌, ◌≡◌, ◌∙◌}
+use Rattle.battle_input.specs.Sheets.{word_of}
+use Rattle.battle_input.specs.declared.misfit.Step.TheVariants.{At}
+use Rattle.battle_input.proofs.Reading.{each_of_stop, misfit_in, numbers_from}
+use Rattle.battle_input.proofs.sheet.read_words.Goals as goal
+
+pub returns-in-Err-clause-value : goal.returns-in-Err-clause-value
+returns-in-Err-clause-value g c =
+    let vs = c.in-Some.items.now.items in
+    let long : length vs ≡ g.row.N = search rules in
+    let within : c.loop-i.i < length vs = omega arith in
+    let wrong = misfit_in word_of (At c.loop-i.i) c.read_word.result _ _ c.in-Err.misfit c.in-Err.ensures.value c.read_word.ensures.value c.index.ensures in
+    sym (each_of_stop word_of _ vs c.loop-i.i c.index.result.now c.in-Err.misfit within wrong) ∙ c.loop-i.invariant.0 ∙ sym (numbers_from word_of g.row.N vs _ c.in-Some.ensures long)

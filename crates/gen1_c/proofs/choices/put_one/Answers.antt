@@ -1,0 +1,10 @@
+use Rattle.std.proofs.Common.{arith}
+use Rattle.gen1_c.proofs.WrittenChoices.{front_more}
+use Rattle.gen1_c.proofs.choices.put_one.Goals as goal
+
+pub returns-then-count-lt9-clause-written : goal.returns-then-count-lt9-clause-written
+returns-then-count-lt9-clause-written c base done is nine few =
+    front_more done base c.args.choices.now c.args.count c.args.byte is (omega (arith, nine, few))
+
+pub returns-clause-written : goal.returns-clause-written
+returns-clause-written c base done is nine few = absurd (omega (arith, is.0, few, c.if-count-lt9.false))

@@ -1,0 +1,16 @@
+use Rattle.std.proofs.Common.{List, ap, length, map, ◌∙◌, ℕ}
+use Rattle.std.proofs.lemmas.List.{length-map}
+use Rattle.gen1_machine.specs.declared.side.Side.{Side}
+use Rattle.gen1_machine.specs.Choices.{byte_of_choice}
+use Rattle.gen1_room.specs.Plain.{due}
+use Rattle.gen1_c.specs.Fronts.{over_front}
+use Rattle.gen1_c.proofs.Hits.{same_side}
+use Rattle.gen1_c.proofs.rooms.gen1_room_choices.Goals as goal
+
+pub returns-clause-offers : goal.returns-clause-offers
+returns-clause-offers c course which k e =
+    let side = same_side c.in-Some.side which (c.in-Some.ensures.exact ∙ e) in
+    let bytes = c.choices-bytes.ensures course k ∙ ap (λ (it : Side). map byte_of_choice (due it course)) side in (
+      c.len.ensures.value ∙ ap (λ (l : List ℕ). length l) bytes ∙ length-map (due which course) byte_of_choice,
+      c.put_front.ensures ∙ ap (λ (l : List ℕ). over_front l c.args.front.now) (c.as_slice.ensures.value ∙ bytes),
+    )

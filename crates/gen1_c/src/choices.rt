@@ -1,0 +1,112 @@
+//! What may be chosen for an update, as bytes (include/gen1.h, "playing").
+ghost use Rattle.std.specs.Prelude.{List, [], drop, if◌then◌else◌, length, map, ℕ, ◌++◌, ◌<◌, ◌≡◌, ◌≤◌, ◌∷◌};
+ghost use Rattle.gen1_machine.specs.Choices.{byte_of_choice};
+ghost use Rattle.gen1_machine.specs.Numbers.{side_number};
+ghost use Rattle.gen1_machine.specs.OfferedChoices.{offered};
+ghost use Rattle.gen1_machine.specs.State.{State};
+ghost use Rattle.gen1_machine.specs.declared.choice.Choice.{Choice};
+ghost use Rattle.gen1_machine.specs.declared.side.Side.{Side};
+ghost use Rattle.gen1_layout.specs.Within.{Stands};
+ghost use Rattle.gen1_requests.specs.OfferedMask.{all_choices, choices_in, chosen_by};
+ghost use Rattle.gen1_c.specs.Choices.{IsWritten};
+ghost use Rattle.gen1_c.specs.Update.{IsNoSide, Offers};
+
+use gen1_engine::packed::offered_mask;
+use gen1_layout::Packed;
+use gen1_machine::Side;
+
+const NO_SIDE: u8 = 255;
+
+// The bytes of all choices, by the digits of a mask.
+const BYTES: [u8; 12] = [
+    0x00, 0x10, 0x11, 0x12, 0x13, 0x14, 0x21, 0x22, 0x23, 0x24, 0x25, 0x26,
+];
+
+/// What a side may choose, by rising bytes: they are written to the front, and their number is answered.
+#[unsafe(no_mangle)]
+pub extern "C" fn gen1_choices(battle: &Packed, side: u8, choices: &mut [u8; 9]) -> u8
+    ensures offers { (s : State) (which : Side) → Stands battle.now s → side ≡ side_number which
+        → Offers (offered which s.field) choices.old choices.new result }
+    ensures no_side { IsNoSide side → (result ≡ 255) × (choices.new ≡ choices.old) }
+{
+    match Side::from_number(side) {
+        Some(side) => put_offered(battle, side, choices),
+        None => NO_SIDE,
+    }
+}
+
+#[inline(always)]
+fn put_offered(battle: &Packed, side: Side, choices: &mut [u8; 9]) -> u8
+    ensures { (s : State) → Stands battle.now s
+        → Offers (offered side s.field) choices.old choices.new result }
+{
+    put_choices(offered_mask(battle, side), choices)
+}
+
+// Writes the choices of a mask to the front. There are never more than nine where a battle offers them.
+#[inline(always)]
+fn put_choices(mask: u16, choices: &mut [u8; 9]) -> u8
+    ensures { length (choices_in mask) ≤ 9
+        → Offers (choices_in mask) choices.old choices.new result }
+{
+    // Most often all four moves can be chosen, and are one write.
+    if mask % 64 == 0x3c {
+        choices[0] = 0x11;
+        choices[1] = 0x12;
+        choices[2] = 0x13;
+        choices[3] = 0x14;
+        return put_digits(mask / 64, 6, 4, choices) as u8;
+    }
+    put_digits(mask, 0, 0, choices) as u8
+}
+
+// Writes the choices of the digits from one on, behind those that are there.
+#[inline(always)]
+fn put_digits(mask: u16, from: usize, before: usize, choices: &mut [u8; 9]) -> usize
+    requires from { from ≤ 12 }
+    requires before { before ≤ 9 }
+    ensures few { result ≤ 9 }
+    ensures written { (base : List ℕ) (done : List Choice)
+        → IsWritten (map byte_of_choice done) base choices.old before → length base ≡ 9
+        → length (done ++ chosen_by mask (drop from all_choices)) ≤ 9
+        → IsWritten (map byte_of_choice (done ++ chosen_by mask (drop from all_choices))) base
+        choices.new result }
+{
+    let mut rest = mask;
+    let mut count = before;
+    for digit in from..12 {
+        count = put_if(rest % 2 == 1, BYTES[digit], count, choices);
+        rest /= 2;
+    }
+    count
+}
+
+#[inline(always)]
+fn put_if(holds: bool, byte: u8, count: usize, choices: &mut [u8; 9]) -> usize
+    requires { count ≤ 9 }
+    ensures few { result ≤ 9 }
+    ensures written { (base done : List ℕ) → IsWritten done base choices.old count
+        → length base ≡ 9 → length (done ++ (if holds then byte ∷ [] else [])) ≤ 9
+        → IsWritten (done ++ (if holds then byte ∷ [] else [])) base choices.new result }
+{
+    if holds {
+        return put_one(byte, count, choices);
+    }
+    count
+}
+
+// Nothing is written behind the ninth.
+#[inline(always)]
+fn put_one(byte: u8, count: usize, choices: &mut [u8; 9]) -> usize
+    requires { count ≤ 9 }
+    ensures few { result ≤ 9 }
+    ensures written { (base done : List ℕ) → IsWritten done base choices.old count
+        → length base ≡ 9 → length done < 9
+        → IsWritten (done ++ (byte ∷ [])) base choices.new result }
+{
+    if count < 9 {
+        choices[count] = byte;
+        return count + 1;
+    }
+    count
+}

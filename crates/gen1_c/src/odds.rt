@@ -1,0 +1,92 @@
+//! What a use of a move would come to (include/gen1.h, "calculating"; docs/MECHANICS.md, "Damage numbers" to "Hit test").
+ghost use Rattle.std.specs.Prelude.{[], ◌∷◌, ◌≡◌, ◌≢◌};
+ghost use Rattle.gen1_stats.specs.Teams.{team_of};
+ghost use Rattle.gen1_machine.specs.Moves.{move_at};
+ghost use Rattle.gen1_machine.specs.Numbers.{side_number};
+ghost use Rattle.gen1_machine.specs.State.{State};
+ghost use Rattle.gen1_machine.specs.declared.side.Side.{Side};
+ghost use Rattle.gen1_machine.specs.declared.side.Side.TheVariants.{One};
+ghost use Rattle.gen1_layout.specs.Within.{Stands};
+ghost use Rattle.gen1_odds.specs.Odds.{odds_in};
+ghost use Rattle.gen1_c.specs.Odds.{TellsOdds, between_fault, facing, odds_due};
+ghost use Rattle.gen1_c.specs.Teams.{sheet_of};
+ghost use Rattle.gen1_c.specs.Update.{IsNoSide};
+
+use crate::teams::{MemberForm, team_of_one};
+use gen1_engine::packed::update_events;
+use gen1_layout::Packed;
+use gen1_machine::{Choice, EventList, Side};
+use gen1_odds::{Odds, odds_of};
+use gen1_stats::Team;
+use gen1_tables::MoveId;
+
+const NO_SIDE: u8 = 1;
+
+const NO_MOVE: u8 = 2;
+
+const NOBODY: u8 = 4;
+
+const NO_SUCH_MOVE: u32 = 11;
+
+/// What a use of a move by a side would come to, as both members that are out now stand.
+#[unsafe(no_mangle)]
+pub extern "C" fn gen1_hit_now(battle: &Packed, side: u8, number: u8, hit: &mut Odds) -> u8
+    ensures tells { (s : State) (which : Side) → Stands battle.now s → side ≡ side_number which
+        → TellsOdds (odds_due which number s.field) hit.old hit.new result }
+    ensures no_side { IsNoSide side → (result ≡ 1) × (hit.new ≡ hit.old) }
+    // Whatever the bytes are.
+    ensures kept { result ≢ 0 → hit.new ≡ hit.old }
+{
+    let Some(side) = Side::from_number(side) else {
+        return NO_SIDE;
+    };
+    let Some(id) = MoveId::new(number) else {
+        return NO_MOVE;
+    };
+    if battle.turn() == 0 {
+        return NOBODY;
+    }
+    *hit = odds_of(battle, side, id);
+    0
+}
+
+/// What a use of a move by a member would come to against another, both at full HP and just sent out. The answer is 0, or a fault
+/// as `gen1_new` answers it of teams of one; of the move its code alone.
+#[unsafe(no_mangle)]
+pub extern "C" fn gen1_hit_between(
+    user: &MemberForm,
+    foe: &MemberForm,
+    number: u8,
+    hit: &mut Odds,
+) -> u32
+    ensures fault { result ≡ between_fault user.now foe.now number }
+    ensures told { result ≡ 0 → hit.new ≡ odds_in One (move_at number)
+        (facing (team_of (sheet_of user.now ∷ [])) (team_of (sheet_of foe.now ∷ []))).field }
+    ensures kept { result ≢ 0 → hit.new ≡ hit.old }
+{
+    let Some(id) = MoveId::new(number) else {
+        return NO_SUCH_MOVE;
+    };
+    let user = match team_of_one(user) {
+        Ok(team) => team,
+        Err(fault) => return 65536 + fault,
+    };
+    let foe = match team_of_one(foe) {
+        Ok(team) => team,
+        Err(fault) => return 131072 + fault,
+    };
+    *hit = odds_of(&sent_out(&user, &foe), Side::One, id);
+    0
+}
+
+// A battle of two teams after its first update. Nothing of it is drawn, so the seed may be any.
+fn sent_out(one: &Team, two: &Team) -> Packed
+    ensures stands { Stands result (facing one.now two.now) }
+    ensures out { (facing one.now two.now).field.turn ≢ 0 }
+{
+    let mut battle = Packed::new(one, two, [0; 10]);
+    let mut events = EventList::new();
+    // A Pass is what both are offered.
+    let _result = update_events(&mut battle, Choice::Pass, Choice::Pass, &mut events);
+    battle
+}

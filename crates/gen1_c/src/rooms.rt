@@ -1,0 +1,59 @@
+//! Rooms of two players who choose apart from each other (include/gen1.h, "rooms"; docs/MECHANICS.md, "Rooms").
+ghost use Rattle.std.specs.Prelude.{◌≡◌, ◌≢◌};
+ghost use Rattle.gen1_machine.specs.Numbers.{side_number};
+ghost use Rattle.gen1_machine.specs.Room.{Course, after, reply_to, room_of};
+ghost use Rattle.gen1_machine.specs.State.{State};
+ghost use Rattle.gen1_machine.specs.declared.side.Side.{Side};
+ghost use Rattle.gen1_layout.specs.Within.{Stands};
+ghost use Rattle.gen1_room.specs.Plain.{Keeps, due};
+ghost use Rattle.gen1_room.specs.Rooms.{submission_of};
+ghost use Rattle.gen1_c.specs.Rooms.{reply_code};
+ghost use Rattle.gen1_c.specs.Update.{IsNoSide, Offers};
+
+use crate::fronts::put_front;
+use gen1_machine::Side;
+use gen1_room::plain::{PlainRoom, begin, choices, submit};
+
+const NO_SIDE: u8 = 255;
+
+/// Makes a room of the battle that stands in it, which is started if it has not begun.
+#[unsafe(no_mangle)]
+pub extern "C" fn gen1_room_begin(room: &mut PlainRoom)
+    ensures { (s : State) → Stands room.old.battle s → Keeps room.new (room_of s) }
+{
+    begin(room);
+}
+
+/// What a side may submit for the current pair, by rising bytes: they are written to the front, and their number is answered.
+#[unsafe(no_mangle)]
+pub extern "C" fn gen1_room_choices(room: &PlainRoom, side: u8, front: &mut [u8; 9]) -> u8
+    ensures offers { (c : Course) (which : Side) → Keeps room.now c → side ≡ side_number which
+        → Offers (due which c) front.old front.new result }
+    ensures no_side { IsNoSide side → (result ≡ 255) × (front.new ≡ front.old) }
+{
+    let Some(side) = Side::from_number(side) else {
+        return NO_SIDE;
+    };
+    let bytes = choices(room, side);
+    put_front(bytes.as_slice(), front);
+    bytes.len() as u8
+}
+
+/// A side submits the byte of a choice for the pair of a number: 0 where it is taken, else why it is refused.
+#[unsafe(no_mangle)]
+pub extern "C" fn gen1_room_submit(room: &mut PlainRoom, side: u8, number: u32, choice: u8) -> u8
+    ensures submits { (c : Course) (which : Side) → Keeps room.old c → side ≡ side_number which
+        → Keeps room.new (after c (submission_of which number choice))
+        × (result ≡ reply_code (reply_to c (submission_of which number choice))) }
+    ensures no_side { IsNoSide side → result ≡ 255 }
+    // Whatever the bytes are.
+    ensures kept { result ≢ 0 → room.new ≡ room.old }
+{
+    let Some(side) = Side::from_number(side) else {
+        return NO_SIDE;
+    };
+    match submit(room, side, number, choice) {
+        Ok(_) => 0,
+        Err(why) => why.number(),
+    }
+}

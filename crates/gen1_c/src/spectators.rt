@@ -1,0 +1,58 @@
+//! What a watcher knows of a battle out of its log bytes (include/gen1.h, "watching"; docs/MECHANICS.md, "Spectator's view").
+ghost use Rattle.std.specs.Prelude.{Err, Ok, [], ◌≡◌, ◌≢◌};
+ghost use Rattle.gen1_stats.specs.Teams.{team_of};
+ghost use Rattle.gen1_machine.specs.View.{View, first_view};
+ghost use Rattle.gen1_events.specs.Faults.{number_of};
+ghost use Rattle.gen1_events.specs.Reader.{Reading, part};
+ghost use Rattle.gen1_events.specs.declared.fault.LogFault.{LogFault};
+ghost use Rattle.gen1_spectator.specs.Following.{Follows};
+ghost use Rattle.gen1_spectator.specs.Plain.{IsPlainSpectator, reading_of, view_of};
+ghost use Rattle.gen1_c.specs.Battle.{teams_fault};
+ghost use Rattle.gen1_c.specs.Teams.{sheets_of, team_fault};
+
+use crate::teams::{TeamForm, team_of};
+use gen1_spectator::plain::{PlainSpectator, feed, first};
+
+/// The view before a battle of two teams. The answer is 0, or a fault as `gen1_new` answers it.
+#[unsafe(no_mangle)]
+pub extern "C" fn gen1_spectator_begin(
+    watch: &mut PlainSpectator,
+    one: &TeamForm,
+    two: &TeamForm,
+) -> u32
+    ensures fault { result ≡ teams_fault (team_fault one.now) (team_fault two.now) }
+    ensures begun { result ≡ 0
+        → (view_of watch.new ≡ first_view (team_of (sheets_of one.now)) (team_of (sheets_of two.now)))
+        × (reading_of watch.new ≡ part []) × IsPlainSpectator watch.new }
+    ensures kept { result ≢ 0 → watch.new ≡ watch.old }
+{
+    let one = match team_of(one) {
+        Ok(team) => team,
+        Err(fault) => return 65536 + fault,
+    };
+    let two = match team_of(two) {
+        Ok(team) => team,
+        Err(fault) => return 131072 + fault,
+    };
+    *watch = first(&one, &two);
+    0
+}
+
+/// Takes in the events of log bytes, which may be cut anywhere. The answer is 0, or the number of the fault.
+#[unsafe(no_mangle)]
+pub extern "C" fn gen1_spectator_feed(watch: &mut PlainSpectator, log: &[u8]) -> u8
+    ensures told { IsPlainSpectator watch.old → result ≡ 0
+        → Follows (reading_of watch.old) log.now (view_of watch.old)
+        (Ok tt) (reading_of watch.new) (view_of watch.new) }
+    ensures fault { IsPlainSpectator watch.old → result ≢ 0
+        → (fault : LogFault) × (result ≡ number_of fault) × (last : Reading) × (view : View)
+        × Follows (reading_of watch.old) log.now (view_of watch.old) (Err fault) last view }
+    ensures valid { IsPlainSpectator watch.old → IsPlainSpectator watch.new }
+    // Whatever the bytes are.
+    ensures kept { result ≢ 0 → watch.new ≡ watch.old }
+{
+    match feed(watch, log) {
+        Ok(()) => 0,
+        Err(fault) => fault.number(),
+    }
+}

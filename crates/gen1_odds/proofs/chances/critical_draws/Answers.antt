@@ -1,0 +1,12 @@
+use Rattle.std.proofs.Common.{refl, sym, ◌≡◌, ◌∙◌}
+use Rattle.gen1_layout.specs.Words.{move_at}
+use Rattle.gen1_machine.specs.CriticalHits.{critical_bound_in}
+use Rattle.gen1_odds.proofs.chances.critical_draws.Goals as goal
+
+pub returns : goal.returns
+returns c = record {
+  stands = λ g f h.
+      let bound : c.critical_bound.result ≡ critical_bound_in c.args.side (move_at c.args.id) f =
+      rw (c.species.ensures.stands _ _ h, c.is_on-focused.ensures.stands 8 refl _ _ h) at c.critical_bound.ensures in
+      rw (sym c.has_usual_damage.ensures ∙ c.if-not-has_usual_damage.false) (c.from.ensures ∙ bound);
+}

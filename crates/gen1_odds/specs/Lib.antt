@@ -1,0 +1,2 @@
+-- What a use of a move would come to.
+pub mod Odds

@@ -1,0 +1,30 @@
+-- A room as a plain struct, in the machine's words (docs/MECHANICS.md, "Rooms").
+use Rattle.std.specs.Prelude.{List, [], if◌then◌else◌, is_some, take}
+use Rattle.gen1_machine.specs.declared.side.Side.{Side}
+use Rattle.gen1_machine.specs.declared.choice.Choice.{Choice}
+use Rattle.gen1_machine.specs.Choices.{choice_at}
+use Rattle.gen1_machine.specs.OfferedChoices.{offered}
+use Rattle.gen1_machine.specs.Room.{chosen, Course}
+use Rattle.gen1_room.specs.declared.held.Held.{Held}
+use Rattle.gen1_room.specs.declared.plain.PlainRoom.{PlainRoom}
+use Rattle.gen1_room.specs.Rooms.{Counts, Holds}
+
+-- what stands in it: the log is the front of its room, and a byte that is no choice is a choice that is due
+abbrev pub held_of : PlainRoom → Held
+held_of r = record {
+  battle = r.battle;
+  number = r.number;
+  events = record { items = [] };
+  log = record { items = take r.log_length r.log };
+  one = choice_at r.one;
+  two = choice_at r.two;
+}
+
+-- it holds a course, as a room does, and its number counts the pairs that were accepted
+pub record Keeps (r : PlainRoom) (c : Course) : Type 0 where
+  pub holds : Holds (held_of r) c
+  pub counts : Counts r.battle r.number
+
+-- what a side may submit: nothing where its choice is there
+abbrev pub due : Side → Course → List Choice
+due side c = if is_some (chosen side c) then [] else offered side c.state.field

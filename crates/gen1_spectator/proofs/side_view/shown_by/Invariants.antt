@@ -1,0 +1,8 @@
+-- The members so far.
+use Rattle.std.proofs.Common.{map, take, ◌≡◌}
+use Rattle.arrayvec.specs.ArrayVec.{array_vec_len}
+use Rattle.gen1_spectator.specs.Plain.{shown_of}
+use Rattle.gen1_spectator.proofs.side_view.shown_by.Given as goal
+
+abbrev pub invariant-loop-member : goal.invariant-loop-member
+invariant-loop-member l = (array_vec_len l.shown ≡ l.member-index) × (l.shown.items ≡ map shown_of (take l.member-index l.members))

@@ -1,0 +1,93 @@
+/* Calls of what a use of a move would come to, with arguments out of their ranges (hostile.c). */
+#include "lawful.h"
+
+#include <string.h>
+
+/* Damages as gen1_damage has them: as many numbers, or its code. */
+static bool is_as_damage(const gen1_damages *got, const gen1_battle *battle, uint8_t side, uint8_t move, bool critical)
+{
+    uint16_t numbers[39] = {0};
+    uint8_t code = gen1_damage(battle, side, move, critical, numbers);
+    return got->code == code && got->count == (code == 0 ? 39 : 0) && memcmp(got->numbers, numbers, sizeof numbers) == 0;
+}
+
+/* Chances that can be seen from the battle alone: without stages a move has its own accuracy, where nothing settles the test. */
+static bool is_likely(const gen1_hit *hit, const gen1_battle *battle, uint8_t side, uint8_t move)
+{
+    gen1_state state;
+    gen1_move row;
+    gen1_base base;
+    gen1_view(battle, &state);
+    const gen1_active_state *user = &state.sides[side - 1].active, *foe = &state.sides[2 - side].active;
+    uint8_t species = state.sides[side - 1].members[user->place - 1].species;
+    gen1_move_data(move, &row);
+    gen1_species_stats(species, &base);
+    bool is_often = move == GEN1_MOVE_KARATE_CHOP || move == GEN1_MOVE_RAZOR_LEAF || move == GEN1_MOVE_CRABHAMMER || move == GEN1_MOVE_SLASH;
+    bool is_plain = !(user->conditions & GEN1_CONDITION_FOCUS_ENERGY) && !is_often;
+    bool is_level = user->stages[4] == 6 && foe->stages[5] == 6 && !(foe->conditions & (GEN1_CONDITION_INVULNERABLE | GEN1_CONDITION_MIST));
+    bool is_settled = move == GEN1_MOVE_SWIFT || move == GEN1_MOVE_DREAM_EATER;
+    uint16_t critical = hit->usual.code == GEN1_DAMAGE_UNUSUAL ? 0 : is_plain ? base.stats[3] / 2 : hit->critical_draws;
+    return hit->critical_draws == critical && hit->critical_draws <= 255 && hit->hit_draws <= 256
+        && (!is_level || is_settled || hit->hit_draws == (row.accuracy > 1 ? row.accuracy : 1))
+        && (move != GEN1_MOVE_SWIFT || hit->hit_draws == 256);
+}
+
+static void try_hit_now(void)
+{
+    bool is_valid;
+    gen1_battle from = some_battle(&is_valid);
+    uint8_t side = one_in(4) ? any_byte() : (uint8_t)(1 + draw(2)), move = one_in(4) ? any_byte() : (uint8_t)(1 + draw(165));
+    const gen1_battle *battle = block_of(0, &from, sizeof from);
+    gen1_hit *hit = block(1, sizeof *hit);
+    gen1_state state;
+    gen1_view(&from, &state);
+    note();
+    uint8_t got = gen1_hit_now(battle, side, move, hit);
+    uint8_t want = side != GEN1_ONE && side != GEN1_TWO ? GEN1_DAMAGE_SIDE
+        : move < 1 || move > 165                         ? GEN1_DAMAGE_MOVE
+        : state.turn == 0                                ? GEN1_DAMAGE_NOBODY
+                                                         : 0;
+    bool is_right = got != 0 ? unchanged() : changed_only(1, sizeof *hit);
+    if (got == 0 && want == 0 && is_valid)
+        is_right &= is_as_damage(&hit->usual, &from, side, move, false) && is_as_damage(&hit->critical, &from, side, move, true)
+            && is_likely(hit, &from, side, move);
+    tell("gen1_hit_now", got == want && is_right, got, want);
+}
+
+/* A member alone as a team. */
+static gen1_team alone(const gen1_member *member)
+{
+    gen1_team team;
+    memset(&team, 0, sizeof team);
+    team.members[0] = *member;
+    team.count = 1;
+    return team;
+}
+
+static void try_hit_between(void)
+{
+    gen1_team one = lawful_team(), two = lawful_team();
+    for (uint32_t times = draw(4); times > 0; times--)
+        spoil(one_in(2) ? &one : &two);
+    gen1_team first = alone(&one.members[0]), second = alone(&two.members[0]);
+    uint8_t move = one_in(4) ? any_byte() : (uint8_t)(1 + draw(165));
+    uint32_t want = move < 1 || move > 165 ? GEN1_NO_SUCH_MOVE : fault_of_new(&first, &second, 0, GEN1_LIMIT);
+    const gen1_member *user = block_of(0, &first.members[0], sizeof *user), *foe = block_of(1, &second.members[0], sizeof *foe);
+    gen1_hit *hit = block(2, sizeof *hit);
+    note();
+    uint32_t got = gen1_hit_between(user, foe, move, hit);
+    bool is_right = got != 0 ? unchanged() : changed_only(2, sizeof *hit);
+    if (got == 0 && want == 0) {
+        gen1_battle battle;
+        uint8_t seed[10];
+        size_t length;
+        gen1_hit due;
+        memcpy(seed, "any seed..", sizeof seed);
+        gen1_new(&battle, &first, &second, seed, 0, GEN1_LIMIT);
+        gen1_update(&battle, GEN1_PASS, GEN1_PASS, NULL, 0, &length);
+        is_right &= gen1_hit_now(&battle, GEN1_ONE, move, &due) == 0 && memcmp(hit, &due, sizeof due) == 0;
+    }
+    tell("gen1_hit_between", got == want && is_right, got, want);
+}
+
+try_call *const tries_of_hits[] = {try_hit_now, try_hit_between, NULL};

@@ -1,0 +1,218 @@
+/* Calls of rooms and of what a watcher knows, with arguments out of their ranges (hostile.c). */
+#include "lawful.h"
+
+#include <string.h>
+
+/* ---- rooms ---- */
+
+static bool is_side(uint8_t side)
+{
+    return side == GEN1_ONE || side == GEN1_TWO;
+}
+
+/* What is asked of a side, as gen1_result tells it. */
+static uint8_t request_of(uint8_t result, uint8_t side)
+{
+    return side == GEN1_ONE ? GEN1_REQUEST_ONE(result) : GEN1_REQUEST_TWO(result);
+}
+
+/* A room as it stands at the beginning of a pair: a side of which nothing is asked has its Pass there. */
+static bool is_fresh(const gen1_room *room, uint32_t number)
+{
+    uint8_t result = gen1_result(&room->battle);
+    bool is_right = room->number == number;
+    for (uint8_t side = GEN1_ONE; side <= GEN1_TWO; side++)
+        is_right &= room->chosen[side - 1] == (request_of(result, side) == GEN1_ASKED_NOTHING ? GEN1_PASS : GEN1_DUE);
+    return is_right;
+}
+
+/* The battle and the log are those of an update by these choices. */
+static bool is_updated(const gen1_room *room, gen1_battle from, uint8_t one, uint8_t two)
+{
+    uint8_t log[GEN1_LOG_ROOM];
+    size_t length = 0;
+    return gen1_update(&from, one, two, log, sizeof log, &length) == 0 && memcmp(&room->battle, &from, sizeof from) == 0
+        && room->log_length == length && memcmp(room->log, log, length) == 0;
+}
+
+static void try_room_begin(void)
+{
+    bool is_valid;
+    gen1_battle from = some_battle(&is_valid);
+    gen1_room *room = block(0, sizeof *room);
+    room->battle = from;
+    note();
+    gen1_room_begin(room);
+    bool is_right = changed_only(0, sizeof *room);
+    if (is_valid) {
+        gen1_state state;
+        gen1_view(&from, &state);
+        is_right &= is_fresh(room, 0);
+        is_right &= state.turn == 0 ? is_updated(room, from, GEN1_PASS, GEN1_PASS)
+                                    : room->log_length == 0 && memcmp(&room->battle, &from, sizeof from) == 0;
+    }
+    tell("gen1_room_begin", is_right, room->number, 0);
+}
+
+/* A room that lawful play came upon, perhaps with one of the choices there; or any bytes. */
+static gen1_room some_room(bool *is_valid)
+{
+    gen1_room room;
+    memset(&room, 0, sizeof room);
+    room.battle = met[draw(MET)];
+    gen1_room_begin(&room);
+    for (uint32_t times = draw(4); times > 0; times--) {
+        uint8_t side = (uint8_t)(1 + draw(2)), choices[9], count = gen1_room_choices(&room, side, choices);
+        if (count > 0 && count <= 9)
+            gen1_room_submit(&room, side, room.number, choices[draw(count)]);
+    }
+    *is_valid = !one_in(4);
+    for (uint32_t changes = *is_valid ? 0 : 1 + draw(one_in(2) ? 4 : 400); changes > 0; changes--)
+        ((uint8_t *)&room)[draw(sizeof room)] = any_byte();
+    return room;
+}
+
+static void try_room_choices(void)
+{
+    bool is_valid;
+    gen1_room from = some_room(&is_valid);
+    uint8_t side = one_in(4) ? any_byte() : (uint8_t)(1 + draw(2)), due[9] = {0};
+    uint8_t count = !is_side(side) ? GEN1_NO_SIDE : from.chosen[side - 1] != GEN1_DUE ? 0 : gen1_choices(&from.battle, side, due);
+    const gen1_room *room = block_of(0, &from, sizeof from);
+    uint8_t *choices = block(1, 9);
+    note();
+    uint8_t got = gen1_room_choices(room, side, choices), want = is_valid || !is_side(side) ? count : got;
+    bool is_kept = got <= 9 ? changed_only(1, got) : unchanged();
+    if (is_valid && is_side(side) && got <= 9)
+        is_kept &= memcmp(choices, due, got) == 0;
+    tell("gen1_room_choices", got == want && is_kept, got, want);
+}
+
+/* The code of a submission to a lawful room. */
+static uint8_t fault_of_submission(const gen1_room *room, uint8_t side, uint32_t number, uint8_t choice)
+{
+    return !is_side(side)                                             ? GEN1_NO_SIDE
+        : GEN1_OUTCOME(gen1_result(&room->battle)) != GEN1_ONGOING    ? GEN1_ROOM_OVER
+        : number != room->number                                      ? GEN1_ROOM_STALE
+        : room->chosen[side - 1] != GEN1_DUE                          ? GEN1_ROOM_CHOSEN
+        : !is_offered(&room->battle, side, choice)                    ? GEN1_ROOM_NOT_OFFERED
+                                                                      : 0;
+}
+
+/* What a choice that was taken makes of a lawful room. */
+static bool is_taken(const gen1_room *room, gen1_room from, uint8_t side, uint8_t choice)
+{
+    from.chosen[side - 1] = choice;
+    if (from.chosen[0] == GEN1_DUE || from.chosen[1] == GEN1_DUE)
+        return memcmp(room, &from, sizeof from) == 0;
+    return is_fresh(room, from.number + 1) && is_updated(room, from.battle, from.chosen[0], from.chosen[1]);
+}
+
+static void try_room_submit(void)
+{
+    bool is_valid;
+    gen1_room from = some_room(&is_valid);
+    uint8_t side = one_in(4) ? any_byte() : (uint8_t)(1 + draw(2));
+    uint8_t choice = one_in(2) && is_side(side) ? offered(&from.battle, side) : any_byte();
+    uint32_t number = one_in(4) ? from.number + draw(3) - 1 : one_in(8) ? UINT32_MAX : from.number;
+    gen1_room *room = block_of(0, &from, sizeof from);
+    note();
+    uint8_t got = gen1_room_submit(room, side, number, choice);
+    uint8_t want = is_valid || !is_side(side) ? fault_of_submission(&from, side, number, choice) : got;
+    bool is_kept = got != 0 ? unchanged() : changed_only(0, sizeof *room);
+    if (is_valid && got == 0 && want == 0)
+        is_kept &= is_taken(room, from, side, choice);
+    tell("gen1_room_submit", got == want && is_kept, got, want);
+}
+
+/* ---- watching ---- */
+
+static void try_spectator_begin(void)
+{
+    gen1_team one = lawful_team(), two = lawful_team();
+    for (uint32_t times = draw(3); times > 0; times--)
+        spoil(one_in(2) ? &one : &two);
+    uint32_t want = fault_of_new(&one, &two, 0, GEN1_LIMIT);
+    gen1_spectator *spectator = block(0, sizeof *spectator);
+    const gen1_team *first = block_of(1, &one, sizeof one), *second = block_of(2, &two, sizeof two);
+    note();
+    uint32_t got = gen1_spectator_begin(spectator, first, second);
+    bool is_kept = got != 0 ? unchanged()
+        : changed_only(0, sizeof *spectator) && spectator->held_count == 0 && spectator->turn == 0
+            && spectator->sides[0].count == one.count && spectator->sides[1].count == two.count && spectator->sides[0].place == 0;
+    tell("gen1_spectator_begin", got == want && is_kept, got, want);
+}
+
+/* Whether a watcher knows of a side what shows of it, as gen1_view has it. */
+static bool is_shown(const gen1_shown_side *shown, const gen1_side_state *side)
+{
+    const gen1_active_state *out = &side->active;
+    bool is_right = shown->place == out->place;
+    for (int at = 0; at < 6 && shown->count <= 6; at++) {
+        const gen1_shown_member *member = &shown->members[at];
+        is_right &= at >= shown->count ? member->hp == 0 && member->status == 0 && side->members[at].species == 0
+                                       : member->hp == side->members[at].hp && member->status == side->members[at].status;
+    }
+    if (out->place != 0)
+        is_right &= memcmp(shown->stages, out->stages, sizeof shown->stages) == 0;
+    return is_right && shown->substitute == ((out->conditions & GEN1_CONDITION_SUBSTITUTE) != 0)
+        && shown->confused == ((out->conditions & GEN1_CONDITION_CONFUSED) != 0)
+        && shown->light_screen == ((out->conditions & GEN1_CONDITION_LIGHT_SCREEN) != 0)
+        && shown->reflect == ((out->conditions & GEN1_CONDITION_REFLECT) != 0);
+}
+
+/* A battle from its beginning and a watcher of it, who has not yet been given the log of the last update. */
+static void watch(gen1_battle *battle, gen1_spectator *spectator, uint8_t log[GEN1_LOG_ROOM], size_t *length)
+{
+    gen1_team one = lawful_team(), two = lawful_team();
+    uint8_t seed[10];
+    for (int at = 0; at < 10; at++)
+        seed[at] = (uint8_t)draw(256);
+    memset(spectator, 0, sizeof *spectator);
+    *length = 0;
+    gen1_new(battle, &one, &two, seed, 0, GEN1_LIMIT);
+    gen1_spectator_begin(spectator, &one, &two);
+    for (uint32_t updates = draw(one_in(8) ? 100 : 12); updates > 0; updates--) {
+        size_t last = *length;
+        uint8_t before[GEN1_LOG_ROOM];
+        memcpy(before, log, last);
+        if (gen1_update(battle, offered(battle, GEN1_ONE), offered(battle, GEN1_TWO), log, GEN1_LOG_ROOM, length) != 0)
+            return;
+        gen1_spectator_feed(spectator, before, last);
+    }
+}
+
+/* The log of an update, cut anywhere, tells what shows; a log that is none, and bytes of no watcher, are answered and change nothing else. */
+static void try_spectator_feed(void)
+{
+    gen1_battle battle;
+    gen1_spectator from;
+    uint8_t log[GEN1_LOG_ROOM];
+    size_t length;
+    watch(&battle, &from, log, &length);
+    bool is_valid = !one_in(4), is_lawful = is_valid && !one_in(3);
+    size_t cut = length == 0 ? 0 : draw((uint32_t)length + 1);
+    if (is_lawful && gen1_spectator_feed(&from, log, cut) != 0)
+        is_lawful = false;
+    for (uint32_t changes = is_valid ? 0 : 1 + draw(40); changes > 0; changes--)
+        ((uint8_t *)&from)[draw(sizeof from)] = any_byte();
+    size_t count = is_lawful ? length - cut : draw(GEN1_LOG_ROOM);
+    gen1_spectator *spectator = block_of(0, &from, sizeof from);
+    uint8_t *bytes = is_lawful ? block_of(1, log + cut, count) : block(1, count);
+    if (!is_lawful && !one_in(4))
+        memcpy(bytes, log, count < length ? count : length);
+    note();
+    uint8_t got = gen1_spectator_feed(spectator, count == 0 ? NULL : bytes, count);
+    bool is_right = got != 0 ? unchanged() && (got == GEN1_LOG_TAG || got == GEN1_LOG_FIELD) && !is_lawful : changed_only(0, sizeof *spectator);
+    if (is_lawful && got == 0) {
+        gen1_state state;
+        gen1_view(&battle, &state);
+        is_right &= spectator->turn == state.turn && spectator->outcome == state.outcome && spectator->held_count == 0
+            && is_shown(&spectator->sides[0], &state.sides[0]) && is_shown(&spectator->sides[1], &state.sides[1]);
+    }
+    tell("gen1_spectator_feed", is_right, got, is_lawful ? 0 : got);
+}
+
+try_call *const tries_of_rooms[] = {
+    try_room_begin, try_room_choices, try_room_submit, try_spectator_begin, try_spectator_feed, NULL
+};
