@@ -14,10 +14,11 @@ sys.dont_write_bytecode = True
 from battles import cases, recorded
 from c_library import ran
 from repository import ROOT
+from tables import table
 
 # How many recorded battles are played in a room.
 ROOMS = 40
-ROOM = ("-Iexamples/c/common", "examples/c/room/room.c", "examples/c/room/table.c", "examples/c/common/battle_file.c")
+ROOM = ("-Iexamples/c/common", "examples/c/room/room.c", "examples/c/common/battle_file.c")
 PLAYED = ("battles", "rules", "limit", "first_path")
 
 
@@ -116,7 +117,8 @@ def of_damage(gate):
         head = "species %d at level %d on species %d at level %d, %d HP\n  move %3d: " % (
             SPECIES[one["species"]], one["level"], SPECIES[two["species"]], two["level"], hp_of(two), MOVES[asked["move"]])
         row = re.escape("no usual damage (code 3)") if case["stderr"] else damage_row(case["stdout"], hp_of(two), asked["critical"])
-        want = re.compile((re.escape(head) + row + r"\n").encode())
+        chances = chances_of(one["species"], asked["move"], not case["stderr"])
+        want = re.compile((re.escape(head) + row + re.escape(chances) + r"\n").encode())
         yield Case(case["name"], (), given, want, b"")
         if all(member["dvs"] == [15] * 4 and member["exp"] == [65535] * 5 for member in (one, two)):
             yield Case(case["name"] + ", as text", team_files(gate, case["name"], one, two), b"", want, b"")
@@ -148,6 +150,20 @@ def damage_row(recorded_line, hp, is_critical):
     if is_critical:
         return rf"{any_numbers}; critical {numbers}; ({hits})"
     return rf"{numbers}; critical {any_numbers}; " + (re.escape(f"{-(-hp // least)} hits") if least else "no number of hits is enough")
+
+
+OFTEN_CRITICAL = ("Karate Chop", "Razor Leaf", "Crabhammer", "Slash")
+
+
+def chances_of(species, move, has_damage):
+    """How many of 256 draws hit and are critical, of members that have just been sent out, by docs/TABLES.md and docs/MECHANICS.md."""
+    document = (ROOT / "docs" / "TABLES.md").read_text()
+    row = next(it for it in table(document, "Moves") if it[1] == move)
+    hits = 256 if row[6] == "NeverMisses" else 0 if row[6] == "DreamEater" else max(1, int(row[4]) * 255 // 100)
+    speed = int(next(it for it in table(document, "Species") if it[1] == species)[7])
+    doubled = min(255, speed // 2 * 2)
+    critical = min(255, 4 * doubled) if move in OFTEN_CRITICAL else doubled // 2
+    return f"; {hits} of 256 hit" + (f", {critical} of 256 critical" if has_damage else "")
 
 
 def of_bot(_gate):

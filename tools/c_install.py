@@ -53,7 +53,8 @@ class Tried:
     def files(self):
         """Every file is there, and nothing else."""
         found = sorted(str(path.relative_to(self.prefix)) for path in self.prefix.rglob("*") if not path.is_dir())
-        want = ["include/gen1.h", "lib/libgen1.a", "lib/libgen1.so", "lib/libgen1.so.1", "lib/libgen1.so.1.0.0", "lib/libgen1_c.a",
+        real = f"lib/libgen1.so.{'.'.join(version())}"
+        want = ["include/gen1.h", "lib/libgen1.a", "lib/libgen1.so", "lib/libgen1.so.1", real, "lib/libgen1_c.a",
                 "lib/pkgconfig/gen1.pc", "lib/cmake/gen1/gen1Config.cmake", "lib/cmake/gen1/gen1ConfigVersion.cmake",
                 "share/doc/gen1/LICENSE", *(f"share/man/man3/{name}.3" for name in ["gen1", *calls()])]
         return None if found == sorted(want) else f"there are {found}"
@@ -127,7 +128,7 @@ class Tried:
         try:
             ran("cmake", "-S", "tests/c/find_package", "-B", build, f"-DCMAKE_PREFIX_PATH={self.prefix}", "-DWANTED=2.0")
         except Unbuilt as fault:
-            return None if "gen1Config.cmake, version: 1.0.0" in str(fault) else fault
+            return None if f"gen1Config.cmake, version: {'.'.join(version())}" in str(fault) else fault
         return "version 2.0 was found"
 
     def manual(self):

@@ -31,7 +31,7 @@ LAYERS = (
     ("Battle", "a turn, an update, a room of two players", (
         "gen1_room", "gen1_engine", "gen1_turn")),
     ("Operations", "one phase of the machine each, over the 384 bytes", (
-        "gen1_requests", "gen1_multiturn", "gen1_effects", "gen1_action", "gen1_status", "gen1_hits")),
+        "gen1_requests", "gen1_multiturn", "gen1_effects", "gen1_action", "gen1_status", "gen1_odds", "gen1_hits")),
     ("Representations", "a state as 384 bytes; events as bytes, as lines, as a watcher's view", (
         "gen1_layout", "gen1_spectator", "gen1_printer", "gen1_events")),
     ("Machine", "what a battle is: definitions and laws; its code is types and devices", (

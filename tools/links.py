@@ -1,5 +1,5 @@
 #!/usr/bin/env python3
-"""Checks the links of the documents (*.md, docs/*.md, CALLING.md, README.md), and what comments of code cite of them.
+"""Checks the links of the documents (*.md, docs/*.md, CALLING.md, README.md), the names in them, and what comments of code cite of them.
 
     tools/links.py
 
@@ -7,11 +7,17 @@ A link to a file or folder has to lead to one of this repository, and one with `
 reference such as [LAYOUT.md](LAYOUT.md), "Loading", or LAYOUT, "Loading", has to name a heading, and so has one in a comment of
 code, such as docs/LAYOUT.md, "Loading". Blocks of code in documents are passed over, and so are links to the web.
 
-It prints each fault with its file and line. The last line is 'N passed, M failed', of the references; the status is 1 where
-one failed.
+Names are those that stand as code, between backquotes. A path from the top, or from the document's folder, such as `tools/links.py` or
+`crates/*/specs`, has to be there, and so have the options behind a tool's, and a file of code that is named without its folder, such as `Words.antt`. A name
+that begins with gen1_ has to be a crate, or a word of include/gen1.h, of plain/ or of a file's name. What stands for many (CRATE,
+NAME), what is built (out/), and the files that the document tells its reader to write (a comment `file: NAME`) are passed over.
+
+It prints each fault with its file and line. The last line is 'N passed, M failed', of the references and names; the status is 1
+where one failed.
 """
 
 import argparse
+import os
 import re
 import sys
 from functools import cache
@@ -33,6 +39,15 @@ WEB = re.compile(r"[a-z]+:")
 # A document, by a link, its path or its name in capitals, and then headings of it in quotes.
 QUOTED = re.compile(
     r'(?:\[[^\]\n]*\]\(([^)\s#]+\.md)\)|\b(docs/\w+\.md|\w+\.md|[A-Z]{4,}))((?:,(?: and)? "[^"\n]+"(?: (?:and|to) "[^"\n]+")*)+)')
+# A path from the top of the repository, a file of code by its name alone, and a name of the engine.
+PATH = re.compile(r"(?<![\w/.*-])\.?[\w-]+(?:/[\w.*-]+)+/?")
+FILE = re.compile(r"(?<![\w/.*-])\w[\w.-]*\.(?:rt|antt|py|rs|c|h|edit)(?![\w/.(*-])")
+NAME = re.compile(r"(?<![\w/.-])(?:gen1|GEN1)_\w+(?![\w/*.])")
+WRITTEN = re.compile(r"<!-- file: (?:\S*/)?(\S+?) -->")
+# What stands for any name, and what a build leaves.
+OPEN = re.compile(r"(?:^|/)[A-Z]{4,}(?:[./]|$)|/out(?:/|$)|^web/dist")
+# Names that a document makes up, to show how one is added.
+MADE_UP = ("gen1_turn_number",)
 
 
 def documents():
@@ -117,11 +132,59 @@ def cited(text):
             yield None if there else f'{path} has no heading "{heading}"'
 
 
+@cache
+def names_of_files():
+    """The names of all files of the repository, without those that a build leaves."""
+    found = set()
+    for _, folders, files in os.walk(ROOT):
+        folders[:] = [name for name in folders if name not in ("out", ".git", "__pycache__", "target")]
+        found.update(files)
+    return found
+
+
+@cache
+def names_of_the_engine():
+    """Crates, words of the header and of plain/, and names of files without what follows their dot."""
+    manifests = [*ROOT.glob("plain/*/Cargo.toml"), *ROOT.glob("python/gen1/src/gen1/*.py"), ROOT / "include" / "gen1.h"]
+    words = {word for file in manifests for word in NAME.findall(file.read_text())}
+    return words | {path.name for path in (ROOT / "crates").iterdir()} | {name.partition(".")[0] for name in names_of_files()}
+
+
+def is_there(path, beside):
+    """Whether a path from the top, or from a folder, leads to something; true of what begins with no folder of the repository."""
+    if OPEN.search(path) or not (ROOT / path.split("/")[0]).is_dir():
+        return True
+    return any(ROOT.glob(path.rstrip("/"))) or any(beside.glob(path.rstrip("/")))
+
+
+def options(words):
+    """The options of a command that begins with a tool of the repository, each with whether the tool's own text names it."""
+    tool = ROOT / words.split(" ")[0]
+    for option in re.findall(r"(?<= )--[a-z][\w-]*", words) if tool.is_file() else ():
+        yield option, bool(re.search(rf"{option}(?![\w-])", tool.read_text(errors="replace")))
+
+
+def named(document, text, written):
+    """Each name in a document's code, by its place, with its fault; `written` are files that its reader writes."""
+    for span in CODE.finditer(text):
+        for found in PATH.finditer(span[0]):
+            yield span.start(), None if is_there(found[0], document.parent) else f"there is no {found[0]}"
+        for option, there in options(span[0].strip("`")):
+            yield span.start(), None if there else f"{span[0]} has no option {option}"
+        for found in FILE.finditer(span[0]):
+            there = found[0] in names_of_files() or found[0] in written or OPEN.search(found[0])
+            yield span.start(), None if there else f"there is no file {found[0]}"
+        for found in NAME.finditer(span[0]):
+            there = found[0] in names_of_the_engine() or found[0] in MADE_UP
+            yield span.start(), None if there else f"nothing is named {found[0]}"
+
+
 def references():
     """Each reference of the repository: where it stands, and its fault or None."""
     for document in documents():
-        text = FENCE.sub(blank, document.read_text())
-        for place, fault in [*links(document, text), *quoted(document, text)]:
+        whole = document.read_text()
+        text, written = FENCE.sub(blank, whole), WRITTEN.findall(whole)
+        for place, fault in [*links(document, text), *quoted(document, text), *named(document, text, written)]:
             yield f"{document.relative_to(ROOT)}:{text.count(chr(10), 0, place) + 1}", fault
     for source in sources():
         for fault in cited(source.read_text(errors="replace")):

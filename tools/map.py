@@ -34,6 +34,8 @@ WITHOUT = {
         "Definition": "none; clap reads the words, and the contract of `tool` says which statuses there are"},
     Section("include/gen1.h", "searching"): {
         "Definition": "`reseeded` ([gen1_engine, Reseed.antt](../crates/gen1_engine/specs/Reseed.antt))"},
+    Section("include/gen1.h", "watching"): {
+        "Definition": "`view_of`, `reading_of` ([gen1_spectator, Plain.antt](../crates/gen1_spectator/specs/Plain.antt))"},
 }
 # Twelve walks: a rule, the section that it stands in, and the files below crates/ of its definition, its code and its test.
 WALKS = (

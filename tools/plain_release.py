@@ -38,7 +38,7 @@ def write_release(out, library):
     for path in ("CHANGELOG.md", "LICENSE"):
         shutil.copy(ROOT / path, out)
     for folder in ("docs", "examples", "include"):
-        (out / folder).mkdir()
+        (out / folder).mkdir(exist_ok=True)
     for name in DOCUMENTS:
         shutil.copy(ROOT / "docs" / name, out / "docs")
     shutil.copy(ROOT / "include" / "gen1.h", out / "include")

@@ -2,12 +2,12 @@
 import json
 import re
 import shutil
-from pathlib import Path
 
 from plain_source import Source, in_plain_rust, laws_of
+from repository import ROOT, version
 
-ROOT = Path(__file__).resolve().parent.parent
 OWN = ROOT / "plain"
+EXAMPLES = ROOT / "examples" / "rust"
 PUBLISHED = ("arrayvec", "byteorder", "itoa")
 NOT_HERE = {"bitflags", "thiserror"}
 TEST_HEAD = re.compile(r"#\[cfg\(test\)\]")
@@ -134,10 +134,17 @@ def write_workspace(out, with_tests=True):
         (out / "crates" / name / "src").mkdir(parents=True)
         crate.write(out / "crates" / name)
         names.append(name)
-    for folder in sorted(path.parent for path in OWN.glob("*/Cargo.toml")):
-        shutil.copytree(folder, out / folder.name)
+    for folder, to in own():
+        shutil.copytree(folder, out / to)
     write_root(out, names)
     return names
+
+
+def own():
+    """The crates that are plain Rust already: for each its folder here, and the one that it has in the workspace."""
+    for where, below in ((OWN, ""), (EXAMPLES, "examples/")):
+        for folder in sorted(path.parent for path in where.glob("*/Cargo.toml")):
+            yield folder, below + folder.name
 
 
 def is_of_tests(name, depends):
@@ -150,8 +157,7 @@ def is_of_tests(name, depends):
 
 def write_root(out, names):
     """The manifest of the workspace, and how it finds crates where there is no network."""
-    own = sorted(path.parent.name for path in OWN.glob("*/Cargo.toml"))
-    members = [f"crates/{name}" for name in names] + own
+    members = [f"crates/{name}" for name in names] + [to for _, to in own()]
     libraries = {name: f"crates/{name}" for name in names} | {"gen1_adapter": "adapter", "gen1": "gen1"}
     text = (OWN / "Cargo.toml").read_text()
     text = text.replace("MEMBERS", "".join(f'\n    "{path}",' for path in members) + "\n")
@@ -159,9 +165,3 @@ def write_root(out, names):
     text = text.replace("LIBRARIES", "\n".join(lines)).replace("VERSION", version())
     (out / "Cargo.toml").write_text(text)
     shutil.copy(ROOT / "LICENSE", out / "LICENSE")
-
-
-def version():
-    """The version that CHANGELOG.md begins with; 0.1.0 where it has none."""
-    found = re.search(r"^## \[?v?([0-9]+\.[0-9]+\.[0-9]+)", (ROOT / "CHANGELOG.md").read_text(), re.M)
-    return found[1] if found else "0.1.0"

@@ -11,6 +11,11 @@ from pathlib import Path
 ROOT = Path(__file__).resolve().parent.parent
 
 
+def version():
+    """The version of the repository, which the file VERSION has and no other."""
+    return (ROOT / "VERSION").read_text().strip()
+
+
 def crates():
     """Each crate of crates.txt with the crates of the repository that it names, lowest first."""
     lines = [line.partition("#")[0].strip() for line in (ROOT / "crates.txt").read_text().splitlines()]

@@ -1,18 +1,25 @@
 //! The commands that read an input and print what it stands for (docs/PROGRAM.md).
 use crate::fault::Fault;
-use crate::input::{Sheet, list_of, member_of, pair_of, submission_of, value_of};
+use crate::input::{
+    Sheet, at, list_of, member_of, move_name_of, pair_of, submission_of, truth_of, value_of,
+};
+use crate::misfit::Misfit;
 use crate::screen;
 use gen1::{
-    Battle, Choice, DamageRefusal, Event, EventList, Line, MoveId, Room, RoomRefusal, Side,
-    Submitted, Team, events_of,
+    Battle, Choice, DamageRefusal, Event, EventList, Line, LogBuf, MoveId, Room, RoomRefusal, Side,
+    Submitted, Team, events_of, write_log,
 };
 use serde_json::Value;
 use std::io::Write;
 
 /// Writes a text to standard output at once.
 pub fn put(text: &str) -> Result<(), Fault> {
+    put_bytes(text.as_bytes())
+}
+
+fn put_bytes(bytes: &[u8]) -> Result<(), Fault> {
     let mut out = std::io::stdout().lock();
-    out.write_all(text.as_bytes())
+    out.write_all(bytes)
         .and_then(|()| out.flush())
         .map_err(|_| Fault::Write)
 }
@@ -28,15 +35,12 @@ pub fn text_of<'a>(events: impl IntoIterator<Item = &'a Event>) -> String {
 /// The battle and the list under a key that a value asks for.
 fn sheet_of<T>(
     input: &[u8],
-    key: &str,
-    read: impl Fn(&Value) -> Option<T>,
+    key: &'static str,
+    read: impl Fn(&Value) -> Result<T, Misfit>,
 ) -> Result<(Battle, Vec<T>), Fault> {
     let value = value_of(input)?;
-    let sheet = Sheet::of(&value).ok_or(Fault::Json)?;
-    let items = value
-        .get(key)
-        .and_then(|list| list_of(list, read))
-        .ok_or(Fault::Json)?;
+    let sheet = Sheet::of(&value).map_err(Fault::Value)?;
+    let items = at(&value, key, |list| list_of(list, &read)).map_err(Fault::Value)?;
     Ok((sheet.battle()?, items))
 }
 
@@ -49,6 +53,21 @@ pub fn run(input: &[u8]) -> Result<(), Fault> {
             .update_events_by_bytes(pair.0, pair.1, &mut events)
             .map_err(|why| Fault::Pair(number, why))?;
         put(&text_of(&events))?;
+    }
+    Ok(())
+}
+
+/// `log`
+pub fn log(input: &[u8]) -> Result<(), Fault> {
+    let (mut battle, pairs) = sheet_of(input, "choices", pair_of)?;
+    let mut events = EventList::new();
+    let mut log = LogBuf::new();
+    for (number, pair) in pairs.into_iter().enumerate() {
+        battle
+            .update_events_by_bytes(pair.0, pair.1, &mut events)
+            .map_err(|why| Fault::Pair(number, why))?;
+        write_log(&events, &mut log);
+        put_bytes(&log)?;
     }
     Ok(())
 }
@@ -90,12 +109,12 @@ pub fn print(input: &[u8]) -> Result<(), Fault> {
 pub fn calc(input: &[u8]) -> Result<(), Fault> {
     let value = value_of(input)?;
     let asked = |value: &Value| {
-        let one = member_of(value.get("attacker")?)?;
-        let two = member_of(value.get("defender")?)?;
-        let id = MoveId::from_name(value.get("move")?.as_str()?)?;
-        Some((one, two, id, value.get("critical")?.as_bool()?))
+        let one = at(value, "attacker", member_of)?;
+        let two = at(value, "defender", member_of)?;
+        let id = at(value, "move", move_name_of)?;
+        Ok((one, two, id, at(value, "critical", truth_of)?))
     };
-    let (one, two, id, critical) = asked(&value).ok_or(Fault::Json)?;
+    let (one, two, id, critical) = asked(&value).map_err(Fault::Value)?;
     let one = Team::new(&[one]).map_err(|why| Fault::Team(1, why))?;
     let two = Team::new(&[two]).map_err(|why| Fault::Team(2, why))?;
     let numbers = damages(&one, &two, id, critical).map_err(|_| Fault::Calc)?;

@@ -1,5 +1,6 @@
-//! Why the program did not do all that it was asked (docs/PROGRAM.md, "Faults and statuses").
-use gen1::{LogFault, Refusal, TeamRefusal};
+//! Why the program did not do all that it was asked (docs/PROGRAM.md, "Faults and statuses", "Explanations").
+use crate::misfit::Misfit;
+use gen1::{LogFault, Refusal, Side, TeamRefusal};
 use std::fmt;
 use std::io::Write;
 use std::process::ExitCode;
@@ -7,8 +8,10 @@ use std::process::ExitCode;
 /// Why the program did not do all that it was asked.
 #[derive(Debug)]
 pub enum Fault {
-    /// The input is no JSON, or not of the shape that is asked for.
-    Json,
+    /// The input is no JSON: at this line and column a byte stands that JSON has not there, or the input ends.
+    Text { line: usize, column: usize },
+    /// A value of the input is not as it should be.
+    Value(Misfit),
     /// The input is longer than it may be.
     TooLong,
     /// The team of a side, 1 or 2, is refused.
@@ -30,7 +33,7 @@ pub enum Fault {
 impl fmt::Display for Fault {
     fn fmt(&self, f: &mut fmt::Formatter<'_>) -> fmt::Result {
         match self {
-            Fault::Json => f.write_str("json"),
+            Fault::Text { .. } | Fault::Value(_) => f.write_str("json"),
             Fault::TooLong => f.write_str("too long"),
             Fault::Team(side, why) => write!(
                 f,
@@ -49,13 +52,48 @@ impl fmt::Display for Fault {
 }
 
 impl Fault {
-    /// Tells the fault on standard error, and answers the exit status.
-    pub fn tell(&self) -> ExitCode {
+    /// Tells the fault on standard error, with its explanation where `explains`, and answers the exit status.
+    pub fn tell(&self, explains: bool) -> ExitCode {
+        let behind = if explains {
+            format!("{}\n", self.explanation())
+        } else {
+            String::new()
+        };
         // Where standard error cannot be written, the status says it alone.
-        let _ = writeln!(std::io::stderr(), "error: {self}");
+        let _ = write!(std::io::stderr(), "error: {self}\n{behind}");
         ExitCode::from(match self {
             Fault::Read | Fault::Write => 3,
             _ => 1,
         })
+    }
+
+    /// What is wrong: where it is and what was expected there, or why it was refused.
+    fn explanation(&self) -> String {
+        match self {
+            Fault::Text { line, column } => {
+                format!("at line {line} column {column}: expected JSON")
+            }
+            Fault::Value(misfit) => misfit.to_string(),
+            Fault::TooLong => "expected at most 1048576 bytes".into(),
+            Fault::Team(side, why) if why.place() == 0 => format!("team {side}: {why}"),
+            Fault::Team(side, why) => format!("team {side}, {why}"),
+            Fault::Pair(number, why) => format!("at .choices[{number}]: {}", words_of(why)),
+            Fault::Log(why) => why.to_string(),
+            Fault::Calc => "at .move: expected a move with the usual damage".into(),
+            Fault::Page => "the page has not one place for a battle".into(),
+            Fault::Read => "the input could not be opened or read".into(),
+            Fault::Write => "the output could not be written".into(),
+        }
+    }
+}
+
+/// Why a pair was refused.
+fn words_of(why: &Refusal) -> String {
+    match why {
+        Refusal::Over => "the battle is over".into(),
+        Refusal::NotOffered(side) => {
+            let number = if *side == Side::One { 1 } else { 2 };
+            format!("side {number}'s choice is not offered")
+        }
     }
 }

@@ -1,5 +1,7 @@
 //! What the program is asked for, as JSON (docs/PROGRAM.md).
 use crate::fault::Fault;
+use crate::misfit::{Misfit, Step};
+use crate::no_json::place_in;
 use gen1::{Battle, MemberSpec, MoveId, Rules, Side, Species, Team, TurnLimit};
 use serde_json::Value;
 use std::fs::File;
@@ -32,7 +34,10 @@ pub fn read(file: Option<PathBuf>) -> Result<Vec<u8>, Fault> {
 
 /// The value that an input stands for.
 pub fn value_of(input: &[u8]) -> Result<Value, Fault> {
-    serde_json::from_slice(input).map_err(|_| Fault::Json)
+    serde_json::from_slice(input).map_err(|_| {
+        let (line, column) = place_in(input);
+        Fault::Text { line, column }
+    })
 }
 
 /// A battle that is asked for, before any test of the teams.
@@ -45,20 +50,14 @@ pub struct Sheet {
 }
 
 impl Sheet {
-    /// The battle that a value asks for; `None` where it has not that shape.
-    pub fn of(value: &Value) -> Option<Sheet> {
-        Some(Sheet {
-            seed: bytes_of(value.get("seed")?)?,
-            one: list_of(value.get("one")?, member_of)?,
-            two: list_of(value.get("two")?, member_of)?,
-            rules: value.get("rules").map_or(Some(Rules::default()), |rules| {
-                Rules::new(number_of(rules)?)
-            })?,
-            limit: value
-                .get("limit")
-                .map_or(Some(TurnLimit::default()), |limit| {
-                    TurnLimit::new(number_of(limit)?)
-                })?,
+    /// The battle that a value asks for, or the first place at which it is not as it should be.
+    pub fn of(value: &Value) -> Result<Sheet, Misfit> {
+        Ok(Sheet {
+            seed: at(value, "seed", bytes_of)?,
+            one: at(value, "one", |list| list_of(list, member_of))?,
+            two: at(value, "two", |list| list_of(list, member_of))?,
+            rules: unless_absent(value, "rules", rules_of)?,
+            limit: unless_absent(value, "limit", limit_of)?,
         })
     }
 
@@ -72,54 +71,177 @@ impl Sheet {
     }
 }
 
-/// The items of a list, each read by a function.
-pub fn list_of<T>(value: &Value, read: impl Fn(&Value) -> Option<T>) -> Option<Vec<T>> {
-    value.as_array()?.iter().map(read).collect()
+/// What a function reads of the value under a key.
+pub fn at<T>(
+    value: &Value,
+    key: &'static str,
+    read: impl Fn(&Value) -> Result<T, Misfit>,
+) -> Result<T, Misfit> {
+    let found = value
+        .get(key)
+        .ok_or_else(|| Misfit::here(format!("an object with the key \"{key}\"")))?;
+    read(found).map_err(|misfit| misfit.behind(Step::Of(key)))
 }
 
-/// A whole number within the range of its type.
-pub fn number_of<T: TryFrom<u64>>(value: &Value) -> Option<T> {
+/// The same of a key that may be absent.
+fn unless_absent<T: Default>(
+    value: &Value,
+    key: &'static str,
+    read: impl Fn(&Value) -> Result<T, Misfit>,
+) -> Result<T, Misfit> {
+    match value.get(key) {
+        None => Ok(T::default()),
+        Some(_) => at(value, key, read),
+    }
+}
+
+/// The items of a list, each read by a function.
+pub fn list_of<T>(
+    value: &Value,
+    read: impl Fn(&Value) -> Result<T, Misfit>,
+) -> Result<Vec<T>, Misfit> {
+    let items = value.as_array().ok_or_else(|| Misfit::here("a list"))?;
+    (0..items.len())
+        .map(|number| item_of(items, number, &read))
+        .collect()
+}
+
+fn item_of<T>(
+    items: &[Value],
+    number: usize,
+    read: impl Fn(&Value) -> Result<T, Misfit>,
+) -> Result<T, Misfit> {
+    read(&items[number]).map_err(|misfit| misfit.behind(Step::At(number)))
+}
+
+/// The items of a list of exactly so many.
+fn items_of<const N: usize>(value: &Value) -> Result<&[Value; N], Misfit> {
+    let items = value
+        .as_array()
+        .and_then(|items| items.as_slice().try_into().ok());
+    items.ok_or_else(|| Misfit::here(format!("a list of {N} items")))
+}
+
+/// A whole number of a type, if it is one and in its range.
+fn whole_of<T: TryFrom<u64>>(value: &Value) -> Option<T> {
     value.as_u64()?.try_into().ok()
 }
 
+/// The same, or what is expected.
+fn number_of<T: TryFrom<u64> + Bound>(value: &Value) -> Result<T, Misfit> {
+    whole_of(value).ok_or_else(|| Misfit::here(format!("a whole number from 0 to {}", T::MOST)))
+}
+
+/// A type of whole numbers from 0.
+trait Bound {
+    const MOST: u32;
+}
+
+impl Bound for u8 {
+    const MOST: u32 = 255;
+}
+
+impl Bound for u16 {
+    const MOST: u32 = 65_535;
+}
+
+impl Bound for u32 {
+    const MOST: u32 = u32::MAX;
+}
+
 /// A list of exactly so many numbers.
-fn bytes_of<T: TryFrom<u64>, const N: usize>(value: &Value) -> Option<[T; N]> {
-    list_of(value, number_of)?.try_into().ok()
+fn bytes_of<T: TryFrom<u64> + Bound + Default + Copy, const N: usize>(
+    value: &Value,
+) -> Result<[T; N], Misfit> {
+    let items = items_of::<N>(value)?;
+    let mut numbers = [T::default(); N];
+    for (number, place) in numbers.iter_mut().enumerate() {
+        *place = item_of(items, number, number_of)?;
+    }
+    Ok(numbers)
 }
 
 /// A pair of choices, each as a byte.
-pub fn pair_of(value: &Value) -> Option<(u8, u8)> {
+pub fn pair_of(value: &Value) -> Result<(u8, u8), Misfit> {
     let [one, two] = bytes_of(value)?;
-    Some((one, two))
+    Ok((one, two))
 }
 
 /// A submission to a room: the side, the number of the pair that is meant, and a choice as a byte.
-pub fn submission_of(value: &Value) -> Option<(Side, u32, u8)> {
-    let [side, number, choice] = value.as_array()?.as_slice() else {
-        return None;
-    };
-    Some((
-        Side::from_number(number_of(side)?)?,
-        number_of(number)?,
-        number_of(choice)?,
+pub fn submission_of(value: &Value) -> Result<(Side, u32, u8), Misfit> {
+    let items = items_of::<3>(value)?;
+    Ok((
+        item_of(items, 0, side_of)?,
+        item_of(items, 1, number_of)?,
+        item_of(items, 2, number_of)?,
     ))
 }
 
+fn side_of(value: &Value) -> Result<Side, Misfit> {
+    whole_of(value)
+        .and_then(Side::from_number)
+        .ok_or_else(|| Misfit::here("the number of a side, 1 or 2"))
+}
+
+fn rules_of(value: &Value) -> Result<Rules, Misfit> {
+    whole_of(value)
+        .and_then(Rules::new)
+        .ok_or_else(|| Misfit::here("a whole number from 0 to 3"))
+}
+
+fn limit_of(value: &Value) -> Result<TurnLimit, Misfit> {
+    whole_of(value)
+        .and_then(TurnLimit::new)
+        .ok_or_else(|| Misfit::here("a whole number from 1 to 9999"))
+}
+
 /// A member, before any test of its team.
-pub fn member_of(value: &Value) -> Option<MemberSpec> {
-    let moves = list_of(value.get("moves")?, move_of)?;
-    Some(MemberSpec {
-        species: Species::from_name(value.get("species")?.as_str()?)?,
-        level: number_of(value.get("level")?)?,
-        dvs: bytes_of(value.get("dvs")?)?,
-        exp: bytes_of(value.get("exp")?)?,
-        moves: moves.as_slice().try_into().ok()?,
+pub fn member_of(value: &Value) -> Result<MemberSpec, Misfit> {
+    Ok(MemberSpec {
+        species: at(value, "species", species_of)?,
+        level: at(value, "level", number_of)?,
+        dvs: at(value, "dvs", bytes_of)?,
+        exp: at(value, "exp", bytes_of)?,
+        moves: at(value, "moves", moves_of)?
+            .as_slice()
+            .try_into()
+            .map_err(|_| Misfit::here(FEW_MOVES).behind(Step::Of("moves")))?,
     })
 }
 
-fn move_of(value: &Value) -> Option<(MoveId, u8)> {
-    let [name, ups] = value.as_array()?.as_slice() else {
-        return None;
-    };
-    Some((MoveId::from_name(name.as_str()?)?, number_of(ups)?))
+const FEW_MOVES: &str = "a list of at most 4 moves";
+
+fn moves_of(value: &Value) -> Result<Vec<(MoveId, u8)>, Misfit> {
+    match value.as_array() {
+        Some(items) if items.len() <= 4 => list_of(value, move_of),
+        _ => Err(Misfit::here(FEW_MOVES)),
+    }
+}
+
+fn species_of(value: &Value) -> Result<Species, Misfit> {
+    value
+        .as_str()
+        .and_then(Species::from_name)
+        .ok_or_else(|| Misfit::here("the name of a species"))
+}
+
+/// A move by its name.
+pub fn move_name_of(value: &Value) -> Result<MoveId, Misfit> {
+    value
+        .as_str()
+        .and_then(MoveId::from_name)
+        .ok_or_else(|| Misfit::here("the name of a move"))
+}
+
+/// A truth value.
+pub fn truth_of(value: &Value) -> Result<bool, Misfit> {
+    value.as_bool().ok_or_else(|| Misfit::here("true or false"))
+}
+
+fn move_of(value: &Value) -> Result<(MoveId, u8), Misfit> {
+    let items = items_of::<2>(value)?;
+    Ok((
+        item_of(items, 0, move_name_of)?,
+        item_of(items, 1, number_of)?,
+    ))
 }

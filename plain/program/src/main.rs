@@ -5,6 +5,8 @@ mod bench;
 mod commands;
 mod fault;
 mod input;
+mod misfit;
+mod no_json;
 mod play;
 mod random;
 mod replay;
@@ -30,6 +32,8 @@ struct Words {
 enum Command {
     /// Runs a battle and prints its lines: {"seed":[..],"one":[..],"two":[..],"choices":[[byte,byte],..]}
     Run(Input),
+    /// Writes the log bytes of a battle: the object of run
+    Log(Input),
     /// Prints the lines of a log's bytes
     Print(Input),
     /// Prints the damage of a move at each factor: {"attacker":member,"defender":member,"move":name,"critical":bool}
@@ -48,6 +52,9 @@ enum Command {
 
 #[derive(Args)]
 struct Input {
+    /// Says where a fault is and what was expected, behind its line
+    #[arg(long)]
+    explain: bool,
     /// The input; without FILE it is standard input
     file: Option<PathBuf>,
 }
@@ -64,6 +71,7 @@ struct Look {
 fn answer(command: Command) -> Result<(), Fault> {
     match command {
         Command::Run(input) => commands::run(&input::read(input.file)?),
+        Command::Log(input) => commands::log(&input::read(input.file)?),
         Command::Print(input) => commands::print(&input::read(input.file)?),
         Command::Calc(input) => commands::calc(&input::read(input.file)?),
         Command::Room(input) => commands::room(&input::read(input.file)?),
@@ -74,9 +82,26 @@ fn answer(command: Command) -> Result<(), Fault> {
     }
 }
 
+impl Command {
+    /// Whether a fault is to be explained.
+    fn explains(&self) -> bool {
+        match self {
+            Command::Run(input)
+            | Command::Log(input)
+            | Command::Print(input)
+            | Command::Calc(input)
+            | Command::Room(input) => input.explain,
+            Command::State(look) => look.input.explain,
+            Command::Play(_) | Command::Replay(_) | Command::Bench(_) => false,
+        }
+    }
+}
+
 fn main() -> ExitCode {
-    match answer(Words::parse().command) {
+    let command = Words::parse().command;
+    let explains = command.explains();
+    match answer(command) {
         Ok(()) => ExitCode::SUCCESS,
-        Err(fault) => fault.tell(),
+        Err(fault) => fault.tell(explains),
     }
 }

@@ -41,7 +41,7 @@ pub fn play(game: &Game) -> Result<(), Fault> {
     let mut random = game.seed.map_or_else(Random::any, Random::new);
     let mut battle = match &game.file {
         Some(path) => Sheet::of(&value_of(&read(Some(path.clone()))?)?)
-            .ok_or(Fault::Json)?
+            .map_err(Fault::Value)?
             .battle()?,
         None => {
             let members = usize::from(game.members);

@@ -1,7 +1,8 @@
 //! A page that holds a battle (web/README.md, "A file that holds its battle").
 use crate::commands::put;
 use crate::fault::Fault;
-use crate::input::{Sheet, list_of, pair_of, read, value_of};
+use crate::input::{Sheet, at, list_of, pair_of, read, value_of};
+use crate::no_json::place_in;
 use clap::Args;
 use gen1::events_of;
 use std::path::PathBuf;
@@ -50,10 +51,12 @@ fn battle_in(input: &[u8]) -> Result<String, Fault> {
         return log_in(input);
     }
     let value = value_of(input)?;
-    Sheet::of(&value).ok_or(Fault::Json)?.battle()?;
-    let choices = value.get("choices").ok_or(Fault::Json)?;
-    list_of(choices, pair_of).ok_or(Fault::Json)?;
-    String::from_utf8(input.into()).map_err(|_| Fault::Json)
+    Sheet::of(&value).map_err(Fault::Value)?.battle()?;
+    at(&value, "choices", |list| list_of(list, pair_of)).map_err(Fault::Value)?;
+    String::from_utf8(input.into()).map_err(|_| {
+        let (line, column) = place_in(input);
+        Fault::Text { line, column }
+    })
 }
 
 fn log_in(log: &[u8]) -> Result<String, Fault> {

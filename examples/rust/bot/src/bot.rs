@@ -1,0 +1,144 @@
+//! The players: one that tries its choices in playouts, and one that chooses at random.
+use crate::random::Random;
+use gen1::{Battle, Choice, EventList, Outcome, Side};
+
+/// What playouts of a choice came to.
+#[derive(Clone, Copy, Debug, PartialEq)]
+pub struct Tried {
+    /// The choice that they began with.
+    pub choice: Choice,
+    /// How many of them were won, of one; a tie counts as half.
+    pub won: f64,
+}
+
+/// One of a side's choices, each as likely as the others. The battle goes on.
+pub fn random_choice(battle: &Battle, side: Side, random: &mut Random) -> Choice {
+    random.pick(&battle.choices(side))
+}
+
+/// Each of a side's choices, with what some playouts of it came to. The battle goes on.
+///
+/// A fork of a battle holds the numbers that the battle itself will draw, so each fork is given others first: a bot that plays
+/// them out as they are knows its dice. It does know both teams, and how both sides stand.
+pub fn tried(battle: &Battle, side: Side, playouts: u32, random: &mut Random) -> Vec<Tried> {
+    let mut events = EventList::new();
+    let mut won = |choice| -> u32 {
+        (0..playouts)
+            .map(|_| {
+                let mut fork = battle.clone();
+                fork.reseed(random.seed());
+                points(play_out(fork, side, choice, random, &mut events), side)
+            })
+            .sum()
+    };
+    let choices = battle.choices(side);
+    choices
+        .iter()
+        .map(|&choice| Tried {
+            choice,
+            won: f64::from(won(choice)) / f64::from(2 * playouts),
+        })
+        .collect()
+}
+
+/// The choice that came to most, and of those the first. There is at least one.
+pub fn best(tried: &[Tried]) -> Choice {
+    let mut best = tried[0];
+    for &other in &tried[1..] {
+        if other.won > best.won {
+            best = other;
+        }
+    }
+    best.choice
+}
+
+/// Plays a battle to its end: first a side's choice, and everything else at random.
+fn play_out(
+    mut battle: Battle,
+    side: Side,
+    first: Choice,
+    random: &mut Random,
+    events: &mut EventList,
+) -> Outcome {
+    let other = random_choice(&battle, side.other(), random);
+    let mut pair = if side == Side::One {
+        [first, other]
+    } else {
+        [other, first]
+    };
+    loop {
+        let result = battle
+            .update_events(pair[0], pair[1], events)
+            .expect("both choices are offered");
+        if result.outcome.is_over() {
+            return result.outcome;
+        }
+        pair = Side::BOTH.map(|side| random_choice(&battle, side, random));
+    }
+}
+
+/// Two for a win of a side, and one for a tie.
+fn points(outcome: Outcome, side: Side) -> u32 {
+    match outcome {
+        Outcome::WinOne => 2 * u32::from(side == Side::One),
+        Outcome::WinTwo => 2 * u32::from(side == Side::Two),
+        _ => 1,
+    }
+}
+
+#[cfg(test)]
+mod tests {
+    use super::*;
+    use gen1::{Team, member};
+
+    /// A battle after its start, in which Earthquake, which comes first, is a win, and Sonic Boom is one for the foe.
+    fn at_the_edge(seed: u8) -> Battle {
+        let alone = |species, moves: &[&str]| {
+            let mut member = member(species, moves).unwrap();
+            member.level = 5;
+            Team::new(&[member]).unwrap()
+        };
+        let one = alone("Diglett", &["Growl", "Sand Attack", "Earthquake", "Leer"]);
+        let mut battle = Battle::new(&one, &alone("Magnemite", &["Sonic Boom"]), [seed; 10]);
+        battle.update(Choice::Pass, Choice::Pass).unwrap();
+        battle
+    }
+
+    #[test]
+    fn the_winning_move_is_found_whatever_the_seed() {
+        for seed in 0..20 {
+            let tried = tried(
+                &at_the_edge(seed),
+                Side::One,
+                16,
+                &mut Random::new(1, seed.into()),
+            );
+            assert_eq!(best(&tried).to_string(), "move 3", "{tried:?}");
+        }
+    }
+
+    #[test]
+    fn trying_leaves_the_battle_alone_and_does_not_know_its_dice() {
+        let (battle, before) = (at_the_edge(3), at_the_edge(3));
+        let told = tried(&battle, Side::One, 8, &mut Random::new(1, 1));
+        assert_eq!(battle, before);
+        // The same battle with other numbers to draw is the same to the bot.
+        let mut other = battle.clone();
+        other.reseed([200; 10]);
+        assert_eq!(told, tried(&other, Side::One, 8, &mut Random::new(1, 1)));
+    }
+
+    #[test]
+    fn of_equal_choices_the_first_is_taken() {
+        let all = |won: [f64; 3]| {
+            let choices = ["move 1", "move 2", "switch 2"].map(|text| text.parse().unwrap());
+            best(&std::array::from_fn::<_, 3, _>(|at| Tried {
+                choice: choices[at],
+                won: won[at],
+            }))
+            .to_string()
+        };
+        assert_eq!(all([0.5, 0.5, 0.5]), "move 1");
+        assert_eq!(all([0.5, 0.6, 0.6]), "move 2");
+    }
+}

@@ -1,0 +1,209 @@
+//! Battles of a player that tries each of its choices in playouts, against one that chooses at random.
+mod bot;
+mod random;
+mod share;
+mod teams;
+
+use clap::Parser;
+use gen1::{Battle, Choice, Outcome, Rules, Side, TurnLimit, Update};
+use random::Random;
+use std::io::{IsTerminal, Write};
+use std::process::ExitCode;
+use std::sync::atomic::{AtomicU32, Ordering};
+use std::sync::mpsc;
+use std::thread;
+use std::time::Instant;
+
+/// Plays battles of a bot against another player, and prints how many it won
+///
+/// The bot plays each choice that it is offered to the battle's end, some times over, in forks of the battle that draw numbers of
+/// their own, and takes the choice that won most. Both sides have the same team, and the bot is side 1 in every other battle. The
+/// same words give the same battles, for any number of threads.
+#[derive(Parser)]
+#[command(
+    name = "bot",
+    version,
+    after_help = "Status: 0 all was played, 1 standard output cannot be written, 2 the words are wrong."
+)]
+struct Words {
+    /// How many battles are played
+    #[arg(long, default_value_t = 100, value_parser = clap::value_parser!(u32).range(1..=1_000_000))]
+    battles: u32,
+    /// How many playouts the bot gives each choice
+    #[arg(long, default_value_t = 32, value_parser = clap::value_parser!(u32).range(1..=100_000))]
+    playouts: u32,
+    /// How many the other player gives; 0 chooses at random
+    #[arg(long, default_value_t = 0, value_parser = clap::value_parser!(u32).range(0..=100_000))]
+    foe: u32,
+    /// How many members a side has
+    #[arg(long, default_value_t = 4, value_parser = clap::value_parser!(u8).range(1..=6))]
+    members: u8,
+    /// Another seed gives other teams, battles and choices
+    #[arg(long, default_value_t = 1)]
+    seed: u64,
+    /// How many threads play; as many as there are processors, where it is not given
+    #[arg(long, value_parser = clap::value_parser!(u16).range(1..=1024))]
+    threads: Option<u16>,
+    /// Shows the first battle alone: its lines, and what each choice of the bot came to
+    #[arg(long)]
+    show: bool,
+}
+
+/// How a battle ended for the bot.
+#[derive(Clone, Copy, PartialEq)]
+enum End {
+    Won,
+    Lost,
+    Tied,
+}
+
+impl Words {
+    /// Plays the battle with a number from 0, and calls a function after each pair of choices.
+    fn played(&self, number: u32, mut each: impl FnMut(Side, &[bot::Tried], &Update)) -> End {
+        let me = if number.is_multiple_of(2) {
+            Side::One
+        } else {
+            Side::Two
+        };
+        let mut random = Random::new(self.seed, number.into());
+        let team = teams::drawn(self.members.into(), &mut random);
+        // The sleep clause and the freeze clause.
+        let rules = Rules::new(3).expect("3 stands for both clauses");
+        let mut battle =
+            Battle::with_limit(&team, &team, random.seed(), rules, TurnLimit::default());
+        let mut update = battle
+            .update(Choice::Pass, Choice::Pass)
+            .expect("a battle begins so");
+        each(me, &[], &update);
+        while !battle.is_over() {
+            let (mine, tried) = self.choice(&battle, me, self.playouts, &mut random);
+            let (theirs, _) = self.choice(&battle, me.other(), self.foe, &mut random);
+            let [one, two] = if me == Side::One {
+                [mine, theirs]
+            } else {
+                [theirs, mine]
+            };
+            update = battle.update(one, two).expect("both choices are offered");
+            each(me, &tried, &update);
+        }
+        match battle.outcome() {
+            Outcome::WinOne if me == Side::One => End::Won,
+            Outcome::WinTwo if me == Side::Two => End::Won,
+            Outcome::WinOne | Outcome::WinTwo => End::Lost,
+            _ => End::Tied,
+        }
+    }
+
+    /// A player's choice, and what it tried for it: nothing, where there is only one choice, or it has no playouts.
+    fn choice(
+        &self,
+        battle: &Battle,
+        side: Side,
+        playouts: u32,
+        random: &mut Random,
+    ) -> (Choice, Vec<bot::Tried>) {
+        if playouts == 0 || battle.choices(side).len() == 1 {
+            return (bot::random_choice(battle, side, random), Vec::new());
+        }
+        let tried = bot::tried(battle, side, playouts, random);
+        (bot::best(&tried), tried)
+    }
+
+    /// Plays all battles on some threads, and answers how many were won, lost and tied.
+    fn all(&self) -> [u32; 3] {
+        let threads = self.threads.map_or_else(
+            || thread::available_parallelism().map_or(1, usize::from),
+            usize::from,
+        );
+        let (next, mut ends) = (AtomicU32::new(0), [0; 3]);
+        let (tell, told) = mpsc::channel();
+        thread::scope(|scope| {
+            for _ in 0..threads {
+                let (next, tell) = (&next, tell.clone());
+                scope.spawn(move || {
+                    let mut number = next.fetch_add(1, Ordering::Relaxed);
+                    while number < self.battles {
+                        tell.send(self.played(number, |_, _, _| ()))
+                            .expect("the battles are counted");
+                        number = next.fetch_add(1, Ordering::Relaxed);
+                    }
+                });
+            }
+            drop(tell);
+            for (done, end) in (1..).zip(told) {
+                ends[end as usize] += 1;
+                progress(done, self.battles);
+            }
+        });
+        ends
+    }
+
+    /// The report of all battles.
+    fn report(&self, [won, lost, tied]: [u32; 3]) -> String {
+        let foe = if self.foe == 0 {
+            "one that chooses at random".into()
+        } else {
+            format!("one of {}", self.foe)
+        };
+        let (low, high) = share::interval(won, self.battles);
+        format!(
+            "{} battles of {} members a side, seed {}: a bot of {} playouts a choice against {foe}\n\
+             won {won}, lost {lost}, tied {tied}\n\
+             it wins {:.1} % of its battles (95 % interval: {:.1} % to {:.1} %)\n",
+            self.battles,
+            self.members,
+            self.seed,
+            self.playouts,
+            100.0 * f64::from(won) / f64::from(self.battles),
+            100.0 * low,
+            100.0 * high,
+        )
+    }
+
+    /// The first battle, with what the bot tried before each line that came of it.
+    fn shown(&self) -> String {
+        let mut text = String::new();
+        self.played(0, |me, tried, update| {
+            for it in tried {
+                text += &format!(
+                    "# p{} tries {}: wins {:.0} %\n",
+                    me.number(),
+                    it.choice,
+                    100.0 * it.won
+                );
+            }
+            update.lines().for_each(|line| text += &format!("{line}\n"));
+        });
+        text
+    }
+}
+
+/// Says how far it is, where somebody looks.
+fn progress(done: u32, of: u32) {
+    let mut to = std::io::stderr();
+    if to.is_terminal() {
+        // Where standard error cannot be written, nobody looks.
+        let _ = write!(
+            to,
+            "\r{done} of {of} battles{}",
+            if done == of { "\n" } else { "" }
+        );
+    }
+}
+
+fn main() -> ExitCode {
+    let (words, begun) = (Words::parse(), Instant::now());
+    let text = if words.show {
+        words.shown()
+    } else {
+        words.report(words.all())
+    };
+    if std::io::stdout().write_all(text.as_bytes()).is_err() {
+        return ExitCode::from(1);
+    }
+    if !words.show {
+        // As in `progress`.
+        let _ = writeln!(std::io::stderr(), "{:.1} s", begun.elapsed().as_secs_f64());
+    }
+    ExitCode::SUCCESS
+}

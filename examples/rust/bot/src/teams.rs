@@ -1,0 +1,69 @@
+//! Teams to play with.
+use crate::random::Random;
+use gen1::{MemberSpec, Team, member};
+
+/// Who may be drawn: species, and four moves.
+const MEMBERS: [(&str, [&str; 4]); 12] = [
+    ("Charizard", ["Flamethrower", "Slash", "Leer", "Growl"]),
+    ("Blastoise", ["Surf", "Ice Beam", "Withdraw", "Tail Whip"]),
+    ("Venusaur", ["Razor Leaf", "Body Slam", "Growth", "Growl"]),
+    (
+        "Pidgeot",
+        ["Wing Attack", "Quick Attack", "Sand Attack", "Gust"],
+    ),
+    (
+        "Raichu",
+        ["Thunderbolt", "Quick Attack", "Growl", "Tail Whip"],
+    ),
+    ("Nidoking", ["Earthquake", "Thrash", "Leer", "Horn Attack"]),
+    ("Alakazam", ["Psychic", "Reflect", "Teleport", "Kinesis"]),
+    (
+        "Machamp",
+        ["Submission", "Low Kick", "Leer", "Focus Energy"],
+    ),
+    (
+        "Golem",
+        ["Rock Slide", "Earthquake", "Harden", "Defense Curl"],
+    ),
+    (
+        "Gengar",
+        ["Night Shade", "Thunderbolt", "Lick", "Confuse Ray"],
+    ),
+    ("Tauros", ["Body Slam", "Stomp", "Tail Whip", "Leer"]),
+    ("Lapras", ["Ice Beam", "Surf", "Mist", "Growl"]),
+];
+
+/// A team of one to six different members.
+///
+/// # Panics
+///
+/// For another number of members.
+pub fn drawn(members: usize, random: &mut Random) -> Team {
+    let mut left = MEMBERS.to_vec();
+    let chosen: Vec<MemberSpec> = (0..members)
+        .map(|_| left.swap_remove(random.below(left.len())))
+        .map(|(species, moves)| member(species, &moves).expect("MEMBERS has names of the tables"))
+        .collect();
+    Team::new(&chosen)
+        .expect("MEMBERS has moves that a team may hold, and there are one to six members")
+}
+
+#[cfg(test)]
+mod tests {
+    use super::*;
+
+    #[test]
+    fn all_may_be_drawn() {
+        let mut random = Random::new(1, 1);
+        let mut seen = std::collections::BTreeSet::new();
+        for _ in 0..100 {
+            seen.extend(
+                drawn(6, &mut random)
+                    .members()
+                    .iter()
+                    .map(|member| member.species().name()),
+            );
+        }
+        assert_eq!(seen.len(), MEMBERS.len());
+    }
+}

@@ -1,0 +1,179 @@
+//! A line of a file of battles: a battle, and what it says of its pairs.
+use gen1::{Battle, MemberSpec, MoveId, Rules, Species, Team, TeamRefusal, TurnLimit};
+use serde::Deserialize;
+use serde::de::{Deserializer, Error};
+
+/// A battle as the program's `run` takes it (docs/PROGRAM.md, "run").
+#[derive(Deserialize)]
+pub struct Sheet {
+    seed: [u8; 10],
+    one: Vec<Member>,
+    two: Vec<Member>,
+    pub choices: Vec<[u8; 2]>,
+    #[serde(default)]
+    rules: u8,
+    #[serde(default = "usual_limit")]
+    limit: u16,
+}
+
+#[derive(Deserialize)]
+struct Member {
+    species: Species,
+    level: u8,
+    dvs: [u8; 4],
+    exp: [u16; 5],
+    moves: Vec<(MoveId, u8)>,
+}
+
+fn usual_limit() -> u16 {
+    TurnLimit::default().number()
+}
+
+/// Why there is no battle: the side whose team is refused, and the refusal.
+pub type TeamFault = (u8, TeamRefusal);
+
+impl Sheet {
+    /// The battle before its first pair.
+    ///
+    /// # Errors
+    ///
+    /// A text that is no battle says what was expected; a refusal of a team is an answer like another.
+    pub fn battle(&self) -> Result<Result<Battle, TeamFault>, String> {
+        let rules = Rules::new(self.rules).ok_or("rules: 0 to 3 were expected")?;
+        let limit = TurnLimit::new(self.limit).ok_or("limit: 1 to 9,999 were expected")?;
+        let (one, two) = (specs_of(&self.one)?, specs_of(&self.two)?);
+        let team = |side, specs: &[_]| Team::new(specs).map_err(|why| (side, why));
+        let teams = team(1, &one).and_then(|one| Ok((one, team(2, &two)?)));
+        Ok(teams.map(|(one, two)| Battle::with_limit(&one, &two, self.seed, rules, limit)))
+    }
+}
+
+fn specs_of(members: &[Member]) -> Result<Vec<MemberSpec>, String> {
+    let spec = |member: &Member| {
+        Ok(MemberSpec {
+            species: member.species,
+            level: member.level,
+            dvs: member.dvs,
+            exp: member.exp,
+            moves: member
+                .moves
+                .as_slice()
+                .try_into()
+                .map_err(|_| "at most four moves were expected")?,
+        })
+    };
+    members.iter().map(spec).collect()
+}
+
+/// What a line says, in the order in which it is looked at. What is left out is not compared.
+#[derive(Deserialize)]
+pub struct Line {
+    /// What the battle is called.
+    #[serde(default, alias = "corner")]
+    pub name: String,
+    /// A recorded run of the program: its words, input, and what it printed and told.
+    args: Option<Vec<String>>,
+    input: Option<String>,
+    stdout: Option<String>,
+    stderr: Option<String>,
+    /// The battle, where it stands below a key of its own.
+    object: Option<Sheet>,
+    /// What each pair comes to.
+    updates: Option<Vec<Update>>,
+    /// All lines of the battle as `run` prints them.
+    lines: Option<String>,
+    /// The log bytes of the whole battle.
+    log: Option<Hex>,
+}
+
+/// What a pair comes to.
+#[derive(Default, Deserialize)]
+#[serde(default)]
+pub struct Update {
+    /// The pair, which is that of the battle's choices.
+    pub pair: Option<[u8; 2]>,
+    /// The number of the refusal, or null.
+    #[serde(deserialize_with = "told")]
+    pub refused: Option<Option<u8>>,
+    /// The codes of outcome and requests; null where the pair is refused.
+    pub result: Option<[u8; 3]>,
+    /// What each side has to choose from behind it.
+    pub offered: Option<[Vec<u8>; 2]>,
+    /// The log bytes.
+    pub log: Option<Hex>,
+    /// How many numbers were drawn.
+    pub draws: Option<u32>,
+    /// All bytes of the battle behind it.
+    pub bytes: Option<Hex>,
+}
+
+/// A key that is there, be it null.
+fn told<'de, D: Deserializer<'de>>(from: D) -> Result<Option<Option<u8>>, D::Error> {
+    Option::deserialize(from).map(Some)
+}
+
+/// Bytes as hexadecimal digits.
+pub struct Hex(pub Vec<u8>);
+
+impl<'de> Deserialize<'de> for Hex {
+    fn deserialize<D: Deserializer<'de>>(from: D) -> Result<Self, D::Error> {
+        let text = String::deserialize(from)?;
+        let fault = || D::Error::custom("two hexadecimal digits for each byte were expected");
+        if !text.len().is_multiple_of(2) || !text.bytes().all(|it| it.is_ascii_hexdigit()) {
+            return Err(fault());
+        }
+        let byte = |at| u8::from_str_radix(&text[at..at + 2], 16).map_err(|_| fault());
+        (0..text.len())
+            .step_by(2)
+            .map(byte)
+            .collect::<Result<_, _>>()
+            .map(Hex)
+    }
+}
+
+/// What is expected of a battle.
+pub struct Expected {
+    /// What is said pair by pair.
+    pub updates: Option<Vec<Update>>,
+    /// All that is printed.
+    pub lines: Option<String>,
+    /// What is told on standard error.
+    pub told: Option<String>,
+    /// All log bytes.
+    pub log: Option<Vec<u8>>,
+}
+
+/// The battle of a line, its name, and what is expected of it.
+///
+/// # Errors
+///
+/// What was expected of the line, where it is no battle, or says nothing that could be checked.
+pub fn read(text: &str) -> Result<(String, Sheet, Expected), String> {
+    let line: Line = serde_json::from_str(text).map_err(|why| why.to_string())?;
+    if line.args.as_ref().is_some_and(|args| *args != ["run"]) {
+        return Err("args: [\"run\"] was expected".into());
+    }
+    let sheet = match (line.object, &line.input) {
+        (Some(sheet), _) => sheet,
+        (None, Some(input)) => {
+            serde_json::from_str(input).map_err(|why| format!("input: {why}"))?
+        }
+        (None, None) => serde_json::from_str(text).map_err(|why| why.to_string())?,
+    };
+    let expected = Expected {
+        updates: line.updates,
+        lines: line.lines.or(line.stdout),
+        told: line.stderr,
+        log: line.log.map(|hex| hex.0),
+    };
+    if expected.updates.is_none() && expected.lines.is_none() && expected.log.is_none() {
+        return Err("updates, lines, log or stdout were expected".into());
+    }
+    if let Some(updates) = &expected.updates {
+        let pairs = |(update, pair): (&Update, &[u8; 2])| update.pair.is_none_or(|it| it == *pair);
+        if updates.len() != sheet.choices.len() || !updates.iter().zip(&sheet.choices).all(pairs) {
+            return Err("updates: one for each pair of choices was expected".into());
+        }
+    }
+    Ok((line.name, sheet, expected))
+}

@@ -1,0 +1,225 @@
+//! The room itself: it asks both players, hands on what each may know, and takes nobody's word for anything.
+use crate::pipes::{Mailbox, Process, Said};
+use crate::protocol::{RUBBISH, TOO_MANY, ask_line, log_line};
+use crate::sheet::Sheet;
+use gen1::{Battle, Request, Room, RoomRefusal, Side};
+use std::time::{Duration, Instant};
+
+/// How long the room waits, and how often it refuses.
+#[derive(Clone, Copy)]
+pub struct Terms {
+    /// How long a player may take for a choice.
+    pub patience: Duration,
+    /// How many lines of a player are refused before it is out.
+    pub refusals: u32,
+}
+
+/// A player, as the room has it.
+struct Player {
+    side: Side,
+    process: Process,
+    /// How often each code was the answer, from code 0, taken.
+    answers: [u32; 7],
+    /// The first pair that the room chose for it, and why.
+    out: Option<(u32, &'static str)>,
+}
+
+/// A battle between processes.
+pub struct Host {
+    room: Room,
+    players: [Player; 2],
+    watcher: Process,
+    mailbox: Mailbox,
+    terms: Terms,
+    until: Instant,
+}
+
+impl Host {
+    /// A room for a battle, whose first lines are sent to all.
+    ///
+    /// What the players say comes by the mailbox.
+    pub fn new(
+        (sheet, battle): (Sheet, Battle),
+        players: [Process; 2],
+        watcher: Process,
+        mailbox: Mailbox,
+        terms: Terms,
+    ) -> Host {
+        let mut sides = Side::BOTH.into_iter();
+        let players = players.map(|process| Player {
+            side: sides.next().expect("there are two sides"),
+            process,
+            answers: [0; 7],
+            out: None,
+        });
+        for player in &players {
+            player.process.send(format!(
+                "side {}\nteam {}\n",
+                player.side.number(),
+                sheet.team(player.side)
+            ));
+        }
+        let mut host = Host {
+            room: Room::new(battle),
+            players,
+            watcher,
+            mailbox,
+            terms,
+            until: Instant::now(),
+        };
+        host.tell_all();
+        host
+    }
+
+    /// Plays the battle to its end; what came of each player, in lines.
+    pub fn play(mut self) -> String {
+        while !self.room.battle().is_over() {
+            if self.choose_for_missing() {
+                continue;
+            }
+            if Instant::now() >= self.until {
+                self.time_is_up();
+            } else if let Some((side, said)) = self.mailbox.next(self.until) {
+                self.hear(side, said);
+            }
+        }
+        let text = self.players.iter().map(report).collect();
+        for player in &mut self.players {
+            player.process.close();
+        }
+        let until = Instant::now() + self.terms.patience;
+        self.watcher.end(until);
+        for player in self.players {
+            // Who is out has had its time: it may still be writing, and nobody reads that.
+            let soon = Instant::now() + Duration::from_secs(1);
+            player.process.end(if player.out.is_some() {
+                soon.min(until)
+            } else {
+                until
+            });
+        }
+        text
+    }
+
+    /// A line of a player, or its end: answered, and nothing else comes of it but what the room makes of a choice.
+    fn hear(&mut self, side: Side, said: Said) {
+        let number = self.room.number();
+        let code = match said {
+            Said::Gone => return self.put_out(side, "it left"),
+            Said::Rubbish => RUBBISH,
+            Said::Choice(pair, byte) => self
+                .room
+                .submit(side, pair, byte)
+                .map_or_else(RoomRefusal::number, |_| 0),
+        };
+        let most = self.terms.refusals;
+        let player = self.player(side);
+        player.answers[usize::from(code)] += 1;
+        match code {
+            0 => player.process.send(format!("taken {number}\n")),
+            _ if player.answers[1..].iter().sum::<u32>() > most => {
+                player.answers[usize::from(code)] -= 1;
+                player.answers[usize::from(TOO_MANY)] += 1;
+                player
+                    .process
+                    .send(format!("refused {TOO_MANY} {number}\n"));
+                self.put_out(side, "it was refused too often");
+            }
+            _ => player.process.send(format!("refused {code} {number}\n")),
+        }
+        if self.room.number() != number {
+            self.tell_all();
+        }
+    }
+
+    /// The log bytes of the last pair to all three, and to each player that has to choose what it is offered.
+    fn tell_all(&mut self) {
+        self.until = Instant::now() + self.terms.patience;
+        self.watcher.send(self.room.log());
+        for at in 0..2 {
+            let side = Side::BOTH[at];
+            let mut text = log_line(self.room.log());
+            if self.is_asked(side) {
+                let choices: Vec<u8> = self
+                    .room
+                    .choices(side)
+                    .iter()
+                    .map(|choice| choice.byte())
+                    .collect();
+                text += &ask_line(self.room.number(), &choices);
+            }
+            self.players[at].process.send(text);
+        }
+    }
+
+    /// Whether a side has a choice of its own in this pair.
+    fn is_asked(&self, side: Side) -> bool {
+        let result = self.room.battle().result();
+        let request = if side == Side::One {
+            result.request_one
+        } else {
+            result.request_two
+        };
+        !result.outcome.is_over() && request != Request::Pass
+    }
+
+    /// Takes the first choice for a player that is out, and says whether there was one to take.
+    fn choose_for_missing(&mut self) -> bool {
+        let number = self.room.number();
+        for side in Side::BOTH {
+            if self.player(side).out.is_none() || !self.is_asked(side) {
+                continue;
+            }
+            let first = self.room.choices(side)[0].byte();
+            if self.room.submit(side, number, first).is_ok() {
+                if self.room.number() != number {
+                    self.tell_all();
+                }
+                return true;
+            }
+        }
+        false
+    }
+
+    /// The time for this pair is over: who has not chosen is out.
+    fn time_is_up(&mut self) {
+        for side in Side::BOTH {
+            if self.player(side).out.is_none() && self.is_asked(side) && !self.has_chosen(side) {
+                self.put_out(side, "it was silent");
+            }
+        }
+    }
+
+    /// Whether a side's choice for this pair is there. No byte is a choice less than 255, so asking so changes nothing.
+    fn has_chosen(&mut self, side: Side) -> bool {
+        self.room.submit(side, self.room.number(), 255) == Err(RoomRefusal::AlreadyChosen)
+    }
+
+    /// From now on the room chooses for a side.
+    fn put_out(&mut self, side: Side, why: &'static str) {
+        let number = self.room.number();
+        self.mailbox.deafen(side);
+        let player = self.player(side);
+        player.out = Some((number, why));
+        player.process.close();
+    }
+
+    fn player(&mut self, side: Side) -> &mut Player {
+        &mut self.players[usize::from(side.number()) - 1]
+    }
+}
+
+/// What came of a player: a line for each code that it was refused by, and one if it was put out.
+fn report(player: &Player) -> String {
+    let side = player.side.number();
+    let refused = (1..)
+        .zip(&player.answers[1..])
+        .filter(|(_, times)| **times > 0);
+    let mut text: String = refused
+        .map(|(code, times)| format!("side {side}: refused {code}: {times}\n"))
+        .collect();
+    if let Some((number, why)) = player.out {
+        text += &format!("side {side}: out in pair {number}: {why}\n");
+    }
+    text
+}

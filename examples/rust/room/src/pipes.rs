@@ -1,0 +1,255 @@
+//! Processes at the other ends of pipes.
+use crate::protocol::{LINE_MOST, choice_of};
+use gen1::Side;
+use std::collections::VecDeque;
+use std::io::{self, Read, Write};
+use std::process::{Child, ChildStdin, ChildStdout, Command, Stdio};
+use std::sync::mpsc::{self, Sender};
+use std::sync::{Arc, Condvar, Mutex};
+use std::thread::{self, JoinHandle};
+use std::time::{Duration, Instant};
+
+/// So many lines of a player are kept before its thread reads on. One that floods the room waits at its own full pipe.
+const KEPT: usize = 16;
+
+/// What came from a player.
+#[derive(Clone, Copy, Debug, PartialEq)]
+pub enum Said {
+    /// A choice for a pair.
+    Choice(u32, u8),
+    /// A line that is none.
+    Rubbish,
+    /// It has closed its end.
+    Gone,
+}
+
+/// What both players have said and the room has not yet heard.
+#[derive(Clone, Default)]
+pub struct Mailbox {
+    inner: Arc<(Mutex<Kept>, Condvar)>,
+}
+
+#[derive(Default)]
+struct Kept {
+    said: [VecDeque<Said>; 2],
+    /// The side whose turn it is to be heard, so that neither waits for the other's flood.
+    turn: usize,
+    /// Whom nobody hears any more.
+    is_deaf: [bool; 2],
+}
+
+impl Mailbox {
+    /// Keeps what a side said, once there is room for it, and answers whether the side is still heard.
+    fn put(&self, side: Side, said: Said) -> bool {
+        let (kept, changed) = &*self.inner;
+        let at = usize::from(side.number()) - 1;
+        let kept = kept.lock().expect("no thread has panicked");
+        let mut kept = changed
+            .wait_while(kept, |kept| {
+                kept.said[at].len() >= KEPT && !kept.is_deaf[at]
+            })
+            .expect("no thread has panicked");
+        if !kept.is_deaf[at] {
+            kept.said[at].push_back(said);
+            changed.notify_all();
+        }
+        !kept.is_deaf[at]
+    }
+
+    /// From now on a side is not heard, and its thread ends.
+    pub fn deafen(&self, side: Side) {
+        let (kept, changed) = &*self.inner;
+        let at = usize::from(side.number()) - 1;
+        let mut kept = kept.lock().expect("no thread has panicked");
+        kept.is_deaf[at] = true;
+        kept.said[at].clear();
+        changed.notify_all();
+    }
+
+    /// What either player said next, in turns; `None` where neither has by a time.
+    pub fn next(&self, until: Instant) -> Option<(Side, Said)> {
+        let (kept, changed) = &*self.inner;
+        let kept = kept.lock().expect("no thread has panicked");
+        let left = until.saturating_duration_since(Instant::now());
+        let silent = |kept: &mut Kept| kept.said.iter().all(VecDeque::is_empty);
+        let (mut kept, _) = changed
+            .wait_timeout_while(kept, left, silent)
+            .expect("no thread has panicked");
+        for at in [kept.turn, 1 - kept.turn] {
+            if let Some(said) = kept.said[at].pop_front() {
+                kept.turn = 1 - at;
+                changed.notify_all();
+                return Some((Side::BOTH[at], said));
+            }
+        }
+        None
+    }
+}
+
+/// A process that the room began, and the way to it.
+pub struct Process {
+    child: Child,
+    to: Option<Sender<Vec<u8>>>,
+    /// The thread that hears it. It holds the room's end of the pipe even when it has ended: who still writes waits at a full pipe,
+    /// and is not killed before it has read its last line.
+    listener: Option<JoinHandle<ChildStdout>>,
+}
+
+impl Process {
+    /// Begins the process of a command, whose words have white space between them; the word `room` at its head is this program.
+    /// A player's output goes to the mailbox, the watcher's is the room's own.
+    pub fn begin(command: &str, player: Option<(Side, &Mailbox)>) -> io::Result<Process> {
+        let mut words = command.split_whitespace();
+        let program = words
+            .next()
+            .ok_or(io::Error::other("a command has no words"))?;
+        let mut begun = if program == "room" {
+            Command::new(std::env::current_exe()?)
+        } else {
+            Command::new(program)
+        };
+        begun.args(words).stdin(Stdio::piped());
+        if player.is_some() {
+            begun.stdout(Stdio::piped());
+        }
+        let mut child = begun.spawn()?;
+        let (to, lines) = mpsc::channel();
+        let stdin = child.stdin.take().expect("it is piped");
+        thread::spawn(move || write_all(stdin, &lines));
+        let listener = child
+            .stdout
+            .take()
+            .zip(player)
+            .map(|(from, (side, mailbox))| {
+                let mailbox = mailbox.clone();
+                thread::spawn(move || listen(from, side, &mailbox))
+            });
+        Ok(Process {
+            child,
+            to: Some(to),
+            listener,
+        })
+    }
+
+    /// Sends bytes, and waits for nobody: what a battle tells a process, read or not, is bounded by its turn limit.
+    pub fn send(&self, bytes: impl Into<Vec<u8>>) {
+        if let Some(to) = &self.to {
+            // A process that is gone does not get it.
+            let _ = to.send(bytes.into());
+        }
+    }
+
+    /// Nothing more is sent: the process comes to the end of its input.
+    pub fn close(&mut self) {
+        self.to = None;
+    }
+
+    /// Waits for the process to end, and ends it where it has not by a time.
+    pub fn end(mut self, until: Instant) {
+        self.close();
+        while matches!(self.child.try_wait(), Ok(None)) {
+            if Instant::now() >= until {
+                // It may have ended by itself meanwhile.
+                let _ = self.child.kill();
+                let _ = self.child.wait();
+                break;
+            }
+            thread::sleep(Duration::from_millis(2));
+        }
+        drop(self.listener);
+    }
+}
+
+/// Writes what is to be sent, until there is nothing more or nobody reads.
+fn write_all(mut to: ChildStdin, lines: &mpsc::Receiver<Vec<u8>>) {
+    for bytes in lines {
+        if to.write_all(&bytes).is_err() {
+            return;
+        }
+    }
+}
+
+/// Reads a player's lines, of which no more is kept than a lawful one has, until it is gone or not heard any more.
+fn listen<R: Read>(mut from: R, side: Side, mailbox: &Mailbox) -> R {
+    let (mut bytes, mut line) = ([0; 4096], Vec::new());
+    loop {
+        let count = match from.read(&mut bytes) {
+            Err(why) if why.kind() == io::ErrorKind::Interrupted => continue,
+            Ok(count) if count > 0 => count,
+            _ => {
+                mailbox.put(side, Said::Gone);
+                return from;
+            }
+        };
+        for &byte in &bytes[..count] {
+            if byte == b'\n' {
+                let said = choice_of(&line)
+                    .map_or(Said::Rubbish, |(number, byte)| Said::Choice(number, byte));
+                if !mailbox.put(side, said) {
+                    return from;
+                }
+                line.clear();
+            } else if line.len() <= LINE_MOST {
+                line.push(byte);
+            }
+        }
+    }
+}
+
+#[cfg(test)]
+mod tests {
+    use super::*;
+
+    fn soon() -> Instant {
+        Instant::now() + Duration::from_secs(20)
+    }
+
+    #[test]
+    fn a_flood_does_not_keep_the_other_waiting() {
+        let mailbox = Mailbox::default();
+        let flooded = mailbox.clone();
+        thread::spawn(move || listen(io::repeat(b'\n'), Side::One, &flooded));
+        listen(&b"0 17\n1 18"[..], Side::Two, &mailbox);
+        // However much the other says, each is heard in turn. What is no line yet when the end comes is none.
+        let heard: Vec<_> = (0..4).filter_map(|_| mailbox.next(soon())).collect();
+        let of_two: Vec<_> = heard
+            .iter()
+            .filter(|it| it.0 == Side::Two)
+            .map(|it| it.1)
+            .collect();
+        assert_eq!(of_two, [Said::Choice(0, 17), Said::Gone]);
+    }
+
+    #[test]
+    fn a_side_that_is_not_heard_does_not_wait() {
+        let mailbox = Mailbox::default();
+        let flooded = mailbox.clone();
+        let flood = thread::spawn(move || listen(io::repeat(b'\n'), Side::Two, &flooded));
+        assert_eq!(mailbox.next(soon()), Some((Side::Two, Said::Rubbish)));
+        mailbox.deafen(Side::Two);
+        flood.join().expect("the thread ends");
+        assert_eq!(mailbox.next(Instant::now()), None);
+    }
+
+    #[test]
+    fn silence_ends_at_its_time() {
+        let begun = Instant::now();
+        assert_eq!(
+            Mailbox::default().next(begun + Duration::from_millis(30)),
+            None
+        );
+        assert!(begun.elapsed() >= Duration::from_millis(30));
+    }
+
+    #[test]
+    fn long_lines_are_rubbish_and_the_next_is_read() {
+        let mailbox = Mailbox::default();
+        let text = [&[b'0'; 100_000][..], b"\n3 20\n"].concat();
+        listen(&text[..], Side::One, &mailbox);
+        let heard: Vec<_> = (0..3)
+            .filter_map(|_| mailbox.next(soon()))
+            .map(|it| it.1)
+            .collect();
+        assert_eq!(heard, [Said::Rubbish, Said::Choice(3, 20), Said::Gone]);
+    }
+}

@@ -1,0 +1,86 @@
+//! A battle as a file has it: the JSON that the program's `run` takes (docs/PROGRAM.md, "run"), without its choices.
+use gen1::{Battle, MemberSpec, MoveId, Rules, Side, Species, Team, TurnLimit};
+use serde::{Deserialize, Serialize};
+
+/// A battle before any test of its teams.
+#[derive(Deserialize)]
+pub struct Sheet {
+    seed: [u8; 10],
+    one: Vec<Member>,
+    two: Vec<Member>,
+    #[serde(default)]
+    rules: u8,
+    #[serde(default = "usual_limit")]
+    limit: u16,
+}
+
+/// A member of a team, as text.
+#[derive(Clone, Deserialize, Serialize)]
+struct Member {
+    species: Species,
+    level: u8,
+    dvs: [u8; 4],
+    exp: [u16; 5],
+    moves: Vec<(MoveId, u8)>,
+}
+
+fn usual_limit() -> u16 {
+    TurnLimit::default().number()
+}
+
+impl Sheet {
+    /// The battle of a text.
+    ///
+    /// # Errors
+    ///
+    /// What is wrong with the text, with its line and column, or with a team.
+    pub fn of(text: &str) -> Result<(Sheet, Battle), String> {
+        let sheet: Sheet = serde_json::from_str(text).map_err(|why| why.to_string())?;
+        let one = team_of(1, &sheet.one)?;
+        let two = team_of(2, &sheet.two)?;
+        let rules = Rules::new(sheet.rules).ok_or("rules: 0 to 3 were expected")?;
+        let limit = TurnLimit::new(sheet.limit).ok_or("limit: 1 to 9,999 were expected")?;
+        let battle = Battle::with_limit(&one, &two, sheet.seed, rules, limit);
+        Ok((sheet, battle))
+    }
+
+    /// A side's own team as JSON in one line.
+    pub fn team(&self, side: Side) -> String {
+        let members = if side == Side::One {
+            &self.one
+        } else {
+            &self.two
+        };
+        serde_json::to_string(members).expect("a team is JSON")
+    }
+}
+
+fn team_of(side: u8, members: &[Member]) -> Result<Team, String> {
+    let specs: Vec<MemberSpec> = members
+        .iter()
+        .enumerate()
+        .map(|(at, member)| {
+            let moves = member.moves.as_slice().try_into();
+            let fault = |_| {
+                format!(
+                    "side {side}, member {}: at most four moves were expected",
+                    at + 1
+                )
+            };
+            Ok(MemberSpec {
+                species: member.species,
+                level: member.level,
+                dvs: member.dvs,
+                exp: member.exp,
+                moves: moves.map_err(fault)?,
+            })
+        })
+        .collect::<Result<_, String>>()?;
+    Team::new(&specs).map_err(|why| {
+        format!(
+            "side {side}, member {}: refusal {}: {why}",
+            why.place(),
+            why.number()
+        )
+    })
+}

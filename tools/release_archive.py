@@ -1,0 +1,60 @@
+"""Archives that come out the same, to the byte, whenever and by whomever they are made."""
+
+import datetime
+import gzip
+import io
+import os
+import re
+import tarfile
+
+from repository import ROOT
+
+
+def epoch():
+    """The time that archives carry: SOURCE_DATE_EPOCH, or the day of the version in CHANGELOG.md."""
+    if given := os.environ.get("SOURCE_DATE_EPOCH"):
+        return int(given)
+    day = re.search(r"(?m)^## [\d.]+, (\d{4}-\d\d-\d\d)$", (ROOT / "CHANGELOG.md").read_text())
+    return int(datetime.datetime.fromisoformat(f"{day[1]}T00:00:00+00:00").timestamp())
+
+
+def told_nothing_of_its_maker(entry):
+    """An entry of an archive without what depends on who made it, and when."""
+    entry.uid = entry.gid = 0
+    entry.uname = entry.gname = ""
+    entry.mtime = epoch()
+    entry.mode = 0o755 if entry.isdir() or entry.issym() or entry.mode & 0o100 else 0o644
+    entry.pax_headers = {}
+    return entry
+
+
+def write_packed(entries, to):
+    """Writes entries, each with its bytes, in the order of their names."""
+    plain = io.BytesIO()
+    with tarfile.open(fileobj=plain, mode="w", format=tarfile.GNU_FORMAT) as archive:
+        for entry, data in sorted(entries, key=lambda it: it[0].name):
+            archive.addfile(told_nothing_of_its_maker(entry), io.BytesIO(data) if data is not None else None)
+    with open(to, "wb") as file, gzip.GzipFile(filename="", mode="wb", compresslevel=9, fileobj=file, mtime=0) as packed:
+        packed.write(plain.getvalue())
+
+
+def pack(folder, to):
+    """Writes a folder, with its name, as a .tar.gz."""
+    entries = []
+    with tarfile.open(fileobj=io.BytesIO(), mode="w", format=tarfile.GNU_FORMAT) as maker:
+        for path in [folder, *folder.rglob("*")]:
+            entry = maker.gettarinfo(path, str(path.relative_to(folder.parent)))
+            entry = tarfile.TarInfo(entry.name) if entry.islnk() else entry
+            if path.is_file() and not path.is_symlink():
+                entry.type, entry.size, entry.mode = tarfile.REGTYPE, path.stat().st_size, path.stat().st_mode
+                entries.append((entry, path.read_bytes()))
+            else:
+                entries.append((entry, None))
+    write_packed(entries, to)
+
+
+def repack(path):
+    """Writes a .tar.gz that another tool made anew, in its place."""
+    with tarfile.open(path) as archive:
+        entries = [(entry, archive.extractfile(entry).read() if entry.isreg() else None) for entry in archive]
+    write_packed(entries, path)

@@ -1,0 +1,184 @@
+"""What tools/release --check tries of a release: that it comes out the same twice, and that each part is of use where it is unpacked."""
+
+import ctypes
+import hashlib
+import os
+import re
+import shutil
+import subprocess
+import sys
+import tarfile
+from pathlib import Path
+
+from c_install import LINES, plays
+from c_library import Missing, Unbuilt, calls
+from repository import ROOT, version
+
+REGISTRY = Path("/usr/share/cargo/registry")
+STORED = ROOT / "crates" / "battle_tool" / "stdin"
+CONFIG = '[source.crates-io]\nreplace-with = "debian"\n[source.debian]\ndirectory = "/usr/share/cargo/registry"\n'
+# What a page holds of a battle where it holds none.
+PLACEHOLDER = '<script id="battle" type="application/json">null</script>'
+
+
+def ran(*words, cwd, env=None, given=None):
+    """What a command printed; Unbuilt where its status is not 0."""
+    try:
+        done = subprocess.run([str(word) for word in words], cwd=cwd, env={**os.environ, **(env or {})}, stdout=subprocess.PIPE,
+                              stderr=subprocess.PIPE, input=given, text=True, errors="replace")
+    except FileNotFoundError as fault:
+        raise Missing(f"there is no {words[0]}") from fault
+    if done.returncode:
+        raise Unbuilt(f"{' '.join(map(str, words))}: status {done.returncode}\n{(done.stdout + done.stderr)[-1500:]}")
+    return done.stdout
+
+
+def due(got, wanted):
+    """What is wrong with a text, or None."""
+    return None if got == wanted else f"{str(got)[:300]!r}, and not {str(wanted)[:300]!r}"
+
+
+class Trial:
+    """A release that is tried, beside another that was made of the same sources."""
+
+    def __init__(self, first, second, left_out, room):
+        self.first, self.out, self.left_out, self.room = first, second, left_out, room
+        self.counts = {"passed": 0, "failed": 0, "skipped": 0}
+        self.made = None
+
+    def tell(self, name, check, *given):
+        """Runs a check, which answers what is wrong, and counts it."""
+        try:
+            fault = check(*given)
+        except Missing as why:
+            self.counts["skipped"] += 1
+            print(f"{name}: skipped: {why}", flush=True)
+            return
+        except (Unbuilt, OSError, KeyError) as why:
+            fault = why or "it failed"
+        self.counts["failed" if fault else "passed"] += 1
+        print(f"{name}: {f'FAILED: {fault}' if fault else 'as it should be'}", flush=True)
+
+    def unpacked(self, name):
+        """An empty folder with what an archive of the release holds: the one folder in it."""
+        into = self.room / f"unpacked_{name}"
+        shutil.rmtree(into, ignore_errors=True)
+        into.mkdir()
+        with tarfile.open(self.out / name) as archive:
+            archive.extractall(into, filter="tar") if hasattr(tarfile, "tar_filter") else archive.extractall(into)
+        [folder] = into.iterdir()
+        return folder
+
+    def sums(self):
+        """SHA256SUMS names each file and no other, with its sum."""
+        lines = (self.out / "SHA256SUMS").read_text()
+        found = sorted(path for path in self.out.iterdir() if path.name[0] != "." and path.name != "SHA256SUMS")
+        return due(lines, "".join(f"{hashlib.sha256(path.read_bytes()).hexdigest()}  {path.name}\n" for path in found))
+
+    def same(self, name):
+        return None if (self.first / name).read_bytes() == (self.out / name).read_bytes() else "it came out otherwise the second time"
+
+    def rust(self):
+        """The workspace's own sums, and its program, built with the crates of Debian's packages, on the README's example."""
+        folder = self.unpacked(f"gen1-{version()}-rust.tar.gz")
+        ran("sha256sum", "-c", "--quiet", "SHA256SUMS", cwd=folder)
+        if not REGISTRY.is_dir():
+            raise Missing("there are no crates of Debian's, which tools/setup plain installs")
+        (folder / ".cargo").mkdir()
+        (folder / ".cargo" / "config.toml").write_text(CONFIG)
+        wanted = re.search(r"prints\n\n```\n(.*?)```", (folder / "README.md").read_text(), re.S)[1]
+        given = (folder / "examples" / "tauros.json").read_text()
+        got = ran("cargo", "run", "-q", "--release", "--offline", "--", "run", cwd=folder, given=given)
+        self.made = folder / "target" / "release" / "gen1"
+        return due(got, wanted) or due(ran(self.made, "--version", cwd=folder), f"gen1 {version()}\n")
+
+    def c(self):
+        """A program by pkg-config over the shared and over the static library, from where the folder was unpacked."""
+        folder = next(self.unpacked(path.name) for path in self.out.glob("gen1-*-c-*.tar.gz"))
+        env, source = {"PKG_CONFIG_PATH": str(folder / "lib" / "pkgconfig")}, ROOT / "examples" / "c" / "play.c"
+        numbers = [int(number) for number in version().split(".")]
+        told = ctypes.CDLL(str(folder / "lib" / "libgen1.so")).gen1_version()
+        named = ran("pkg-config", "--modversion", "gen1", cwd=folder, env=env)
+        if fault := due(told.to_bytes(3, "big"), bytes(numbers)) or due(named, f"{version()}\n"):
+            return fault
+        for name, words in (("shared", ["--cflags", "--libs"]), ("static", ["--static", "--cflags", "--libs"])):
+            flags = ran("pkg-config", *words, "gen1", cwd=folder, env=env).split()
+            ran("cc", *(["-static"] if name == "static" else []), source, *flags, "-o", folder / name, cwd=folder)
+            if fault := plays(folder / name, folder / "lib"):
+                return f"{name}: {fault}"
+        return None
+
+    def cmake(self):
+        folder = next(self.unpacked(path.name) for path in self.out.glob("gen1-*-c-*.tar.gz"))
+        ran("cmake", "-S", ROOT / "tests" / "c" / "find_package", "-B", folder / "build", f"-DCMAKE_PREFIX_PATH={folder}", cwd=folder)
+        ran("cmake", "--build", folder / "build", cwd=folder)
+        return plays(folder / "build" / "shared", "/nowhere") or plays(folder / "build" / "static", "/nowhere")
+
+    def python(self, pattern):
+        """A wheel or source archive, installed by pip with no network into an environment of its own, on the stored run."""
+        [archive], place = self.out.glob(pattern), self.room / f"python_{pattern[-1]}"
+        shutil.rmtree(place, ignore_errors=True)
+        modules = "import ensurepip, venv, setuptools, wheel"
+        pythons = [it for it in (sys.executable, "/usr/bin/python3") if Path(it).exists()]
+        found = [it for it in pythons if not subprocess.run([it, "-c", modules], capture_output=True).returncode]
+        if not found:
+            raise Missing("there is no Python with venv, setuptools and wheel, which tools/setup python installs")
+        ran(found[0], "-m", "venv", "--system-site-packages", place, cwd=self.room)
+        words = ("install", "-q", "--no-index", "--no-deps", "--no-build-isolation", "--no-cache-dir", "--disable-pip-version-check")
+        python = place / "bin" / "python"
+        ran(python, "-m", "pip", *words, archive, cwd=place)
+        told = ran(python, "-c", "import gen1; print(gen1.__version__)", cwd=place)
+        return due(told, f"{version()}\n") or due(ran(python, "-m", "gen1", "run", STORED, cwd=place), LINES.read_text())
+
+    def differences(self):
+        """The program of the Rust sources plays the battles of docs/DIFFERENCES.md."""
+        if not self.made:
+            raise Missing("the program of the Rust sources was not made")
+        ran(ROOT / "tools" / "differences", self.made, cwd=self.room)
+
+    def page(self):
+        """The page holds no battle, and `gen1 replay` of the program that was made puts one into it."""
+        page = self.out / f"gen1-{version()}.html"
+        if page.read_text().count(PLACEHOLDER) != 1 or page.stat().st_size >= 400_000:
+            return "it has no place for a battle, or is too long"
+        if not self.made:
+            raise Missing("the program of the Rust sources was not made")
+        text = ran(self.made, "replay", "--page", page, STORED, cwd=self.room)
+        return None if PLACEHOLDER not in text and '"Tauros"' in text else "no battle was put into it"
+
+    def proved(self):
+        """PROVED.txt speaks of this version and commit, and of the library that the C archive holds."""
+        text = (self.out / "PROVED.txt").read_text()
+        library = next((self.unpacked(path.name) / "lib" / "libgen1_c.a" for path in self.out.glob("gen1-*-c-*.tar.gz")), None)
+        wanted = [f"gen1 {version()}", "commit     ", "toolchain  "]
+        wanted += [hashlib.sha256(library.read_bytes()).hexdigest()] if library else []
+        return next((f"it has no {words!r}" for words in wanted if words not in text), None)
+
+    def security(self):
+        """SECURITY.md says of each call of the header what it takes from outside."""
+        text = (self.out / "SECURITY.md").read_text()
+        missing = [name for name in calls() if f"`{name}`" not in text]
+        return f"it says nothing of {', '.join(missing)}" if missing else None
+
+    def all(self):
+        """Runs every check; the status."""
+        for path in sorted(self.out.iterdir()):
+            if path.name[0] != ".":
+                self.tell(f"{path.name}, twice the same", self.same, path.name)
+        self.tell("SHA256SUMS", self.sums)
+        parts = {
+            "rust": [("rust", self.rust), ("docs/DIFFERENCES.md", self.differences)], "c": [("c", self.c), ("c, by CMake", self.cmake)],
+            "page": [("page", self.page)],
+            "python": [("wheel", self.python, "*.whl"), ("source archive", self.python, f"gen1-{version()}.tar.gz")],
+        }
+        for part, checks in parts.items():
+            for name, check, *given in checks:
+                if part in self.left_out:
+                    self.counts["skipped"] += 1
+                    print(f"{name}: skipped: it was left out: {self.left_out[part]}", flush=True)
+                else:
+                    self.tell(name, check, *given)
+        self.tell("PROVED.txt", self.proved)
+        self.tell("SECURITY.md", self.security)
+        print(f"{self.counts['passed']} passed, {self.counts['failed']} failed, {self.counts['skipped']} skipped")
+        return int(self.counts["failed"] > 0)
