@@ -14,9 +14,6 @@ pub(crate) const USER: Side = Side::One;
 
 pub(crate) const FOE: Side = Side::Two;
 
-// With the draws of a sweep, and with those of link numbers.
-pub(crate) const BOTH: [bool; 2] = [false, true];
-
 pub(crate) fn named(name: &str) -> Result<MoveId, Fail> {
     Ok(MoveId::from_name(name).ok_or("no such move")?)
 }

@@ -1,10 +1,11 @@
 //! Each early effect once, with its events and its bytes (docs/MECHANICS.md, "Early effects"; docs/LAYOUT.md). By
 //! docs/LAYOUT.md the user's member begins at byte 24 and its active block at 168, those of the foe at 204 and 348.
-use crate::battles::{BOTH, FOE, USER, assert_same, chansey, named, tauros};
+use crate::battles::{FOE, USER, assert_same, chansey, named, tauros};
+use crate::draws::{BOTH, Operation, play_from};
 use gen1_effects::{early_effect, is_early_but_substitute};
 use gen1_layout::Packed;
 use gen1_machine::{Event, EventList};
-use gen1_rolls::{LinkRandom, Rolls, Sweep};
+use gen1_rolls::Rolls;
 use std::process::Abort;
 use std::test::Fail;
 
@@ -12,32 +13,25 @@ mod foe;
 mod haze;
 mod user;
 
-// Plays a move of the user's.
-fn play<R: Rolls>(battle: &mut Packed, name: &str, random: &mut R) -> Result<EventList, Fail> {
-    let id = named(name)?;
-    if !is_early_but_substitute(id.effect()) {
-        return Err("no early effect")?;
-    }
-    let mut events = EventList::new();
-    early_effect(battle, USER, id, random, &mut events);
-    Ok(events)
-}
+struct EarlyEffects;
 
-// The same with draws that rise by 1 from this byte, those of link numbers or a sweep's; and how many were taken.
-fn play_from(
-    battle: &mut Packed,
-    (name, byte, link): (&str, u8, bool),
-) -> Result<(EventList, u8), Fail> {
-    if link {
+impl Operation for EarlyEffects {
+    fn play<R: Rolls>(battle: &mut Packed, name: &str, random: &mut R) -> Result<EventList, Fail> {
+        let id = named(name)?;
+        if !is_early_but_substitute(id.effect()) {
+            return Err("no early effect")?;
+        }
+        let mut events = EventList::new();
+        early_effect(battle, USER, id, random, &mut events);
+        Ok(events)
+    }
+
+    // They rise by 1, the first three.
+    fn link_numbers(byte: u8) -> [u8; 10] {
         let next = byte.wrapping_add(1);
         let then = byte.wrapping_add(2);
-        let mut random = LinkRandom::new([byte, next, then, 0, 0, 0, 0, 0, 0, 0]);
-        let events = play(battle, name, &mut random)?;
-        return Ok((events, random.index()));
+        [byte, next, then, 0, 0, 0, 0, 0, 0, 0]
     }
-    let mut random = Sweep::new(byte);
-    let events = play(battle, name, &mut random)?;
-    Ok((events, random.draw().wrapping_sub(byte)))
 }
 
 // Plays a move, and compares what it tells, how many draws it takes, and the bytes that it changes, with no others.
@@ -50,7 +44,7 @@ fn plays(
     changes: &[(usize, u8)],
 ) -> Result<(), Fail> {
     let after = bytes_with(battle, changes);
-    let (events, drawn) = play_from(battle, played)?;
+    let (events, drawn) = play_from::<EarlyEffects>(battle, played)?;
     let (name, _, _) = played;
     assert_same(rt, (name, events.as_slice()), (name, told));
     assert_same(rt, (name, drawn), (name, draws));

@@ -1,6 +1,7 @@
 //! Stages that rise and fall, and sleep, with the numbers of docs/MECHANICS.md, "Late effects", "Stage shift", "Rules (sleep
 //! clause, freeze clause)". 75 was the last damage.
-use crate::battles::{self, BOTH, FOE, USER, assert_same, electrode, named, send_out};
+use crate::battles::{self, FOE, USER, assert_same, electrode, named, send_out};
+use crate::draws::{BOTH, Operation, play_from};
 use gen1_effects::{is_late_but_bide, late_effect};
 use gen1_layout::{Conditions, Packed};
 use gen1_machine::{Event, EventList, Kind, Side, StageCount};
@@ -24,31 +25,23 @@ fn tauros() -> Result<Packed, Fail> {
     tauros_under(0)
 }
 
-// Plays a move of the user's.
-fn play<R: Rolls>(battle: &mut Packed, name: &str, random: &mut R) -> Result<EventList, Fail> {
-    let id = named(name)?;
-    if !is_late_but_bide(id.effect()) {
-        return Err("another effect")?;
-    }
-    let mut events = EventList::new();
-    late_effect(battle, USER, id, random, &mut events);
-    Ok(events)
-}
+struct LateEffects;
 
-// The same with draws that begin with this byte, a sweep's or link numbers that are all the same; and how many were taken, up
-// to 8 of link numbers.
-fn play_from(
-    battle: &mut Packed,
-    (name, byte, link): (&str, u8, bool),
-) -> Result<(EventList, u8), Fail> {
-    if link {
-        let mut random = LinkRandom::new([byte; 10]);
-        let events = play(battle, name, &mut random)?;
-        return Ok((events, random.index()));
+impl Operation for LateEffects {
+    fn play<R: Rolls>(battle: &mut Packed, name: &str, random: &mut R) -> Result<EventList, Fail> {
+        let id = named(name)?;
+        if !is_late_but_bide(id.effect()) {
+            return Err("another effect")?;
+        }
+        let mut events = EventList::new();
+        late_effect(battle, USER, id, random, &mut events);
+        Ok(events)
     }
-    let mut random = Sweep::new(byte);
-    let events = play(battle, name, &mut random)?;
-    Ok((events, random.draw().wrapping_sub(byte)))
+
+    // They are all the same.
+    fn link_numbers(byte: u8) -> [u8; 10] {
+        [byte; 10]
+    }
 }
 
 // Plays a move so, and compares what it tells, how many draws it takes, and the bytes.
@@ -60,7 +53,7 @@ fn plays(
     draws: u8,
     want: &Packed,
 ) -> Result<(), Fail> {
-    let (events, drawn) = play_from(battle, played)?;
+    let (events, drawn) = play_from::<LateEffects>(battle, played)?;
     let (name, _, _) = played;
     assert_same(rt, (name, drawn), (name, draws));
     compare(rt, battle, &events, told, want);

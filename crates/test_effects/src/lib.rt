@@ -5,10 +5,13 @@
 //! - `late_effects`: stages and sleep
 //! - `side_effects`: what comes beside damage
 //! - `battles`: the battles that they begin with
+//! - `draws`: a move played with the draws of a sweep, or with those of link numbers
 #![tactic(auto)]
 
 #[cfg(test)]
 mod battles;
+#[cfg(test)]
+mod draws;
 #[cfg(test)]
 mod early_effects;
 #[cfg(test)]

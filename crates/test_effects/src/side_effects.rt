@@ -1,11 +1,10 @@
 //! What a move may do besides its damage, with the numbers of docs/MECHANICS.md, "Side effects".
-use crate::battles::{
-    BOTH, FOE, USER, assert_same, named, send_out, tauros, tauros_under, tauros_with,
-};
+use crate::battles::{FOE, USER, assert_same, named, send_out, tauros, tauros_under, tauros_with};
+use crate::draws::{BOTH, Operation, play_from};
 use gen1_effects::side_effect;
 use gen1_layout::Packed;
 use gen1_machine::{Event, EventList};
-use gen1_rolls::{LinkRandom, Rolls, Sweep};
+use gen1_rolls::Rolls;
 use std::process::Abort;
 use std::test::Fail;
 
@@ -13,28 +12,20 @@ mod chances;
 mod disable;
 mod status_chance;
 
-// Plays a move of the user's.
-fn play<R: Rolls>(battle: &mut Packed, name: &str, random: &mut R) -> Result<EventList, Fail> {
-    let id = named(name)?;
-    let mut events = EventList::new();
-    side_effect(battle, USER, id, random, &mut events);
-    Ok(events)
-}
+struct SideEffects;
 
-// The same with draws that begin with this byte, a sweep's or link numbers that are all the same; and how many were taken, up
-// to 8 of link numbers.
-fn play_from(
-    battle: &mut Packed,
-    (name, byte, link): (&str, u8, bool),
-) -> Result<(EventList, u8), Fail> {
-    if link {
-        let mut random = LinkRandom::new([byte; 10]);
-        let events = play(battle, name, &mut random)?;
-        return Ok((events, random.index()));
+impl Operation for SideEffects {
+    fn play<R: Rolls>(battle: &mut Packed, name: &str, random: &mut R) -> Result<EventList, Fail> {
+        let id = named(name)?;
+        let mut events = EventList::new();
+        side_effect(battle, USER, id, random, &mut events);
+        Ok(events)
     }
-    let mut random = Sweep::new(byte);
-    let events = play(battle, name, &mut random)?;
-    Ok((events, random.draw().wrapping_sub(byte)))
+
+    // They are all the same.
+    fn link_numbers(byte: u8) -> [u8; 10] {
+        [byte; 10]
+    }
 }
 
 // Plays a move so, and compares what it tells, and how many draws it takes.
@@ -45,7 +36,7 @@ fn plays(
     told: &[Event],
     draws: u8,
 ) -> Result<(), Fail> {
-    let (events, drawn) = play_from(battle, played)?;
+    let (events, drawn) = play_from::<SideEffects>(battle, played)?;
     let (name, _, _) = played;
     assert_same(rt, (name, drawn), (name, draws));
     tells(rt, &events, told);

@@ -1,6 +1,8 @@
 //! Poison, burns, freezes and paralysis, and the thaw (docs/MECHANICS.md, "Side effects", "Rules (sleep clause, freeze
 //! clause)").
-use super::{Abort, BOTH, FOE, does_nothing, play_from, plays, send_out, tauros, tauros_under};
+use super::{
+    Abort, BOTH, FOE, SideEffects, does_nothing, play_from, plays, send_out, tauros, tauros_under,
+};
 use crate::battles::assert_same;
 use gen1_layout::{Conditions, Packed};
 use gen1_machine::{Event, Kind};
@@ -59,7 +61,7 @@ fn penalties(rt: HostRuntime) -> Result<(), Fail> {
             ("Thunderbolt", Stat::Speed, 79),
         ] {
             let mut battle = of_rock()?;
-            play_from(&mut battle, (name, 0, link))?;
+            play_from::<SideEffects>(&mut battle, (name, 0, link))?;
             assert_same(&rt, battle.current_stat(FOE, stat), value);
         }
     }
