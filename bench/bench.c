@@ -256,7 +256,7 @@ static uint64_t updates_of_playouts(void)
 }
 
 /* The battles of a batch, side by side in memory, and which pairs each has to come. */
-static _Alignas(64) gen1_battle batch[BATCH];
+static _Alignas(GEN1_ALIGNMENT) gen1_battle batch[BATCH];
 static struct { size_t next, end; } to_come[BATCH];
 
 /* Plays all battles by the kept choices, BATCH at a time: an update of each in turn. The memory of all is more than what the
@@ -291,7 +291,7 @@ static void *replay_share(void *given)
     const share *mine = given;
     size_t length;
     for (size_t number = mine->first; number < mine->end; number++) {
-        _Alignas(64) gen1_battle battle = games[number].start;
+        _Alignas(GEN1_ALIGNMENT) gen1_battle battle = games[number].start;
         for (size_t pair = games[number].first; pair < games[number].end; pair++)
             if (gen1_update(&battle, pairs[pair][0], pairs[pair][1], NULL, 0, &length) != 0)
                 fail("a choice that was accepted is refused");

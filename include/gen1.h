@@ -383,6 +383,12 @@ uint32_t gen1_hit_between(const gen1_member *user, const gen1_member *foe, uint8
 /* ---- many battles ---- */
 
 /*
+ * Where arrays of battles are fastest: a battle is six lines of a cache then. `_Alignas(GEN1_ALIGNMENT) gen1_battle battles[1024];`,
+ * or memory from aligned_alloc. No call asks for it.
+ */
+#define GEN1_ALIGNMENT 64
+
+/*
  * The masks of one side in each of `count` battles, to the place of the battle in `masks`. Answers 0; or GEN1_NO_SIDE, or else
  * GEN1_LENGTHS where `mask_count` is not `count`, and then nothing is written.
  */

@@ -32,6 +32,7 @@
 //! | teams | [`member`], [`MemberSpec`], [`Team`], [`Species`], [`MoveId`] |
 //! | battles | [`Battle`], [`Choice`], [`Update`], [`Event`], [`Line`], [`State`] |
 //! | damage | [`Battle::damage`] |
+//! | searches | [`Battle::offered_mask`], [`Battle::update_silent`], [`Battle::update_offered`], [`Battle::reseed`] |
 //! | logs | [`Update::log`], [`events_of`], [`Line::of`] |
 //! | what a watcher knows | [`Spectator`] |
 //! | two players who choose apart from each other | [`Room`] |
@@ -54,6 +55,7 @@ extern crate std;
 mod battle;
 mod damage;
 mod lines;
+mod mask;
 mod room;
 #[cfg(feature = "serde")]
 mod serde_impls;
@@ -103,6 +105,7 @@ pub use gen1_stats::{KnownMove, Member, MemberSpec, Status, Team, TeamRefusal};
 #[doc(inline)]
 pub use gen1_tables::{Effect, Element, MoveId, Species, Stat, UnknownName};
 pub use lines::{Events, Line, Lines, events_of};
+pub use mask::OfferedMask;
 pub use room::Room;
 pub use state::{MemberState, SideState, State};
 pub use teams::{MemberFault, member};

@@ -1,6 +1,6 @@
 //! The players: one that tries its choices in playouts, and one that chooses at random.
 use crate::random::Random;
-use gen1::{Battle, Choice, EventList, Outcome, Side};
+use gen1::{Battle, Choice, Outcome, Side};
 
 /// What playouts of a choice came to.
 #[derive(Clone, Copy, Debug, PartialEq)]
@@ -13,7 +13,9 @@ pub struct Tried {
 
 /// One of a side's choices, each as likely as the others. The battle goes on.
 pub fn random_choice(battle: &Battle, side: Side, random: &mut Random) -> Choice {
-    random.pick(&battle.choices(side))
+    let offered = battle.offered_mask(side);
+    let place = random.below(offered.len());
+    offered.get(place).expect("the battle goes on")
 }
 
 /// Each of a side's choices, with what some playouts of it came to. The battle goes on.
@@ -21,13 +23,12 @@ pub fn random_choice(battle: &Battle, side: Side, random: &mut Random) -> Choice
 /// A fork of a battle holds the numbers that the battle itself will draw, so each fork is given others first: a bot that plays
 /// them out as they are knows its dice. It does know both teams, and how both sides stand.
 pub fn tried(battle: &Battle, side: Side, playouts: u32, random: &mut Random) -> Vec<Tried> {
-    let mut events = EventList::new();
     let mut won = |choice| -> u32 {
         (0..playouts)
             .map(|_| {
                 let mut fork = battle.clone();
                 fork.reseed(random.seed());
-                points(play_out(fork, side, choice, random, &mut events), side)
+                points(play_out(fork, side, choice, random), side)
             })
             .sum()
     };
@@ -53,13 +54,7 @@ pub fn best(tried: &[Tried]) -> Choice {
 }
 
 /// Plays a battle to its end: first a side's choice, and everything else at random.
-fn play_out(
-    mut battle: Battle,
-    side: Side,
-    first: Choice,
-    random: &mut Random,
-    events: &mut EventList,
-) -> Outcome {
+fn play_out(mut battle: Battle, side: Side, first: Choice, random: &mut Random) -> Outcome {
     let other = random_choice(&battle, side.other(), random);
     let mut pair = if side == Side::One {
         [first, other]
@@ -67,9 +62,7 @@ fn play_out(
         [other, first]
     };
     loop {
-        let result = battle
-            .update_events(pair[0], pair[1], events)
-            .expect("both choices are offered");
+        let result = battle.update_offered(pair[0], pair[1]);
         if result.outcome.is_over() {
             return result.outcome;
         }

@@ -28,11 +28,6 @@ impl Random {
         ((u128::from(self.next()) * bound as u128) >> 64) as usize
     }
 
-    /// One of some items, of which there is at least one.
-    pub fn pick<T: Copy>(&mut self, items: &[T]) -> T {
-        items[self.below(items.len())]
-    }
-
     /// The ten numbers of a battle's seed.
     pub fn seed(&mut self) -> [u8; 10] {
         std::array::from_fn(|_| (self.next() >> 56) as u8)
