@@ -18,9 +18,8 @@ from gen1.observations import observe
 Bytes: TypeAlias = NDArray[np.uint8]
 Masks: TypeAlias = NDArray[np.uint16]
 
-# csrc/arrays.c, which tools/python_wheel puts into libgen1.so.
-_offered = _library.bind("gen1_array_offered", None, c_void_p, c_size_t, c_uint8, c_void_p)
-_update = _library.bind("gen1_array_update", None, c_void_p, c_size_t, *[c_void_p] * 4)
+_offered = _library.bind("gen1_offered_many", c_uint8, c_void_p, c_size_t, c_uint8, c_void_p, c_size_t)
+_update = _library.bind("gen1_update_many", c_uint8, c_void_p, c_size_t, *[c_void_p, c_size_t] * 4)
 
 # The number of each choice in the order of the bits of a mask: bit 0 is `PASS`, bits 1 to 5 moves 0 to 4, bits 6 to 11 switches.
 CHOICES: Bytes = np.array([int(it) for it in Choice], np.uint8)
@@ -119,7 +118,7 @@ class BattleArray:
         """
         masks = np.empty((2, len(self)), np.uint16)
         for side in (1, 2):
-            _offered(self.bytes.ctypes.data, len(self), side, masks[side - 1].ctypes.data)
+            _done(_offered(self.bytes.ctypes.data, len(self), side, masks[side - 1].ctypes.data, len(self)))
         return masks
 
     def step(self, ones: ArrayLike, twos: ArrayLike) -> Bytes:
@@ -203,13 +202,19 @@ class BattleArray:
         return np.ascontiguousarray(taken, np.uint8)
 
     def _update(self, ones: Bytes, twos: Bytes) -> None:
-        arrays = ones, twos, self.results, self.codes
-        _update(self.bytes.ctypes.data, len(self), *(it.ctypes.data for it in arrays))
+        arrays = [(it.ctypes.data, len(it)) for it in (ones, twos, self.results, self.codes)]
+        _done(_update(self.bytes.ctypes.data, len(self), *(it for pair in arrays for it in pair)))
 
 
 def bits(masks: Masks) -> NDArray[np.bool_]:
     """Masks of any shape as truths, with one more axis of 12: the choices in the order of `CHOICES`."""
     return (masks[..., None] >> np.arange(ACTIONS, dtype=np.uint16) & 1).astype(bool)
+
+
+def _done(code: int) -> None:
+    """Nothing where a call has done it all; it refuses arrays of other lengths, which only who replaces `results` or `codes` hands it."""
+    if code:
+        raise BadArgument(f"an array has another length than the battles, or the side is none (code {code})")
 
 
 def _all_bytes(given: NDArray[Any]) -> bool:
