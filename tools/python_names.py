@@ -54,6 +54,7 @@ CODES = (
     ("LoadFault", 'The first test that bytes fail (docs/LAYOUT.md, "Loading"), of `BadBytes.code`.', "LOAD_LENGTH", "LOAD_REQUEST",
      "LOAD_"),
     ("Refusal", "Why an update was refused, of `Refused.code`.", "OVER", "NOT_OFFERED_TWO", ""),
+    ("RoomRefusal", "Why a room refused a choice, of `RoomRefused.code`.", "ROOM_OVER", "ROOM_NOT_OFFERED", "ROOM_"),
     ("EventKind", "Which event of a log, of `Event.kind`.", "TURN", "FAULT", ""),
     ("LogFault", "Why bytes are no log, of `BadLog.code`.", "LOG_TAG", "LOG_CUT", "LOG_"),
     ("TextFault", "What was expected in a text of a team, of `BadText.code`.", "TEXT_SPECIES", "TEXT_TEAM", "TEXT_"),

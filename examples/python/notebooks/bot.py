@@ -20,16 +20,14 @@ team = [
 
 # %% The bot
 def ends_well(battle, choice):
-    """Whether side 1 wins a copy of the battle in which it takes a choice, and then both sides play by chance.
+    """Whether side 1 wins a copy of the battle in which it takes a choice, and then both sides play by chance: 0 or 1.
 
     A copy would draw the numbers that the battle itself will draw. So it is reseeded: a player does not know these.
     """
     copy = battle.copy()
     copy.reseed(dice.randbytes(10))
-    result = copy.play(choice, dice.choice(copy.choices(Side.TWO)))
-    while not result.is_over:
-        result = copy.play(*(dice.choice(copy.choices(side)) for side in Side))
-    return result.outcome is Outcome.WIN_ONE
+    copy.play(choice, dice.choice(copy.choices(Side.TWO)))
+    return copy.playout(dice.getrandbits(64), 1).wins_one
 
 
 def bot(battle, rounds=8):

@@ -12,19 +12,22 @@ import matplotlib
 
 matplotlib.use("Agg" if len(sys.argv) > 1 else matplotlib.get_backend())
 import matplotlib.pyplot as plt
-from gen1 import Battle, Choice, Member, damage
+from gen1 import Battle, Choice, Member, hit
 
 attacker = Member("Tauros", ["Body Slam", "Hyper Beam", "Blizzard", "Earthquake"])
 defender = Member("Starmie", ["Surf"])
 
 # %% The numbers: of each move without and with a critical hit, and the defender's HP
-rows = {(move.label, critical): damage(attacker, defender, move, critical) for move in attacker.moves for critical in (False, True)}
+told = {move.label: hit(attacker, defender, move) for move in attacker.moves}
+rows = {(name, critical): (it.critical if critical else it.usual).numbers for name, it in told.items() for critical in (False, True)}
 battle = Battle([attacker], [defender], bytes(10))
 hp = battle.update(Choice.PASS, Choice.PASS).events[1].health.max_hp
 for (name, critical), numbers in rows.items():
     hits = -(-hp // max(numbers)), -(-hp // min(numbers))
+    chance = told[name].critical_chance if critical else 1 - told[name].critical_chance
     kind = "critical" if critical else "usual"
-    print(f"{name:12} {kind:8} {min(numbers):4} to {max(numbers):4} of {hp} HP: {hits[0]} to {hits[1]} hits")
+    of = f"{name:12} {kind:8} {float(chance):6.1%}"
+    print(f"{of} {min(numbers):4} to {max(numbers):4} of {hp} HP: {hits[0]} to {hits[1]} hits")
 
 # %% The plot
 figure, axes = plt.subplots(figsize=(8, 4), layout="constrained")

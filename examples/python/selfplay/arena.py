@@ -129,5 +129,4 @@ def play_battle(job, number):
         update = battle.update(*pair)
         log.append(update.log)
         updates, result = updates + 1, update.result
-    turns = int.from_bytes(battle.bytes[1:3], "little")
-    return Record(job.pair, number, first, teams, seed, int(result.outcome), turns, updates, b"".join(log))
+    return Record(job.pair, number, first, teams, seed, int(result.outcome), battle.state.turn, updates, b"".join(log))

@@ -222,6 +222,31 @@ def test_the_columns(battle):
             assert np.isfinite(row).all() and row.min() >= -1 and row.max() <= 1
 
 
+def test_the_fields_are_what_the_library_shows():
+    """`fields` of random battles at some update against `Battle.state`, which is the library's own view of the bytes."""
+    asleep = {0: 0, 8: 2, 16: 3, 32: 4, 64: 5, **dict.fromkeys(range(1, 8), 1)}
+    for battle in observed(13):
+        of, state = BattleArray(1, battle).fields[0], battle.state
+        names = "turn", "limit", "last_damage", "rules", "outcome", "index"
+        assert [int(of[name]) for name in names] == [int(getattr(state, name)) for name in names]
+        assert (tuple(of["requests"]), tuple(of["numbers"])) == (state.requests, state.numbers)
+        for side, shown in zip(of["sides"], (state.one, state.two)):
+            for at, it in enumerate(shown.members):
+                member = side["members"][at]
+                names = "species", "level", "hp", "max_hp"
+                assert [int(member[name]) for name in names] == [int(getattr(it, name)) for name in names]
+                assert (asleep[int(member["status"])], bool(member["mark"]), tuple(member["stats"])) == (it.status, it.marked, it.stats)
+                slots = member["moves"] > 0
+                assert (tuple(member["moves"][slots]), tuple(member["pp"][slots])) == (it.moves, it.pp)
+            active, out = side["active"], shown.active
+            for name in ("types", "stats"):
+                assert tuple(active[name]) == getattr(out, name)
+            assert tuple(active["stages"].astype(int) - 6) == out.stages
+            for name in ("place", "conditions", "substitute", "confusion", "disabled_slot", "disabled_turns", "bad_poison", "turns",
+                         "energy", "current_move", "picked_move", "kept_accuracy"):
+                assert int(active[name]) == int(getattr(out, name)), name
+
+
 def test_it_is_quick(battle):
     """Far quicker than a loop of single updates. The number that is promised is measured on an idle machine (README)."""
     array, dice = BattleArray(4096, battle), np.random.default_rng(12)

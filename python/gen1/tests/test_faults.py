@@ -293,7 +293,7 @@ def test_names_are_those_of_the_tables():
 
 def test_seeds_and_indexes_to_reseed(battle):
     before = battle.bytes
-    for seed, index in ((bytes(9), 0), (bytes(11), 0), (bytes(10), 9), (bytes(10), -1), ([256] * 10, 0)):
+    for seed, index in ((bytes(9), 0), (bytes(11), 0), *((bytes(10), it) for it in (9, 255, *BIG)), ([256] * 10, 0)):
         with pytest.raises(BadArgument) as fault:
             battle.reseed(seed, index)
         assert said(fault) and battle.bytes == before
@@ -301,3 +301,24 @@ def test_seeds_and_indexes_to_reseed(battle):
         with pytest.raises(BadType):
             battle.reseed(seed, index)
         assert battle.bytes == before
+
+
+def test_a_fault_that_is_pickled_is_the_same(team, tauros):
+    """As a worker's fault is on its way to who asked for the work."""
+    room = gen1.Room(Battle(team, team, range(10)))
+    calls = (
+        lambda: Battle(team, team, range(10)).update(17, 17),
+        lambda: room.submit(1, 5, 17),
+        lambda: Battle([tauros], [tauros.to_dict() | {"level": 0}], range(10)),
+        lambda: Battle.load(bytes(3)),
+        lambda: gen1.lines(b"\x1a\x03"),
+        lambda: Team.from_text("Tauros\n- Body Slm\n"),
+        lambda: Battle(team, team, range(10)).damage(1, "Pound"),
+        lambda: room.submit(3, 0, 17),
+        lambda: room.submit(None, 0, 17),
+    )
+    for call in calls:
+        with pytest.raises(gen1.Error) as fault:
+            call()
+        read = pickle.loads(pickle.dumps(fault.value))
+        assert type(read) is type(fault.value) and (str(read), vars(read)) == (str(fault.value), vars(fault.value))

@@ -3,6 +3,7 @@
 import dataclasses
 import pickle
 import random
+from functools import cached_property
 
 import gen1
 import pytest
@@ -41,6 +42,7 @@ def test_the_first_update(team):
     assert update.lines == gen1.lines(update.log) and update.events == gen1.events(update.log)
     assert update.events[0].health.hp == update.events[0].health.max_hp == 353
     assert (battle.bytes[19], battle.bytes[20] + 256 * battle.bytes[21]) == (3, 500)
+    assert (battle.state.rules, battle.state.limit) == (3, 500)
 
 
 def test_battles_as_keys(battle):
@@ -74,6 +76,15 @@ def test_random_teams_to_dicts_and_back():
 def test_everything_that_is_exported_is_there():
     for name in gen1.__all__:
         assert getattr(gen1, name).__doc__, name
+
+
+def test_all_that_is_public_says_what_it_is():
+    """Each class, and each method and property of it, has a docstring."""
+    for kind in (it for it in vars(gen1).values() if isinstance(it, type) and it.__module__.startswith("gen1.")):
+        for name, it in vars(kind).items():
+            told = it.__func__ if isinstance(it, classmethod) else it
+            if not name.startswith("_") and (callable(told) or isinstance(told, (property, cached_property))):
+                assert told.__doc__, f"{kind.__name__}.{name}"
 
 
 def test_reseed_changes_the_numbers_and_nothing_else(battle, team):

@@ -12,10 +12,23 @@ The rules are docs/MECHANICS.md of the repository; no rule of battle stands in P
 from importlib.metadata import PackageNotFoundError, version
 from typing import TYPE_CHECKING, Any
 
-from gen1.battle import Battle, Result, Update, damage
+from gen1.battle import Battle, Playouts, Result, Update
 from gen1.choices import Choice, Rules, Side
-from gen1.errors import BadArgument, BadBytes, BadLog, BadTeam, BadText, BadType, Error, LibraryMissing, NoDamage, Refused
+from gen1.errors import (
+    BadArgument,
+    BadBytes,
+    BadLog,
+    BadTeam,
+    BadText,
+    BadType,
+    Error,
+    LibraryMissing,
+    NoDamage,
+    Refused,
+    RoomRefused,
+)
 from gen1.events import Event, events, lines
+from gen1.hits import Damages, Hit, damage, hit
 from gen1.names import (
     Conditions,
     DamageFault,
@@ -28,6 +41,7 @@ from gen1.names import (
     Reason,
     Refusal,
     Request,
+    RoomRefusal,
     Source,
     Species,
     Stat,
@@ -36,6 +50,8 @@ from gen1.names import (
     Type,
     Volatile,
 )
+from gen1.rooms import Room
+from gen1.spectators import ShownMember, ShownSide, ShownState, Spectator
 from gen1.states import ActiveState, MemberState, SideState, State
 from gen1.tables import Base, MoveData, base, move_data
 from gen1.teams import Member, Team
@@ -75,9 +91,11 @@ __all__ = [
     "Choice",
     "Conditions",
     "DamageFault",
+    "Damages",
     "Error",
     "Event",
     "EventKind",
+    "Hit",
     "LibraryMissing",
     "LoadFault",
     "LogFault",
@@ -88,16 +106,24 @@ __all__ = [
     "NewFault",
     "NoDamage",
     "Outcome",
+    "Playouts",
     "Reason",
     "Refusal",
     "Refused",
     "Request",
     "Result",
+    "Room",
+    "RoomRefusal",
+    "RoomRefused",
     "Rules",
+    "ShownMember",
+    "ShownSide",
+    "ShownState",
     "Side",
     "SideState",
     "Source",
     "Species",
+    "Spectator",
     "Stat",
     "State",
     "Status",
@@ -110,6 +136,7 @@ __all__ = [
     "base",
     "damage",
     "events",
+    "hit",
     "lines",
     "move_data",
 ]

@@ -29,6 +29,18 @@ def within(value: object, what: str, low: int, high: int) -> int:
     return number
 
 
+def truth(value: object, what: str) -> bool:
+    """True or False, and nothing that only counts as one."""
+    if not isinstance(value, bool):
+        raise BadType(f"{what} must be True or False, not {shown(value)}")
+    return value
+
+
+def byte(number: int) -> int:
+    """A number as a byte; one that is none as 255, which the library refuses where this is used."""
+    return number if 0 <= number <= 255 else 255
+
+
 def listed(value: object, what: str) -> list[object]:
     """The items of a list, tuple or other iterable, but not of a text or of bytes."""
     if isinstance(value, (str, bytes, bytearray)) or not isinstance(value, Iterable):

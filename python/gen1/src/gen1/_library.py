@@ -2,21 +2,20 @@
 
 import ctypes
 import os
-from ctypes import POINTER, Structure, c_bool, c_char, c_size_t, c_uint8, c_uint16, c_uint32
+from ctypes import POINTER, Structure, c_bool, c_char, c_size_t, c_uint8, c_uint16, c_uint32, c_uint64
 from ctypes.util import find_library
 from pathlib import Path
 from typing import Any
 
+from gen1._structs import DAMAGES, BattleBytes, HitStruct, PlayoutsStruct, RoomStruct, SpectatorStruct, StateStruct
 from gen1.errors import LibraryMissing
 
 BATTLE_BYTES = 384
-LOG_ROOM = 512
 LINE_ROOM = 96
-NO_SIDE = 255
+WORDS_ROOM = 32
 LOG_END = 4
-DAMAGES = 39
+WORDS_CHOICE = 2
 
-BattleBytes = c_uint8 * BATTLE_BYTES
 SeedBytes = c_uint8 * 10
 
 
@@ -95,12 +94,24 @@ def bind(name: str, answer: Any, *takes: Any) -> Any:
     return call
 
 
-_BATTLE, _SIZES, _BYTES = POINTER(BattleBytes), POINTER(c_size_t), ctypes.c_char_p
-new = bind("gen1_new", c_uint32, _BATTLE, POINTER(TeamStruct), POINTER(TeamStruct), SeedBytes, c_uint8, c_uint16)
+_BATTLE, _TEAM, _ROOM, _SPECTATOR = POINTER(BattleBytes), POINTER(TeamStruct), POINTER(RoomStruct), POINTER(SpectatorStruct)
+_SIZES, _BYTES, _TEXT, _MEMBER = POINTER(c_size_t), ctypes.c_char_p, POINTER(c_char), POINTER(MemberStruct)
+new = bind("gen1_new", c_uint32, _BATTLE, _TEAM, _TEAM, SeedBytes, c_uint8, c_uint16)
 load = bind("gen1_load", c_uint8, _BATTLE, _BYTES, c_size_t)
 choices = bind("gen1_choices", c_uint8, _BATTLE, c_uint8, c_uint8 * 9)
 update = bind("gen1_update", c_uint8, _BATTLE, c_uint8, c_uint8, ctypes.c_void_p, c_size_t, _SIZES)
 result = bind("gen1_result", c_uint8, _BATTLE)
 next_event = bind("gen1_next_event", c_uint8, _BYTES, c_size_t, _SIZES, POINTER(EventStruct))
-next_line = bind("gen1_next_line", c_uint8, _BYTES, c_size_t, _SIZES, POINTER(c_char), c_size_t, _SIZES)
+next_line = bind("gen1_next_line", c_uint8, _BYTES, c_size_t, _SIZES, _TEXT, c_size_t, _SIZES)
 damage = bind("gen1_damage", c_uint8, _BATTLE, c_uint8, c_uint8, c_bool, c_uint16 * DAMAGES)
+hit_now = bind("gen1_hit_now", c_uint8, _BATTLE, c_uint8, c_uint8, POINTER(HitStruct))
+hit_between = bind("gen1_hit_between", c_uint32, _MEMBER, _MEMBER, c_uint8, POINTER(HitStruct))
+playout = bind("gen1_playout", c_uint8, _BATTLE, c_uint64, c_uint32, POINTER(PlayoutsStruct))
+view = bind("gen1_view", None, _BATTLE, POINTER(StateStruct))
+choice_words = bind("gen1_choice_words", c_uint8, _BATTLE, c_uint8, c_uint8, _TEXT, c_size_t, _SIZES)
+reseed = bind("gen1_reseed", c_uint8, _BATTLE, SeedBytes, c_uint8)
+room_begin = bind("gen1_room_begin", None, _ROOM)
+room_choices = bind("gen1_room_choices", c_uint8, _ROOM, c_uint8, c_uint8 * 9)
+room_submit = bind("gen1_room_submit", c_uint8, _ROOM, c_uint8, c_uint32, c_uint8)
+spectator_begin = bind("gen1_spectator_begin", c_uint32, _SPECTATOR, _TEAM, _TEAM)
+spectator_feed = bind("gen1_spectator_feed", c_uint8, _SPECTATOR, _BYTES, c_size_t)

@@ -1,19 +1,22 @@
 """A battle, which is its 384 bytes (docs/LAYOUT.md), and the updates of it."""
 
 from collections.abc import Iterable, Mapping
-from ctypes import byref, c_size_t, c_uint8, c_uint16, create_string_buffer
+from ctypes import byref, c_char, c_size_t, c_uint8, c_uint16, create_string_buffer
 from dataclasses import dataclass
 from functools import cached_property
 from typing import Any, TypeAlias
 
 from gen1 import _library
-from gen1._check import octets, seed_bytes, whole, within
+from gen1._check import byte as a_byte
 from gen1._check import move as a_move
-from gen1.choices import Choice, Rules, Side, a_choice, a_side, choice_text
-from gen1.errors import BadArgument, BadBytes, BadTeam, BadType, NoDamage, Refused
+from gen1._check import octets, seed_bytes, truth, whole, within
+from gen1._structs import DAMAGES, LOG_ROOM, BattleBytes, HitStruct, PlayoutsStruct
+from gen1.choices import Choice, Rules, Side, a_choice, a_side, choice_text, not_offered
+from gen1.errors import BadArgument, BadBytes, BadTeam, NoDamage, Refused
 from gen1.events import Event, events, lines
+from gen1.hits import Hit, hit_of, no_damage
 from gen1.names import DamageFault, LoadFault, Move, NewFault, Outcome, Refusal, Request
-from gen1.states import MemberState, State, state_of
+from gen1.states import State, state_of, view_of
 from gen1.teams import Member, Team, as_team
 
 TeamLike: TypeAlias = Team | Iterable[Member | Mapping[str, Any]]
@@ -51,6 +54,21 @@ class Update:
         return lines(self.log)
 
 
+@dataclass(frozen=True)
+class Playouts:
+    """How playouts of a battle ended: how many side 1 won, how many side 2, how many nobody, and how many ended by a fault."""
+
+    wins_one: int
+    wins_two: int
+    ties: int
+    faults: int
+
+    @property
+    def rounds(self) -> int:
+        """How many there were."""
+        return self.wins_one + self.wins_two + self.ties + self.faults
+
+
 class Battle:
     """A battle of two teams. `update` changes it in place; `copy` keeps it.
 
@@ -66,9 +84,9 @@ class Battle:
         `seed` is ten bytes; `rules` 0 to 3 (`Rules`); `limit` the last turn, 1 to 9,999. Raises `BadTeam`, `BadArgument`,
         `BadType`.
         """
-        terms = min(max(whole(rules, "rules"), -1), 255) & 255, min(max(whole(limit, "limit"), 0), 65535)
-        numbers, sides = seed_bytes(seed), (_side(1, one), _side(2, two))
-        self._held = _library.BattleBytes()
+        terms = a_byte(whole(rules, "rules")), min(max(whole(limit, "limit"), 0), 65535)
+        numbers, sides = seed_bytes(seed), sides_of(one, two)
+        self._held = BattleBytes()
         teams = [byref(it._struct) for it in sides]
         answer = _library.new(byref(self._held), *teams, _library.SeedBytes(*numbers), *terms)
         if answer:
@@ -85,7 +103,7 @@ class Battle:
         """The battle of these bytes, of any of the three versions. Raises `BadBytes`."""
         whole_bytes = octets(given, "a battle")
         made = cls.__new__(cls)
-        made._held = _library.BattleBytes()
+        made._held = BattleBytes()
         test = _library.load(byref(made._held), whole_bytes, len(whole_bytes))
         if test:
             raise BadBytes(LoadFault(test), _load_text(LoadFault(test), whole_bytes))
@@ -98,9 +116,7 @@ class Battle:
 
     def copy(self) -> "Battle":
         """A battle of its own with the same bytes. It will draw the same numbers, unless it is reseeded."""
-        made = Battle.__new__(Battle)
-        made._held = _library.BattleBytes.from_buffer_copy(self._held)
-        return made
+        return battle_of(self._held)
 
     __copy__ = copy
 
@@ -124,17 +140,17 @@ class Battle:
     @property
     def result(self) -> Result:
         """How the battle stands."""
-        return _RESULTS[_library.result(byref(self._held))]
+        return result_of(self._held)
 
     def place(self, side: Side | int) -> int:
         """The place of the member of a side that is out, 1 to 6; 0 before the first update."""
-        return self._held[168 if a_side(side) == 1 else 348]
+        return int(view_of(self._held).sides[a_side(side) - 1].active.place)
 
     def choices(self, side: Side | int) -> tuple[Choice, ...]:
         """What a side may choose, in rising order: none where the battle is over, and at most nine."""
-        room = _CHOICES()
+        room = CHOICES()
         count = _library.choices(byref(self._held), a_side(side), room)
-        return tuple([_CHOICE[it] for it in room[:count]])
+        return tuple([CHOICE[it] for it in room[:count]])
 
     def update(self, one: Choice | int, two: Choice | int) -> Update:
         """An update by a choice of each side. Raises `Refused`, and then nothing has changed.
@@ -142,8 +158,8 @@ class Battle:
         Choices are `Choice`, or their numbers from 0 to 255; others are a `BadArgument`.
         """
         pair = a_choice(one, 1), a_choice(two, 2)
-        log, length = create_string_buffer(_library.LOG_ROOM), c_size_t(0)
-        code = _library.update(byref(self._held), *pair, log, _library.LOG_ROOM, byref(length))
+        log, length = create_string_buffer(LOG_ROOM), c_size_t(0)
+        code = _library.update(byref(self._held), *pair, log, LOG_ROOM, byref(length))
         if code:
             raise self._refused(Refusal(code), pair)
         return Update(self.result, log.raw[: length.value])
@@ -167,26 +183,49 @@ class Battle:
 
         Raises `BadArgument` for a slot without a move, a place without a member, and what is no choice.
         """
-        known, state = a_side(side), self.state
-        byte, of = a_choice(choice, known), state.one if known == 1 else state.two
-        if byte not in _CHOICE:
-            raise BadArgument(f"side {known}'s choice is {choice_text(byte)}")
-        it = _CHOICE[byte]
-        if it in (Choice.PASS, Choice.MOVE_0):
-            return it.label
-        there = of.members if it.is_switch else of.members[of.active.place - 1].moves if of.active else ()
-        if it.slot > len(there):
-            raise BadArgument(f"side {known} has nothing there to choose: {it.label}")
-        named = there[it.slot - 1]
-        return f"{it.label} {named.species if isinstance(named, MemberState) else named}"
+        known = a_side(side)
+        number = a_choice(choice, known)
+        text, length = _WORDS(), c_size_t(0)
+        code = _library.choice_words(byref(self._held), known, number, text, _library.WORDS_ROOM, byref(length))
+        if code == _library.WORDS_CHOICE:
+            raise BadArgument(f"side {known}'s choice is {choice_text(number)}")
+        if code:
+            raise BadArgument(f"side {known} has nothing there to choose: {choice_text(number)}")
+        return text.raw[: length.value].decode("ascii")
 
     def reseed(self, seed: SeedLike, index: int = 0) -> None:
         """Gives the battle other numbers to draw: ten bytes, and the place, 0 to 8, of the one that is drawn next.
 
         Nothing else changes. A copy knows the numbers that its battle will draw; so a search reseeds each copy that it plays out.
         """
-        numbers, place = seed_bytes(seed), within(index, "index", 0, 8)
-        self._held[5:16] = [place, *numbers]
+        numbers, place = seed_bytes(seed), whole(index, "index")
+        if _library.reseed(byref(self._held), _library.SeedBytes(*numbers), a_byte(place)):
+            raise BadArgument(f"index must be 0 to 8, not {place}")
+
+    def playout(self, seed: int, rounds: int) -> Playouts:
+        """How so many copies of the battle end, each side choosing at random among what it is offered; the battle stays as it is.
+
+        `seed`, 0 to 2 ** 64 - 1, is of the choices, and the same one gives the same counts (include/gen1.h, "many battles"); `rounds` 0 to
+        2 ** 32 - 1. What the copies draw is what the battle will draw: a search that must not know it takes reseeded copies. The call
+        comes back when all are played, some thousands a second. Raises `BadArgument`, `BadType`.
+        """
+        of, numbers = PlayoutsStruct(), (within(seed, "seed", 0, (1 << 64) - 1), within(rounds, "rounds", 0, (1 << 32) - 1))
+        test = _library.playout(byref(self._held), *numbers, byref(of))
+        if test:
+            raise BadBytes(LoadFault(test), _load_text(LoadFault(test), self.bytes))
+        return Playouts(of.wins_one, of.wins_two, of.ties, of.faults)
+
+    def hit(self, side: Side | int, move: Move | str | int) -> Hit:
+        """What a use of a move by a side on the foe that is out would come to, as both are now: damage, and chances of critical and hit.
+
+        The member need not know the move. The accuracy is that of a new use: the one that Thrash and Rage keep is not looked at. Raises
+        `NoDamage` where nobody is out, `BadTeam` for what is no move.
+        """
+        of, known = HitStruct(), a_move(move)
+        code = _library.hit_now(byref(self._held), a_side(side), known, byref(of))
+        if code:
+            raise no_damage(DamageFault(code), known)
+        return hit_of(of)
 
     def damage(self, side: Side | int, move: Move | str | int, critical: bool = False) -> tuple[int, ...]:
         """The damage of a hit by a move of a side on the foe that is out, as both are now: 39 numbers.
@@ -194,12 +233,10 @@ class Battle:
         They are those at the factors from 217 to 255, each as likely as the others, in rising order. The member need not know
         the move. Raises `NoDamage` for a move without the usual damage, and where nobody is out.
         """
-        if not isinstance(critical, bool):
-            raise BadType(f"critical must be True or False, not {critical!r}")
-        numbers, known = _DAMAGES(), a_move(move)
-        code = _library.damage(byref(self._held), a_side(side), known, critical, numbers)
+        is_critical, numbers, known = truth(critical, "critical"), _DAMAGES(), a_move(move)
+        code = _library.damage(byref(self._held), a_side(side), known, is_critical, numbers)
         if code:
-            raise NoDamage(DamageFault(code), f"no damage of {known.label}: {DamageFault(code).label}")
+            raise no_damage(DamageFault(code), known)
         return tuple(numbers)
 
     def _refused(self, code: Refusal, pair: tuple[int, int]) -> Refused:
@@ -207,16 +244,24 @@ class Battle:
             return Refused(code, f"the battle is over: {self.result.outcome.label}")
         side = 1 if code is Refusal.NOT_OFFERED_ONE else 2
         choice, offered = pair[side - 1], self.choices(side)
-        names = ", ".join(it.label for it in offered)
-        said = f"side {side}'s choice is not offered: {choice_text(choice)}; offered: {names}"
-        return Refused(code, said, side, choice, offered)
+        return Refused(code, not_offered(side, choice, offered), side, choice, offered)
 
 
-def damage(attacker: Member, defender: Member, move: Move | str | int, critical: bool = False) -> tuple[int, ...]:
-    """The damage of a hit by one member on another, each just sent out alone: 39 numbers, as `Battle.damage`."""
-    battle = Battle([attacker], [defender], bytes(10))
-    battle.play(Choice.PASS, Choice.PASS)
-    return battle.damage(Side.ONE, move, critical)
+def battle_of(held: Any) -> Battle:
+    """A battle with a copy of these 384 bytes, which are one's."""
+    made = Battle.__new__(Battle)
+    made._held = BattleBytes.from_buffer_copy(held)
+    return made
+
+
+def result_of(held: Any) -> Result:
+    """How a battle of these 384 bytes stands."""
+    return _RESULTS[_library.result(byref(held))]
+
+
+def sides_of(one: TeamLike, two: TeamLike) -> tuple[Team, Team]:
+    """Both teams; a fault says whose it is."""
+    return _side(1, one), _side(2, two)
 
 
 def _side(number: int, given: TeamLike) -> Team:
@@ -235,11 +280,11 @@ def _load_text(code: LoadFault, given: "bytes") -> str:
     return f"no battle: {tests.get(code, 'the test of the ' + code.label + ' fails')} (docs/LAYOUT.md, \"Loading\")"
 
 
-_CHOICES = c_uint8 * 9
-_DAMAGES = c_uint16 * _library.DAMAGES
-_CHOICE = {int(it): it for it in Choice}
+CHOICES = c_uint8 * 9
+CHOICE = {int(it): it for it in Choice}
+_DAMAGES, _WORDS = c_uint16 * DAMAGES, c_char * _library.WORDS_ROOM
 _RESULTS = {
     outcome | one << 3 | two << 5: Result(outcome, (one, two)) for outcome in Outcome for one in Request for two in Request
 }
 
-__all__ = ["Battle", "Member", "Result", "Rules", "Update", "damage"]
+__all__ = ["Battle", "Member", "Playouts", "Result", "Rules", "Update"]

@@ -1,5 +1,6 @@
 """Sides, rules and choices (docs/MECHANICS.md, "Offered choices")."""
 
+from collections.abc import Iterable
 from enum import IntFlag
 
 from gen1._check import whole, within
@@ -93,3 +94,9 @@ def choice_text(byte: int) -> str:
         return Choice(byte).label
     except ValueError:
         return f"{byte}, which is no choice"
+
+
+def not_offered(side: int, byte: int, offered: Iterable[Choice]) -> str:
+    """Why a choice is refused that is none of those that are offered."""
+    names = ", ".join(it.label for it in offered)
+    return f"side {side}'s choice is not offered: {choice_text(byte)}; offered: {names}"

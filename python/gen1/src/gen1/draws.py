@@ -14,8 +14,8 @@ from gen1.errors import Refused
 from gen1.events import DamageEvent, Event, HealEvent
 from gen1.sentences import sentence
 
-# Where the index and the nine numbers stand in the bytes (docs/LAYOUT.md, "Header").
-INDEX, NUMBERS, MOST = 5, slice(6, 15), 4700
+# How many numbers are drawn in turn, and more draws than an update takes.
+NUMBERS, MOST = 9, 4700
 
 
 @dataclass(frozen=True)
@@ -35,14 +35,19 @@ class Draw:
 
 def drawn(before: Battle, after: Battle) -> bytes:
     """The bytes that were drawn from one battle to another, which is the same after one update."""
-    numbers, index = bytearray(before.bytes[NUMBERS]), before.bytes[INDEX]
-    goal, found = (after.bytes[INDEX], after.bytes[NUMBERS]), bytearray()
-    while (index, bytes(numbers)) != goal and len(found) <= MOST:
+    (index, numbers), goal, found = _drawing(before), _drawing(after), bytearray()
+    while (index, numbers) != goal and len(found) <= MOST:
         found.append(numbers[index])
         index += 1
         if index == len(numbers):
-            index, numbers = 0, bytearray((5 * it + 1) % 256 for it in numbers)
+            index, numbers = 0, [(5 * it + 1) % 256 for it in numbers]
     return bytes(found)
+
+
+def _drawing(battle: Battle) -> tuple[int, list[int]]:
+    """Which number is drawn next, and the nine."""
+    state = battle.state
+    return state.index, list(state.numbers[:NUMBERS])
 
 
 def explained(before: Battle, one: int, two: int) -> tuple[Battle, list[Event], list[Draw]]:
@@ -52,22 +57,23 @@ def explained(before: Battle, one: int, two: int) -> tuple[Battle, list[Event], 
     numbers = drawn(before, after)
     draws = []
     for at, byte in enumerate(numbers):
-        others = () if at >= 9 else tuple(_others(before, one, two, at, told))
-        draws.append(Draw(at + 1, byte, others, at >= 9))
+        others = () if at >= NUMBERS else tuple(_others(before, one, two, at, told))
+        draws.append(Draw(at + 1, byte, others, at >= NUMBERS))
     return after, told, draws
 
 
 def _others(before: Battle, one: int, two: int, at: int, told: list[Event]) -> Iterator[tuple[str, str]]:
     """What other bytes at a draw would have decided, by ranges."""
-    place = (before.bytes[INDEX] + at) % 9
-    seed = bytearray(before.bytes[6:16])
+    state = before.state
+    index, seed = state.index, bytearray(state.numbers)
+    place = (index + at) % NUMBERS
     # The draws after the ninth number are renewed ones: the byte that becomes this one there.
-    renewed = before.bytes[INDEX] + at >= 9
+    renewed = index + at >= NUMBERS
     ways = defaultdict(list)
     for byte in range(256):
         seed[place] = (byte - 1) * 205 % 256 if renewed else byte
         copy = before.copy()
-        copy.reseed(bytes(seed), before.bytes[INDEX])
+        copy.reseed(bytes(seed), index)
         try:
             ways[_difference(told, list(copy.update(one, two).events))].append(byte)
         except Refused:

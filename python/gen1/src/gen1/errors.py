@@ -1,10 +1,15 @@
 """What the package raises. Each says in a sentence what was wrong and what was expected."""
 
-from gen1.names import DamageFault, LoadFault, LogFault, NewFault, Refusal, TextFault
+from typing import Any
+
+from gen1.names import DamageFault, LoadFault, LogFault, NewFault, Refusal, RoomRefusal, TextFault
 
 
 class Error(Exception):
-    """Whatever this package raises. Nothing has changed where one comes."""
+    """Whatever this package raises. Nothing has changed where one comes. It can be pickled, as a worker's is on its way home."""
+
+    def __reduce__(self) -> tuple[Any, ...]:
+        return _restored, (type(self), self.args, self.__dict__)
 
 
 class LibraryMissing(Error, ImportError):
@@ -52,10 +57,14 @@ class BadBytes(BadArgument):
 
 
 class BadLog(BadArgument):
-    """Bytes that are no log (docs/MECHANICS.md, "Log bytes"). `at` is the byte where the event at fault begins, from 0."""
+    """Bytes that are no log (docs/MECHANICS.md, "Log bytes").
+
+    `at` is the byte where the event at fault begins, from 0; below 0 where it began in bytes that a spectator had been fed before.
+    """
 
     def __init__(self, code: LogFault, at: int) -> None:
-        super().__init__(f"no log: {code.label}, in the event that begins at byte {at}")
+        where = f"at byte {at}" if at >= 0 else f"{-at} bytes before these"
+        super().__init__(f"no log: {code.label}, in the event that begins {where}")
         self.code, self.at = code, at
 
 
@@ -66,9 +75,29 @@ class Refused(Error):
     offered.
     """
 
-    def __init__(self, code: Refusal, said: str, side: int = 0, choice: int | None = None, offered: tuple[int, ...] = ()) -> None:
+    code: Refusal | RoomRefusal
+
+    def __init__(
+        self, code: Refusal | RoomRefusal, said: str, side: int = 0, choice: int | None = None, offered: tuple[int, ...] = ()
+    ) -> None:
         super().__init__(said)
         self.code, self.side, self.choice, self.offered = code, side, choice, offered
+
+
+class RoomRefused(Refused):
+    """A player's choice that a room refused (docs/MECHANICS.md, "Rooms"); the room has not changed.
+
+    `side` is who submitted it, `number` the pair that it was for, `current` the number of the current pair, `choice` its byte, and
+    `offered` what the side may submit. None of them tells what the foe has chosen.
+    """
+
+    code: RoomRefusal
+
+    def __init__(
+        self, code: RoomRefusal, said: str, *, side: int, number: int, current: int, choice: int, offered: tuple[int, ...]
+    ) -> None:
+        super().__init__(code, said, side, choice, offered)
+        self.number, self.current = number, current
 
 
 class NoDamage(Error, ValueError):
@@ -89,3 +118,10 @@ class BadText(BadTeam):
     def __init__(self, said: str, text_code: TextFault, *, line: int, member: int, column: int, code: NewFault | None) -> None:
         super().__init__(said, member=member, code=code)
         self.text_code, self.line, self.column = text_code, line, column
+
+
+def _restored(kind: type[Error], args: tuple[Any, ...], held: dict[str, Any]) -> Error:
+    """The exception that was pickled."""
+    made = kind.__new__(kind, *args)
+    made.__dict__.update(held)
+    return made

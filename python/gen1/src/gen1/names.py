@@ -513,6 +513,15 @@ class Refusal(Named):
     NOT_OFFERED_TWO = 3, "side 2's was not"
 
 
+class RoomRefusal(Named):
+    """Why a room refused a choice, of `RoomRefused.code`."""
+
+    OVER = 1, "the battle is over"
+    STALE = 2, "the number is not that of the current pair"
+    CHOSEN = 3, "the side's choice is there"
+    NOT_OFFERED = 4, "the choice is none that the side is offered"
+
+
 class EventKind(Named):
     """Which event of a log, of `Event.kind`."""
 

@@ -1,82 +1,13 @@
-"""All that a battle's bytes stand for, as dataclasses."""
+"""All that a battle's bytes stand for, as dataclasses, by the library's view of them."""
 
-from ctypes import LittleEndianStructure, c_uint8, c_uint16, c_uint32
+from ctypes import byref
 from dataclasses import dataclass
 from typing import Any
 
+from gen1 import _library
+from gen1._structs import ActiveStateStruct, MemberStateStruct, SideStateStruct, StateStruct
 from gen1.choices import Rules
 from gen1.names import Conditions, Move, Outcome, Request, Species, Stat, Status, Type
-
-
-class MemberBytes(LittleEndianStructure):
-    """The 24 bytes of a member (docs/LAYOUT.md, "Member")."""
-
-    _pack_ = 1
-    _fields_ = [
-        ("species", c_uint8),
-        ("level", c_uint8),
-        ("max_hp", c_uint16),
-        ("hp", c_uint16),
-        ("stats", c_uint16 * 4),
-        ("status", c_uint8),
-        ("moves", c_uint8 * 4),
-        ("pp", c_uint8 * 4),
-        ("mark", c_uint8),
-    ]
-
-
-class ActiveBytes(LittleEndianStructure):
-    """The 36 bytes of an active block (docs/LAYOUT.md, "Active block")."""
-
-    _pack_ = 1
-    _fields_ = [
-        ("place", c_uint8),
-        ("types", c_uint8 * 2),
-        ("stages", c_uint8 * 6),
-        ("stats", c_uint16 * 4),
-        ("conditions", c_uint32),
-        ("substitute", c_uint8),
-        ("confusion", c_uint8),
-        ("disabled_slot", c_uint8),
-        ("disabled_turns", c_uint8),
-        ("bad_poison", c_uint8),
-        ("turns", c_uint8),
-        ("energy", c_uint16),
-        ("current_move", c_uint8),
-        ("picked_move", c_uint8),
-        ("kept_accuracy", c_uint8),
-        ("zeros", c_uint8 * 4),
-    ]
-
-
-class SideBytes(LittleEndianStructure):
-    """The 180 bytes of a side."""
-
-    _pack_ = 1
-    _fields_ = [("members", MemberBytes * 6), ("active", ActiveBytes)]
-
-
-class StateBytes(LittleEndianStructure):
-    """The 384 bytes of a battle (docs/LAYOUT.md, "Header")."""
-
-    _pack_ = 1
-    _fields_ = [
-        ("version", c_uint8),
-        ("turn", c_uint16),
-        ("last_damage", c_uint16),
-        ("index", c_uint8),
-        ("numbers", c_uint8 * 10),
-        ("outcome", c_uint8),
-        ("requests", c_uint8 * 2),
-        ("rules", c_uint8),
-        ("limit", c_uint16),
-        ("zeros", c_uint8 * 2),
-        ("sides", SideBytes * 2),
-    ]
-
-
-# The kind of each status byte but those of sleep, which are the turns that are left.
-KINDS = {0: Status.NONE, 8: Status.POISON, 16: Status.BURN, 32: Status.FREEZE, 64: Status.PARALYSIS}
 
 
 @dataclass(frozen=True)
@@ -157,9 +88,16 @@ class State:
     numbers: tuple[int, ...]
 
 
+def view_of(held: Any) -> StateStruct:
+    """The library's view of the 384 bytes of a battle."""
+    of = StateStruct()
+    _library.view(byref(held), byref(of))
+    return of
+
+
 def state_of(held: Any) -> State:
-    """What 384 bytes of a battle stand for."""
-    of = StateBytes.from_buffer_copy(held)
+    """What the 384 bytes of a battle stand for."""
+    of = view_of(held)
     return State(
         one=_side(of.sides[0]),
         two=_side(of.sides[1]),
@@ -174,22 +112,26 @@ def state_of(held: Any) -> State:
     )
 
 
-def _side(of: SideBytes) -> SideState:
+def stages_of(given: Any) -> tuple[int, ...]:
+    """Six stages from 0 to 12 as they are counted, -6 to 6."""
+    return tuple(it - 6 for it in given)
+
+
+def _side(of: SideStateStruct) -> SideState:
     return SideState(tuple(_member(it) for it in of.members if it.species), _active(of.active))
 
 
-def _member(of: MemberBytes) -> MemberState:
+def _member(of: MemberStateStruct) -> MemberState:
     slots = [at for at in range(4) if of.moves[at]]
     moves, pp = tuple(Move(of.moves[at]) for at in slots), tuple(of.pp[at] for at in slots)
-    sleep = 0 if of.status in KINDS else of.status
-    ails = KINDS.get(of.status, Status.SLEEP), sleep, bool(of.mark)
+    ails = Status(of.status), of.sleep, bool(of.marked)
     return MemberState(Species(of.species), of.level, *ails, moves, pp, of.hp, of.max_hp, tuple(of.stats))
 
 
-def _active(of: ActiveBytes) -> ActiveState | None:
+def _active(of: ActiveStateStruct) -> ActiveState | None:
     if not of.place:
         return None
-    stages, types = tuple(it - 6 for it in of.stages), (Type(of.types[0]), Type(of.types[1]))
+    types = Type(of.types[0]), Type(of.types[1])
     used = of.current_move, of.picked_move, of.kept_accuracy, of.substitute, of.confusion
     rest = of.disabled_slot, of.disabled_turns, of.bad_poison, of.turns, of.energy
-    return ActiveState(of.place, types, tuple(of.stats), stages, Conditions(of.conditions), *used, *rest)
+    return ActiveState(of.place, types, tuple(of.stats), stages_of(of.stages), Conditions(of.conditions), *used, *rest)

@@ -6,8 +6,9 @@ from dataclasses import dataclass, field
 from typing import Any
 
 from gen1 import _library
-from gen1._check import listed, move, shown, whole
+from gen1._check import byte, listed, move, shown, whole
 from gen1._check import species as a_species
+from gen1._structs import BattleBytes
 from gen1.errors import BadTeam, BadType
 from gen1.names import Move, NewFault, Species
 from gen1.team_text import read_packed, read_text, written
@@ -103,7 +104,7 @@ class Team:
         _test_count(len(given))
         found = tuple(_member(at, it) for at, it in enumerate(given, 1))
         object.__setattr__(self, "members", found)
-        object.__setattr__(self, "_struct", _struct_of(found))
+        object.__setattr__(self, "_struct", struct_of(found))
 
     @classmethod
     def from_dicts(cls, given: Iterable[Mapping[str, Any]]) -> "Team":
@@ -167,39 +168,35 @@ def _member(at: int, given: object) -> Member:
         raise fault.at(at) from None
 
 
-def _byte(number: int) -> int:
-    """A number as a byte; one that is none as 255, which the library refuses in each of these fields."""
-    return number if 0 <= number <= 255 else 255
-
-
-def _struct_of(members: Iterable[Member]) -> _library.TeamStruct:
+def struct_of(members: Iterable[Member]) -> _library.TeamStruct:
+    """The members as the library takes a team. A number that fits no byte is one that the library refuses."""
     made = _library.TeamStruct()
     for it in members:
         to = made.members[made.count]
-        to.species, to.level = it.species, _byte(it.level)
-        to.dvs[:], to.exp[:] = [_byte(dv) for dv in it.dvs], it.exp
+        to.species, to.level = it.species, byte(it.level)
+        to.dvs[:], to.exp[:] = [byte(dv) for dv in it.dvs], it.exp
         to.moves[: len(it.moves)] = it.moves
-        to.pp_ups[: len(it.moves)] = [_byte(ups) for ups in it.pp_ups]
+        to.pp_ups[: len(it.moves)] = [byte(ups) for ups in it.pp_ups]
         made.count += 1
     return made
 
 
 def _fault_of(team: _library.TeamStruct) -> NewFault | None:
     """What the library refuses in a team."""
-    scratch = _library.BattleBytes()
+    scratch = BattleBytes()
     answer = _library.new(byref(scratch), byref(team), byref(team), _library.SeedBytes(), 0, 1000)
     return NewFault(answer & 0xFF) if answer else None
 
 
 def _test_count(count: int) -> None:
     """Tests the number of members, of which the library says what is too few and too many."""
-    fault = _fault_of(_library.TeamStruct(count=_byte(count)))
+    fault = _fault_of(_library.TeamStruct(count=byte(count)))
     if fault in (NewFault.EMPTY, NewFault.TOO_MANY):
         raise BadTeam(f"{fault.label}: {count} given, and a team has 1 to 6 members", field="members", code=fault)
 
 
 def _test(members: list[Member]) -> None:
-    fault = _fault_of(_struct_of(members))
+    fault = _fault_of(struct_of(members))
     if fault is not None:
         name = FIELDS.get(fault, "moves")
         raise BadTeam(f"{fault.label}: {name} is {members[0]._value(name)}", field=name, code=fault)

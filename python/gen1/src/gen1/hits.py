@@ -1,0 +1,82 @@
+"""What a use of a move would come to: its damage, and how likely it hits and is critical (docs/MECHANICS.md, "Damage numbers")."""
+
+from ctypes import byref
+from dataclasses import dataclass
+from fractions import Fraction
+
+from gen1 import _library
+from gen1._check import move as a_move
+from gen1._check import shown, truth
+from gen1._structs import DamagesStruct, HitStruct
+from gen1.errors import BadArgument, BadType, NoDamage
+from gen1.names import DamageFault, Move, NewFault
+from gen1.teams import Member, struct_of
+
+
+@dataclass(frozen=True)
+class Damages:
+    """The damage of a hit in HP: 39 numbers in rising order, at the factors from 217 to 255, each as likely as the others.
+
+    Where there are none `numbers` is empty, and `code` says why: `DamageFault.UNUSUAL` or `DamageFault.DIVISOR`.
+    """
+
+    numbers: tuple[int, ...]
+    code: DamageFault | None
+
+
+@dataclass(frozen=True)
+class Hit:
+    """What a use of a move would come to: the damage of a usual hit and of a critical one.
+
+    `critical_chance`, 0 to 255/256, is that of a critical hit, 0 for a move without the usual damage; `hit_chance`, 0 to 1, that of the
+    hit test, for a move that takes one. Both are exact: so many of 256 numbers that may be drawn bring it about.
+    """
+
+    usual: Damages
+    critical: Damages
+    critical_chance: Fraction
+    hit_chance: Fraction
+
+
+def hit(attacker: Member, defender: Member, move: Move | str | int) -> Hit:
+    """What a use of a move by one member on another would come to, each just sent out alone; `Battle.hit` is that of a battle.
+
+    The attacker need not know the move. Raises `BadTeam` for what is no move, `BadType` for what is no member.
+    """
+    known, of = a_move(move), HitStruct()
+    pair = [byref(struct_of([_a_member(it, name)]).members[0]) for it, name in ((attacker, "attacker"), (defender, "defender"))]
+    answer = _library.hit_between(*pair, known, byref(of))
+    if answer:
+        raise BadArgument(NewFault(answer & 0xFF).label)
+    return hit_of(of)
+
+
+def damage(attacker: Member, defender: Member, move: Move | str | int, critical: bool = False) -> tuple[int, ...]:
+    """The damage of a hit by one member on another, each just sent out alone: 39 numbers, as `Battle.damage`."""
+    is_critical, known = truth(critical, "critical"), a_move(move)
+    found = hit(attacker, defender, known)
+    damages = found.critical if is_critical else found.usual
+    if damages.code is not None:
+        raise no_damage(damages.code, known)
+    return damages.numbers
+
+
+def hit_of(of: HitStruct) -> Hit:
+    """The hit that a struct holds."""
+    chances = Fraction(of.critical_draws, 256), Fraction(of.hit_draws, 256)
+    return Hit(_damages(of.usual), _damages(of.critical), *chances)
+
+
+def no_damage(code: DamageFault, move: Move) -> NoDamage:
+    """Why a hit by a move has no damages."""
+    return NoDamage(code, f"no damage of {move.label}: {code.label}")
+
+
+def _damages(of: DamagesStruct) -> Damages:
+    return Damages(tuple(of.numbers[: of.count]), DamageFault(of.code) if of.code else None)
+
+
+def _a_member(value: object, name: str) -> Member:
+    if not isinstance(value, Member):
+        raise BadType(f"{name} must be a Member, not {shown(value)}")
+    return value

@@ -1,0 +1,120 @@
+"""Rooms: battles of two players who choose apart from each other (docs/MECHANICS.md, "Rooms")."""
+
+from ctypes import byref
+from typing import Any
+
+from gen1 import _library
+from gen1._check import shown, within
+from gen1._structs import LOG_ROOM, RoomStruct
+from gen1.battle import CHOICE, CHOICES, Battle, Result, Update, battle_of, result_of
+from gen1.choices import Choice, Side, a_choice, a_side, not_offered
+from gen1.errors import BadType, RoomRefused
+from gen1.names import RoomRefusal
+
+NUMBERS = (1 << 32) - 1
+
+
+class Room:
+    """A battle of two players: the first choice of a pair is kept until the other is there, and then the battle is updated.
+
+    Pairs are numbered from 0. Until a pair has ended, no answer tells which of the offered choices a side has made. Two rooms are equal
+    where battle, number, log and choices are; a room has no hash.
+    """
+
+    __slots__ = ("_held",)
+
+    def __init__(self, battle: Battle) -> None:
+        """A room with a copy of the battle. One that is before its first update is started at once. Raises `BadType`."""
+        if not isinstance(battle, Battle):
+            raise BadType(f"battle must be a Battle, not {shown(battle)}")
+        self._held = RoomStruct()
+        self._held.battle[:] = battle.bytes
+        _library.room_begin(byref(self._held))
+
+    @property
+    def battle(self) -> Battle:
+        """A copy of the battle. It has everything, also what neither player knows."""
+        return battle_of(self._held.battle)
+
+    @property
+    def result(self) -> Result:
+        """How the battle stands, and what is asked of each side."""
+        return result_of(self._held.battle)
+
+    @property
+    def number(self) -> int:
+        """The number of the current pair of choices, which is how many pairs have ended, 0 to 2 ** 32 - 1."""
+        return int(self._held.number)
+
+    @property
+    def log(self) -> bytes:
+        """The log bytes of the last pair that ended; before one has, those of the start, or none where the battle had been started."""
+        return bytes(self._held.log[: self._held.log_length])
+
+    def choices(self, side: Side | int) -> tuple[Choice, ...]:
+        """What a side may submit for the current pair, in rising order.
+
+        None where its choice is there, which is so from the beginning where nothing is asked of it, and where the battle is over.
+        """
+        room = CHOICES()
+        count = _library.room_choices(byref(self._held), a_side(side), room)
+        return tuple([CHOICE[it] for it in room[:count]])
+
+    def submit(self, side: Side | int, number: int, choice: Choice | int) -> Update | None:
+        """Takes a player's choice for the pair of this number, 0 to 2 ** 32 - 1: the update, or None while the foe's choice is awaited.
+
+        Raises `RoomRefused`, and then nothing has changed; `BadArgument` and `BadType` for what is no side, number or byte.
+        """
+        known, pair = a_side(side), within(number, "number", 0, NUMBERS)
+        byte, before = a_choice(choice, known), self.number
+        code = _library.room_submit(byref(self._held), known, pair, byte)
+        if code:
+            raise self._refused(RoomRefusal(code), known, pair, byte)
+        return Update(self.result, self.log) if self.number != before else None
+
+    def copy(self) -> "Room":
+        """A room of its own with the same battle, number, log and choices."""
+        made = Room.__new__(Room)
+        made._held = RoomStruct.from_buffer_copy(self._held)
+        return made
+
+    __copy__ = copy
+
+    def __deepcopy__(self, _: object) -> "Room":
+        return self.copy()
+
+    def __reduce__(self) -> tuple[Any, ...]:
+        return _restored, self._parts()
+
+    def __eq__(self, other: object) -> bool:
+        if not isinstance(other, Room):
+            return NotImplemented
+        return self._parts() == other._parts()
+
+    __hash__ = None  # type: ignore[assignment]
+
+    def __repr__(self) -> str:
+        return f"<Room, pair {self.number}, {self.result.outcome.label}>"
+
+    def _parts(self) -> tuple[bytes, int, bytes, bytes]:
+        """All that it holds: battle, number, choices and log."""
+        return bytes(self._held.battle), self.number, bytes(self._held.chosen), self.log
+
+    def _refused(self, code: RoomRefusal, side: int, number: int, byte: int) -> RoomRefused:
+        offered = self.choices(side)
+        said = {
+            RoomRefusal.OVER: f"{code.label}: {self.result.outcome.label}",
+            RoomRefusal.STALE: f"{code.label}: {number}; the current pair is {self.number}",
+            RoomRefusal.CHOSEN: f"{code.label}: side {side} may submit nothing for pair {number} any more",
+            RoomRefusal.NOT_OFFERED: not_offered(side, byte, offered),
+        }[code]
+        return RoomRefused(code, said, side=side, number=number, current=self.number, choice=byte, offered=offered)
+
+
+def _restored(battle: bytes, number: int, chosen: bytes, log: bytes) -> Room:
+    """The room that was pickled."""
+    made = Room.__new__(Room)
+    made._held = RoomStruct(number=within(number, "number", 0, NUMBERS), log_length=within(len(log), "log", 0, LOG_ROOM))
+    made._held.battle[:] = Battle.load(battle).bytes
+    made._held.chosen[:], made._held.log[: len(log)] = chosen, log
+    return made

@@ -1,0 +1,142 @@
+"""What a watcher knows of a battle who has both teams and its log, and nothing else (docs/MECHANICS.md, "Spectator's view")."""
+
+from ctypes import byref, c_size_t
+from dataclasses import dataclass
+from typing import Any
+
+from gen1 import _library
+from gen1._check import octets
+from gen1._structs import ShownSideStruct, SpectatorStruct
+from gen1.battle import TeamLike, sides_of
+from gen1.errors import BadLog, BadTeam
+from gen1.names import LogFault, NewFault, Outcome, Stat, Status
+from gen1.states import stages_of
+
+
+@dataclass(frozen=True)
+class ShownMember:
+    """What shows of a member: HP, 0 to 999, before it first came out its maximum; and the kind of status."""
+
+    hp: int
+    status: Status
+
+
+@dataclass(frozen=True)
+class ShownSide:
+    """What shows of a side: its members by their places, and which of them is out, 1 to 6, 0 before the first came out.
+
+    `stages`, -6 to 6 (Attack, Defense, Speed, Special, accuracy, evasion), and whether it has a Substitute, is confused, and is behind a
+    Light Screen and a Reflect are of the one that is out.
+    """
+
+    members: tuple[ShownMember, ...]
+    place: int
+    stages: tuple[int, ...]
+    substitute: bool
+    confused: bool
+    light_screen: bool
+    reflect: bool
+
+    def stage(self, stat: Stat) -> int:
+        """The stage of a stat, -6 to 6."""
+        return self.stages[stat - 1]
+
+
+@dataclass(frozen=True)
+class ShownState:
+    """What shows of a battle: both sides; the turn, 0 before the first; and the outcome."""
+
+    one: ShownSide
+    two: ShownSide
+    turn: int
+    outcome: Outcome
+
+
+class Spectator:
+    """A watcher of a battle, who has both teams and is fed the log of each update.
+
+    Two watchers are equal where they know the same and hold the same bytes of an event that has come in part; a watcher has no hash.
+    """
+
+    __slots__ = ("_held",)
+
+    def __init__(self, one: TeamLike, two: TeamLike) -> None:
+        """What is known before a battle of two teams: who they are, all at full HP. Raises `BadTeam`, `BadType`."""
+        teams = sides_of(one, two)
+        self._held = SpectatorStruct()
+        answer = _library.spectator_begin(byref(self._held), *(byref(it._struct) for it in teams))
+        if answer:
+            code = NewFault(answer & 0xFF)
+            raise BadTeam(code.label, side=answer >> 16, member=answer >> 8 & 0xFF, code=code)
+
+    def feed(self, log: bytes) -> None:
+        """Takes in the next bytes of the battle's log, which may be cut anywhere: an event counts as soon as its last byte is there.
+
+        Raises `BadLog` where these bytes, behind those that are held, are no log, and `BadType`; then none of them is taken in.
+        """
+        given = octets(log, "log")
+        code = _library.spectator_feed(byref(self._held), given, len(given))
+        if code:
+            raise BadLog(LogFault(code), _fault_place(self.held + given) - len(self.held))
+
+    @property
+    def state(self) -> ShownState:
+        """What is known, as dataclasses."""
+        of = self._held
+        return ShownState(_shown(of.sides[0]), _shown(of.sides[1]), of.turn, Outcome(of.outcome))
+
+    @property
+    def held(self) -> bytes:
+        """The bytes, at most 9, of an event that has come in part."""
+        return bytes(self._held.held[: self._held.held_count])
+
+    def copy(self) -> "Spectator":
+        """A watcher of its own who knows the same."""
+        made = Spectator.__new__(Spectator)
+        made._held = SpectatorStruct.from_buffer_copy(self._held)
+        return made
+
+    __copy__ = copy
+
+    def __deepcopy__(self, _: object) -> "Spectator":
+        return self.copy()
+
+    def __reduce__(self) -> tuple[Any, ...]:
+        return _restored, (self.state, self.held)
+
+    def __eq__(self, other: object) -> bool:
+        if not isinstance(other, Spectator):
+            return NotImplemented
+        return (self.state, self.held) == (other.state, other.held)
+
+    __hash__ = None  # type: ignore[assignment]
+
+    def __repr__(self) -> str:
+        return f"<Spectator, turn {self._held.turn}, {Outcome(self._held.outcome).label}>"
+
+
+def _shown(of: ShownSideStruct) -> ShownSide:
+    members = tuple(ShownMember(it.hp, Status(it.status)) for it in of.members[: of.count])
+    up = bool(of.substitute), bool(of.confused), bool(of.light_screen), bool(of.reflect)
+    return ShownSide(members, of.place, stages_of(of.stages), *up)
+
+
+def _fault_place(log: bytes) -> int:
+    """Where the first event begins that cannot be read."""
+    at, of = c_size_t(0), _library.EventStruct()
+    while _library.next_event(log, len(log), byref(at), byref(of)) == 0:
+        pass
+    return at.value
+
+
+def _restored(state: ShownState, held: bytes) -> Spectator:
+    """The watcher that was pickled."""
+    made = Spectator.__new__(Spectator)
+    of = made._held = SpectatorStruct(turn=state.turn, outcome=state.outcome, held_count=len(held))
+    of.held[: len(held)] = held
+    for to, side in zip(of.sides, (state.one, state.two)):
+        to.count, to.place, to.stages[:] = len(side.members), side.place, [it + 6 for it in side.stages]
+        to.substitute, to.confused, to.light_screen, to.reflect = side.substitute, side.confused, side.light_screen, side.reflect
+        for place, member in enumerate(side.members):
+            to.members[place].hp, to.members[place].status = member.hp, member.status
+    return made

@@ -1,0 +1,196 @@
+"""Hits and playouts: recorded damages, the numbers of docs/MECHANICS.md, every draw tried, and single updates."""
+
+import ctypes
+import json
+import random
+from fractions import Fraction
+
+import pytest
+from conftest import RECORDED, random_member, random_team, recorded_only
+from gen1 import (
+    BadArgument,
+    BadTeam,
+    BadType,
+    Battle,
+    Choice,
+    Damages,
+    DamageFault,
+    Error,
+    Hit,
+    Member,
+    Move,
+    NoDamage,
+    Outcome,
+    Playouts,
+    Team,
+    base,
+    damage,
+    hit,
+    move_data,
+)
+from gen1._library import PATH
+from gen1._structs import HitStruct, PlayoutsStruct
+
+if RECORDED.is_dir():
+    from battles import cases, recorded
+
+LIB = ctypes.CDLL(PATH)
+NO_NUMBERS = (None, 1.0, b"\x01", True, False, [1], object())
+BIG = (-1, 256, 257, 300, 65536, 1 << 33, -(1 << 70))
+
+
+def facing(one, two):
+    """A battle of two members, both just sent out."""
+    battle = Battle([one], [two], bytes(10))
+    battle.play(Choice.PASS, Choice.PASS)
+    return battle
+
+
+@recorded_only
+def test_recorded_damages():
+    """Each recorded case of `calc` that has numbers, of members alone and in a battle."""
+    count = 0
+    for case in cases(recorded("calc.jsonl")):
+        if case.get("status"):
+            continue
+        asked = json.loads(case["input"])
+        pair = [Team([asked[side]])[0] for side in ("attacker", "defender")]
+        told, numbers = hit(*pair, asked["move"]), tuple(map(int, case["stdout"].split()))
+        assert (told.critical if asked["critical"] else told.usual) == Damages(numbers, None), case["name"]
+        assert facing(*pair).hit(1, asked["move"]) == told
+        count += 1
+    assert count > 100
+
+
+def test_chances_of_the_rules():
+    """docs/MECHANICS.md, "Critical hits" and "Hit test": Persian's b, accuracies in 255ths, and what is settled without a draw."""
+    persian, gengar = Member("Persian", ["Slash", "Strength"]), Member("Gengar", ["Splash"])
+    assert hit(persian, gengar, "Slash").critical_chance == Fraction(255, 256)
+    assert hit(persian, gengar, "Strength").critical_chance == Fraction(57, 256)
+    focused = facing(Member("Persian", ["Focus Energy"]), gengar)
+    focused.play(Choice.MOVE_1, Choice.MOVE_1)
+    assert [focused.hit(1, it).critical_chance for it in ("Slash", "Strength")] == [Fraction(112, 256), Fraction(14, 256)]
+    assert hit(persian, gengar, "Swift").hit_chance == 1 and hit(persian, gengar, "Dream Eater").hit_chance == 0
+    for move in ("Strength", "Hydro Pump", "Thunder", "Sing"):
+        assert hit(persian, gengar, move).hit_chance == Fraction(move_data(move).accuracy * 255 // 100, 256)
+
+
+def test_chances_by_every_draw():
+    """A move is used with each byte as the draw that decides: as many are critical, and as many hit, as it is told."""
+    strong, splash = Member("Tauros", ["Thunder", "Strength"]), Member("Snorlax", ["Splash"])
+    for slot, move in ((1, Move.THUNDER), (2, Move.STRENGTH)):
+        missed = critical = 0
+        for byte in range(256):
+            # Drawn are: for the critical hit, for the damage (255 is the highest factor), and for the hit.
+            for numbers in ((byte, 255, 0), (255, 255, byte)):
+                battle = facing(strong, splash)
+                battle.reseed([*numbers, *[0] * 7])
+                told = [type(it).__name__ for it in battle.update(Choice.move(slot), Choice.MOVE_1).events]
+                missed, critical = missed + ("MissEvent" in told), critical + ("CritEvent" in told)
+        found = hit(strong, splash, move)
+        assert found.critical_chance == Fraction(critical, 256) == Fraction(base("Tauros").speed // 2, 256)
+        assert found.hit_chance == 1 - Fraction(missed, 256)
+
+
+def test_moves_without_usual_damage():
+    one, two = Member("Tauros", ["Splash"]), Member("Gengar", ["Splash"])
+    for move in ("Splash", "Seismic Toss", "Super Fang"):
+        it = hit(one, two, move)
+        assert it.usual == it.critical == Damages((), DamageFault.UNUSUAL) and it.critical_chance == 0
+        with pytest.raises(NoDamage) as fault:
+            damage(one, two, move)
+        assert fault.value.code is DamageFault.UNUSUAL and move in str(fault.value)
+    assert hit(one, two, "Strength").usual == Damages((0,) * 39, None)
+
+
+def test_random_hits():
+    """Hits of random battles against `damage`, and against the library called apart."""
+    dice = random.Random(4)
+    for _ in range(100):
+        battle = Battle(random_team(dice), random_team(dice), dice.randbytes(10), limit=40)
+        battle.play(0, 0)
+        while not battle.result.is_over:
+            side, move, raw = dice.randint(1, 2), dice.choice(list(Move)), HitStruct()
+            before, found = battle.bytes, battle.hit(side, move)
+            assert LIB.gen1_hit_now(battle.bytes, side, int(move), ctypes.byref(raw)) & 0xFF == 0 and battle.bytes == before
+            assert (found.critical_chance, found.hit_chance) == (Fraction(raw.critical_draws, 256), Fraction(raw.hit_draws, 256))
+            for critical, told in ((False, found.usual), (True, found.critical)):
+                try:
+                    assert told == Damages(battle.damage(side, move, critical), None)
+                except NoDamage as fault:
+                    assert told == Damages((), fault.code)
+            battle.play(*(dice.choice(battle.choices(it)) for it in (1, 2)))
+    for _ in range(300):
+        one, two, move = random_member(dice), random_member(dice), dice.choice(list(Move))
+        found = hit(one, two, move)
+        assert found == facing(one, two).hit(1, move) == facing(two, one).hit(2, move) and isinstance(found, Hit)
+
+
+def test_hits_with_wrong_arguments(battle, team, tauros):
+    before = battle.bytes
+    calls = [(lambda it=it: battle.hit(it, "Pound"), BadArgument) for it in (0, 3, *BIG)]
+    calls += [(lambda it=it: battle.hit(it, "Pound"), BadType) for it in (*NO_NUMBERS, "1")]
+    for call in (lambda it: battle.hit(1, it), lambda it: hit(tauros, tauros, it)):
+        calls += [(lambda call=call, it=it: call(it), BadTeam) for it in (0, 166, *BIG, "Pond", "1")]
+        calls += [(lambda call=call, it=it: call(it), BadType) for it in NO_NUMBERS]
+    for it in (None, 5, "Tauros", tauros.to_dict(), team):
+        calls += [(lambda it=it: hit(it, tauros, "Pound"), BadType), (lambda it=it: hit(tauros, it, "Pound"), BadType)]
+    for at, (call, kind) in enumerate(calls):
+        with pytest.raises(kind) as fault:
+            call()
+        assert isinstance(fault.value, Error) and len(str(fault.value)) > 10 and battle.bytes == before, at
+    with pytest.raises(NoDamage) as fault:
+        Battle(team, team, range(10)).hit(1, "Pound")
+    assert fault.value.code is DamageFault.NOBODY and "before its first update" in str(fault.value)
+
+
+# Playouts
+
+
+def played_out(battle, seed, rounds):
+    """The same update by update, with the generator that include/gen1.h describes."""
+    ends, state = [0] * 4, seed
+    for _ in range(rounds):
+        it = battle.copy()
+        while not it.result.is_over:
+            pair = []
+            for side in (1, 2):
+                offered = it.choices(side)
+                state = (state * 6364136223846793005 + 1442695040888963407) % 2**64
+                pair.append(offered[(state >> 32) % len(offered)])
+            it.play(*pair)
+        ends[min(it.result.outcome, Outcome.FAULT_ONE) - 1] += 1
+    return Playouts(*ends)
+
+
+def test_playouts_update_by_update():
+    dice = random.Random(5)
+    for _ in range(12):
+        battle, seed = Battle(random_team(dice), random_team(dice), dice.randbytes(10), limit=60), dice.getrandbits(64)
+        before, raw = battle.bytes, PlayoutsStruct()
+        found = battle.playout(seed, 9)
+        assert found == played_out(battle, seed, 9) == battle.playout(seed, 9) and found.rounds == 9 and battle.bytes == before
+        assert LIB.gen1_playout(battle.bytes, ctypes.c_uint64(seed), 9, ctypes.byref(raw)) & 0xFF == 0
+        assert found == Playouts(raw.wins_one, raw.wins_two, raw.ties, raw.faults)
+
+
+def test_playouts_of_a_battle_that_is_over(team):
+    battle = Battle(team, team, range(10), limit=1)
+    while not battle.result.is_over:
+        battle.play(battle.choices(1)[0], battle.choices(2)[0])
+    assert battle.result.outcome is Outcome.TIE and battle.playout(1, 1000) == Playouts(0, 0, 1000, 0)
+    assert battle.playout(0, 0) == battle.playout((1 << 64) - 1, 0) == Playouts(0, 0, 0, 0)
+
+
+def test_playouts_with_wrong_arguments(battle):
+    before = battle.bytes
+    calls = [(lambda it=it: battle.playout(it, 1), BadArgument) for it in (-1, 1 << 64, -(1 << 70))]
+    calls += [(lambda it=it: battle.playout(1, it), BadArgument) for it in (-1, 1 << 32, 1 << 64)]
+    calls += [(lambda it=it: battle.playout(it, 1), BadType) for it in (*NO_NUMBERS, "1")]
+    calls += [(lambda it=it: battle.playout(1, it), BadType) for it in (*NO_NUMBERS, "1")]
+    for at, (call, kind) in enumerate(calls):
+        with pytest.raises(kind) as fault:
+            call()
+        assert isinstance(fault.value, Error) and " must be " in str(fault.value) and battle.bytes == before, at
+    with pytest.raises(AttributeError):
+        battle.playout(1, 1).ties = 5
