@@ -54,7 +54,8 @@ class Room:
     def choices(self, side: Side | int) -> tuple[Choice, ...]:
         """What a side may submit for the current pair, in rising order.
 
-        None where its choice is there, which is so from the beginning where nothing is asked of it, and where the battle is over.
+        It is empty where the battle is over, and where the side's choice is there, which it is from the beginning where nothing is asked of
+        the side. Raises `BadArgument`, `BadType` for what is no side.
         """
         room = CHOICES()
         count = _library.room_choices(byref(self._held), a_side(side), room)
