@@ -6,6 +6,7 @@ import signal
 import subprocess
 import sys
 import time
+from importlib import import_module
 from pathlib import Path
 
 import gen1
@@ -23,6 +24,15 @@ FILES = ("table.csv", "table.json", "logs.npz")
 
 def command(out, *words):
     return [sys.executable, str(SELFPLAY), "--battles", str(BATTLES), "--job", str(JOB), "--out", str(out), *words]
+
+
+def example(name):
+    """A module of the example."""
+    sys.path.insert(0, str(SELFPLAY))
+    try:
+        return import_module(name)
+    finally:
+        sys.path.remove(str(SELFPLAY))
 
 
 def contents(out):
@@ -87,7 +97,8 @@ def test_dask(alone, tmp_path):
 
 
 def test_the_data_set(alone, tmp_path):
-    """Each log reads as the battle that its row says, and the table counts the rows."""
+    """Each log reads as the battle that its row says, a watcher of it sees that battle's end, and the table counts the rows."""
+    arena = example("arena")
     path = tmp_path / "logs.npz"
     path.write_bytes(alone[0]["logs.npz"])
     it = np.load(path)
@@ -99,6 +110,9 @@ def test_the_data_set(alone, tmp_path):
         last = told[-1]
         won = {gen1.EventKind.WIN: lambda: int(last.side), gen1.EventKind.TIED: lambda: 3}[last.kind]()
         assert won == it["outcome"][at] and it["turns"][at] == sum(event.kind is gen1.EventKind.TURN for event in told)
+        watcher = gen1.Spectator(*(arena.TEAMS[number] for number in it["teams"][at]))
+        watcher.feed(log)
+        assert (watcher.state.turn, watcher.state.outcome) == (it["turns"][at], won)
     for at, row in enumerate(rows):
         of = it["pair"] == at
         one = (it["outcome"][of] - 1) ^ it["first_player"][of] if len(it["outcome"][of]) else []
@@ -110,11 +124,7 @@ def test_the_data_set(alone, tmp_path):
 
 def test_intervals():
     """Wilson's 95 % interval of 8 of 10 is 0.490 to 0.943, and of 0 of 10 0 to 0.278."""
-    sys.path.insert(0, str(SELFPLAY))
-    try:
-        from results import interval
-    finally:
-        sys.path.remove(str(SELFPLAY))
+    interval = example("results").interval
     assert [round(it, 3) for it in interval(8, 10)] == [0.490, 0.943]
     assert [round(it, 3) for it in interval(0, 10)] == [0.0, 0.278]
 
