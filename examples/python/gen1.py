@@ -34,8 +34,37 @@ class Event(Structure):
     ] + [("hp", c_uint16), ("max_hp", c_uint16), ("turn", c_uint16)]
 
 
+class Damages(Structure):
+    _fields_ = [("numbers", c_uint16 * 39), ("count", c_uint8), ("code", c_uint8)]
+
+
+class Hit(Structure):
+    _fields_ = [("usual", Damages), ("critical", Damages), ("critical_draws", c_uint16), ("hit_draws", c_uint16)]
+
+
+class RoomBytes(Structure):
+    _fields_ = [
+        ("battle", BattleBytes), ("number", c_uint32), ("log_length", c_uint16), ("chosen", c_uint8 * 2), ("log", c_uint8 * LOG_ROOM),
+    ]
+
+
+class ShownMember(Structure):
+    _fields_ = [("hp", c_uint16), ("status", c_uint8)]
+
+
+class ShownSide(Structure):
+    _fields_ = [("members", ShownMember * 6), ("count", c_uint8), ("place", c_uint8), ("stages", c_uint8 * 6)] + [
+        (name, c_uint8) for name in ("substitute", "confused", "light_screen", "reflect")]
+
+
+class SpectatorBytes(Structure):
+    _fields_ = [
+        ("sides", ShownSide * 2), ("turn", c_uint16), ("outcome", c_uint8), ("held_count", c_uint8), ("held", c_uint8 * 10),
+    ]
+
+
 class Refused(Exception):
-    """A pair of choices was refused, by its number."""
+    """A pair of choices, or what a side submits to a room, was refused, by its number."""
 
 
 class TeamFault(Exception):
@@ -90,6 +119,14 @@ class Library:
             ("gen1_next_event", c_uint8, [ctypes.c_char_p, size, sizes, POINTER(Event)]),
             ("gen1_next_line", c_uint8, [ctypes.c_char_p, size, sizes, POINTER(c_char), size, sizes]),
             ("gen1_damage", c_uint8, [battle, c_uint8, c_uint8, c_bool, c_uint16 * 39]),
+            ("gen1_update_offered", c_uint8, [battle, c_uint8, c_uint8, POINTER(c_uint8), size, sizes]),
+            ("gen1_hit_now", c_uint8, [battle, c_uint8, c_uint8, POINTER(Hit)]),
+            ("gen1_hit_between", c_uint32, [POINTER(Member), POINTER(Member), c_uint8, POINTER(Hit)]),
+            ("gen1_room_begin", None, [POINTER(RoomBytes)]),
+            ("gen1_room_choices", c_uint8, [POINTER(RoomBytes), c_uint8, c_uint8 * 9]),
+            ("gen1_room_submit", c_uint8, [POINTER(RoomBytes), c_uint8, c_uint32, c_uint8]),
+            ("gen1_spectator_begin", c_uint32, [POINTER(SpectatorBytes), POINTER(Team), POINTER(Team)]),
+            ("gen1_spectator_feed", c_uint8, [POINTER(SpectatorBytes), ctypes.c_char_p, size]),
         ):
             call = getattr(self.calls, name)
             call.restype, call.argtypes = answer, takes
@@ -181,3 +218,54 @@ class Battle:
         if code:
             raise DamageFault(code)
         return list(damages)
+
+    def hit(self, side, number):
+        """What a use of a move by a side would come to."""
+        hit = Hit()
+        code = self.calls.gen1_hit_now(byref(self.held), within(side, 255), within(number, 255), byref(hit))
+        if code:
+            raise DamageFault(code)
+        return hit
+
+
+class Room:
+    """A room of two players, made of a battle."""
+
+    def __init__(self, battle):
+        self.calls, self.held = battle.calls, RoomBytes(battle=battle.held)
+        self.calls.gen1_room_begin(byref(self.held))
+
+    @property
+    def log(self):
+        """The log of the last pair that ended; before one has, of the battle's start."""
+        return bytes(self.held.log[:self.held.log_length])
+
+    def choices(self, side):
+        """What a side, 1 or 2, may submit."""
+        choices = (c_uint8 * 9)()
+        count = self.calls.gen1_room_choices(byref(self.held), within(side, 255), choices)
+        if count == NO_SIDE:
+            raise ValueError(side)
+        return list(choices[:count])
+
+    def submit(self, side, number, choice):
+        """A side's choice for the pair of this number."""
+        refused = self.calls.gen1_room_submit(byref(self.held), within(side, 255), within(number, 2**32 - 1), within(choice, 255))
+        if refused:
+            raise Refused(refused)
+
+
+class Spectator:
+    """What a watcher knows of a battle of two teams, by its logs."""
+
+    def __init__(self, library, one, two):
+        self.calls, self.held = library.calls, SpectatorBytes()
+        fault = self.calls.gen1_spectator_begin(byref(self.held), byref(one), byref(two))
+        if fault:
+            raise TeamFault(fault >> 16, fault >> 8 & 0xff, fault & 0xff)
+
+    def feed(self, log):
+        """Takes in the next bytes of the log, which may be cut anywhere."""
+        fault = self.calls.gen1_spectator_feed(byref(self.held), log, len(log))
+        if fault:
+            raise LogFault(fault)

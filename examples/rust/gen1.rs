@@ -1,5 +1,5 @@
-//! The library for Rust: include/gen1.h in Rust's words. Its functions take any values, so the calls are safe; the slices are
-//! handed over as pointer and length, which Rust's types keep together.
+//! The library for Rust: of include/gen1.h what the programs of this folder call, in Rust's words. Its functions take any values,
+//! so the calls are safe; the slices are handed over as pointer and length, which Rust's types keep together.
 #![allow(dead_code)]
 
 /// A battle, all of which are these bytes.
@@ -29,6 +29,69 @@ pub struct Team {
     pub count: u8,
 }
 
+/// The damage of a hit at each factor, or the code that says why there is none.
+#[repr(C)]
+#[derive(Clone, Copy, Debug, PartialEq, Eq)]
+pub struct Damages {
+    pub numbers: [u16; 39],
+    pub count: u8,
+    pub code: u8,
+}
+
+/// What a use of a move would come to. Chances are so many of 256 draws.
+#[repr(C)]
+#[derive(Clone, Copy, Debug, PartialEq, Eq)]
+pub struct Hit {
+    pub usual: Damages,
+    pub critical: Damages,
+    pub critical_draws: u16,
+    pub hit_draws: u16,
+}
+
+/// A battle of two players who choose apart from each other.
+#[repr(C)]
+#[derive(Clone, Copy)]
+pub struct Room {
+    pub battle: Battle,
+    pub number: u32,
+    log_length: u16,
+    chosen: [u8; 2],
+    log: [u8; 512],
+}
+
+/// What shows of a member.
+#[repr(C)]
+#[derive(Clone, Copy, Debug, Default, PartialEq, Eq)]
+pub struct ShownMember {
+    pub hp: u16,
+    pub status: u8,
+}
+
+/// What shows of a side.
+#[repr(C)]
+#[derive(Clone, Copy, Debug, Default, PartialEq, Eq)]
+pub struct ShownSide {
+    pub members: [ShownMember; 6],
+    pub count: u8,
+    pub place: u8,
+    pub stages: [u8; 6],
+    pub substitute: u8,
+    pub confused: u8,
+    pub light_screen: u8,
+    pub reflect: u8,
+}
+
+/// What a watcher knows who has both teams and the logs.
+#[repr(C)]
+#[derive(Clone, Copy, Debug, Default, PartialEq, Eq)]
+pub struct Spectator {
+    pub sides: [ShownSide; 2],
+    pub turn: u16,
+    pub outcome: u8,
+    held_count: u8,
+    held: [u8; 10],
+}
+
 #[link(name = "gen1_c", kind = "static")]
 unsafe extern "C" {
     safe fn gen1_new(battle: &mut Battle, one: &Team, two: &Team, seed: &[u8; 10], rules: u8, limit: u16) -> u32;
@@ -44,6 +107,13 @@ unsafe extern "C" {
         room: usize,
         length: &mut usize,
     ) -> u8;
+    safe fn gen1_hit_now(battle: &Battle, side: u8, id: u8, hit: &mut Hit) -> u8;
+    safe fn gen1_hit_between(user: &Member, foe: &Member, id: u8, hit: &mut Hit) -> u32;
+    safe fn gen1_room_begin(room: &mut Room);
+    safe fn gen1_room_choices(room: &Room, side: u8, choices: &mut [u8; 9]) -> u8;
+    safe fn gen1_room_submit(room: &mut Room, side: u8, number: u32, choice: u8) -> u8;
+    safe fn gen1_spectator_begin(spectator: &mut Spectator, one: &Team, two: &Team) -> u32;
+    fn gen1_spectator_feed(spectator: &mut Spectator, log: *const u8, count: usize) -> u8;
 }
 
 /// Why there is no battle of two teams.
@@ -53,7 +123,50 @@ pub struct TeamFault {
     pub code: u32,
 }
 
-/// A choice of a side was not offered, or the battle is over: the number of the refusal.
+impl TeamFault {
+    /// An answer that is not 0, taken apart.
+    fn of(answer: u32) -> TeamFault {
+        TeamFault {
+            side: answer >> 16,
+            place: answer >> 8 & 0xff,
+            code: answer & 0xff,
+        }
+    }
+}
+
+/// What is overwritten.
+const NO_HIT: Hit = {
+    let none = Damages {
+        numbers: [0; 39],
+        count: 0,
+        code: 0,
+    };
+    Hit {
+        usual: none,
+        critical: none,
+        critical_draws: 0,
+        hit_draws: 0,
+    }
+};
+
+/// What a use of a move would come to by a member against another that have both just been sent out.
+pub fn hit_between(user: &Member, foe: &Member, id: u8) -> Result<Hit, TeamFault> {
+    let mut hit = NO_HIT;
+    match gen1_hit_between(user, foe, id, &mut hit) {
+        0 => Ok(hit),
+        answer => Err(TeamFault::of(answer)),
+    }
+}
+
+/// The choices at the front of an array, of which there are so many; none where the side is none.
+fn front_of(choices: [u8; 9], count: u8) -> Vec<u8> {
+    match count {
+        255 => Vec::new(),
+        count => choices[..usize::from(count)].to_vec(),
+    }
+}
+
+/// A choice of a side was not offered, or the battle is over, or a room refuses what is submitted: the number of the refusal.
 pub struct Refused(pub u8);
 
 /// The log of one update.
@@ -67,11 +180,7 @@ impl Battle {
         let mut battle = Battle { bytes: [0; 384] };
         match gen1_new(&mut battle, one, two, seed, rules, limit) {
             0 => Ok(battle),
-            fault => Err(TeamFault {
-                side: fault >> 16,
-                place: fault >> 8 & 0xff,
-                code: fault & 0xff,
-            }),
+            answer => Err(TeamFault::of(answer)),
         }
     }
 
@@ -88,10 +197,8 @@ impl Battle {
     /// What a side, 1 or 2, may choose.
     pub fn choices(&self, side: u8) -> Vec<u8> {
         let mut choices = [0; 9];
-        match gen1_choices(self, side, &mut choices) {
-            255 => Vec::new(),
-            count => choices[..usize::from(count)].to_vec(),
-        }
+        let count = gen1_choices(self, side, &mut choices);
+        front_of(choices, count)
     }
 
     /// An update, and its log.
@@ -113,12 +220,83 @@ impl Battle {
         let result = gen1_result(self);
         (result & 7, result >> 3 & 3, result >> 5 & 3)
     }
+
+    /// What a use of a move by a side would come to, as both members that are out stand, or the code that says why it is not told.
+    pub fn hit(&self, side: u8, id: u8) -> Result<Hit, u8> {
+        let mut hit = NO_HIT;
+        match gen1_hit_now(self, side, id, &mut hit) {
+            0 => Ok(hit),
+            code => Err(code),
+        }
+    }
+}
+
+impl Room {
+    /// The room of a battle, which is started if it has not begun.
+    pub fn new(battle: Battle) -> Room {
+        let mut room = Room {
+            battle,
+            number: 0,
+            log_length: 0,
+            chosen: [0; 2],
+            log: [0; 512],
+        };
+        gen1_room_begin(&mut room);
+        room
+    }
+
+    /// What a side, 1 or 2, may submit for the current pair.
+    pub fn choices(&self, side: u8) -> Vec<u8> {
+        let mut choices = [0; 9];
+        let count = gen1_room_choices(self, side, &mut choices);
+        front_of(choices, count)
+    }
+
+    /// A side's choice for the pair of this number.
+    pub fn submit(&mut self, side: u8, number: u32, choice: u8) -> Result<(), Refused> {
+        match gen1_room_submit(self, side, number, choice) {
+            0 => Ok(()),
+            code => Err(Refused(code)),
+        }
+    }
+
+    /// The log of the last pair that ended; before one has, of the battle's start.
+    pub fn log(&self) -> Log {
+        Log {
+            bytes: self.log,
+            length: usize::from(self.log_length),
+        }
+    }
+}
+
+impl Spectator {
+    /// What is known before a battle of two teams.
+    pub fn new(one: &Team, two: &Team) -> Result<Spectator, TeamFault> {
+        let mut spectator = Spectator::default();
+        match gen1_spectator_begin(&mut spectator, one, two) {
+            0 => Ok(spectator),
+            answer => Err(TeamFault::of(answer)),
+        }
+    }
+
+    /// Takes in the next bytes of the battle's log, which may be cut anywhere; or answers the number of the fault.
+    pub fn feed(&mut self, log: &[u8]) -> Result<(), u8> {
+        // The pointer and the length are those of one slice, apart from the spectator.
+        match unsafe { gen1_spectator_feed(self, log.as_ptr(), log.len()) } {
+            0 => Ok(()),
+            code => Err(code),
+        }
+    }
 }
 
 impl Log {
+    pub fn bytes(&self) -> &[u8] {
+        &self.bytes[..self.length]
+    }
+
     /// Hands each line to a function, its line feed included.
     pub fn each_line(&self, mut take: impl FnMut(&[u8])) {
-        let log = &self.bytes[..self.length];
+        let log = self.bytes();
         let (mut at, mut line, mut length) = (0, [0; 96], 0);
         loop {
             // Each pointer and the length behind it are those of one slice, and no two of them overlap.

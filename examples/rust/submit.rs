@@ -1,0 +1,87 @@
+//! Plays the room that standard input describes, and prints what `battle_tool room` does.
+//!
+//!     rustc --edition 2024 -O -L crates/gen1_c/out examples/rust/submit.rs -o submit
+//!
+//! The input is that of play.rs, with submissions in the place of the choices: each a side, the number of its pair and the byte of
+//! its choice. Beside it a watcher is told of each log, and has to know how the battle stands; and what a move would come to between
+//! both first members has to be the same in the battle and without one.
+mod gen1;
+mod numbers;
+
+use gen1::{Battle, Log, Room, Spectator, Team};
+use numbers::Numbers;
+use std::io::{self, Write};
+use std::process::ExitCode;
+
+/// What is printed of a submission that is refused.
+fn refusal(code: u8, number: u32) -> String {
+    match code {
+        2 => format!("|room|refused|2|{number}\n"),
+        _ => format!("|room|refused|{code}\n"),
+    }
+}
+
+/// The log's lines are printed, and the watcher is told of it, in two parts.
+fn tell(log: &Log, watcher: &mut Spectator, out: &mut impl Write) -> Result<(), String> {
+    log.each_line(|line| out.write_all(line).expect("standard output"));
+    let (front, rest) = log.bytes().split_at(log.bytes().len() / 2);
+    for part in [front, rest] {
+        watcher.feed(part).map_err(|code| format!("log {code}"))?;
+    }
+    Ok(())
+}
+
+/// The odds of each move between both first members, who have just been sent out.
+fn compare_odds(battle: &Battle, one: &Team, two: &Team) -> Result<(), String> {
+    for id in 1..=165 {
+        let between = gen1::hit_between(&one.members[0], &two.members[0], id);
+        if battle.hit(1, id).ok() != between.ok() {
+            return Err(format!("other odds of move {id}"));
+        }
+    }
+    Ok(())
+}
+
+/// The line of the first fault, if there is one.
+fn play(input: &str, out: &mut impl Write) -> Result<(), String> {
+    let mut numbers = Numbers::of(input);
+    let (battle, [one, two]) = numbers.battle()?;
+    let mut watcher = Spectator::new(&one, &two).map_err(|_| "team")?;
+    let mut room = Room::new(battle);
+    tell(&room.log(), &mut watcher, out)?;
+    compare_odds(&room.battle, &one, &two)?;
+    while let Some(side) = numbers.next() {
+        let number = numbers.next().ok_or("input")?;
+        let choice = numbers.next().ok_or("input")?;
+        let current = room.number;
+        let offered = room.choices(side);
+        match room.submit(side, number, choice) {
+            Err(refused) => write!(out, "{}", refusal(refused.0, current)).expect("standard output"),
+            Ok(()) if !offered.contains(&choice) => return Err("a choice was taken that is not offered".to_string()),
+            Ok(()) if room.number == current => writeln!(out, "|room|waiting").expect("standard output"),
+            Ok(()) => {
+                writeln!(out, "|room|advanced").expect("standard output");
+                tell(&room.log(), &mut watcher, out)?;
+            }
+        }
+        let result = room.battle.result();
+        if watcher.outcome != result.0 {
+            return Err(format!(
+                "the watcher knows of outcome {}, not {}",
+                watcher.outcome, result.0
+            ));
+        }
+    }
+    Ok(())
+}
+
+fn main() -> ExitCode {
+    let input = io::read_to_string(io::stdin()).expect("standard input");
+    match play(&input, &mut io::stdout().lock()) {
+        Ok(()) => ExitCode::SUCCESS,
+        Err(fault) => {
+            eprintln!("error: {fault}");
+            ExitCode::FAILURE
+        }
+    }
+}
