@@ -62,8 +62,9 @@ pub fn hit_test<R: Rolls>(
     }
 }
 
-// Whether a move hits, where that is settled without a draw.
-fn settled_hit(battle: &Packed, side: Side, id: MoveId) -> Option<bool>
+/// Whether a move of `side` hits its foe, where that is settled without a draw: `None` where the hit test draws
+/// (docs/MECHANICS.md, "Hit test").
+pub fn settled_hit(battle: &Packed, side: Side, id: MoveId) -> Option<bool>
     ensures stands { Reads battle.now result (settled_hit_in side (move_at id)) }
 {
     let foe = side.other();
