@@ -59,7 +59,7 @@ impl Shown {
     {
         Shown {
             hp: plain.hp,
-            kind: kind_at(plain.status),
+            kind: Kind::from_number(plain.status),
         }
     }
 
@@ -71,19 +71,6 @@ impl Shown {
             hp: self.hp,
             status: number_of(self.kind),
         }
-    }
-}
-
-fn kind_at(number: u8) -> Option<Kind>
-    ensures { result ≡ kind_at number }
-{
-    match number {
-        1 => Some(Kind::Sleep),
-        2 => Some(Kind::Poison),
-        3 => Some(Kind::Burn),
-        4 => Some(Kind::Freeze),
-        5 => Some(Kind::Paralysis),
-        _ => None,
     }
 }
 
