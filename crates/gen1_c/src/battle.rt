@@ -8,7 +8,7 @@ ghost use Rattle.gen1_layout.specs.Within.{Stands};
 ghost use Rattle.gen1_c.specs.Battle.{Loads, new_fault};
 ghost use Rattle.gen1_c.specs.Teams.{sheets_of};
 
-use crate::teams::{TeamForm, team_of};
+use crate::teams::{TeamForm, teams_of};
 use gen1_layout::Packed;
 use gen1_machine::{Rules, TurnLimit};
 
@@ -42,16 +42,13 @@ pub extern "C" fn gen1_new(
     let Some(limit) = TurnLimit::new(limit) else {
         return WRONG_LIMIT;
     };
-    let one = match team_of(one) {
-        Ok(team) => team,
-        Err(fault) => return 65536 + fault,
-    };
-    let two = match team_of(two) {
-        Ok(team) => team,
-        Err(fault) => return 131072 + fault,
-    };
-    *battle = Packed::with_limit(&one, &two, *seed, rules, limit);
-    0
+    match teams_of(one, two) {
+        Ok((one, two)) => {
+            *battle = Packed::with_limit(&one, &two, *seed, rules, limit);
+            0
+        }
+        Err(fault) => fault,
+    }
 }
 
 /// The battle of these bytes (include/gen1.h, "beginning"; docs/LAYOUT.md, "Loading"), of any of the three versions. The answer

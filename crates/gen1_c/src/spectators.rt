@@ -10,7 +10,7 @@ ghost use Rattle.gen1_spectator.specs.Plain.{IsPlainSpectator, reading_of, view_
 ghost use Rattle.gen1_c.specs.Battle.{teams_fault};
 ghost use Rattle.gen1_c.specs.Teams.{sheets_of, team_fault};
 
-use crate::teams::{TeamForm, team_of};
+use crate::teams::{TeamForm, teams_of};
 use gen1_spectator::plain::{PlainSpectator, feed, first};
 
 /// The view before a battle of two teams. The answer is 0, or a fault as `gen1_new` answers it.
@@ -26,16 +26,13 @@ pub extern "C" fn gen1_spectator_begin(
         × (reading_of watch.new ≡ part []) × IsPlainSpectator watch.new }
     ensures kept { result ≢ 0 → watch.new ≡ watch.old }
 {
-    let one = match team_of(one) {
-        Ok(team) => team,
-        Err(fault) => return 65536 + fault,
-    };
-    let two = match team_of(two) {
-        Ok(team) => team,
-        Err(fault) => return 131072 + fault,
-    };
-    *watch = first(&one, &two);
-    0
+    match teams_of(one, two) {
+        Ok((one, two)) => {
+            *watch = first(&one, &two);
+            0
+        }
+        Err(fault) => fault,
+    }
 }
 
 /// Takes in the events of log bytes, which may be cut anywhere. The answer is 0, or the number of the fault.

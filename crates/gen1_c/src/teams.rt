@@ -2,6 +2,7 @@
 ghost use Rattle.std.specs.Prelude.{IfErr, IfOk, OnOk, [], length, ◌∷◌, ◌+◌, ◌++◌, ◌<◌, ◌≡◌, ◌≢◌, ◌≤◌};
 ghost use Rattle.arrayvec.specs.ArrayVec.{array_vec_len};
 ghost use Rattle.gen1_stats.specs.Teams.{team_of};
+ghost use Rattle.gen1_c.specs.Battle.{teams_fault};
 ghost use Rattle.gen1_c.specs.Odds.{one_fault};
 ghost use Rattle.gen1_c.specs.Teams.{chosen, fault_of, first_fault, member_fault, sheet_of, sheets_of, species_of, team_fault};
 
@@ -39,6 +40,25 @@ pub struct TeamForm {
 const NO_SUCH_SPECIES: u32 = 10;
 
 const NO_SUCH_MOVE: u32 = 11;
+
+// The teams of both sides. A fault is that of the first team that is none, and 65,536 for each side up to its own.
+pub(crate) fn teams_of(one: &TeamForm, two: &TeamForm) -> Result<(Team, Team), u32>
+    ensures one { IfOk result (λ teams. teams.0 ≡ team_of (sheets_of one.now)) }
+    ensures two { IfOk result (λ teams. teams.1 ≡ team_of (sheets_of two.now)) }
+    ensures allowed { OnOk result (teams_fault (team_fault one.now) (team_fault two.now) ≡ 0) }
+    ensures refused { IfErr result (λ fault. (fault ≢ 0)
+        × (fault ≡ teams_fault (team_fault one.now) (team_fault two.now))) }
+{
+    let one = match team_of(one) {
+        Ok(team) => team,
+        Err(fault) => return Err(65536 + fault),
+    };
+    let two = match team_of(two) {
+        Ok(team) => team,
+        Err(fault) => return Err(131072 + fault),
+    };
+    Ok((one, two))
+}
 
 // The team that is asked for. A fault is its code, and 256 for each place up to that of the member at fault.
 #[tactic(auto, unfolding(crate::specs::Teams::team_fault))]
