@@ -14,6 +14,8 @@ pub mod Collecting
 pub mod OfferedSet
 -- Whether a choice is among those that are offered, without their list.
 pub mod OneChoice
+-- The same by what is asked, and in the order of the tests.
+pub mod TestedChoice
 -- The bytes of what it lists rise.
 pub mod RisingOffers
 -- Binary digits: of four bytes, and without one of them.

@@ -1,16 +1,19 @@
-//! Whether a side may make a choice, tested without the list of what it is offered (docs/MECHANICS.md, "Offered choices").
-ghost use Rattle.std.specs.Prelude.{[], false, ◌==◌, ◌≡◌, ◌≤◌, ◌∷◌};
-ghost use Rattle.gen1_layout.specs.Words.{Reads, request_of};
+//! Whether a side may make a choice, tested without the list of what it is offered (docs/MECHANICS.md, "Offered choices"), by the
+//! few bytes that this depends on.
+ghost use Rattle.std.specs.Prelude.{nat_lt, not, ◌&&◌, ◌==◌, ◌||◌, ◌≡◌, ◌≤◌};
+ghost use Rattle.gen1_layout.specs.Words.{Field, Reads, Setting, Within, active_in, conditions_in, status_in, underway_in};
 ghost use Rattle.gen1_layout.specs.Within.{Stands};
-ghost use Rattle.gen1_machine.specs.OfferedChoices.{is_committed, offered_for, switches_offered};
-ghost use Rattle.gen1_machine.specs.State.{State, is_over};
+ghost use Rattle.gen1_machine.specs.Layout.{status_byte};
+ghost use Rattle.gen1_machine.specs.OfferedChoices.{bars_slot, has_no_slot_in, is_committed, offered_for, switches_offered};
+ghost use Rattle.gen1_machine.specs.State.{State};
 ghost use Rattle.gen1_machine.specs.Step.{is_among, offers};
 ghost use Rattle.gen1_machine.specs.declared.choice.Choice.TheVariants as choices;
 ghost use Rattle.gen1_machine.specs.declared.terms.Request.TheVariants as requests;
 
-use crate::offered_choices::{has_no_slot, is_committed, is_usable, may_come_out, usable_moves};
-use gen1_layout::Packed;
-use gen1_machine::{Choice, Outcome, Request, Side};
+use crate::masks::{SLEEPS_OR_FREEZES, asked, lives, usable};
+use crate::offered_choices::{has_no_slot, is_committed, is_disabled};
+use gen1_layout::{Conditions, Packed};
+use gen1_machine::{Choice, Side};
 
 /// Whether a choice is one of those that [`offered`](crate::offered) lists for the side (docs/MECHANICS.md, "Offered
 /// choices"). The list is not made, so this takes a fraction of its time.
@@ -18,61 +21,122 @@ use gen1_machine::{Choice, Outcome, Request, Side};
 pub fn is_offered(battle: &Packed, side: Side, choice: &Choice) -> bool
     ensures { (s : State) → Stands battle.now s → result ≡ offers s side choice.now }
 {
-    match battle.outcome() {
-        Outcome::Ongoing => is_offered_now(battle, side, choice),
-        _ => false,
+    // With the side known, no address depends on it.
+    match side {
+        Side::One => fits(battle, Side::One, choice),
+        Side::Two => fits(battle, Side::Two, choice),
     }
 }
 
-// While the battle goes on.
-fn is_offered_now(battle: &Packed, side: Side, choice: &Choice) -> bool
-    ensures { (s : State) → Stands battle.now s → is_over s.field.outcome ≡ false
-        → result ≡ is_among choice.now (offered_for (request_of side s.field) side s.field) }
-{
-    match battle.request(side) {
-        Request::Pass => is_pass(choice),
-        Request::Move => fits_move(battle, side, choice),
-        Request::Switch => fits_switch(battle, side, choice),
-    }
-}
-
-fn is_pass(choice: &Choice) -> bool
-    ensures { result ≡ is_among choice.now (choices.Pass ∷ []) }
-{
-    matches!(choice, Choice::Pass)
-}
-
-fn fits_switch(battle: &Packed, side: Side, choice: &Choice) -> bool
-    ensures { Reads battle.now result λ f. is_among choice.now
-        (offered_for requests.Switch side f) }
+#[inline(always)]
+fn fits(battle: &Packed, side: Side, choice: &Choice) -> bool
+    ensures { (s : State) → Stands battle.now s → result ≡ offers s side choice.now }
 {
     match choice {
-        Choice::Switch(place) => may_switch(battle, side, place.number()),
-        Choice::Move(_) => false,
-        Choice::Pass => false,
+        Choice::Move(slot) => fits_move(battle, side, slot.number()),
+        Choice::Switch(place) => fits_switch(battle, side, place.number()),
+        Choice::Pass => fits_pass(battle, side),
     }
 }
 
-fn fits_move(battle: &Packed, side: Side, choice: &Choice) -> bool
-    ensures { Reads battle.now result λ f. is_among choice.now (offered_for requests.Move side f) }
+// The battle goes on wherever something is asked of a side, so the outcome is looked at only where nothing is.
+#[inline(always)]
+fn fits_pass(battle: &Packed, side: Side) -> bool
+    ensures { (s : State) → Stands battle.now s → result ≡ offers s side choices.Pass }
 {
-    match choice {
-        Choice::Move(slot) => may_use(battle, side, slot.number()),
-        Choice::Switch(place) => may_switch_out(battle, side, place.number()),
-        Choice::Pass => false,
+    if asked(battle, side) != 0 {
+        return false;
     }
+    !battle.outcome().is_over()
 }
 
-fn may_switch(battle: &Packed, side: Side, place: u8) -> bool
+#[inline(always)]
+fn fits_move(battle: &Packed, side: Side, slot: u8) -> bool
+    requires { slot ≤ 4 }
+    ensures { (s : State) → Stands battle.now s → result ≡ offers s side (choices.Move slot) }
+{
+    if asked(battle, side) != 1 {
+        return false;
+    }
+    may_use(battle, side, slot)
+}
+
+#[inline(always)]
+fn fits_switch(battle: &Packed, side: Side, place: u8) -> bool
     requires low { 1 ≤ place }
     requires high { place ≤ 6 }
-    ensures stands { Reads battle.now result λ f. is_among (choices.Switch place)
-        (switches_offered side f) }
+    ensures stands { (s : State) → Stands battle.now s
+        → result ≡ offers s side (choices.Switch place) }
 {
-    may_come_out(battle, side, place, battle.place(side))
+    let request = asked(battle, side);
+    if request == 1 {
+        return may_switch_out(battle, side, place);
+    }
+    if request == 2 {
+        return may_switch(battle, side, place);
+    }
+    false
+}
+
+// Where a move is asked: a slot, or what is left where no slot can be chosen.
+#[inline(always)]
+fn may_use(battle: &Packed, side: Side, slot: u8) -> bool
+    requires { slot ≤ 4 }
+    ensures { Reads battle.now result λ f. is_among (choices.Move slot)
+        (offered_for requests.Move side f) }
+{
+    if slot == 0 {
+        return picks_nothing(battle, side);
+    }
+    let place = battle.place(side);
+    if has_no_pick(battle, side, battle.member(side, place)[14]) {
+        return false;
+    }
+    has_use(battle, side, slot, battle.pp_at(side, place, slot))
+}
+
+// Whether a slot with so much PP is usable.
+#[inline(always)]
+fn has_use(battle: &Packed, side: Side, slot: u8, pp: u8) -> bool
+    ensures { Reads battle.now result λ f. nat_lt 0 pp && not
+        (bars_slot (conditions_in side f).disabled slot) }
+{
+    pp > 0 && !is_disabled(battle, side, slot)
+}
+
+// What is left is offered to who is committed, to who can pick no slot, and where no slot is usable.
+#[inline(never)] // docs/SPEED.md, "Hints on inlining"
+fn picks_nothing(battle: &Packed, side: Side) -> bool
+    ensures { Reads battle.now result λ f. is_among (choices.Move 0)
+        (offered_for requests.Move side f) }
+{
+    if is_committed(battle, side) {
+        return true;
+    }
+    if has_no_slot(battle, side) {
+        return true;
+    }
+    usable(battle, side, battle.member(side, battle.place(side))) == 0
+}
+
+// Whether no slot from 1 on can be chosen, by the byte of the member's status. All that it has underway is one test of its bits.
+#[inline(always)]
+fn has_no_pick(battle: &Packed, side: Side, status: u8) -> bool
+    ensures { (g : Setting) (f : Field) → Within g battle.now f
+        → status ≡ status_byte (status_in side f)
+        → result ≡ (is_committed (underway_in side f) || has_no_slot_in side f) }
+{
+    if battle.has_any(side, Conditions::CONTINUES) {
+        return true;
+    }
+    if status & SLEEPS_OR_FREEZES != 0 {
+        return true;
+    }
+    battle.is_on(side.other(), Conditions::TRAPPING)
 }
 
 // Instead of a move.
+#[inline(always)]
 fn may_switch_out(battle: &Packed, side: Side, place: u8) -> bool
     requires low { 1 ≤ place }
     requires high { place ≤ 6 }
@@ -85,19 +149,23 @@ fn may_switch_out(battle: &Packed, side: Side, place: u8) -> bool
     may_switch(battle, side, place)
 }
 
-fn may_use(battle: &Packed, side: Side, slot: u8) -> bool
-    requires { slot ≤ 4 }
-    ensures { Reads battle.now result λ f. is_among (choices.Move slot)
-        (offered_for requests.Move side f) }
+#[inline(always)]
+fn may_switch(battle: &Packed, side: Side, place: u8) -> bool
+    requires low { 1 ≤ place }
+    requires high { place ≤ 6 }
+    ensures stands { Reads battle.now result λ f. is_among (choices.Switch place)
+        (switches_offered side f) }
 {
-    if is_committed(battle, side) {
-        return slot == 0;
+    if is_out(battle, side, place) {
+        return false;
     }
-    if has_no_slot(battle, side) {
-        return slot == 0;
-    }
-    if slot == 0 {
-        return usable_moves(battle, side).is_empty();
-    }
-    is_usable(battle, side, slot)
+    lives(battle, side, place)
+}
+
+// Whether the member at a place is out, by the byte of who is.
+#[inline(always)]
+fn is_out(battle: &Packed, side: Side, place: u8) -> bool
+    ensures { Reads battle.now result λ f. place == (active_in side f).place }
+{
+    place == battle.active(side)[0]
 }

@@ -16,7 +16,7 @@ use gen1_layout::{Conditions, Packed};
 use gen1_machine::{Outcome, Side};
 
 // The status bytes of who sleeps or is frozen, and no other, have one of these bits.
-const SLEEPS_OR_FREEZES: u8 = 0x27;
+pub(crate) const SLEEPS_OR_FREEZES: u8 = 0x27;
 
 /// What a side may choose, as a number: its twelve binary digits say of each choice, by rising bytes from the lowest digit on,
 /// whether it is offered (docs/MECHANICS.md, "Offered choices"). Pass is digit 0, Move with slot 0 to 4 digits 1 to 5, Switch to
@@ -50,7 +50,7 @@ fn mask(battle: &Packed, side: Side) -> u32
 
 // The byte of what is asked of a side.
 #[inline(always)]
-fn asked(battle: &Packed, side: Side) -> u8
+pub(crate) fn asked(battle: &Packed, side: Side) -> u8
     ensures packs { (g : Setting) (f : Field) → Packs g battle.now f
         → result ≡ request_byte (request_of side f) }
 {
@@ -125,7 +125,7 @@ fn living(battle: &Packed, side: Side) -> u32
 }
 
 #[inline(always)]
-fn lives(battle: &Packed, side: Side, place: u8) -> bool
+pub(crate) fn lives(battle: &Packed, side: Side, place: u8) -> bool
     requires low { 1 ≤ place }
     requires high { place ≤ 6 }
     ensures stands { Reads battle.now result λ f. is_living (member_at place (party side f)) }
@@ -176,7 +176,7 @@ fn picks_none(battle: &Packed, side: Side, status: u8) -> bool
 
 // Of each slot, whether it has PP and is not disabled, above a digit that is 0.
 #[inline(always)]
-fn usable(battle: &Packed, side: Side, member: &[u8]) -> u32
+pub(crate) fn usable(battle: &Packed, side: Side, member: &[u8]) -> u32
     requires { length member.now ≡ 24 }
     ensures stands { (g : Setting) (f : Field) → Within g battle.now f
         → member.now ≡ member_block (member_in side f)

@@ -81,7 +81,7 @@ fn moves_offered(battle: &Packed, side: Side) -> Choices
 }
 
 // The moves of slots that have PP and are not disabled.
-pub(crate) fn usable_moves(battle: &Packed, side: Side) -> Choices
+fn usable_moves(battle: &Packed, side: Side) -> Choices
     ensures few { array_vec_len result ≤ 4 }
     ensures stands { Reads battle.now result.items λ f. usable_from 1
         (conditions_in side f).disabled (member_in side f).moves }
@@ -97,7 +97,7 @@ pub(crate) fn usable_moves(battle: &Packed, side: Side) -> Choices
     choices
 }
 
-pub(crate) fn is_usable(battle: &Packed, side: Side, slot: u8) -> bool
+fn is_usable(battle: &Packed, side: Side, slot: u8) -> bool
     requires low { 1 ≤ slot }
     requires high { slot ≤ 4 }
     ensures stands { Reads battle.now result λ f. nat_lt 0
@@ -107,7 +107,8 @@ pub(crate) fn is_usable(battle: &Packed, side: Side, slot: u8) -> bool
     battle.pp(side, slot) > 0 && !is_disabled(battle, side, slot)
 }
 
-fn is_disabled(battle: &Packed, side: Side, slot: u8) -> bool
+#[inline(always)]
+pub(crate) fn is_disabled(battle: &Packed, side: Side, slot: u8) -> bool
     ensures { Reads battle.now result λ f. bars_slot (conditions_in side f).disabled slot }
 {
     match battle.disabled(side) {
@@ -132,7 +133,7 @@ fn add_switches(battle: &Packed, side: Side, choices: &mut Choices)
     }
 }
 
-pub(crate) fn may_come_out(battle: &Packed, side: Side, place: u8, out: u8) -> bool
+fn may_come_out(battle: &Packed, side: Side, place: u8, out: u8) -> bool
     requires low { 1 ≤ place }
     requires high { place ≤ 6 }
     ensures apart { IsTrue result → place ≢ out }

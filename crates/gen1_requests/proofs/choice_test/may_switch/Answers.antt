@@ -1,12 +1,14 @@
-use Rattle.std.proofs.Common.{ap, not, sym, ℕ, ◌&&◌, ◌==◌, ◌∙◌}
-use Rattle.gen1_layout.specs.Words.{is_living, member_at, party}
-use Rattle.gen1_requests.proofs.OneChoice.{switch_offered}
+use Rattle.std.proofs.Common.{sym, ◌∙◌}
+use Rattle.gen1_requests.proofs.TestedChoice.{out_already, out_yet}
 use Rattle.gen1_requests.proofs.choice_test.may_switch.Goals as goal
+
+pub returns-then-is_out : goal.returns-then-is_out
+returns-then-is_out c = record {
+  stands = λ g f h. sym (out_already c.args.side f c.args.place c.requires.low (sym (c.is_out.ensures g f h) ∙ c.if-is_out.true));
+}
 
 pub returns : goal.returns
 returns c = record {
   stands = λ g f h.
-      c.may_come_out.ensures.stands g f h
-      ∙ ap (λ (out : ℕ). is_living (member_at c.args.place (party c.args.side f)) && not (c.args.place == out)) (c.place.ensures.stands g f h)
-      ∙ sym (switch_offered c.args.side f c.args.place c.requires.low);
+      c.lives.ensures.stands g f h ∙ sym (out_yet c.args.side f c.args.place c.requires.low (sym (c.is_out.ensures g f h) ∙ c.if-is_out.false));
 }

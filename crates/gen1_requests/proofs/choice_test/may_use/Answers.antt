@@ -1,25 +1,30 @@
-use Rattle.std.proofs.Common.{List, ap, arith, length, sym, ◌==◌, ◌∙◌}
-use Rattle.gen1_machine.specs.declared.choice.Choice.{Choice}
-use Rattle.gen1_requests.proofs.OneChoice.{committed_slot, no_slot, slot_above, slot_zero}
+use Rattle.std.proofs.Common.{List, ap, arith, get_or, nat_lt, not, sym, ℕ, ◌&&◌, ◌∙◌}
+use Rattle.gen1_machine.specs.Layout.{member_block}
+use Rattle.gen1_machine.specs.OfferedChoices.{bars_slot, has_no_slot_in, is_committed}
+use Rattle.gen1_machine.specs.State.{conditions_in, known_in, member_at, party, underway_in}
+use Rattle.gen1_layout.proofs.Steps.{packed_of}
+use Rattle.gen1_requests.proofs.OneChoice.{slot_above}
+use Rattle.gen1_requests.proofs.TestedChoice.{neither, unpicked_slot}
 use Rattle.gen1_requests.proofs.choice_test.may_use.Goals as goal
 
-pub returns-then-is_committed : goal.returns-then-is_committed
-returns-then-is_committed c g f h =
-    sym (committed_slot c.args.side f c.args.slot (sym (c.is_committed.ensures g f h) ∙ c.if-is_committed.true))
-
-pub returns-then-has_no_slot : goal.returns-then-has_no_slot
-returns-then-has_no_slot c g f h =
-    let free = sym (c.is_committed.ensures g f h) ∙ c.if-is_committed.false in
-    sym (no_slot c.args.side f c.args.slot free (sym (c.has_no_slot.ensures g f h) ∙ c.if-has_no_slot.true))
-
 pub returns-then-slot-eq0 : goal.returns-then-slot-eq0
-returns-then-slot-eq0 c g f h =
-    let free = sym (c.is_committed.ensures g f h) ∙ c.if-is_committed.false in
-    let picks = sym (c.has_no_slot.ensures g f h) ∙ c.if-has_no_slot.false in
-    rw (c.if-slot-eq0.true) (c.is_empty.ensures ∙ ap (λ (l : List Choice). length l == 0) (c.usable_moves.ensures.stands g f h) ∙ sym (slot_zero c.args.side f free picks))
+returns-then-slot-eq0 c g f h = rw (c.if-slot-eq0.true) (c.picks_nothing.ensures g f h)
+
+pub returns-then-has_no_pick : goal.returns-then-has_no_pick
+returns-then-has_no_pick c g f h =
+    let s = c.args.side in
+    let block = c.member.ensures.packs g f (packed_of h) ∙ ap (λ (n : ℕ). member_block (member_at n (party s f))) (c.place-place.ensures.stands g f h) in
+    let none = c.has_no_pick.ensures g f h (ap (λ (l : List ℕ). get_or l 14 0) block) in
+    sym (unpicked_slot s f c.args.slot (sym none ∙ c.if-has_no_pick.true) (omega arith))
 
 pub returns : goal.returns
 returns c g f h =
-    let free = sym (c.is_committed.ensures g f h) ∙ c.if-is_committed.false in
-    let picks = sym (c.has_no_slot.ensures g f h) ∙ c.if-has_no_slot.false in
-    c.is_usable.ensures.stands g f h ∙ sym (slot_above c.args.side f c.args.slot free picks (omega arith))
+    let s = c.args.side in
+    let place = c.place-place.ensures.stands g f h in
+    let block = c.member.ensures.packs g f (packed_of h) ∙ ap (λ (n : ℕ). member_block (member_at n (party s f))) place in
+    let none = c.has_no_pick.ensures g f h (ap (λ (l : List ℕ). get_or l 14 0) block) in
+    let free = neither (is_committed (underway_in s f)) (has_no_slot_in s f) (sym none ∙ c.if-has_no_pick.false) in
+    let pp = c.pp_at.ensures.packs g f (packed_of h) ∙ ap (λ (n : ℕ). (known_in c.args.slot (member_at n (party s f)).moves).pp) place in
+    c.has_use.ensures g f h
+    ∙ ap (λ (n : ℕ). nat_lt 0 n && not (bars_slot (conditions_in s f).disabled c.args.slot)) pp
+    ∙ sym (slot_above s f c.args.slot free.0 free.1 (omega arith))
