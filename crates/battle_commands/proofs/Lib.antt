@@ -1,4 +1,4 @@
--- What the loops of the subcommands keep, and what is answered where nothing is printed.
+-- What the loops of the subcommands keep, what is answered where nothing is printed, and words that are worked out.
 pub mod Standing
 pub mod Outcomes
 pub mod Duels
@@ -7,3 +7,4 @@ pub mod Heard
 pub mod Pieces
 pub mod Serving
 pub mod Asking
+mod WorkedWords
