@@ -1,6 +1,6 @@
 //! An input that is read whole, up to a limit (docs/PROGRAM.md, "What is tested, in this order").
 ghost use Rattle.std.specs.Prelude.{◌≡◌, ◌||◌, ◌+◌, ◌<◌, ◌≤◌, ◌^◌, IfOk, IfSome, IsErrOf, length, vec_len};
-ghost use Rattle.gen1_machine.specs.Input.{device_refused, TakesAtMost};
+ghost use Rattle.gen1_machine.specs.Input.{device_refused, TakesAtMost, TakesSome};
 
 use crate::{DeviceFault, Source};
 use std::alloc::Allocator;
@@ -19,7 +19,7 @@ pub enum InputFault {
 /// Reads all bytes that are left. They may be `limit` at most, which is below 2^32.
 ///
 /// Whatever the answer, at most one byte above the limit is gone from the source. After a fault
-/// the bytes that were read are lost.
+/// the bytes that were read are lost. No byte past the limit asks for memory.
 pub fn read_whole<R: Source, A: Allocator>(
     alloc: A,
     source: &mut R,
@@ -31,21 +31,27 @@ pub fn read_whole<R: Source, A: Allocator>(
     ensures too_long { IsErrOf result InputFault.TooLong
         → IfSome (R.remaining source.old) (λ bytes. limit < length bytes) }
     ensures taken { TakesAtMost (R.remaining source.old) (R.remaining source.new) (limit + 1) }
+    // Memory is asked for only to keep what was read, none of it past the limit.
+    ensures memory { IsErrOf result InputFault.Memory
+        → TakesSome (R.remaining source.old) (R.remaining source.new) limit }
     ensures fault { R.has_failed source.new ≡ (R.has_failed source.old || device_refused result) }
 {
     let mut bytes = Vec::new(alloc);
     let mut chunk = [0u8; 4096];
-    'parts: while bytes.len() <= limit {
-        let most = chunk.len().min(limit - bytes.len() + 1);
+    'parts: loop {
+        let room = limit - bytes.len();
+        let most = chunk.len().min(room + 1);
         let Ok(count) = source.read(&mut chunk[..most]) else {
             return Err(InputFault::Device);
         };
         if count == 0 {
             return Ok(bytes);
         }
+        if room < count {
+            return Err(InputFault::TooLong);
+        }
         if bytes.extend_from_slice(&chunk[..count]).is_err() {
             return Err(InputFault::Memory);
         }
     }
-    Err(InputFault::TooLong)
 }

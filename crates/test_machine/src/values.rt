@@ -271,6 +271,25 @@ fn each_growth_that_is_refused_is_told(rt: HostRuntime) -> Result<(), Fail> {
 }
 
 #[test]
+fn an_input_that_is_too_long_asks_for_no_memory_past_its_limit(
+    rt: HostRuntime,
+) -> Result<(), Fail> {
+    let heap = LocalHeap::new(rt.alloc(), 0)?;
+    let input = [7u8; 20];
+    for (limit, expected) in [
+        (10usize, InputFault::TooLong),
+        (19, InputFault::TooLong),
+        (20, InputFault::Memory),
+    ] {
+        match read_whole(&heap, &mut Device::new(input.as_slice()), limit) {
+            Ok(bytes) => assert_same(&rt, bytes.len(), 21),
+            Err(fault) => assert_same(&rt, fault, expected),
+        }
+    }
+    Ok(())
+}
+
+#[test]
 fn devices_are_made_of_stds(rt: HostRuntime) -> Result<(), Fail> {
     let mut room = [0u8; 4];
     let mut to_slice = Device::new(room.as_mut_slice());

@@ -1,13 +1,13 @@
--- What was read so far is gone from the source, at most one byte above the limit, and no read has failed.
-use Rattle.std.proofs.Common.{◌≡◌, ◌+◌, ◌-◌, ◌≤◌, vec_len}
+-- What was read so far is gone from the source and fits the limit, and no read has failed.
+use Rattle.std.proofs.Common.{◌≡◌, ◌-◌, ◌≤◌, vec_len}
 use Rattle.std.specs.Io.KnownBytes.{Consumes}
 use Rattle.gen1_machine.proofs.input.read_whole.Given as goal
 
 abbrev pub invariant-parts : goal.invariant-parts
 invariant-parts g l =
     Consumes (g.R.Source.remaining l.initial.source) (g.R.Source.remaining l.source) l.bytes.items
-    × (vec_len l.bytes ≤ l.limit + 1)
+    × (vec_len l.bytes ≤ l.limit)
     × (g.R.Source.has_failed l.source ≡ g.R.Source.has_failed l.initial.source)
 
 abbrev pub decreases-parts : goal.decreases-parts
-decreases-parts g l = l.limit + 1 - vec_len l.bytes
+decreases-parts g l = l.limit - vec_len l.bytes
