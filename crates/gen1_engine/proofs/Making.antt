@@ -1,5 +1,5 @@
 -- Which update a pair of offered choices is, what the machine makes of it, and what was refused.
-use Rattle.std.proofs.Common.{Bool, List, ap, arith, false, inl, inr, refl, subst, sym, true, ◌∙◌, ◌≡◌, ◌≤◌, ◌⊎◌}
+use Rattle.std.proofs.Common.{Bool, List, Some, ap, arith, false, inl, inr, refl, subst, sym, true, ◌∙◌, ◌≡◌, ◌≤◌, ◌⊎◌}
 use Rattle.gen1_machine.specs.declared.side.Side.{Side}
 use Rattle.gen1_machine.specs.declared.side.Side.TheVariants.{One, Two}
 use Rattle.gen1_machine.specs.declared.terms.Outcome.{Outcome}
@@ -13,7 +13,7 @@ use Rattle.gen1_machine.specs.Progress.{Progress}
 use Rattle.gen1_machine.specs.Ruling.{ruling_of}
 use Rattle.gen1_machine.specs.Turn.{turn}
 use Rattle.gen1_machine.specs.OfferedChoices.{offered}
-use Rattle.gen1_machine.specs.Step.{Accepted, Answer, NotOffered, Over, Refused, Stepped, accepted, answered, close_update, offers, opened, refused, step, step_by, update, update_for}
+use Rattle.gen1_machine.specs.Step.{Accepted, Answer, NotOffered, Refused, Stepped, accepted, answered, close_update, offers, opened, step, step_by, update, update_for}
 use Rattle.gen1_machine.specs.Valid.{IsAsked, IsStarted, IsState, IsUnstarted, StandsAs}
 use Rattle.gen1_machine.proofs.Bounds.{step_is_bounded}
 use Rattle.gen1_layout.specs.Parts.{Parts}
@@ -21,7 +21,10 @@ use Rattle.gen1_layout.specs.Shows.{Telling}
 use Rattle.gen1_layout.specs.Within.{Stands, Within, setting_of}
 use Rattle.gen1_requests.specs.Updates.{Plays, Starts, Steps}
 use Rattle.gen1_requests.proofs.Stepped.{step_accepts, valid-after}
-use Rattle.gen1_engine.specs.Update.{AreOffered, IsBounded, IsBoundedAs}
+use Rattle.gen1_engine.specs.declared.result.Refusal.{Refusal}
+use Rattle.gen1_engine.specs.declared.result.Refusal.TheVariants as refusals
+use Rattle.gen1_engine.specs.Replay.{IsRefused}
+use Rattle.gen1_engine.specs.Update.{AreOffered, IsBounded, IsBoundedAs, Tests}
 
 -- where something is offered the battle goes on
 pub goes_on : (s : State) (side : Side) (c : Choice) → offers s side c ≡ true → s.field.outcome ≡ outcomes.Ongoing
@@ -151,18 +154,14 @@ turn_made s one two valid plays = let both = both_move s valid plays.goes_on pla
 
 -- refusals
 
-pub step_over : (s : State) (one two : Choice) → is_over s.field.outcome ≡ true → step s one two ≡ refused s Over
-unfolding step step_by answered
-step_over s one two over = rw over refl
+pub refused_first : (s : State) (one two : Choice) (refusal : Refusal) → offers s One one ≡ false → IsRefused s false (offers s Two two) refusal
+    → Tests s one two (Some refusal)
+unfolding step step_by
+refused_first s one two refusal a (why, is, all) = (why, is, rw a (all (update (ruling_of s.terms) one two (opened s))))
 
-pub step_first : (s : State) (one two : Choice) → is_over s.field.outcome ≡ false → offers s One one ≡ false → step s one two ≡ refused s (NotOffered One)
+pub refused_second : (s : State) (one two : Choice) → offers s One one ≡ true → offers s Two two ≡ false → Tests s one two (Some (refusals.NotOffered Two))
 unfolding step step_by answered
-step_first s one two over a = rw (over, a) refl
-
-pub step_second : (s : State) (one two : Choice) → is_over s.field.outcome ≡ false → offers s One one ≡ true → offers s Two two ≡ false
-    → step s one two ≡ refused s (NotOffered Two)
-unfolding step step_by answered
-step_second s one two over a b = rw (over, a, b) refl
+refused_second s one two a b = let over = ap is_over (goes_on s One one a) in (NotOffered Two, refl, rw (over, a, b) refl)
 
 -- bounds
 

@@ -1,6 +1,6 @@
 //! An update of the bytes of a battle, by what is asked of the sides (docs/MECHANICS.md, "Offered choices", "Falls and
 //! requests"). What becomes of its events its sink decides: a list, log bytes, or nothing.
-ghost use Rattle.std.specs.Prelude.{IsOk, OnErr, [], length, ◌≡◌, ◌≤◌};
+ghost use Rattle.std.specs.Prelude.{Bool, IsOk, OnErr, [], false, length, ◌≡◌, ◌≤◌};
 ghost use Rattle.gen1_machine.specs.LogBytes.{codes_of};
 ghost use Rattle.gen1_machine.specs.State.{State, is_over};
 ghost use Rattle.gen1_machine.specs.declared.terms.Request.TheVariants.{Move};
@@ -8,6 +8,7 @@ ghost use Rattle.gen1_layout.specs.Within.{Stands};
 ghost use Rattle.gen1_layout.specs.Words.{AddsAtMost, HasRoom};
 ghost use Rattle.gen1_layout.specs.LoadingMeaning.{StandsForSome};
 ghost use Rattle.gen1_requests.specs.Updates.{Plays, Steps};
+ghost use Rattle.gen1_engine.specs.Replay.{IsRefused};
 ghost use Rattle.gen1_engine.specs.Update.{Answers, AreOffered, Logs, Tells, Tests, result_of};
 
 use crate::result::{BattleResult, Refusal};
@@ -91,16 +92,25 @@ pub fn update_silent(battle: &mut Packed, one: Choice, two: Choice) -> Result<Ba
 fn refusal(battle: &Packed, one: &Choice, two: &Choice) -> Option<Refusal>
     ensures { (s : State) → Stands battle.now s → Tests s one.now two.now result }
 {
-    if is_over(battle) {
-        return Some(Refusal::Over);
-    }
     if !is_offered(battle, Side::One, one) {
-        return Some(Refusal::NotOffered(Side::One));
+        return Some(refusal_of_first(battle));
     }
     if !is_offered(battle, Side::Two, two) {
         return Some(Refusal::NotOffered(Side::Two));
     }
     None
+}
+
+// Where side 1's choice is not offered, as none is once the battle is over.
+pub(crate) fn refusal_of_first(battle: &Packed) -> Refusal
+    ensures { (s : State) → Stands battle.now s → (second : Bool)
+        → IsRefused s false second result }
+{
+    if is_over(battle) {
+        Refusal::Over
+    } else {
+        Refusal::NotOffered(Side::One)
+    }
 }
 
 /// An update by two choices that are offered, which are not tested: for who took them from what is offered. Its events go to a
@@ -134,7 +144,7 @@ pub fn result(battle: &Packed) -> BattleResult
     }
 }
 
-pub(crate) fn is_over(battle: &Packed) -> bool
+fn is_over(battle: &Packed) -> bool
     ensures { (s : State) → Stands battle.now s → result ≡ is_over s.field.outcome }
 {
     battle.outcome().is_over()
