@@ -2,7 +2,7 @@
 use Rattle.std.proofs.Common.{[], ap, arith, refl, ℕ, ◌+◌, ◌∙◌, ◌∷◌, ◌≡◌}
 use Rattle.gen1_machine.specs.declared.terms.Outcome.{Outcome}
 use Rattle.gen1_machine.specs.State.{State}
-use Rattle.gen1_c.specs.Playouts.{EndsAs, PlaysOut, counting, counts_of, no_counts}
+use Rattle.gen1_c.specs.Playouts.{EndsAs, PlaysOut, counting, no_counts}
 use Rattle.gen1_c.specs.declared.playouts.PlayoutCounts.{PlayoutCounts}
 
 pub plays-none : (s : State) (counts : PlayoutCounts) → counts ≡ no_counts → PlaysOut s 0 counts

@@ -1,11 +1,11 @@
 -- What a team of the C library is made of, and where it is at fault.
-use Rattle.std.proofs.Common.{List, None, Some, [], ap, arith, drop, drop_of_length-le, false, get_or, length, map, nat_lt, refl, take, sym, true, ℕ, ◌*◌, ◌+◌, ◌<◌, ◌==◌, ◌≡◌, ◌≤◌, ◌∙◌, ◌∷◌}
+use Rattle.std.proofs.Common.{List, None, Some, [], ap, arith, false, get_or, length, map, nat_lt, refl, take, sym, ℕ, ◌≡◌, ◌≤◌, ◌∙◌, ◌∷◌}
 use Rattle.std.proofs.lemmas.Bool.Decides.{nat_tests}
-use Rattle.std.proofs.lemmas.List.{drop_more, take-map}
+use Rattle.std.proofs.lemmas.List.{take-map}
 use Rattle.gen1_stats.specs.Sheets.{Sheet}
 use Rattle.gen1_stats.specs.Teams.{team_refusal}
 use Rattle.gen1_stats.specs.declared.refusal.TeamRefusal.{TeamRefusal}
-use Rattle.gen1_c.specs.Teams.{fault_of, first_fault, given, member_fault, sheet_of, sheets_of, team_fault}
+use Rattle.gen1_c.specs.Teams.{fault_of, first_fault, given, sheet_of, sheets_of, team_fault}
 use Rattle.gen1_c.specs.declared.teams.MemberForm.{MemberForm}
 use Rattle.gen1_c.specs.declared.teams.TeamForm.{TeamForm}
 

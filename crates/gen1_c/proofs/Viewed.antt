@@ -1,5 +1,5 @@
 -- The bytes of the header are those of the state: its numbers are the ring's.
-use Rattle.std.proofs.Common.{ap, lit≤, length, sym, ◌≡◌, ◌∙◌, ℕ, List, slice_index, [], ◌∷◌}
+use Rattle.std.proofs.Common.{ap, length, sym, ◌≡◌, ℕ, List, slice_index, [], ◌∷◌}
 use Rattle.gen1_rolls.specs.Link.{ring_at}
 use Rattle.gen1_machine.specs.Layout.{header_block, number_at}
 use Rattle.gen1_machine.specs.State.{State}

@@ -1,5 +1,5 @@
 -- Many battles in one call (include/gen1.h, "many battles").
-use Rattle.std.specs.Prelude.{List, [], length, slice_index, slice_index_or, ℕ, ◌<◌, ◌≡◌, ◌≢◌, ◌∷◌}
+use Rattle.std.specs.Prelude.{List, [], slice_index, slice_index_or, ℕ, ◌<◌, ◌≡◌, ◌≢◌, ◌∷◌}
 use Rattle.gen1_machine.specs.declared.side.Side.{Side}
 use Rattle.gen1_machine.specs.State.{State}
 use Rattle.gen1_machine.specs.Step.{Accepted, Answer, Refused}

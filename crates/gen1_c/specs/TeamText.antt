@@ -1,5 +1,5 @@
 -- Teams out of text as plain structs, and where a text is at fault (include/gen1.h, "teams out of text"; docs/TEAM_TEXT.md).
-use Rattle.std.specs.Prelude.{Err, List, None, Ok, Option, Result, Some, [], length, map, replicate, slice_index_or, ℕ, ◌≡◌, ◌∷◌}
+use Rattle.std.specs.Prelude.{Err, List, None, Ok, Result, Some, [], length, map, replicate, slice_index_or, ℕ, ◌≡◌, ◌∷◌}
 use Rattle.gen1_stats.specs.Refusals.{number_of as rule_of, place_of}
 use Rattle.gen1_stats.specs.Sheets.{Sheet}
 use Rattle.gen1_stats.specs.Teams.{team_refusal}

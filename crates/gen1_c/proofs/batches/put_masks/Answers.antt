@@ -1,4 +1,4 @@
-use Rattle.std.proofs.Common.{List, ap, arith, length, subst, sym, take, ℕ, ◌<◌, ◌∙◌, ◌≡◌}
+use Rattle.std.proofs.Common.{ap, arith, length, subst, sym, take, ℕ, ◌<◌, ◌∙◌, ◌≡◌}
 use Rattle.std.proofs.Math.Seq.{take-length}
 use Rattle.gen1_layout.specs.Parts.{Parts}
 use Rattle.gen1_layout.specs.Within.{Stands}
