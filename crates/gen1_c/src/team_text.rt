@@ -1,6 +1,5 @@
 //! Teams out of text, as plain structs (include/gen1.h, "teams out of text"; docs/TEAM_TEXT.md).
-ghost use Rattle.std.specs.Prelude.{length, ◌<◌, ◌≡◌, ◌≤◌};
-ghost use Rattle.arrayvec.specs.ArrayVec.{array_vec_len};
+ghost use Rattle.std.specs.Prelude.{length, ◌≡◌, ◌≤◌};
 ghost use Rattle.gen1_text.specs.Packed.{members_packed};
 ghost use Rattle.gen1_text.specs.Texts.{members_told};
 ghost use Rattle.gen1_c.specs.TeamText.{TellsTeam, code_of, expected, form_of, member_at, member_of, move_at, of_packed, of_team, of_text, packed_due, team_due, text_due};

@@ -1,11 +1,10 @@
 -- Which update a pair of offered choices is, what the machine makes of it, and what was refused.
-use Rattle.std.proofs.Common.{Bool, List, Some, ap, arith, false, inl, inr, refl, subst, sym, true, ◌∙◌, ◌≡◌, ◌≤◌, ◌⊎◌}
+use Rattle.std.proofs.Common.{Bool, Some, ap, arith, false, inl, inr, refl, subst, sym, true, ◌∙◌, ◌≡◌, ◌≤◌, ◌⊎◌}
 use Rattle.gen1_machine.specs.declared.side.Side.{Side}
 use Rattle.gen1_machine.specs.declared.side.Side.TheVariants.{One, Two}
 use Rattle.gen1_machine.specs.declared.terms.Outcome.{Outcome}
 use Rattle.gen1_machine.specs.declared.terms.Outcome.TheVariants as outcomes
 use Rattle.gen1_machine.specs.declared.terms.Request.TheVariants as requests
-use Rattle.gen1_machine.specs.declared.event.Event.{Event}
 use Rattle.gen1_machine.specs.declared.choice.Choice.{Choice}
 use Rattle.gen1_machine.specs.declared.choice.Choice.TheVariants as choices
 use Rattle.gen1_machine.specs.State.{Field, State, Terms, has_fallen_in, is_over}

@@ -1,8 +1,7 @@
 //! A battle before its first update, at turn 0 (docs/LAYOUT.md, "Header", "Member", "Turn, outcome and requests").
-ghost use Rattle.std.specs.Prelude.{[], length, replicate, slice_index_or, ℕ, ◌-◌, ◌≡◌, ◌≤◌};
+ghost use Rattle.std.specs.Prelude.{[], length, replicate, slice_index_or, ◌-◌, ◌≡◌, ◌≤◌};
 ghost use Rattle.gen1_rolls.specs.Streams.{IsStream, Link};
 ghost use Rattle.gen1_stats.specs.Members.{nobody};
-ghost use Rattle.gen1_machine.specs.Rules.{no_rules};
 ghost use Rattle.gen1_machine.specs.State.{first_state, known_in, usual_terms};
 ghost use Rattle.gen1_machine.specs.Valid.{IsTerms};
 ghost use Rattle.gen1_machine.specs.Layout.{header_block, high_byte, low_byte, member_block, member_blocks};

@@ -2,7 +2,6 @@
 use Rattle.gen1_layout.proofs.Words.{Bool, Field, Frame, Parts, Progress, Shows, Side, Telling, ap, false, inl, inr, length, refl, subst, sym, true, ℕ}
 use Rattle.std.proofs.Common.{◌≡◌, ◌⊎◌, ◌∙◌}
 use Rattle.std.proofs.lemmas.Bool.{false≢true}
-use Rattle.gen1_layout.specs.Words.{Event}
 use Rattle.gen1_rolls.specs.Streams.{IsStream, Stream}
 use Rattle.gen1_stats.specs.Members.{IsBetween}
 use Rattle.gen1_machine.specs.declared.choice.Choice.{Choice}

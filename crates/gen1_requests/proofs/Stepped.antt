@@ -11,7 +11,7 @@ use Rattle.gen1_machine.specs.State.{is_over, State}
 use Rattle.gen1_machine.specs.Ruling.{ruling_of, Ruling}
 use Rattle.gen1_machine.specs.OfferedChoices.{offered}
 use Rattle.gen1_machine.specs.SwitchingIn.{replace, start}
-use Rattle.gen1_machine.specs.Step.{accepted, answered, close_update, offers, opened, run_by, step, step_by, update, update_for, Accepted, Stepped}
+use Rattle.gen1_machine.specs.Step.{accepted, answered, close_update, offers, opened, run_by, step, step_by, update, update_for, Stepped}
 use Rattle.gen1_machine.specs.Valid.{IsState}
 use Rattle.gen1_machine.proofs.ValidStates.{states_stay_valid}
 use Rattle.gen1_layout.specs.Within.{blocks_of, setting_of}

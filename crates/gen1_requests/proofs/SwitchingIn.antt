@@ -1,7 +1,7 @@
 -- A member that comes out: the bytes, and what is told.
 use Rattle.gen1_layout.proofs.Words.{Active, Field, List, Member, None, Option, Parts, Progress, Setting, Shows, Side, Telling, [], ap, arith, changed_active, changed_conditions, given, lit≤, note, on_active, on_conditions, on_field, party, refl, subst, sym, then-goes, underway_in, ℕ}
 use Rattle.std.proofs.Common.{false, max, ◌++◌, ◌/◌, ◌∷◌, ◌≡◌, ◌≤◌, ◌∙◌}
-use Rattle.gen1_layout.specs.Words.{Event, Packs}
+use Rattle.gen1_layout.specs.Words.{Packs}
 use Rattle.gen1_tables.specs.Species.{species_row}
 use Rattle.gen1_tables.specs.declared.element.Element.{Element}
 use Rattle.gen1_stats.specs.declared.status.Status.{Status}

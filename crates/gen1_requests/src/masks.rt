@@ -1,11 +1,11 @@
 //! What a side may choose, as a number of twelve binary digits (docs/MECHANICS.md, "Offered choices"), read straight from the
 //! bytes. Digits are gathered from the highest down: each is one comparison with memory.
-ghost use Rattle.std.specs.Prelude.{Bool, List, [], IsTrue, false, length, nat_lt, not, ℕ, ◌&&◌, ◌*◌, ◌++◌, ◌+◌, ◌<◌, ◌==◌, ◌≡◌, ◌≤◌, ◌∷◌};
-ghost use Rattle.gen1_layout.specs.Words.{Field, Packs, Reads, Setting, Within, active_in, conditions_in, is_living, known_in, member_at, member_in, party, request_of, status_in};
+ghost use Rattle.std.specs.Prelude.{Bool, List, [], false, length, nat_lt, ◌*◌, ◌++◌, ◌+◌, ◌<◌, ◌≡◌, ◌≤◌, ◌∷◌};
+ghost use Rattle.gen1_layout.specs.Words.{Field, Packs, Reads, Setting, Within, is_living, member_at, member_in, party, request_of, status_in};
 ghost use Rattle.gen1_layout.specs.Within.{Stands};
 ghost use Rattle.gen1_machine.specs.Layout.{member_block, number_of_bits, request_byte, status_byte};
 ghost use Rattle.gen1_machine.specs.Rules.{bit_of};
-ghost use Rattle.gen1_machine.specs.OfferedChoices.{bars_slot, has_no_slot_in, moves_offered, offered_for, switches_offered};
+ghost use Rattle.gen1_machine.specs.OfferedChoices.{has_no_slot_in, moves_offered, offered_for};
 ghost use Rattle.gen1_machine.specs.State.{State};
 ghost use Rattle.gen1_machine.specs.declared.terms.Request.TheVariants as requests;
 ghost use Rattle.gen1_requests.specs.OfferedMask.{digits_of, living_of, mask_of, moves_and_pass, offered_mask, passing, usable_of};

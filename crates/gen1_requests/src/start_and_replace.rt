@@ -1,6 +1,5 @@
 //! The two updates in which members come out and nobody acts: the first of a battle, and replacements for the fallen
 //! (docs/MECHANICS.md, "Falls and requests").
-ghost use Rattle.std.specs.Prelude.{◌≡◌};
 ghost use Rattle.gen1_layout.specs.Words.{AddsAtMost, Frame, HasRoom, Progress, Shows, [], false};
 ghost use Rattle.gen1_machine.specs.declared.choice.Choice.TheVariants.{Pass};
 ghost use Rattle.gen1_machine.specs.declared.side.Side.TheVariants as sides;

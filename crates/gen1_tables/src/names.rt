@@ -1,5 +1,5 @@
 //! The names of species and moves, in the order of their numbers (docs/TABLES.md, "Species", "Moves").
-ghost use Rattle.std.specs.Prelude.{◌≡◌, ◌<◌, ◌≤◌, ℕ, map, length, bytes_eq, position, IfSome};
+ghost use Rattle.std.specs.Prelude.{◌≡◌, ◌<◌, ◌≤◌, map, length, bytes_eq, position, IfSome};
 ghost use Rattle.gen1_tables.specs.Names.{move_names, name_at, place_of, species_names};
 
 static SPECIES_NAMES: [&str; 151] = [

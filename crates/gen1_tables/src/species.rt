@@ -1,5 +1,5 @@
 //! The species by their numbers, each with its types and base stats (docs/TABLES.md, "Species").
-ghost use Rattle.std.specs.Prelude.{◌≡◌, ◌≢◌, ◌↔◌, ℕ, ◌≤◌, [], ◌∷◌, nat_le, ◌&&◌, if◌then◌else◌, IfSome, IsNone};
+ghost use Rattle.std.specs.Prelude.{◌≡◌, ◌≢◌, ◌↔◌, ℕ, ◌≤◌, nat_le, ◌&&◌, if◌then◌else◌, IfSome, IsNone};
 ghost use Rattle.gen1_tables.specs.Names.{species_name, species_named};
 ghost use Rattle.gen1_tables.specs.Species.{species_row, base_of, types_of};
 

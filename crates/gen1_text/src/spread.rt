@@ -1,6 +1,6 @@
 //! EVs and IVs (docs/TEAM_TEXT.md, "EVs and experience", "IVs and DVs").
-ghost use Rattle.std.specs.Prelude.{◌≡◌, ◌<◌, ◌≤◌, ◌*◌, bytes_eq, IfSome};
-ghost use Rattle.gen1_text.specs.Spreads.{dvs_of_ivs, exp_of_evs, experience, nothing_said, part_of, said_or, stat_named, with_parts};
+ghost use Rattle.std.specs.Prelude.{◌≡◌, ◌<◌, bytes_eq, IfSome};
+ghost use Rattle.gen1_text.specs.Spreads.{dvs_of_ivs, exp_of_evs, experience, nothing_said, part_of, stat_named, with_parts};
 ghost use Rattle.gen1_text.specs.Words.{pieces_of};
 
 use crate::cuts::{Pieces, text_before, text_behind};

@@ -1,7 +1,6 @@
 -- The number of a move that is used, and a member that stays as it is.
 use Rattle.std.proofs.Common.{if◌then◌else◌, set, ◌&&◌, ◌-◌, ◌≡◌}
 use Rattle.gen1_layout.proofs.Words.{Active, Bool, Field, Frame, IsBetween, List, Member, None, Parts, Progress, Shows, Side, Some, Telling, active_in, ap, changed_active, changed_member, false, given, member_in, nat_le, nobody, on_active, on_field, refl, subst, sym, true, ℕ, ◌∙◌}
-use Rattle.gen1_layout.specs.Words.{Event}
 use Rattle.std.proofs.lemmas.List.{set-get_or}
 use Rattle.gen1_machine.specs.declared.side.Side.TheVariants.{One, Two}
 use Rattle.gen1_machine.specs.Progress.{active}

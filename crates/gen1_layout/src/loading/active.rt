@@ -1,6 +1,5 @@
 //! The test of the active blocks, but for their current stats (docs/LAYOUT.md, "Active block", "Condition bits").
-ghost use Rattle.std.specs.Prelude.{◌≡◌, ◌↔◌, ◌+◌, ◌<◌, ◌≤◌, ◌&&◌, ◌||◌, ◌==◌, IsTrue, length, slice_index};
-ghost use Rattle.std.specs.Int.{bit_at};
+ghost use Rattle.std.specs.Prelude.{◌≡◌, ◌↔◌, ◌<◌, ◌&&◌, ◌||◌, ◌==◌, IsTrue, length};
 ghost use Rattle.gen1_machine.specs.Valid.{OnlyWith};
 ghost use Rattle.gen1_layout.specs.LoadingBytes.{active_bytes, long, word};
 ghost use Rattle.gen1_layout.specs.Loading.{PassesOfActives};

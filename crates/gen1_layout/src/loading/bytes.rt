@@ -1,5 +1,5 @@
 //! Numbers and parts of the bytes that are tested (docs/LAYOUT.md, "The 384 bytes of a battle").
-ghost use Rattle.std.specs.Prelude.{◌≡◌, ◌+◌, ◌<◌, ◌≤◌, ◌↔◌, All, IsTrue, length};
+ghost use Rattle.std.specs.Prelude.{◌≡◌, ◌+◌, ◌≤◌, ◌↔◌, All, IsTrue, length};
 ghost use Rattle.gen1_layout.specs.LoadingBytes.{active_bytes, long, member_bytes, word};
 
 use byteorder::{ByteOrder, LittleEndian};

@@ -1,5 +1,5 @@
 //! The tests of the version and the header (docs/LAYOUT.md, "Header", "Versions 1 and 2").
-ghost use Rattle.std.specs.Prelude.{◌≡◌, ◌↔◌, ◌≤◌, IsTrue, length};
+ghost use Rattle.std.specs.Prelude.{◌≡◌, ◌↔◌, IsTrue, length};
 ghost use Rattle.gen1_stats.specs.Members.{IsBetween};
 ghost use Rattle.gen1_layout.specs.LoadingBytes.{header_of};
 ghost use Rattle.gen1_layout.specs.LoadingHeader.{version_three, PassesHeader, PassesVersion};

@@ -1,10 +1,10 @@
 //! The test of turn, outcome, requests and living members together (docs/LAYOUT.md, "Turn, outcome and requests").
-ghost use Rattle.std.specs.Prelude.{◌≡◌, ◌↔◌, ◌<◌, ◌≤◌, IsTrue, length, slice_index};
+ghost use Rattle.std.specs.Prelude.{◌≡◌, ◌↔◌, IsTrue, length, slice_index};
 ghost use Rattle.gen1_stats.specs.Members.{IsBetween};
 ghost use Rattle.gen1_layout.specs.LoadingBytes.{member_bytes, word};
 ghost use Rattle.gen1_layout.specs.Loading.{PassesOfActives, PassesOfRequests};
 ghost use Rattle.gen1_layout.specs.LoadingActive.{out_bytes};
-ghost use Rattle.gen1_layout.specs.LoadingRequests.{any_lives, lives, Asks, PassesAsked, PassesLater, PassesRequests, PassesStart, PassesTie};
+ghost use Rattle.gen1_layout.specs.LoadingRequests.{any_lives, lives, Asks, PassesAsked, PassesLater, PassesStart, PassesTie};
 
 use crate::loading::bytes::{member_bytes, word};
 

@@ -3,7 +3,7 @@ ghost use Rattle.std.specs.Prelude.{◌≡◌, ◌↔◌, ◌≤◌, IsTrue, len
 ghost use Rattle.gen1_machine.specs.Stages.{now_at};
 ghost use Rattle.gen1_layout.specs.LoadingBytes.{active_bytes, word};
 ghost use Rattle.gen1_layout.specs.Loading.{PassesOfActives, PassesOfStats};
-ghost use Rattle.gen1_layout.specs.LoadingActive.{out_bytes, PassesActiveAt, PassesStages};
+ghost use Rattle.gen1_layout.specs.LoadingActive.{PassesActiveAt, PassesStages};
 ghost use Rattle.gen1_layout.specs.LoadingStats.{ComesFrom, PassesStats, PassesStatsAt};
 
 use crate::loading::bytes::{active_bytes, member_bytes, word};

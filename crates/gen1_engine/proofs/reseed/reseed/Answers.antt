@@ -1,4 +1,4 @@
-use Rattle.std.proofs.Common.{List, ap, arith, refl, subst, sym, ◌<◌, ◌≡◌, ◌∙◌, ℕ}
+use Rattle.std.proofs.Common.{List, ap, arith, refl, subst, ◌<◌, ◌∙◌, ℕ}
 use Rattle.gen1_rolls.specs.Streams.{IsStream, Link}
 use Rattle.gen1_machine.specs.Layout.{header_block}
 use Rattle.gen1_layout.specs.Parts.{Parts}

@@ -1,4 +1,3 @@
-use Rattle.gen1_layout.proofs.Words.{refl}
 use Rattle.gen1_machine.specs.Sides.{other}
 use Rattle.gen1_requests.proofs.SwitchingIn.{foe_stays, packs_so, sends_as, told_is, untrapped}
 use Rattle.gen1_requests.proofs.switching_in.send_first.Goals as goal

@@ -1,5 +1,5 @@
 use Rattle.std.proofs.Common.{sym, ◌≡◌, ◌∙◌}
-use Rattle.gen1_layout.proofs.Words.{party, refl}
+use Rattle.gen1_layout.proofs.Words.{party}
 use Rattle.gen1_machine.specs.State.{member_at}
 use Rattle.gen1_requests.specs.SwitchingIn.{coming_out}
 use Rattle.gen1_requests.proofs.switching_in.tell_coming_out.Goals as goal
