@@ -10,6 +10,7 @@ ghost use Rattle.gen1_layout.specs.Parts.{joined};
 use crate::choice_generator::ChoiceGenerator;
 use gen1_engine::Battle;
 use gen1_engine::packed::{choice_at, count_of};
+use gen1_events::Silent;
 use gen1_layout::Packed;
 use gen1_machine::{Choice, Outcome, Side};
 use std::alloc::AllocError;
@@ -117,11 +118,7 @@ fn play_out(battle: &mut Battle, random: &mut ChoiceGenerator) -> Outcome
         }
         let one = pick(battle.offered_mask(Side::One), random);
         let two = pick(battle.offered_mask(Side::Two), random);
-        match battle.update_silent(one, two) {
-            Ok(_) => {}
-            // What is offered is never refused.
-            Err(_) => return now.outcome,
-        }
+        battle.update_offered(one, two, &mut Silent);
     }
     battle.result().outcome
 }

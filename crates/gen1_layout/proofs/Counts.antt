@@ -117,3 +117,12 @@ same_storable count c d e h = record {
   bad_poison = rw e.bad_poison h.bad_poison;
   disabled = rw e.disabled h.disabled;
 }
+
+-- who does not trap has no trapping to end
+
+pub not_trapping : (c : ActiveConditions) → is_some c.underway.trapping ≡ false → record c { underway = record c.underway { trapping = None } } ≡ c
+not_trapping c e = ap (λ (t : Option ℕ). record c { underway = record c.underway { trapping = t } }) (sym (by c.underway.trapping e))
+  where
+    by : (t : Option ℕ) → is_some t ≡ false → t ≡ None
+    by None e = refl
+    by (Some n) e = cc

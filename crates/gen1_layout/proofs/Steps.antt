@@ -284,3 +284,13 @@ first_written {g = g} {p = p} {f = f} s change new w h makes low e =
     members_two : (s : Side) (a : Active) → IsMembersUnder g.terms.rules (with_party s (record (party s f) { active = a }) f).two.members
     members_two One a = h.two
     members_two Two a = h.two
+
+-- no write, where the conditions are to stay as they are
+
+pub within_unchanged : {g : Setting} {p : Parts} {f : Field} → Within g p f → (s : Side) (change : ActiveConditions → ActiveConditions)
+    → change (conditions_in s f) ≡ conditions_in s f → Within g p (changed_conditions s change f)
+unfolding changed_active changed_conditions
+within_unchanged {g = g} {p = p} {f = f} h One change e =
+    subst (λ (c : ActiveConditions). Within g p (record f { one = record f.one { active = record f.one.active { conditions = c } } })) (sym e) h
+within_unchanged {g = g} {p = p} {f = f} h Two change e =
+    subst (λ (c : ActiveConditions). Within g p (record f { two = record f.two { active = record f.two.active { conditions = c } } })) (sym e) h

@@ -281,8 +281,10 @@ impl Packed {
         ensures stands { WritesConditions side self.old self.new λ c. record c
             { underway = record c.underway { trapping = None } } }
     {
-        let turns = self.turns_without(side, Conditions::TRAPPING);
-        self.put_count(side, Conditions::TRAPPING, false, 26, turns);
+        if self.is_on(side, Conditions::TRAPPING) {
+            let turns = self.turns_without(side, Conditions::TRAPPING);
+            self.put_count(side, Conditions::TRAPPING, false, 26, turns);
+        }
     }
 
     /// Breaks off Bide, thrashing, trapping and charging.

@@ -20,7 +20,7 @@ mod moves;
 pub use many_hits::hits;
 pub use miss::missed_move;
 pub use moves::bide::{bide, bide_knowing, start_bide};
-pub use moves::charging::{charge, charge_knowing, make_current, used_by};
+pub use moves::charging::{charge, charge_knowing, make_current};
 pub use moves::counter::{counter, counter_knowing};
 pub use moves::fixed_damage::{fixed, fixed_knowing};
 pub use moves::one_hit_moves::knock_out;

@@ -69,7 +69,31 @@ fn coming_out(battle: &Packed, side: Side, place: Place) -> Option<Event>
     Some(Event::Switch(Who { side, species }, place, level, health))
 }
 
+// A penalty is rare, and has code of its own, so that the stats of others are copied as eight bytes.
 fn put_out(battle: &mut Packed, side: Side, place: Place)
+    ensures stands { (g : Setting) (f : Field) → Within g battle.old f → InRange side place f
+        → Within g battle.new (with_out side place f) }
+    ensures packs { (g : Setting) (f : Field) → Packs g battle.old f → InRange side place f
+        → Packs g battle.new (with_out side place f) }
+{
+    match battle.status_at(side, place.number()) {
+        Status::Burned | Status::Paralysed => put_out_with_penalty(battle, side, place),
+        _ => put_out_by_status(battle, side, place),
+    }
+}
+
+#[inline(never)] // docs/SPEED.md, "Hints on inlining"
+fn put_out_with_penalty(battle: &mut Packed, side: Side, place: Place)
+    ensures stands { (g : Setting) (f : Field) → Within g battle.old f → InRange side place f
+        → Within g battle.new (with_out side place f) }
+    ensures packs { (g : Setting) (f : Field) → Packs g battle.old f → InRange side place f
+        → Packs g battle.new (with_out side place f) }
+{
+    put_out_by_status(battle, side, place);
+}
+
+#[inline(always)] // docs/SPEED.md, "Hints on inlining"
+fn put_out_by_status(battle: &mut Packed, side: Side, place: Place)
     ensures stands { (g : Setting) (f : Field) → Within g battle.old f → InRange side place f
         → Within g battle.new (with_out side place f) }
     ensures packs { (g : Setting) (f : Field) → Packs g battle.old f → InRange side place f

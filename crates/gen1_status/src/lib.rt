@@ -26,6 +26,6 @@ pub use gate_answer::Gate;
 pub use gate_tests::gate;
 pub use infliction::{inflict, inflict_status};
 pub use penalties::take_penalty;
-pub use picks::pick;
+pub use picks::{pick, used_by};
 pub use residual_damage::{residual, suffers};
 pub use stage_shift::{lower_stage, raise_stage, shift_stage};

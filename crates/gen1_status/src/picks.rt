@@ -1,7 +1,7 @@
 //! What a side's choice comes to as the turn begins (docs/MECHANICS.md, "Picks").
 ghost use Rattle.std.specs.Prelude.{◌≡◌};
-ghost use Rattle.gen1_layout.specs.Words.{Reads, underway_in, zero, ℕ};
-ghost use Rattle.gen1_machine.specs.Picks.{must_continue, pick_in};
+ghost use Rattle.gen1_layout.specs.Words.{Reads, active_in, underway_in, zero, ℕ};
+ghost use Rattle.gen1_machine.specs.Picks.{must_continue, pick_in, used_by};
 
 use gen1_layout::{Conditions, Packed};
 use gen1_machine::{Choice, Pick, Side, UsedMove};
@@ -41,6 +41,18 @@ fn pick_without_slot(battle: &Packed, side: Side) -> Pick
         return Pick::Held;
     }
     Pick::Use(UsedMove::Struggle)
+}
+
+/// What a pick of `side` uses: the move that is picked, or else the current one (docs/MECHANICS.md, "Picks").
+pub fn used_by(battle: &Packed, side: Side, pick: Pick) -> UsedMove
+    ensures stands { Reads battle.now result λ f. used_by pick (active_in side f).current_move }
+{
+    match pick {
+        Pick::Use(used) => used,
+        Pick::Continue => battle.current_move(side),
+        Pick::Idle => battle.current_move(side),
+        Pick::Held => battle.current_move(side),
+    }
 }
 
 // Whether something keeps the member at its current move.

@@ -9,7 +9,7 @@ ghost use Rattle.gen1_action.specs.Knowing.{DoesKnowing, IsUncounted};
 use gen1_action::Known;
 use gen1_layout::{Conditions, Packed};
 use gen1_machine::{Pick, Side, UsedMove};
-use gen1_multiturn::used_by;
+use gen1_status::used_by;
 use gen1_tables::{MoveId, STRUGGLE};
 
 // What goes on by itself keeps its PP, unless its condition is gone: then the move is used anew.
@@ -60,7 +60,7 @@ pub(crate) fn move_taken(battle: &Packed, side: Side, pick: Pick) -> MoveId
         → result ≡ number_in (used_by pick (active_in side f).current_move)
         (member_in side f).moves }
 {
-    let used = used_by(pick, battle.current_move(side));
+    let used = used_by(battle, side, pick);
     match MoveId::new(number_of(battle, side, used)) {
         Some(id) => id,
         None => MoveId::default(),

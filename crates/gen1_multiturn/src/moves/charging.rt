@@ -13,8 +13,9 @@ ghost use Rattle.gen1_multiturn.specs.Charging.{charge_picked};
 use gen1_action::Known;
 use gen1_events::EventSink;
 use gen1_layout::{Conditions, Packed};
-use gen1_machine::{Event, Pick, Side, UsedMove};
+use gen1_machine::{Event, Pick, Side};
 use gen1_rolls::Rolls;
+use gen1_status::used_by;
 use gen1_tables::{Effect, MoveId};
 
 /// Charges the move that `side` has picked, if it charges. In the first turn the picked move becomes the current one, the user is
@@ -59,20 +60,8 @@ pub fn make_current(battle: &mut Packed, side: Side, pick: Pick)
         → Shows g battle.old (Told events) false p
         → Shows g battle.new (Told events) false (make_current side pick p) }
 {
-    let used = used_by(pick, battle.current_move(side));
+    let used = used_by(battle, side, pick);
     battle.put_current_move(side, used);
-}
-
-/// What a pick uses: the move that is picked, or else the current one (docs/MECHANICS.md, "Picks").
-pub fn used_by(pick: Pick, current: UsedMove) -> UsedMove
-    ensures { result ≡ used_by pick current }
-{
-    match pick {
-        Pick::Use(used) => used,
-        Pick::Continue => current,
-        Pick::Idle => current,
-        Pick::Held => current,
-    }
 }
 
 // True where the action ends with it.

@@ -1,13 +1,13 @@
 //! The tests that rule out the move that was picked: confusion, Disable, paralysis, and that nothing was picked.
 ghost use Rattle.std.specs.Prelude.{◌≡◌};
 ghost use Rattle.gen1_layout.specs.Words.{AddsAtMost, AddsNone, Does, DoesDrawing, HasRoom, Reads, false, is_paralysed};
-ghost use Rattle.gen1_machine.specs.Picks.{bars, is_disabled_in, is_idle, used_by};
+ghost use Rattle.gen1_machine.specs.Picks.{bars, is_disabled_in, is_idle};
 ghost use Rattle.gen1_machine.specs.Gate.{disabled_test, gate_of_move, paralysis_test};
 ghost use Rattle.gen1_status.specs.GateAnswer.{DoesTelling};
 
 use super::cant;
 use super::confusion::confusion_test;
-use crate::Gate;
+use crate::{Gate, used_by};
 use gen1_events::EventSink;
 use gen1_layout::{Conditions, Packed};
 use gen1_machine::{CantReason, DisabledSlot, Pick, Side, UsedMove};
@@ -91,10 +91,7 @@ fn is_disabled(battle: &Packed, side: Side, pick: Pick) -> bool
     if is_idle(pick) {
         return false;
     }
-    bars(
-        battle.disabled(side),
-        used_by(pick, battle.current_move(side)),
-    )
+    bars(battle.disabled(side), used_by(battle, side, pick))
 }
 
 fn bars(disabled: Option<DisabledSlot>, used: UsedMove) -> bool
@@ -103,17 +100,6 @@ fn bars(disabled: Option<DisabledSlot>, used: UsedMove) -> bool
     match (disabled, used) {
         (Some(disabled), UsedMove::Slot(slot)) => slot == disabled.slot,
         _ => false,
-    }
-}
-
-fn used_by(pick: Pick, current_move: UsedMove) -> UsedMove
-    ensures { result ≡ used_by pick current_move }
-{
-    match pick {
-        Pick::Use(used) => used,
-        Pick::Continue => current_move,
-        Pick::Idle => current_move,
-        Pick::Held => current_move,
     }
 }
 

@@ -1,6 +1,5 @@
 use Rattle.std.proofs.Common.{ap, arith, sym, ◌+◌, ◌∙◌, ◌≡◌}
-use Rattle.std.specs.Prelude.{false, is_ok}
-use Rattle.std.proofs.lemmas.Bool.{false≢true}
+use Rattle.std.specs.Prelude.{false}
 use Rattle.gen1_machine.specs.declared.side.Side.TheVariants.{One, Two}
 use Rattle.gen1_machine.specs.Laws.{accepted_in}
 use Rattle.gen1_machine.specs.State.{is_over}
@@ -9,7 +8,7 @@ use Rattle.gen1_machine.proofs.RunsEnd.{runs_end}
 use Rattle.gen1_requests.specs.OfferedMask.{choices_in}
 use Rattle.gen1_requests.proofs.MaskChoices.{offered_chosen}
 use Rattle.gen1_engine.specs.declared.result.BattleResult.{BattleResult}
-use Rattle.gen1_c.proofs.Accepting.{accepts-more, accepts-none, accepts-offered}
+use Rattle.gen1_c.proofs.Accepting.{accepts-more, accepts-none}
 use Rattle.gen1_c.proofs.Offers.{picked}
 use Rattle.gen1_c.proofs.playouts.play_out.Goals as goal
 
@@ -23,24 +22,21 @@ returns-then-is_over c s h =
     record { pairs = so_far.pairs; tells = ap (λ (r : BattleResult). r.outcome) tells; over = sym c.is_over.ensures ∙ c.if-is_over.true }
 
 -- what was picked was offered
-pub returns-in-Err : goal.returns-in-Err
-returns-in-Err c =
-    let some = c.result-now.ensures.valid in
-    let s = some.state in
+pub update_offered-requires-clause-offered : goal.update_offered-requires-clause-offered
+update_offered-requires-clause-offered c s h =
     let going : is_over s.field.outcome ≡ false =
-    ap (λ (r : BattleResult). is_over r.outcome) (sym (c.result-now.ensures.stands s some.stands)) ∙ sym c.is_over.ensures ∙ c.if-is_over.false in
-    let one = picked One s (choices_in c.offered_mask.result) c.pick-one.result some.stands.valid going
-    (ap choices_in (c.offered_mask.ensures.stands s some.stands) ∙ offered_chosen s One some.stands.valid) c.pick-one.ensures in
-    let two = picked Two s (choices_in c.offered_mask-in-updates.result) c.pick-two.result some.stands.valid going
-    (ap choices_in (c.offered_mask-in-updates.ensures.stands s some.stands) ∙ offered_chosen s Two some.stands.valid) c.pick-two.ensures in
-    let ok = accepts-offered s c.pick-one.result c.pick-two.result _ _ c.update_silent.result one two (c.update_silent.ensures.answers s some.stands) in
-    absurd (false≢true (sym (ap is_ok c.in-Err.is) ∙ ok))
+    ap (λ (r : BattleResult). is_over r.outcome) (sym (c.result-now.ensures.stands s h)) ∙ sym c.is_over.ensures ∙ c.if-is_over.false in
+    record {
+      first = picked One s (choices_in c.offered_mask.result) c.pick-one.result h.valid going
+          (ap choices_in (c.offered_mask.ensures.stands s h) ∙ offered_chosen s One h.valid) c.pick-one.ensures;
+      second = picked Two s (choices_in c.offered_mask-in-updates.result) c.pick-two.result h.valid going
+          (ap choices_in (c.offered_mask-in-updates.ensures.stands s h) ∙ offered_chosen s Two h.valid) c.pick-two.ensures;
+    }
 
 pub updates-preserved : goal.updates-preserved
 updates-preserved c s h =
     let so_far = c.updates.invariant s h in
-    accepts-more _ c.pick-one.result c.pick-two.result c.update_silent.result so_far (ap is_ok c.in-Ok.is)
-    (c.update_silent.ensures.answers (run s so_far.pairs).state so_far.stands)
+    accepts-more c.pick-one.result c.pick-two.result so_far (c.update_offered.ensures.steps (run s so_far.pairs).state so_far.stands)
 
 pub returns : goal.returns
 returns c s h =

@@ -10,7 +10,7 @@ pub returns-in-Some : goal.returns-in-Some
 returns-in-Some c =
     record {
       stands = λ g f h used number.
-          let same : c.used_by-used.result ≡ used_by c.args.pick (active_in c.args.side f).current_move = c.used_by-used.ensures ∙ ap (used_by c.args.pick) (c.current_move.ensures.stands _ _ h) in
+          let same : c.used_by-used.result ≡ used_by c.args.pick (active_in c.args.side f).current_move = c.used_by-used.ensures.stands _ _ h in
           let n = c.number_of.ensures.stands _ _ h (subst (λ (u : UsedMove). IsUsedMove (length (member_in c.args.side f).moves) u) (sym same) used) in
           made _ _ (sym c.new.ensures ∙ c.in-Some.is) ∙ n ∙ ap (λ (u : UsedMove). number_in u (member_in c.args.side f).moves) same;
     }
@@ -19,7 +19,7 @@ pub returns-in-None : goal.returns-in-None
 returns-in-None c =
     record {
       stands = λ g f h used number.
-          let same : c.used_by-used.result ≡ used_by c.args.pick (active_in c.args.side f).current_move = c.used_by-used.ensures ∙ ap (used_by c.args.pick) (c.current_move.ensures.stands _ _ h) in
+          let same : c.used_by-used.result ≡ used_by c.args.pick (active_in c.args.side f).current_move = c.used_by-used.ensures.stands _ _ h in
           let n = c.number_of.ensures.stands _ _ h (subst (λ (u : UsedMove). IsUsedMove (length (member_in c.args.side f).moves) u) (sym same) used) in
           let is = n ∙ ap (λ (u : UsedMove). number_in u (member_in c.args.side f).moves) same in
           absurd (some_made c.number_of.result (subst (λ (k : ℕ). IsBetween 1 165 k) (sym is) number) (sym c.new.ensures ∙ c.in-None.is));

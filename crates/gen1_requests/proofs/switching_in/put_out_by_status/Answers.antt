@@ -6,7 +6,7 @@ use Rattle.gen1_machine.specs.State.{member_at}
 use Rattle.gen1_machine.specs.SwitchingIn.{with_sent_out}
 use Rattle.gen1_requests.specs.SwitchingIn.{halvings_of, quarterings_of}
 use Rattle.gen1_requests.proofs.SwitchingIn.{sent_made, stats_made}
-use Rattle.gen1_requests.proofs.switching_in.put_out.Goals as goal
+use Rattle.gen1_requests.proofs.switching_in.put_out_by_status.Goals as goal
 
 pub returns-in-Some : goal.returns-in-Some
 unfolding with_sent_out
