@@ -3,7 +3,7 @@ use Rattle.std.proofs.Common.{◌≡◌, ◌||◌, ℕ, ◌<◌, ◌≤◌, Bool
 use Rattle.std.proofs.KnownBytes.{Appends-nil}
 use Rattle.serde_json.specs.Data.{Data}
 use Rattle.gen1_machine.specs.State.{State, Terms, first_state}
-use Rattle.battle_commands.specs.Answers.{Answers, IsInputFault, is_write_fault}
+use Rattle.battle_commands.specs.Answers.{Answers, IsInputFault, of_write}
 use Rattle.gen1_stats.specs.Members.{Member}
 use Rattle.gen1_stats.specs.Sheets.{Sheet as MemberSheet}
 use Rattle.gen1_stats.specs.Teams.{team_of, team_refusal}
@@ -14,7 +14,8 @@ use Rattle.battle_input.specs.declared.misfit.Key.{Key}
 use Rattle.battle_input.specs.declared.misfit.Misfit.{Misfit}
 use Rattle.battle_commands.specs.Asked.{Asked, asked_of, begins, input_limit}
 use Rattle.battle_commands.specs.Due.{Due, due_if}
-use Rattle.battle_commands.specs.AskedBattle.{IsAskedFault}
+use Rattle.battle_commands.specs.AskedBattle.{Opens}
+use Rattle.battle_commands.specs.declared.asked_battle.Bout.{Bout}
 use Rattle.battle_commands.specs.declared.fault.ToolFault.{ToolFault}
 use Rattle.battle_commands.specs.declared.fault.ToolFault.TheVariants.{Json, TooLong, Team, Pair, Log, Calc, Read, Write, Memory}
 
@@ -39,25 +40,18 @@ too_long : {A : Type 0} (key : Key) (meaning : Data → Result A Misfit) (input 
 unfolding asked_of
 too_long key meaning input h = search rules
 
-pub answers_too_long : {A : Type 0} (due : State → List A → Due) (key : Key) (meaning : Data → Result A Misfit) (input : List ℕ) (old : Option (List ℕ)) → input_limit < length input
-    → Answers {T = Unit {0}} (due_if due (asked_of key meaning input)) old old (Err TooLong)
-answers_too_long due key meaning input old h =
-    subst (λ (d : Due). Answers {T = Unit {0}} d old old (Err TooLong)) (sym (ap (due_if due) (too_long key meaning input h))) (refl, Appends-nil old)
-
 -- no input was read
-
-pub answers_no_input : (due : List ℕ → Due) (fault : ToolFault) (told : Option (List ℕ)) (old : Option (List ℕ))
-    → ((input : List ℕ) → input_limit < length input → Answers {T = Unit {0}} (due input) old old (Err TooLong))
-    → IsInputFault fault told → IfSome told (λ input. Answers {T = Unit {0}} (due input) old old (Err fault))
-answers_no_input due Read told old long h = some_all told _ (λ input. answers_unread (due input) old)
-answers_no_input due Memory told old long h = some_all told _ (λ input. answers_unheld (due input) old)
-answers_no_input due TooLong told old long h = some_along told (λ input. input_limit < length input) _ long h
-answers_no_input due (Json fault) told old long h = absurd h
-answers_no_input due (Team side place refusal) told old long h = absurd h
-answers_no_input due (Pair number refusal) told old long h = absurd h
-answers_no_input due (Log number) told old long h = absurd h
-answers_no_input due Calc told old long h = absurd h
-answers_no_input due Write told old long h = absurd h
+pub opens_no_input : {A : Type 0} (key : Key) (meaning : Data → Result A Misfit) (fault : ToolFault) (told : Option (List ℕ)) → IsInputFault fault told
+    → IfSome told (λ input. Opens (Err fault) (asked_of key meaning input))
+opens_no_input key meaning Read told h = some_all told _ (λ input. tt)
+opens_no_input key meaning Memory told h = some_all told _ (λ input. tt)
+opens_no_input key meaning TooLong told h = some_along told (λ input. input_limit < length input) _ (too_long key meaning) h
+opens_no_input key meaning (Json fault) told h = absurd h
+opens_no_input key meaning (Team side place refusal) told h = absurd h
+opens_no_input key meaning (Pair number refusal) told h = absurd h
+opens_no_input key meaning (Log number) told h = absurd h
+opens_no_input key meaning Calc told h = absurd h
+opens_no_input key meaning Write told h = absurd h
 
 -- a battle is asked for where neither team is refused
 pub asks_for : {A : Type 0} (key : Key) (meaning : Data → Result A Misfit) (input : List ℕ) (sheet : BattleData × List A) → length input ≤ input_limit
@@ -76,10 +70,10 @@ stands_begun p t seed one two a b e f h =
 
 -- no battle was opened
 
-unopened : {A : Type 0} (due : State → List A → Due) (fault : ToolFault) (asked : Result (Asked A) ToolFault) (old : Option (List ℕ)) → IsAskedFault fault asked
+unopened : {A : Type 0} (due : State → List A → Due) (fault : ToolFault) (asked : Result (Asked A) ToolFault) (old : Option (List ℕ)) → Opens (Err fault) asked
     → Answers {T = Unit {0}} (due_if due asked) old old (Err fault)
 unopened due Memory asked old h = answers_unheld (due_if due asked) old
-unopened due Read asked old h = absurd h
+unopened due Read asked old h = answers_unread (due_if due asked) old
 unopened due Write asked old h = absurd h
 unopened due (Json fault) asked old h = subst (λ (d : Due). Answers {T = Unit {0}} d old old (Err (Json fault))) (sym (ap (due_if due) h)) (refl, Appends-nil old)
 unopened due TooLong asked old h = subst (λ (d : Due). Answers {T = Unit {0}} d old old (Err TooLong)) (sym (ap (due_if due) h)) (refl, Appends-nil old)
@@ -90,20 +84,23 @@ unopened due (Pair number refusal) asked old h =
 unopened due (Log number) asked old h = subst (λ (d : Due). Answers {T = Unit {0}} d old old (Err (Log number))) (sym (ap (due_if due) h)) (refl, Appends-nil old)
 unopened due Calc asked old h = subst (λ (d : Due). Answers {T = Unit {0}} d old old (Err Calc)) (sym (ap (due_if due) h)) (refl, Appends-nil old)
 
--- for the bytes that were read
-pub answers_unopened : {A : Type 0} (due : State → List A → Due) (asked : List ℕ → Result (Asked A) ToolFault) (fault : ToolFault) (told : Option (List ℕ)) (items slice : List ℕ) (old : Option (List ℕ))
-    → slice ≡ items → IsAskedFault fault (asked slice) → IfSome told (λ input. items ≡ input) → IfSome told (λ input. Answers {T = Unit {0}} (due_if due (asked input)) old old (Err fault))
-answers_unopened due asked fault told items slice old lent opens read =
-    some_along told (λ input. items ≡ input) (λ input. Answers {T = Unit {0}} (due_if due (asked input)) old old (Err fault))
-    (λ input same. unopened due fault (asked input) old (subst (λ bytes. IsAskedFault fault (asked bytes)) (lent ∙ same) opens)) read
+pub answers_unopened : {A : Type 0} (due : State → List A → Due) (asked : List ℕ → Result (Asked A) ToolFault) (fault : ToolFault) (told : Option (List ℕ)) (old : Option (List ℕ))
+    → IfSome told (λ input. Opens (Err fault) (asked input)) → IfSome told (λ input. Answers {T = Unit {0}} (due_if due (asked input)) old old (Err fault))
+answers_unopened due asked fault told old opens = some_along told _ _ (λ input h. unopened due fault (asked input) old h) opens
 
 -- what is asked for was done
-pub answers_opened : {T A : Type 0} (due : State → List A → Due) (asked : List ℕ → Result (Asked A) ToolFault) (x : Asked A) (told : Option (List ℕ)) (items slice : List ℕ) (old new : Option (List ℕ)) (result : Result T ToolFault)
-    → slice ≡ items → asked slice ≡ Ok x → IfSome told (λ input. items ≡ input) → Answers (due x.state x.items) old new result
+pub answers_opened : {T A : Type 0} (due : State → List A → Due) (asked : List ℕ → Result (Asked A) ToolFault) (bout : Bout A) (told : Option (List ℕ)) (old new : Option (List ℕ)) (result : Result T ToolFault)
+    → IfSome told (λ input. Opens (Ok bout) (asked input)) → ((x : Asked A) → Stands bout.battle x.state → bout.items.items ≡ x.items → Answers (due x.state x.items) old new result)
     → IfSome told (λ input. Answers (due_if due (asked input)) old new result)
-answers_opened due asked x told items slice old new result lent is read done =
-    some_along told (λ input. items ≡ input) (λ input. Answers (due_if due (asked input)) old new result)
-    (λ input same. subst (λ (d : Due). Answers d old new result) (sym (ap (λ bytes. due_if due (asked bytes)) (sym (lent ∙ same)) ∙ ap (due_if due) is)) done) read
+answers_opened due asked bout told old new result opens done =
+    some_along told (λ input. Opens (Ok bout) (asked input)) (λ input. Answers (due_if due (asked input)) old new result)
+    (λ input h. subst (λ (d : Due). Answers d old new result) (sym (ap (due_if due) h.1)) (done h.0 h.2 h.3)) opens
+
+-- what was opened was asked for by the bytes that were read
+pub opens_read : {A : Type 0} (asked : List ℕ → Result (Asked A) ToolFault) (opened : Result (Bout A) ToolFault) (told : Option (List ℕ)) (items slice : List ℕ)
+    → slice ≡ items → Opens opened (asked slice) → IfSome told (λ input. items ≡ input) → IfSome told (λ input. Opens opened (asked input))
+opens_read asked opened told items slice lent opens read =
+    some_along told (λ input. items ≡ input) (λ input. Opens opened (asked input)) (λ input same. subst (λ bytes. Opens opened (asked bytes)) (lent ∙ same) opens) read
 
 unfailed : (b : Bool) → b ≡ (b || false)
 unfailed true = refl
@@ -112,26 +109,18 @@ unfailed false = refl
 pub or_false : (b : Bool) → (b || false) ≡ b
 or_false b = sym (unfailed b)
 
--- and so no write has failed
-pub unopened_writes : (T : Type 0) {A : Type 0} (fault : ToolFault) (asked : Result A ToolFault) (b : Bool) → IsAskedFault fault asked → b ≡ (b || is_write_fault {T = T} (Err fault))
-unopened_writes T Write asked b h = absurd h
-unopened_writes T Read asked b h = unfailed b
-unopened_writes T Memory asked b h = unfailed b
-unopened_writes T (Json fault) asked b h = unfailed b
-unopened_writes T TooLong asked b h = unfailed b
-unopened_writes T (Team side place refusal) asked b h = unfailed b
-unopened_writes T (Pair number refusal) asked b h = unfailed b
-unopened_writes T (Log number) asked b h = unfailed b
-unopened_writes T Calc asked b h = unfailed b
+-- where nothing is written no write has failed
+pub no_writes : (b c : Bool) → c ≡ false → b ≡ (b || c)
+no_writes b c none = unfailed b ∙ ap (λ x. b || x) (sym none)
 
--- where no input was read, neither
-pub unread_writes : (T : Type 0) (fault : ToolFault) (told : Option (List ℕ)) (b : Bool) → IsInputFault fault told → b ≡ (b || is_write_fault {T = T} (Err fault))
-unread_writes T Write told b h = absurd h
-unread_writes T Read told b h = unfailed b
-unread_writes T Memory told b h = unfailed b
-unread_writes T TooLong told b h = unfailed b
-unread_writes T (Json fault) told b h = absurd h
-unread_writes T (Team side place refusal) told b h = absurd h
-unread_writes T (Pair number refusal) told b h = absurd h
-unread_writes T (Log number) told b h = absurd h
-unread_writes T Calc told b h = absurd h
+-- so it is while an input is read
+pub unwritten : (fault : ToolFault) (told : Option (List ℕ)) → IsInputFault fault told → of_write fault ≡ false
+unwritten Write told h = absurd h
+unwritten Read told h = refl
+unwritten Memory told h = refl
+unwritten TooLong told h = refl
+unwritten (Json fault) told h = absurd h
+unwritten (Team side place refusal) told h = absurd h
+unwritten (Pair number refusal) told h = absurd h
+unwritten (Log number) told h = absurd h
+unwritten Calc told h = absurd h

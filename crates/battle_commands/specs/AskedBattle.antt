@@ -13,12 +13,13 @@ IsAskedFault Read asked = ⊥
 IsAskedFault Write asked = ⊥
 IsAskedFault fault asked = asked ≡ Err fault
 
--- the battle stands for the state that was asked for, with what is done in it
+-- The battle stands for the state that was asked for, with what is done in it. A fault is as above, or that of a read.
 abbrev pub Opens : {A : Type 0} → Result (Bout A) ToolFault → Result (Asked A) ToolFault → Type 0
 Opens {A = A} (Ok bout) asked = (x : Asked A) × (asked ≡ Ok x) × Stands bout.battle x.state × (bout.items.items ≡ x.items)
+Opens (Err Read) asked = Unit {0}
 Opens (Err fault) asked = IsAskedFault fault asked
 
--- likewise for damage numbers
+-- damage numbers are those that were asked for
 abbrev pub Finds : Result (List ℕ) ToolFault → Result (List ℕ) ToolFault → Type 0
 Finds (Ok numbers) asked = asked ≡ Ok numbers
 Finds (Err fault) asked = IsAskedFault fault asked

@@ -1,12 +1,15 @@
 //! The battle that an input asks for, and what is done in it (docs/PROGRAM.md, "What is tested, in this order").
-ghost use Rattle.std.specs.Prelude.{◌≤◌, length};
+ghost use Rattle.std.specs.Prelude.{◌+◌, ◌≡◌, ◌≤◌, ◌||◌, IfSome, false, length};
+ghost use Rattle.gen1_machine.specs.Input.{TakesAtMost};
+ghost use Rattle.battle_commands.specs.Answers.{is_read_fault, is_write_fault};
 ghost use Rattle.battle_commands.specs.Asked.{asked_of};
 ghost use Rattle.battle_commands.specs.AskedBattle.{Opens};
 
 use crate::fault::ToolFault;
-use crate::input::INPUT_LIMIT;
+use crate::input::{INPUT_LIMIT, read_input};
 use battle_input::{Item, Key, SheetFault, read_sheet};
 use gen1_engine::Battle;
+use gen1_machine::Source;
 use gen1_stats::Team;
 use std::alloc::Global;
 
@@ -17,15 +20,39 @@ pub struct Bout<T> {
     pub items: Vec<T>,
 }
 
-/// The battle that an input asks for, with the list under a key.
-#[tactic(auto, unfolding(crate::specs::Asked::asked_of))]
-pub fn open_bout<T: Item + Drop>(
+/// Reads an input whole, and opens the battle that it asks for, with the list under a key.
+///
+/// The sheet comes first, then side 1's team, then side 2's.
+pub fn read_bout<T: Item + Drop, R: Source>(
     alloc: Global,
-    input: &[u8],
+    reader: &mut R,
     key: Key,
 ) -> Result<Bout<T>, ToolFault>
+    // Where the source tells its bytes, they are the input.
+    ensures opens { IfSome (R.remaining reader.old)
+        (λ input. Opens result (asked_of key T.meaning input)) }
+
+    // No more than the limit and one byte is taken from the source.
+    ensures taken { TakesAtMost (R.remaining reader.old) (R.remaining reader.new) (INPUT_LIMIT + 1) }
+
+    // A read fault is answered exactly where the source has failed in this call, and never a write fault.
+    ensures read { R.has_failed reader.new ≡ (R.has_failed reader.old || is_read_fault result) }
+    ensures write { is_write_fault result ≡ false }
+{
+    let input = match read_input(alloc, reader) {
+        Ok(input) => input,
+        Err(fault) => return Err(fault),
+    };
+    open_bout(alloc, input.as_slice(), key)
+}
+
+/// The battle that an input asks for, with the list under a key.
+#[tactic(auto, unfolding(crate::specs::Asked::asked_of))]
+fn open_bout<T: Item + Drop>(alloc: Global, input: &[u8], key: Key) -> Result<Bout<T>, ToolFault>
     requires { length input.now ≤ INPUT_LIMIT }
-    ensures { Opens result (asked_of key T.meaning input.now) }
+    ensures opens { Opens result (asked_of key T.meaning input.now) }
+    ensures read { is_read_fault result ≡ false }
+    ensures write { is_write_fault result ≡ false }
 {
     let sheet = match read_sheet::<T>(alloc, input, key) {
         Ok(sheet) => sheet,

@@ -8,9 +8,9 @@ ghost use Rattle.gen1_layout.specs.Within.{Stands};
 ghost use Rattle.battle_commands.specs.Answers.{Answers, is_read_fault, is_write_fault};
 ghost use Rattle.battle_commands.specs.Due.{due_from, log_due, run_due};
 
-use crate::asked_battle::open_bout;
+use crate::asked_battle::read_bout;
 use crate::fault::ToolFault;
-use crate::input::{INPUT_LIMIT, read_input};
+use crate::input::INPUT_LIMIT;
 use battle_input::Key;
 use gen1_engine::Battle;
 use gen1_events::LogBuf;
@@ -39,11 +39,7 @@ pub fn play<A: AllocGlobal, R: Source, W: Sink>(
     ensures read { R.has_failed reader.new ≡ (R.has_failed reader.old || is_read_fault result) }
     ensures write { W.has_failed writer.new ≡ (W.has_failed writer.old || is_write_fault result) }
 {
-    let input = match read_input(rt.alloc(), reader) {
-        Ok(input) => input,
-        Err(fault) => return Err(fault),
-    };
-    let mut bout = match open_bout::<(u8, u8)>(rt.alloc(), input.as_slice(), Key::Choices) {
+    let mut bout = match read_bout::<(u8, u8), R>(rt.alloc(), reader, Key::Choices) {
         Ok(bout) => bout,
         Err(fault) => return Err(fault),
     };
@@ -103,12 +99,8 @@ pub fn play_log<A: AllocGlobal, R: Source, W: Sink>(
     ensures read { R.has_failed reader.new ≡ (R.has_failed reader.old || is_read_fault result) }
     ensures write { W.has_failed writer.new ≡ (W.has_failed writer.old || is_write_fault result) }
 {
-    let input = match read_input(rt.alloc(), reader) {
-        Ok(input) => input,
-        Err(fault) => return Err(fault),
-    };
     let key = Key::Choices;
-    let mut bout = match open_bout::<(u8, u8)>(rt.alloc(), input.as_slice(), key) {
+    let mut bout = match read_bout::<(u8, u8), R>(rt.alloc(), reader, key) {
         Ok(bout) => bout,
         Err(fault) => return Err(fault),
     };

@@ -253,7 +253,7 @@ fn run_and_tell<A: AllocGlobal, F: Folder, I: Source, O: Sink, E: Sink>(
 /// Runs the words of a command line, the program's name first, and answers the exit status, from 0 to 4
 /// (docs/PROGRAM.md, "The program battle_tool"). It reads the FILE of `folder` that the words name, or `input` where they name
 /// none, prints to `out`, and tells what is wrong on `err`.
-pub fn tool<A, F, S, I, O, E>(
+pub fn tool<A: AllocGlobal, F: Folder, S: AsStr, I: Source, O: Sink, E: Sink>(
     rt: &A,
     folder: &F,
     words: &[S],
@@ -261,13 +261,6 @@ pub fn tool<A, F, S, I, O, E>(
     out: &mut O,
     err: &mut E,
 ) -> u8
-where
-    A: AllocGlobal,
-    F: Folder,
-    S: AsStr,
-    I: Source,
-    O: Sink,
-    E: Sink,
     ensures most { result ≤ 4 }
     // Where the command line takes the words, the subcommand that they ask for is served.
     ensures ends { (asked : List ℕ × List Row)

@@ -10,9 +10,9 @@ ghost use Rattle.battle_commands.specs.Answers.{Answers, is_read_fault, is_write
 ghost use Rattle.battle_commands.specs.Due.{only};
 ghost use Rattle.battle_commands.specs.Rooms.{pieces_of_refusal, replies_due, room_due, text_of_reply};
 
-use crate::asked_battle::open_bout;
+use crate::asked_battle::read_bout;
 use crate::fault::ToolFault;
-use crate::input::{INPUT_LIMIT, read_input};
+use crate::input::INPUT_LIMIT;
 use arrayvec::ArrayString;
 use battle_input::Key;
 use gen1_machine::{Side, Sink, Source, send, send_all};
@@ -45,11 +45,7 @@ pub fn play_room<A: AllocGlobal, R: Source, W: Sink>(
     ensures read { R.has_failed reader.new ≡ (R.has_failed reader.old || is_read_fault result) }
     ensures write { W.has_failed writer.new ≡ (W.has_failed writer.old || is_write_fault result) }
 {
-    let input = match read_input(rt.alloc(), reader) {
-        Ok(input) => input,
-        Err(fault) => return Err(fault),
-    };
-    let bout = match open_bout::<(Side, u32, u8)>(rt.alloc(), input.as_slice(), Key::Submissions) {
+    let bout = match read_bout::<(Side, u32, u8), R>(rt.alloc(), reader, Key::Submissions) {
         Ok(bout) => bout,
         Err(fault) => return Err(fault),
     };

@@ -4,8 +4,8 @@ use Rattle.battle_commands.specs.Asked.{begins}
 use Rattle.battle_commands.proofs.Outcomes.{asks_for, stands_begun}
 use Rattle.battle_commands.proofs.asked_battle.open_bout.Goals as goal
 
-pub returns : goal.returns
-returns g c =
+pub returns-clause-opens : goal.returns-clause-opens
+returns-clause-opens g c =
     let asked = sheet_view c.in-Ok.sheet in
     let one = c.as_slice.ensures.value in
     let two = c.as_slice-2.ensures.value in (

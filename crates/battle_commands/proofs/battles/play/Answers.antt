@@ -1,27 +1,16 @@
 use Rattle.gen1_machine.specs.Lines.{lines}
-use Rattle.battle_input.specs.Sheets.{pair_of}
-use Rattle.battle_input.specs.declared.misfit.Key.TheVariants.{Choices}
 use Rattle.battle_commands.specs.Asked.{asked_to_run}
-use Rattle.battle_commands.specs.Due.{due_from, run_due}
-use Rattle.battle_commands.proofs.Outcomes.{answers_no_input, answers_opened, answers_too_long, answers_unopened, unopened_writes, unread_writes}
+use Rattle.battle_commands.specs.Due.{due_from}
+use Rattle.battle_commands.proofs.Outcomes.{answers_opened, answers_unopened, no_writes}
 use Rattle.battle_commands.proofs.battles.play.Goals as goal
 
 pub returns-in-Err-clause-answers : goal.returns-in-Err-clause-answers
-returns-in-Err-clause-answers g c =
-    answers_no_input run_due c.in-Err.fault _ _ (λ input long. answers_too_long (due_from lines 0) Choices pair_of input _ long) c.in-Err.ensures.fault
+returns-in-Err-clause-answers g c = answers_unopened (due_from lines 0) asked_to_run c.in-Err.fault _ _ c.in-Err.ensures.opens
 
 pub returns-in-Err-clause-write : goal.returns-in-Err-clause-write
-returns-in-Err-clause-write g c = unread_writes (Unit {0}) c.in-Err.fault _ _ c.in-Err.ensures.fault
-
-pub returns-in-Err-open_bout-clause-answers : goal.returns-in-Err-open_bout-clause-answers
-returns-in-Err-open_bout-clause-answers g c =
-    answers_unopened (due_from lines 0) asked_to_run c.in-Err-open_bout.fault _ c.in-Ok.input.items _ _ c.as_slice.ensures.value c.in-Err-open_bout.ensures c.in-Ok.ensures.whole
-
-pub returns-in-Err-open_bout-clause-write : goal.returns-in-Err-open_bout-clause-write
-returns-in-Err-open_bout-clause-write g c = unopened_writes (Unit {0}) c.in-Err-open_bout.fault _ _ c.in-Err-open_bout.ensures
+returns-in-Err-clause-write g c = no_writes _ _ c.in-Err.ensures.write
 
 pub returns-clause-answers : goal.returns-clause-answers
 returns-clause-answers g c =
-    let opened = c.in-Ok-open_bout.ensures in
-    answers_opened (due_from lines 0) asked_to_run opened.0 _ c.in-Ok.input.items _ _ _ _ c.as_slice.ensures.value opened.1 c.in-Ok.ensures.whole
-    (rw (c.as_slice-2.ensures.value, opened.3) at (c.play_pairs.ensures.answers opened.0.state opened.2))
+    answers_opened (due_from lines 0) asked_to_run c.in-Ok.bout _ _ _ _ c.in-Ok.ensures.opens
+    (λ x stands items. rw (c.as_slice.ensures.value, items) at (c.play_pairs.ensures.answers x.state stands))
