@@ -1,5 +1,5 @@
 -- What words ask for, by what was found of them.
-use Rattle.std.proofs.Common.{Bool, List, None, false, refl, Option, Some, ap, option_map, true, ℕ, ◌&&◌, ◌≡◌, ◌∙◌}
+use Rattle.std.proofs.Common.{Bool, List, None, false, refl, Option, Some, ap, option_map, true, ◌&&◌, ◌≡◌}
 use Rattle.std.specs.Prelude.{Box, unwrap_or}
 use Rattle.std.specs.Box.{box_value}
 use Rattle.clap.specs.Matches.{subcommand_name_of}

@@ -1,5 +1,5 @@
 -- What is due from `calc`, and what it and `print` answer where no input was read.
-use Rattle.std.proofs.Common.{Err, IfSome, List, None, Ok, Option, Some, [], false, length, nat_lt, refl, rules, true, ℕ, ◌<◌, ◌∷◌, ◌≡◌, ◌≤◌}
+use Rattle.std.proofs.Common.{Err, IfSome, List, None, Ok, Option, [], false, length, nat_lt, refl, rules, true, ℕ, ◌<◌, ◌∷◌, ◌≡◌, ◌≤◌}
 use Rattle.std.specs.Prelude.{ok_or}
 use Rattle.std.proofs.KnownBytes.{Appends-nil}
 use Rattle.gen1_stats.specs.Teams.{team_refusal}

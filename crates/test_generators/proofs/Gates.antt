@@ -10,7 +10,7 @@ use Rattle.gen1_machine.specs.declared.picks.Pick.TheVariants.{Use}
 use Rattle.gen1_machine.specs.declared.picks.UsedMove.{UsedMove}
 use Rattle.gen1_machine.specs.Conditions.{broken_off}
 use Rattle.gen1_machine.specs.Action.{gate_or_held}
-use Rattle.gen1_machine.specs.Gate.{cant, gate, may_be_paralysed, paralysis_test}
+use Rattle.gen1_machine.specs.Gate.{cant, may_be_paralysed, paralysis_test}
 use Rattle.gen1_machine.specs.Progress.{only, unless_stopped}
 use Rattle.gen1_machine.specs.State.{status_in}
 use Rattle.gen1_status.specs.declared.gate_answer.Gate.{Gate}

@@ -1,4 +1,4 @@
-use Rattle.std.proofs.Common.{ap, ap₂, codes, rules, ◌≡◌, ◌∙◌}
+use Rattle.std.proofs.Common.{ap, ap₂, codes, ◌≡◌, ◌∙◌}
 use Rattle.clap.specs.Words.{App, app_of, new_app, with_subcommand}
 use Rattle.clap.specs.Simple.{app_of_fields, on_top}
 use Rattle.battle_commands.specs.CommandLine.{needing_one}

@@ -1,4 +1,4 @@
-use Rattle.std.proofs.Common.{Some, ap, inl, inr, map, option_map, refl, ◌≡◌, ◌∙◌}
+use Rattle.std.proofs.Common.{ap, inl, inr, map, option_map, refl, ◌∙◌}
 use Rattle.clap.specs.Words.{App, is_simple, subcommand_of, takes}
 use Rattle.battle_commands.proofs.Asking.{first_holds, name_asked, some_same}
 use Rattle.battle_commands.proofs.commands.tool.Goals as goal
