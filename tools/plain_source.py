@@ -20,6 +20,8 @@ IN_ADAPTER = {
     "std::convert::AsStr": "gen1_adapter::text::AsStr",
     "std::io::Read": "gen1_adapter::io::Read",
     "std::io::Write": "gen1_adapter::io::Write",
+    "std::marker::Brand": "gen1_adapter::marker::Brand",
+    "std::marker::PhantomData": "core::marker::PhantomData",
     "std::process::Abort": "gen1_adapter::testing::Abort",
     "std::test::Fail": "gen1_adapter::testing::Fail",
 }

@@ -73,6 +73,7 @@ pub fn note_miss<S: EventSink>(battle: &Packed, side: Side, id: MoveId, events: 
     events.push(miss_event(battle, side, id));
 }
 
+#[inline(always)] // docs/SPEED.md, "Hints on inlining"
 fn miss_event(battle: &Packed, side: Side, id: MoveId) -> Event
     ensures stands { Reads battle.now result (miss_event side (move_at id)) }
 {

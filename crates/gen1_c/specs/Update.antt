@@ -8,6 +8,7 @@ use Rattle.gen1_machine.specs.Layout.{outcome_byte, request_byte}
 use Rattle.gen1_machine.specs.Numbers.{side_number}
 use Rattle.gen1_machine.specs.State.{Field, State}
 use Rattle.gen1_machine.specs.Step.{Accepted, Answer, Refused}
+use Rattle.gen1_events.specs.declared.front.Front.{Front}
 use Rattle.gen1_events.specs.Splits.{IsReading}
 use Rattle.gen1_layout.specs.Parts.{Parts}
 use Rattle.gen1_layout.specs.Within.{Stands}
@@ -48,3 +49,7 @@ Updates s bytes = UpdatesAs (step_by_bytes s bytes).answer (step_by_bytes s byte
 -- the outcome, and what is asked of each side, as one number
 abbrev pub result_byte : Field → ℕ
 result_byte f = outcome_byte f.outcome + 8 * request_byte f.request_one + 32 * request_byte f.request_two
+
+-- a front with no byte in the memory of this name, which holds these
+abbrev pub IsNewIn : {T : Type 0} → ℕ → List ℕ → Front T → Type 0
+IsNewIn name before front = (front.memory.ghost_name ≡ name) × (front.memory.now ≡ before) × (front.length ≡ 0)

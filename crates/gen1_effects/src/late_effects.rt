@@ -53,7 +53,6 @@ pub fn late_effect<R: Rolls, S: EventSink>(
 }
 
 /// The same in the middle of an action, of which more may be known. The action ends with it (docs/MECHANICS.md, "Action").
-#[inline(never)] // docs/SPEED.md, "Hints on inlining"
 pub fn late_effect_knowing<R: Rolls, S: EventSink>(
     battle: &mut Packed,
     side: Side,

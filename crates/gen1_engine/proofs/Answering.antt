@@ -12,7 +12,7 @@ use Rattle.gen1_layout.specs.Within.{Stands}
 use Rattle.gen1_requests.specs.Updates.{Steps}
 use Rattle.gen1_engine.specs.declared.result.BattleResult.{BattleResult}
 use Rattle.gen1_engine.specs.declared.result.Refusal.{Refusal}
-use Rattle.gen1_engine.specs.Update.{Answers, AnswersAs, Logs, LogsAs, Tells, Tests, refusal_of, result_of}
+use Rattle.gen1_engine.specs.Update.{Answers, AnswersAs, Logs, LogsAs, Tells, Tests, ToldAs, refusal_of, result_of}
 
 -- a refused pair
 
@@ -36,6 +36,10 @@ tells_accepted old events h = rw h.answers h.written
 
 pub logs_accepted : {s : State} {one two : Choice} {new : Parts} (old log : ArrayVec ℕ) → Steps s one two new (λ told. IsReading log.items told) → Logs s one two old log
 logs_accepted old log h = rw h.answers h.written
+
+pub told_accepted : {S : Type 0} (tells : S → List Event → Type 0) {s : State} {one two : Choice} {new : Parts} (old sink : S)
+    → Steps s one two new (tells sink) → ToldAs tells (step s one two).answer old sink
+told_accepted tells old sink h = rw h.answers h.written
 
 -- what was answered, and so what the step said
 

@@ -1,6 +1,6 @@
 -- What an update answers, leaves and tells, for a state that the bytes stand for (docs/MECHANICS.md, "Offered choices", "Falls
 -- and requests"): what the machine's step says.
-use Rattle.std.specs.Prelude.{Err, None, Ok, Option, Result, Some, true, ℕ, ◌≡◌}
+use Rattle.std.specs.Prelude.{Err, List, None, Ok, Option, Result, Some, true, ℕ, ◌≡◌}
 use Rattle.arrayvec.specs.ArrayVec.{ArrayVec}
 use Rattle.gen1_machine.specs.declared.side.Side.TheVariants.{One, Two}
 use Rattle.gen1_machine.specs.declared.event.Event.{Event}
@@ -41,6 +41,11 @@ LogsAs (Accepted events) old new = IsReading new.items events
 abbrev pub TellsAs : Answer → ArrayVec Event → ArrayVec Event → Type 0
 TellsAs (Refused why) old new = new ≡ old
 TellsAs (Accepted events) old new = new.items ≡ events
+
+-- a refused pair leaves a sink as it is; an accepted one tells it its events, and nothing else
+abbrev pub ToldAs : {S : Type 0} → (S → List Event → Type 0) → Answer → S → S → Type 0
+ToldAs tells (Refused why) old new = new ≡ old
+ToldAs tells (Accepted events) old new = tells new events
 
 -- what an accepted pair costs at most: 4,700 draws, 64 events and 512 bytes
 abbrev pub IsBoundedAs : State → Answer → State → Type 0

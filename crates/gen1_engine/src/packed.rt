@@ -2,6 +2,7 @@
 //! for who wants its type to say that they stand for a valid state.
 pub use crate::choice_bytes::{
     update_by_bytes, update_events_by_bytes, update_offered_by_bytes, update_silent_by_bytes,
+    update_telling_by_bytes,
 };
 pub use crate::offered_mask::{choice_at, count_of, offered_mask};
 pub use crate::reseed::reseed;

@@ -69,6 +69,7 @@ impl Packed {
     }
 
     /// Its status; a sleep has 1 to 7 turns left.
+    #[inline(always)] // docs/SPEED.md, "Hints on inlining"
     pub fn status(&self, side: Side) -> Status
         ensures stands { Reads self.now result λ f. (member_in side f).status }
     {

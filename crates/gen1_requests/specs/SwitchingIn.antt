@@ -1,9 +1,11 @@
 -- A member that comes out, in the words of its writer (docs/MECHANICS.md, "Switching in").
 use Rattle.std.specs.Prelude.{List, [], max, ◌/◌, ◌∷◌}
-use Rattle.gen1_layout.specs.Words.{Event, Field, Member, Side, changed_active, member_at, party, ℕ}
+use Rattle.gen1_layout.specs.Parts.{Parts}
+use Rattle.gen1_layout.specs.Words.{Event, Field, Member, Setting, Side, changed_active, member_at, party, ℕ}
 use Rattle.gen1_stats.specs.declared.status.Status.{Status}
 use Rattle.gen1_stats.specs.declared.status.Status.TheVariants.{Burned, Paralysed}
 use Rattle.gen1_machine.specs.declared.event.Event.TheVariants.{Switch}
+use Rattle.gen1_machine.specs.Plans.{InRange}
 use Rattle.gen1_machine.specs.State.{health_of}
 use Rattle.gen1_machine.specs.SwitchingIn.{with_sent_out}
 
@@ -26,6 +28,10 @@ stats_out _ attack defense speed special = attack ∷ defense ∷ speed ∷ spec
 -- the member at a place is out, and nothing else has changed
 abbrev pub with_out : Side → ℕ → Field → Field
 with_out s place f = changed_active s (with_sent_out place (member_at place (party s f))) f
+
+-- wherever the parts stood for a field, in this sense, they now stand for it with the member at a place out
+abbrev pub PutsOut : (Setting → Parts → Field → Type 0) → Side → ℕ → Parts → Parts → Type 0
+PutsOut StandsFor s place old new = (g : Setting) (f : Field) → StandsFor g old f → InRange s place f → StandsFor g new (with_out s place f)
 
 -- what is told of it
 abbrev pub coming_out : Side → ℕ → Member → Event

@@ -105,7 +105,7 @@ fn has_use(battle: &Packed, side: Side, slot: u8, pp: u8) -> bool
 }
 
 // What is left is offered to who is committed, to who can pick no slot, and where no slot is usable.
-#[inline(never)] // docs/SPEED.md, "Hints on inlining"
+#[inline(always)] // docs/SPEED.md, "Hints on inlining"
 fn picks_nothing(battle: &Packed, side: Side) -> bool
     ensures { Reads battle.now result λ f. is_among (choices.Move 0)
         (offered_for requests.Move side f) }

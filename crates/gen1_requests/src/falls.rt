@@ -22,6 +22,7 @@ use gen1_machine::{Event, FaultCode, Outcome, Request, Side, TurnNumber};
 /// switches are asked of who has fallen, or the turn number rises by 1 and moves are asked of both. Where the outcome is a fault
 /// nobody faints, and nothing is asked any more. At most 3 events are written (docs/MECHANICS.md, "Falls and requests", "Turn
 /// limit").
+#[inline(always)] // docs/SPEED.md, "Hints on inlining"
 pub fn close<S: EventSink>(battle: &mut Packed, actor: Side, events: &mut S)
     requires space { HasRoom S.room 3 events.old }
     ensures shown { (g : Frame) (p : Progress) → g.action.side ≡ actor
@@ -49,6 +50,7 @@ fn fault_in(outcome: Outcome) -> Option<u8>
     }
 }
 
+#[inline(never)] // docs/SPEED.md, "Hints on inlining"
 fn end_by_fault<S: EventSink>(battle: &mut Packed, number: u8, events: &mut S)
     requires space { HasRoom S.room 1 events.old }
     ensures shown { IsBetween 1 2 number
@@ -188,6 +190,7 @@ fn has_living(battle: &Packed, side: Side) -> bool
     true
 }
 
+#[inline(always)] // docs/SPEED.md, "Hints on inlining"
 fn battle_ends<S: EventSink>(battle: &mut Packed, outcome: Outcome, event: Event, events: &mut S)
     requires space { HasRoom S.room 1 events.old }
     ensures shown { IsOutcome outcome
@@ -235,6 +238,7 @@ fn switch_if(fallen: bool) -> Request
     }
 }
 
+#[inline(never)] // docs/SPEED.md, "Hints on inlining"
 fn ask_for_moves<S: EventSink>(battle: &mut Packed, events: &mut S)
     requires space { HasRoom S.room 1 events.old }
     ensures shown { (g : Frame) (p : Progress) → p.field.turn < g.setting.terms.limit

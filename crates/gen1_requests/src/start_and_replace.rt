@@ -71,6 +71,7 @@ pub fn send_both_first<S: EventSink>(battle: &mut Packed, events: &mut S)
     }
 }
 
+#[inline(never)] // docs/SPEED.md, "Hints on inlining"
 fn send_both_chosen<S: EventSink>(battle: &mut Packed, one: Choice, two: Choice, events: &mut S)
     requires space { HasRoom S.room 2 events.old }
     ensures shown { (g : Frame) (p : Progress) → Comes one sides.One p.field
@@ -83,6 +84,7 @@ fn send_both_chosen<S: EventSink>(battle: &mut Packed, one: Choice, two: Choice,
     send_if_chosen(battle, Side::Two, two, events);
 }
 
+#[inline(always)] // docs/SPEED.md, "Hints on inlining"
 fn send_if_chosen<S: EventSink>(battle: &mut Packed, side: Side, choice: Choice, events: &mut S)
     requires space { HasRoom S.room 1 events.old }
     ensures shown { (g : Frame) (p : Progress) → Comes choice side p.field

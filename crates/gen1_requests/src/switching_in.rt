@@ -4,7 +4,7 @@ ghost use Rattle.gen1_layout.specs.Words.{AddsAtMost, Event as EventOf, Field, F
 ghost use Rattle.gen1_machine.specs.Plans.{InRange};
 ghost use Rattle.gen1_machine.specs.SwitchingIn.{send_out};
 ghost use Rattle.gen1_layout.specs.Shows.{ShowsPacked};
-ghost use Rattle.gen1_requests.specs.SwitchingIn.{coming_out, stats_out, with_out};
+ghost use Rattle.gen1_requests.specs.SwitchingIn.{PutsOut, coming_out, stats_out};
 
 use gen1_events::EventSink;
 use gen1_layout::Packed;
@@ -71,10 +71,8 @@ fn coming_out(battle: &Packed, side: Side, place: Place) -> Option<Event>
 
 // A penalty is rare, and has code of its own, so that the stats of others are copied as eight bytes.
 fn put_out(battle: &mut Packed, side: Side, place: Place)
-    ensures stands { (g : Setting) (f : Field) → Within g battle.old f → InRange side place f
-        → Within g battle.new (with_out side place f) }
-    ensures packs { (g : Setting) (f : Field) → Packs g battle.old f → InRange side place f
-        → Packs g battle.new (with_out side place f) }
+    ensures stands { PutsOut Within side place battle.old battle.new }
+    ensures packs { PutsOut Packs side place battle.old battle.new }
 {
     match battle.status_at(side, place.number()) {
         Status::Burned | Status::Paralysed => put_out_with_penalty(battle, side, place),
@@ -82,22 +80,18 @@ fn put_out(battle: &mut Packed, side: Side, place: Place)
     }
 }
 
-#[inline(never)] // docs/SPEED.md, "Hints on inlining"
+#[inline(always)] // docs/SPEED.md, "Hints on inlining"
 fn put_out_with_penalty(battle: &mut Packed, side: Side, place: Place)
-    ensures stands { (g : Setting) (f : Field) → Within g battle.old f → InRange side place f
-        → Within g battle.new (with_out side place f) }
-    ensures packs { (g : Setting) (f : Field) → Packs g battle.old f → InRange side place f
-        → Packs g battle.new (with_out side place f) }
+    ensures stands { PutsOut Within side place battle.old battle.new }
+    ensures packs { PutsOut Packs side place battle.old battle.new }
 {
     put_out_by_status(battle, side, place);
 }
 
 #[inline(always)] // docs/SPEED.md, "Hints on inlining"
 fn put_out_by_status(battle: &mut Packed, side: Side, place: Place)
-    ensures stands { (g : Setting) (f : Field) → Within g battle.old f → InRange side place f
-        → Within g battle.new (with_out side place f) }
-    ensures packs { (g : Setting) (f : Field) → Packs g battle.old f → InRange side place f
-        → Packs g battle.new (with_out side place f) }
+    ensures stands { PutsOut Within side place battle.old battle.new }
+    ensures packs { PutsOut Packs side place battle.old battle.new }
 {
     let at = place.number();
     let status = battle.status_at(side, at);

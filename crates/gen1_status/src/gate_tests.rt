@@ -100,6 +100,7 @@ fn take_tests<R: Rolls, S: EventSink>(
 }
 
 // The member does not act, for a reason that is told.
+#[inline(never)] // docs/SPEED.md, "Hints on inlining"
 fn cant<S: EventSink>(battle: &Packed, side: Side, why: CantReason, events: &mut S)
     requires room { HasRoom S.room 1 events.old }
     ensures shown { Does battle.now (S.tells events.old) battle.now (S.tells events.new) true

@@ -33,6 +33,7 @@ pub fn inflict<S: EventSink>(
 
 /// The same as [`inflict`] with the status itself, whose kind `kind` is. Its sleep may be marked, but under the sleep clause
 /// alone (docs/MECHANICS.md, "Rules (sleep clause, freeze clause)").
+#[inline(always)] // docs/SPEED.md, "Hints on inlining"
 pub fn inflict_status<S: EventSink>(
     battle: &mut Packed,
     target: Side,

@@ -78,6 +78,7 @@ fn suffer_status<S: EventSink>(battle: &mut Packed, side: Side, status: Status, 
     }
 }
 
+#[inline(never)] // docs/SPEED.md, "Hints on inlining"
 fn suffer<S: EventSink>(battle: &mut Packed, side: Side, source: DamageSource, events: &mut S)
     requires room { HasRoom S.room 1 events.old }
     ensures shown { Does battle.old (S.tells events.old) battle.new (S.tells events.new) false

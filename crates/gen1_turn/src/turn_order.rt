@@ -16,6 +16,7 @@ const QUICK_ATTACK: u8 = 98;
 const SIDE_1_BELOW: u8 = 128;
 
 // The side that acts first: by the picked moves, then by Speed, then by a draw.
+#[inline(always)] // docs/SPEED.md, "Hints on inlining"
 pub(crate) fn first_side<R: Rolls>(battle: &Packed, random: &mut R) -> Side
     ensures shown { Orders R.byte R.next R.SPAN battle.now random.old random.new result in_order }
 {

@@ -43,6 +43,7 @@ pub(crate) fn act_and_suffer<R: Rolls, S: EventSink>(
 }
 
 // The same, by code that is compiled for one side.
+#[inline(never)] // docs/SPEED.md, "Hints on inlining"
 fn act_and_suffer_as<R: Rolls, S: EventSink>(
     battle: &mut Packed,
     side: Side,

@@ -12,6 +12,7 @@ pub mod alloc;
 pub mod bitflags;
 pub mod c;
 pub mod io;
+pub mod marker;
 pub mod prelude;
 mod serde_text;
 #[cfg(feature = "std")]

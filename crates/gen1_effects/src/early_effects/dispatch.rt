@@ -68,7 +68,6 @@ pub fn early_effect<R: Rolls, S: EventSink>(
 
 /// The same as [`early_effect`] in the middle of an action, of which `known` tells: whether a hit test was missed, and at which
 /// byte it was made, is known then, and after Haze whether the foe is skipped in this turn.
-#[inline(never)] // docs/SPEED.md, "Hints on inlining"
 pub fn early_effect_knowing<R: Rolls, S: EventSink>(
     battle: &mut Packed,
     side: Side,

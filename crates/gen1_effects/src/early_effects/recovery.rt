@@ -12,6 +12,7 @@ use gen1_machine::{Event, Kind, Side};
 use gen1_stats::Status;
 use gen1_tables::MoveId;
 
+#[inline(always)] // docs/SPEED.md, "Hints on inlining"
 pub(super) fn heal<S: EventSink>(battle: &mut Packed, side: Side, id: MoveId, events: &mut S)
     requires room { HasRoom S.room 2 events.old }
     ensures shown { Does battle.old (S.tells events.old) battle.new (S.tells events.new) true

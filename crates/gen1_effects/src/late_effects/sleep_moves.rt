@@ -109,6 +109,7 @@ fn sleep_only_one<R: Rolls, S: EventSink>(
 }
 
 // Draws until a byte has a count for the sleep, which is marked under the sleep clause.
+#[inline(always)] // docs/SPEED.md, "Hints on inlining"
 fn fall_asleep<R: Rolls, S: EventSink>(
     battle: &mut Packed,
     side: Side,

@@ -54,6 +54,7 @@ fn resists_poison(battle: &Packed, side: Side) -> bool
 }
 
 // A burn, a freeze or paralysis: a status, which a Fire move may thaw, and the move's own type rule it out before the draw.
+#[inline(always)] // docs/SPEED.md, "Hints on inlining"
 pub(super) fn may_inflict<R: Rolls, S: EventSink>(
     battle: &mut Packed,
     side: Side,

@@ -65,6 +65,7 @@ pub fn make_current(battle: &mut Packed, side: Side, pick: Pick)
 }
 
 // True where the action ends with it.
+#[inline(always)] // docs/SPEED.md, "Hints on inlining"
 fn charge_by<S: EventSink>(
     battle: &mut Packed,
     side: Side,

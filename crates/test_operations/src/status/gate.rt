@@ -7,7 +7,7 @@ use gen1_machine::{
 };
 use gen1_rolls::{LinkRandom, Rolls, Sweep};
 use gen1_stats::Status;
-use gen1_status::{Gate, gate, pick};
+use gen1_status::{Gate, gate, pick, used_by};
 use std::process::Abort;
 use std::test::Fail;
 
@@ -67,6 +67,18 @@ fn picks_of_who_is_free_or_held(rt: HostRuntime) -> Result<(), Fail> {
     picks(&rt, &battle, USER, 0, Pick::Held)?;
     picks(&rt, &battle, USER, 2, second)?;
     picks(&rt, &battle, FOE, 0, Pick::Continue)
+}
+
+// A pick names its move, or goes on with the current one (docs/MECHANICS.md, "Picks").
+#[test]
+fn what_a_pick_uses(rt: HostRuntime) -> Result<(), Fail> {
+    let mut battle = two_tauros()?;
+    battle.put_current_move(USER, UsedMove::Slot(2));
+    assert_same(&rt, used_by(&battle, USER, STRENGTH), UsedMove::Slot(1));
+    for pick in [Pick::Continue, Pick::Idle, Pick::Held] {
+        assert_same(&rt, used_by(&battle, USER, pick), UsedMove::Slot(2));
+    }
+    Ok(())
 }
 
 // Held by the foe's trapping too (docs/MECHANICS.md, "Picks").
