@@ -39,8 +39,8 @@ WITHOUT = {
 }
 # Twelve walks: a rule, the section that it stands in, and the files below crates/ of its definition, its code and its test.
 WALKS = (
-    ("Link numbers", "Link numbers", "gen1_rolls/specs/Streams.antt", "gen1_rolls/src/link.rt", "gen1_rolls/src/tests.rt"),
-    ("Stats", "Stats", "gen1_stats/specs/Stats.antt", "gen1_stats/src/stats.rt", "gen1_stats/src/tests.rt"),
+    ("Link numbers", "Link numbers", "gen1_rolls/specs/Streams.antt", "gen1_rolls/src/link.rt", "test_numbers/src/draws.rt"),
+    ("Stats", "Stats", "gen1_stats/specs/Stats.antt", "gen1_stats/src/stats.rt", "test_numbers/src/teams.rt"),
     ("Stage shift", "Stage shift", "gen1_machine/specs/StageShift.antt", "gen1_status/src/stage_shift.rt",
      "test_operations/src/status/statuses.rt"),
     ("Critical hits", "Critical hits", "gen1_machine/specs/CriticalHits.antt", "gen1_hits/src/critical_hits.rt",

@@ -6,7 +6,6 @@
 //! - `sweep`: one that counts up
 //! - `search`: the first draw that meets a test
 //! - `laws`: what holds of every generator
-//! - `tests`: worked draws
 #![tactic(auto)]
 
 mod laws;
@@ -14,8 +13,6 @@ mod link;
 mod rolls;
 mod search;
 mod sweep;
-#[cfg(test)]
-mod tests;
 
 pub use laws::{draws_a_stream, every_generator_stands};
 pub use link::{LinkRandom, renew};

@@ -7,7 +7,6 @@
 //! - `stats`: the formulas of its stats
 //! - `member_spec`: a member as it is asked for
 //! - `refusal`: why a list of members is no team
-//! - `tests`: worked stats, and refusals
 #![tactic(auto)]
 
 mod known_move;
@@ -17,8 +16,6 @@ mod refusal;
 mod stats;
 mod status;
 mod team;
-#[cfg(test)]
-mod tests;
 
 pub use known_move::KnownMove;
 pub use member::Member;

@@ -55,15 +55,3 @@ pub(crate) fn full_pp(base: u8, ups: u8) -> u8
 {
     base + ups * (base / 5).min(7)
 }
-
-#[cfg(test)]
-mod tests {
-    use super::root;
-
-    #[test]
-    fn roots_are_rounded_up(rt: HostRuntime) {
-        for (exp, want) in [(0, 0), (1, 1), (10, 4), (65535, 255)] {
-            assert_eq!(rt; root(exp), want, "of {exp}");
-        }
-    }
-}

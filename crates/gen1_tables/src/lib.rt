@@ -6,7 +6,6 @@
 //! - `moves`: the moves
 //! - `effect`: what a move does beside its damage, and stats
 //! - `names`: the names of species and moves
-//! - `tests`: rows of each table
 #![tactic(auto)]
 
 mod effect;
@@ -14,8 +13,6 @@ mod element;
 mod moves;
 mod names;
 mod species;
-#[cfg(test)]
-mod tests;
 mod types;
 
 pub use effect::{Effect, Stat};

@@ -1,6 +1,7 @@
 //! The stored run, replayed to a writer that fails at each of its writes (docs/MECHANICS.md, "Log bytes").
+use crate::comparing::{assert_same, bytes_of, stands_at};
 use crate::stored_run::{FIRST, PAIRS, SECOND, START, WON};
-use crate::two_tauros::{assert_same, bytes_of, stands_at, two_tauros};
+use crate::two_tauros::two_tauros;
 use gen1_engine::{Battle, BattleResult, ReplayFault};
 use gen1_events::LogBuf;
 use gen1_machine::Device;

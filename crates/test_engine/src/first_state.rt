@@ -1,5 +1,7 @@
 //! A battle before its first update (docs/LAYOUT.md, "The 384 bytes of a battle", "Turn, outcome and requests").
-use crate::two_tauros::{SEED, assert_same, bytes_of, stands_at, team, two_tauros};
+use crate::comparing::{assert_same, bytes_of, stands_at};
+use crate::teams::tauros;
+use crate::two_tauros::{SEED, two_tauros};
 use gen1_engine::packed::{choice_at, count_of};
 use gen1_engine::{Battle, BattleResult};
 use gen1_machine::{Choice, Outcome, Request, Rules, Side, TurnLimit};
@@ -75,7 +77,7 @@ fn choices_of_masks(rt: HostRuntime) -> Result<(), Fail> {
 
 #[test]
 fn rules_and_limit_are_kept(rt: HostRuntime) -> Result<(), Fail> {
-    let team = team()?;
+    let team = tauros()?;
     let usual = two_tauros()?;
     assert_same(
         &rt,

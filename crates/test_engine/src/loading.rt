@@ -1,5 +1,5 @@
 //! Battles that are loaded, by docs/LAYOUT.md, "Loading".
-use crate::two_tauros::assert_same;
+use crate::comparing::assert_same;
 use gen1_engine::Battle;
 use gen1_machine::{Outcome, Request, Side};
 use std::test::Fail;

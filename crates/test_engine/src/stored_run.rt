@@ -1,5 +1,6 @@
 //! The stored run of battle_tool: two Tauros, two turns, and side 1 wins (docs/MECHANICS.md, "Log bytes").
-use crate::two_tauros::{assert_same, bytes_of, stands_at, two_tauros};
+use crate::comparing::{assert_same, bytes_of, stands_at};
+use crate::two_tauros::two_tauros;
 use gen1_engine::{Battle, BattleResult, Refusal, ReplayFault, write_log};
 use gen1_events::LogBuf;
 use gen1_machine::{Choice, Device, EventList, MoveSlot, Outcome, Request, Side};

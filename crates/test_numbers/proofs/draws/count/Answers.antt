@@ -2,7 +2,7 @@ use Rattle.std.proofs.Common.{nat_lt, ap, arith, refl}
 use Rattle.std.proofs.lemmas.Bool.Decides.{nat_tests}
 use Rattle.gen1_rolls.specs.Streams.{low_bits}
 use Rattle.gen1_rolls.proofs.Standing.{found_then, none_then}
-use Rattle.gen1_rolls.proofs.tests.count.Goals as goal
+use Rattle.test_numbers.proofs.draws.count.Goals as goal
 
 pub returns-in-Some : goal.returns-in-Some
 returns-in-Some g c origin s n a =

@@ -3,15 +3,9 @@ ghost use Rattle.std.specs.Prelude.{◌≡◌, ℕ, ◌+◌, ◌%◌, Some, Matc
 ghost use Rattle.gen1_rolls.specs.Draws.{StandsAt};
 ghost use Rattle.gen1_rolls.specs.Streams.{Stream, byte_at, span, first, low_bits, Link as LinkStream};
 
-use crate::{LinkRandom, Rolls, Sweep, renew, until};
+use crate::comparing::assert_same;
+use gen1_rolls::{LinkRandom, Rolls, Sweep, renew, until};
 use std::cell::Cell;
-use std::fmt::Debug;
-use std::process::Abort;
-
-// Asserts that these are the same. A test calls it, since an assertion in its own body costs the proof of the test seconds.
-fn assert_same<T: PartialEq + Debug + Drop>(rt: &impl Abort, found: T, expected: T) {
-    assert_eq!(rt; found, expected);
-}
 
 #[test]
 fn nine_numbers_are_drawn_and_then_renewed(rt: HostRuntime) {

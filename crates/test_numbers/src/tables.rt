@@ -1,21 +1,16 @@
 //! Ten rows of each table, and names and numbers that none has (docs/TABLES.md).
-use crate::Effect::{
+use crate::comparing::assert_same;
+use gen1_tables::Effect::{
     ChargeInvulnerable, DamageOnly, FixedDamage, OneHitKnockOut, ParalysisChance, PoisonChance,
     Recoil, StatDown, StatDownChance, StatUp,
 };
-use crate::Element::{
+use gen1_tables::Element::{
     Bug, Dragon, Electric, Fighting, Fire, Flying, Ghost, Grass, Ground, Ice, Normal, Poison,
     Psychic, Rock, Water,
 };
-use crate::Stat::{Attack, Defense};
-use crate::{COUNTER, Effect, Element, MoveId, STRUGGLE, Species, effectiveness, type_rows};
-use std::fmt::Debug;
+use gen1_tables::Stat::{Attack, Defense};
+use gen1_tables::{COUNTER, Effect, Element, MoveId, STRUGGLE, Species, effectiveness, type_rows};
 use std::process::Abort;
-
-// Asserts that these are the same. A test calls it, since an assertion in its own body costs the proof of the test seconds.
-fn assert_same<T: PartialEq + Debug + Drop>(rt: &impl Abort, found: T, expected: T) {
-    assert_eq!(rt; found, expected);
-}
 
 // Rows of species (docs/TABLES.md, "Species").
 #[test]

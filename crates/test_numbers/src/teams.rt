@@ -1,9 +1,8 @@
 //! Worked stats, the order of the refusals, and their texts (docs/MECHANICS.md, "Stats", "Teams").
-use crate::{KnownMove, Member, MemberSpec, Status, Team, TeamRefusal, hp_stat, stat};
+use crate::comparing::assert_same;
 use arrayvec::ArrayVec;
+use gen1_stats::{KnownMove, Member, MemberSpec, Status, Team, TeamRefusal, hp_stat, stat};
 use gen1_tables::{MoveId, Species};
-use std::fmt::Debug;
-use std::process::Abort;
 use std::test::Fail;
 
 // A Tauros at level 100, with full DVs and experience, and these moves with their PP ups.
@@ -26,11 +25,6 @@ fn tauros(moves: &[(&str, u8)]) -> Result<MemberSpec, &'static str> {
 
 fn refusal_of(moves: &[(&str, u8)]) -> Result<Option<TeamRefusal>, &'static str> {
     Ok(Team::new(&[tauros(moves)?]).err())
-}
-
-// Asserts that these are the same. A test calls it, since an assertion in its own body costs the proof of the test seconds.
-pub(crate) fn assert_same<T: PartialEq + Debug + Drop>(rt: &impl Abort, found: T, expected: T) {
-    assert_eq!(rt; found, expected);
 }
 
 // Stats and PP of a Tauros (docs/MECHANICS.md, "Stats").
@@ -58,6 +52,23 @@ fn a_team_of_one(rt: HostRuntime) -> Result<(), Fail> {
 fn the_most_hp(rt: HostRuntime) {
     let chansey = 250;
     assert_same(&rt, hp_stat(chansey, 15, 65535, 100), 703);
+}
+
+// Of nothing but experience: a quarter of its root, rounded up before, and 5 (docs/MECHANICS.md, "Stats").
+#[test]
+fn roots_are_rounded_up(rt: HostRuntime) {
+    for (exp, want) in [
+        (0, 5),
+        (1, 5),
+        (9, 5),
+        (10, 6),
+        (16, 6),
+        (49, 6),
+        (50, 7),
+        (65535, 68),
+    ] {
+        assert_same(&rt, (exp, stat(0, 0, exp, 100)), (exp, want));
+    }
 }
 
 // At level 1, without experience (docs/MECHANICS.md, "Stats").
