@@ -19,7 +19,8 @@ const NO_SIDE: u8 = 255;
 
 const LENGTHS: u8 = 254;
 
-/// The masks of a side in many battles.
+/// The mask of a side in each of many battles, as `gen1_offered` answers it. The answer is 0; 255 where there is no such side, and 254
+/// where there are not as many masks as battles, and then nothing has changed.
 #[unsafe(no_mangle)]
 pub extern "C" fn gen1_offered_many(battles: &[Packed], side: u8, masks: &mut [u16]) -> u8
     ensures offers { (which : Side) → side ≡ side_number which
@@ -49,7 +50,9 @@ fn put_masks(battles: &[Packed], side: Side, masks: &mut [u16])
     }
 }
 
-/// An update of each of many battles, by its own pair of bytes and without a log.
+/// An update of each of many battles, by its own pair of bytes and without a log: to each its code, as `gen1_update` answers it, and its
+/// result, as `gen1_result` does. The answer is 0; 254 where one of the lists is not as long as the battles, and then nothing has
+/// changed.
 #[unsafe(no_mangle)]
 pub extern "C" fn gen1_update_many(
     battles: &mut [Packed],
@@ -58,7 +61,9 @@ pub extern "C" fn gen1_update_many(
     results: &mut [u8],
     codes: &mut [u8],
 ) -> u8
-    ensures updates { result ≡ 0 → AreUpdated (length battles.old) battles.old ones.now twos.now
+    ensures updates { length ones.now ≡ length battles.old → length twos.now ≡ length battles.old
+        → length results.old ≡ length battles.old → length codes.old ≡ length battles.old
+        → (result ≡ 0) × AreUpdated (length battles.old) battles.old ones.now twos.now
         (record { battles = battles.new; results = results.new; codes = codes.new }) }
     ensures lengths { result ≡ 0 → (length ones.now ≡ length battles.old)
         × (length twos.now ≡ length battles.old) × (length results.old ≡ length battles.old)

@@ -65,7 +65,8 @@ fn number_of_place(place: Place) -> u8
     place.number()
 }
 
-/// A choice of a side in words, as the battle stands.
+/// A choice of a side in words, as the battle stands: to the front of the text, and how many bytes they are. The answer is 0, or what
+/// is wrong: 1 the side, 2 the byte is no choice, 3 nobody or no move is there, 4 the room is too small; then nothing has changed.
 #[unsafe(no_mangle)]
 pub extern "C" fn gen1_choice_words(
     battle: &Packed,

@@ -23,7 +23,8 @@ const NOBODY: u8 = 4;
 const DIVISOR: u8 = 5;
 
 /// The damage of a hit by a move of a side at each factor from 217 to 255, as both members that are out now stand
-/// (include/gen1.h, "calculating"; docs/MECHANICS.md, "Damage numbers" to "Factors").
+/// (include/gen1.h, "calculating"; docs/MECHANICS.md, "Damage numbers" to "Factors"). The answer is 0, or the first thing that is
+/// wrong, 1 to 5; then the numbers stay as they were.
 #[unsafe(no_mangle)]
 pub extern "C" fn gen1_damage(
     battle: &Packed,

@@ -13,7 +13,8 @@ use gen1_machine::Side;
 
 const NO_MASK: u16 = 65535;
 
-/// What a side may choose, as a mask: from the lowest bit on, of Pass, Move 0 to 4 and Switch 1 to 6, whether it is offered.
+/// What a side may choose, as a mask: from the lowest bit on, of Pass, Move 0 to 4 and Switch 1 to 6, whether it is offered. 65,535
+/// where there is no such side.
 #[unsafe(no_mangle)]
 pub extern "C" fn gen1_offered(battle: &Packed, side: u8) -> u16
     ensures offers { (s : State) (which : Side) → Stands battle.now s → side ≡ side_number which

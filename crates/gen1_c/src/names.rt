@@ -43,7 +43,8 @@ pub extern "C" fn gen1_version() -> u32
     VERSION
 }
 
-/// The name of a species, from 1 to 151.
+/// The name of a species, from 1 to 151: to the front of the text, and how many bytes it is. The answer is 0; 1 where no species has
+/// the number, and 2 where the room is too small, and then nothing has changed.
 #[unsafe(no_mangle)]
 pub extern "C" fn gen1_species_name(number: u8, text: &mut [u8], written: &mut usize) -> u8
     ensures { Writes 2 (species_text number) (record { bytes = text.old; count = written.old })
@@ -55,7 +56,7 @@ pub extern "C" fn gen1_species_name(number: u8, text: &mut [u8], written: &mut u
     }
 }
 
-/// The name of a move, from 1 to 165.
+/// The name of a move, from 1 to 165, with the answers of `gen1_species_name`.
 #[unsafe(no_mangle)]
 pub extern "C" fn gen1_move_name(number: u8, text: &mut [u8], written: &mut usize) -> u8
     ensures { Writes 2 (move_text number) (record { bytes = text.old; count = written.old })
@@ -67,7 +68,7 @@ pub extern "C" fn gen1_move_name(number: u8, text: &mut [u8], written: &mut usiz
     }
 }
 
-/// The name of a type, from 0 to 14.
+/// The name of a type, from 0 to 14, with the answers of `gen1_species_name`.
 #[unsafe(no_mangle)]
 pub extern "C" fn gen1_type_name(number: u8, text: &mut [u8], written: &mut usize) -> u8
     ensures { Writes 2 (type_text number) (record { bytes = text.old; count = written.old })
@@ -107,7 +108,8 @@ pub extern "C" fn gen1_move_from_name(text: &[u8]) -> u8
     }
 }
 
-/// The base stats and types of a species, from 1 to 151.
+/// The base stats and types of a species, from 1 to 151. The answer is 0; 1 where no species has the number, and then nothing has
+/// changed.
 #[unsafe(no_mangle)]
 pub extern "C" fn gen1_species_stats(number: u8, base: &mut BaseForm) -> u8
     ensures { Tells (base_due number) base.old base.new result }
@@ -131,7 +133,7 @@ fn base_of(species: Species) -> BaseForm
     }
 }
 
-/// The row of a move, from 1 to 165.
+/// The row of a move, from 1 to 165. The answer is 0; 1 where no move has the number, and then nothing has changed.
 #[unsafe(no_mangle)]
 pub extern "C" fn gen1_move_data(number: u8, row: &mut MoveForm) -> u8
     ensures { Tells (move_due number) row.old row.new result }

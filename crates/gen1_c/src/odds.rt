@@ -28,7 +28,8 @@ const NOBODY: u8 = 4;
 
 const NO_SUCH_MOVE: u32 = 11;
 
-/// What a use of a move by a side would come to, as both members that are out now stand.
+/// What a use of a move by a side would come to, as both members that are out now stand. The answer is 0, or the first thing that is
+/// wrong, as `gen1_damage` answers it; then nothing has changed.
 #[unsafe(no_mangle)]
 pub extern "C" fn gen1_hit_now(battle: &Packed, side: u8, number: u8, hit: &mut Odds) -> u8
     ensures tells { (s : State) (which : Side) → Stands battle.now s → side ≡ side_number which

@@ -11,7 +11,8 @@ use gen1_rolls::LinkRandom;
 
 const WRONG_INDEX: u8 = 1;
 
-/// Gives the battle other numbers to draw, and the index of the one that is drawn next, from 0 to 8; nothing else changes.
+/// Gives the battle other numbers to draw, and the index of the one that is drawn next, from 0 to 8; nothing else changes. The
+/// answer is 0; 1 where the index is above 8, and then nothing has changed.
 #[unsafe(no_mangle)]
 pub extern "C" fn gen1_reseed(battle: &mut Packed, seed: &[u8; 10], index: u8) -> u8
     ensures stands { index < 9 → (s : State) → Stands battle.old s → (result ≡ 0)

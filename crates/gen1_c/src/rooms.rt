@@ -5,7 +5,7 @@ ghost use Rattle.gen1_machine.specs.Room.{Course, after, reply_to, room_of};
 ghost use Rattle.gen1_machine.specs.State.{State};
 ghost use Rattle.gen1_machine.specs.declared.side.Side.{Side};
 ghost use Rattle.gen1_layout.specs.Within.{Stands};
-ghost use Rattle.gen1_room.specs.Plain.{Keeps, due};
+ghost use Rattle.gen1_room.specs.Plain.{IsMarked, Keeps, due};
 ghost use Rattle.gen1_room.specs.Rooms.{submission_of};
 ghost use Rattle.gen1_c.specs.Rooms.{reply_code};
 ghost use Rattle.gen1_c.specs.Update.{IsNoSide, Offers};
@@ -19,7 +19,9 @@ const NO_SIDE: u8 = 255;
 /// Makes a room of the battle that stands in it, which is started if it has not begun.
 #[unsafe(no_mangle)]
 pub extern "C" fn gen1_room_begin(room: &mut PlainRoom)
-    ensures { (s : State) → Stands room.old.battle s → Keeps room.new (room_of s) }
+    ensures keeps { (s : State) → Stands room.old.battle s → Keeps room.new (room_of s) }
+    // Whatever the bytes of the battle are.
+    ensures marked { IsMarked room.new }
 {
     begin(room);
 }
@@ -46,6 +48,7 @@ pub extern "C" fn gen1_room_submit(room: &mut PlainRoom, side: u8, number: u32, 
         → Keeps room.new (after c (submission_of which number choice))
         × (result ≡ reply_code (reply_to c (submission_of which number choice))) }
     ensures no_side { IsNoSide side → result ≡ 255 }
+    ensures marked { IsMarked room.old → IsMarked room.new }
     // Whatever the bytes are.
     ensures kept { result ≢ 0 → room.new ≡ room.old }
 {

@@ -26,7 +26,8 @@ pub struct TextFaultForm {
     pub rule: u8,
 }
 
-/// The team that the export text of a team builder tells of.
+/// The team that the export text of a team builder tells of. The answer is 0, or the code of the first fault, 1 to 14; then the team
+/// stays as it was, and `fault` says where.
 #[unsafe(no_mangle)]
 pub extern "C" fn gen1_team_from_text(
     text: &[u8],
@@ -42,7 +43,7 @@ pub extern "C" fn gen1_team_from_text(
     }
 }
 
-/// The team that a packed line tells of.
+/// The team that a packed line tells of, with the answers of `gen1_team_from_text`.
 #[unsafe(no_mangle)]
 pub extern "C" fn gen1_team_from_packed(
     text: &[u8],

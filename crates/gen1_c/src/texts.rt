@@ -85,6 +85,7 @@ static ROOM_TEXTS: [&str; 5] = [
 ];
 
 /// A code in words: one sentence, with the ranges that would have been right. `about` says whose code it is.
+/// The answer is 0; 1 where there is no such code, and 2 where the room is too small, and then nothing has changed.
 #[unsafe(no_mangle)]
 pub extern "C" fn gen1_text(about: u8, code: u8, text: &mut [u8], written: &mut usize) -> u8
     ensures { Writes 2 (sentence_due about code) (record { bytes = text.old; count = written.old })

@@ -5,7 +5,6 @@
 //! - `many_hits`: the hits of a move, one after the other
 //! - `hit_counts`: how many hits a move makes
 //! - `first_hit`: what is told before the first hit
-//! - `effectiveness`: how a hit does by the types
 //! - `hit_effects`: what comes with the hit of a move that makes one
 //! - `miss`: what a miss brings
 #![tactic(auto)]

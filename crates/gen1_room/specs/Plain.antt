@@ -1,5 +1,5 @@
 -- A room as a plain struct, in the machine's words (docs/MECHANICS.md, "Rooms").
-use Rattle.std.specs.Prelude.{List, [], if◌then◌else◌, is_some, take}
+use Rattle.std.specs.Prelude.{List, None, [], if◌then◌else◌, is_some, take, ◌≡◌}
 use Rattle.gen1_machine.specs.declared.side.Side.{Side}
 use Rattle.gen1_machine.specs.declared.choice.Choice.{Choice}
 use Rattle.gen1_machine.specs.Choices.{choice_at}
@@ -24,6 +24,11 @@ held_of r = record {
 pub record Keeps (r : PlainRoom) (c : Course) : Type 0 where
   pub holds : Holds (held_of r) c
   pub counts : Counts r.battle r.number
+
+-- where a choice is due stands 255, and no other byte that is no choice
+pub record IsMarked (r : PlainRoom) : Type 0 where
+  pub one : choice_at r.one ≡ None → r.one ≡ 255
+  pub two : choice_at r.two ≡ None → r.two ≡ 255
 
 -- what a side may submit: nothing where its choice is there
 abbrev pub due : Side → Course → List Choice

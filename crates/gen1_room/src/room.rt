@@ -5,7 +5,7 @@ ghost use Rattle.gen1_machine.specs.Room.{Course, after, course_of, replies_of, 
 ghost use Rattle.gen1_machine.specs.State.{State};
 ghost use Rattle.gen1_events.specs.Splits.{IsReading};
 ghost use Rattle.gen1_layout.specs.Within.{Stands};
-ghost use Rattle.gen1_room.specs.Rooms.{Holds, reply_of, submission_at, submission_of};
+ghost use Rattle.gen1_room.specs.Rooms.{Holds, IsRoom, reply_of, submission_at, submission_of};
 
 use crate::held::Held;
 use crate::reply::Reply;
@@ -47,7 +47,9 @@ impl Room {
 
     /// The number of the current pair: how many have ended since the room was made.
     pub fn number(&self) -> u32
-        ensures { (c : Course) → Holds self.now c → result ≡ c.number }
+        ensures counts { (c : Course) → Holds self.now c → result ≡ c.number }
+        // Whatever this room is, it holds a course.
+        ensures valid { IsRoom self.now }
     {
         self.held.number
     }

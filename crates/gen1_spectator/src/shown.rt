@@ -2,7 +2,7 @@
 ghost use Rattle.std.specs.Prelude.{◌≡◌};
 ghost use Rattle.gen1_machine.specs.LogBytes.{kind_or_0};
 ghost use Rattle.gen1_machine.specs.View.{not_shown};
-ghost use Rattle.gen1_spectator.specs.Plain.{kind_at, shown_of};
+ghost use Rattle.gen1_spectator.specs.Plain.{kind_at, plain_member, shown_of};
 
 use crate::plain::PlainMember;
 use gen1_machine::Kind;
@@ -65,7 +65,8 @@ impl Shown {
 
     /// The same as a plain struct.
     pub(crate) fn plain(self) -> PlainMember
-        ensures { shown_of result ≡ self }
+        ensures shown { shown_of result ≡ self }
+        ensures exact { result ≡ plain_member self }
     {
         PlainMember {
             hp: self.hp,

@@ -3,7 +3,7 @@ ghost use Rattle.std.specs.Prelude.{None, false, length, map, ◌≡◌, ◌≤�
 ghost use Rattle.gen1_stats.specs.Members.{Member as Begun};
 ghost use Rattle.gen1_machine.specs.CurrentStats.{stage_of};
 ghost use Rattle.gen1_machine.specs.View.{cleared, first_side_view, if_out, not_shown, on_shown, sees_drop, sees_rise, sees_switch, sees_volatile, shown_at};
-ghost use Rattle.gen1_spectator.specs.Plain.{IsPlainSide, shown_of, side_view_of};
+ghost use Rattle.gen1_spectator.specs.Plain.{IsPlainSide, plain_side, shown_of, side_view_of};
 ghost use Rattle.gen1_spectator.specs.Sides.{member_shown, side_sees};
 
 use crate::plain::{PlainMember, PlainSide, bit};
@@ -92,6 +92,7 @@ impl SideView {
     /// The same as a plain struct.
     pub(crate) fn plain(&self) -> PlainSide
         ensures view { side_view_of result ≡ self.now }
+        ensures exact { result ≡ plain_side self.now }
         ensures ranges { IsPlainSide result }
     {
         PlainSide {

@@ -2,7 +2,7 @@
 ghost use Rattle.std.specs.Prelude.{min, ◌+◌, ◌-◌, ◌≡◌, ◌≤◌};
 ghost use Rattle.gen1_machine.specs.CurrentStats.{stage_of, with_stage};
 ghost use Rattle.gen1_machine.specs.State.{level_stages};
-ghost use Rattle.gen1_spectator.specs.Plain.{AreStages, stages_of};
+ghost use Rattle.gen1_spectator.specs.Plain.{AreStages, plain_stages, stages_of};
 
 use crate::plain::PlainStages;
 use gen1_tables::Stat;
@@ -123,6 +123,7 @@ impl Stages {
     /// The same as a plain struct.
     pub(crate) fn plain(self) -> PlainStages
         ensures stages { stages_of result ≡ self }
+        ensures exact { result ≡ plain_stages self }
         ensures ranges { AreStages result }
     {
         PlainStages {

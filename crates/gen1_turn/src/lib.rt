@@ -12,7 +12,6 @@
 //! - `used_move`: a move that is used, and its PP
 //! - `action_damage`: the damage that an action deals
 //! - `strike`: a move that hits or misses
-//! - `by_effect`: which parts of an action an effect has
 #![tactic(auto)]
 
 mod action;
