@@ -32,6 +32,12 @@ PARTS = dict(zip(DOCUMENTS, (
 WITHOUT = {
     Section("docs/PROGRAM.md", "The program battle_tool"): {
         "Definition": "none; clap reads the words, and the contract of `tool` says which statuses there are"},
+    Section("docs/PROGRAM.md", "gen1, the same program by cargo"): {
+        "Definition": "none; nothing of it is proved",
+        "Operation": "[plain, main.rs](../plain/program/src/main.rs)",
+        "Edits": "none",
+        "Tests": "[plain, recorded.rs](../plain/program/tests/recorded.rs), [explained.rs](../plain/program/tests/explained.rs), "
+                 "[replay.rs](../plain/program/tests/replay.rs)"},
     Section("include/gen1.h", "searching"): {
         "Definition": "`reseeded` ([gen1_engine, Reseed.antt](../crates/gen1_engine/specs/Reseed.antt))"},
     Section("include/gen1.h", "watching"): {
@@ -65,6 +71,7 @@ LEMMA = re.compile(r"([A-Za-z_][\w-]*) : ")
 FOR_TESTS = re.compile(r"#\[cfg\(test\)\]\s*(?:pub(?:\([a-z]+\))? )?mod (\w+);")
 MODULE = re.compile(r"(?m)^(?:pub )?mod (\w+);")
 DECLARED = re.compile(r"(?m)^\w+ (gen1_\w+)\(")
+CALLED = re.compile(r"\b(gen1_\w+)\(")
 
 HEAD = """# Where each rule stands
 
@@ -141,12 +148,13 @@ class Map:
                 self.add(names, "Edits", edit, folder)
 
     def calls(self):
-        """The examples of other languages, which test the calls of the C library that they name."""
+        """The examples of other languages, which test the calls of the C library that they make."""
         _, *parts = re.split(r"(?m)^/\* ---- (.*) ---- \*/$", (ROOT / "include/gen1.h").read_text())
         for name, text in zip(parts[::2], parts[1::2]):
             for file in sorted((ROOT / "examples").glob("*/*.*")):
+                called = set(CALLED.findall(file.read_text()))
                 for call in DECLARED.findall(text):
-                    if call in file.read_text():
+                    if call in called:
                         self.add([Section("include/gen1.h", name)], "Tests", file, call)
 
 
