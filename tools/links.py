@@ -33,7 +33,7 @@ CODE = re.compile(r"`[^`\n]*`")
 LINK = re.compile(r"\[[^\]\n]*\]\(([^)\s]+)\)")
 # The end of a line within a comment of any of the languages, and a document with headings of it in quotes.
 BREAK = re.compile(r"\n\s*(?:\*|//[/!]?|--|#)? ?")
-CITED = re.compile(r'\b((?:docs/)?[A-Z]+\.md)((?:,(?: and| to)? "[^"{]+"(?: (?:and|to) "[^"{]+")*)+)')
+CITED = re.compile(r'(?<![\w/-])((?:[\w-]+/)*[A-Z_]+\.md)((?:,(?: and| to)? "[^"{]+"(?: (?:and|to) "[^"{]+")*)+)')
 HEADING = re.compile(r"(?m)^#{1,6} +(.*?) *$")
 WEB = re.compile(r"[a-z]+:")
 # A document, by a link, its path or its name in capitals, and then headings of it in quotes.
@@ -57,7 +57,8 @@ def documents():
 def sources():
     """The files whose comments may cite a document."""
     patterns = ("crates/*/src/**/*.rt", "crates/*/specs/*.antt", "crates/*/proofs/**/*.antt", "tools/*", "include/*.h", "bench/*",
-                "examples/**/*", "tests/c/**/*", "packaging/*", ".ci/run")
+                "examples/**/*", "tests/c/**/*", "packaging/*", "plain/adapter/**/*", "plain/additions/*",
+                "plain/page/**/*", "plain/program/**/*", "plain/wasm/*", "plain/compare/*", "fuzz/src/*", "fuzz/run", ".ci/run")
     return [file for where in patterns for file in sorted(ROOT.glob(where)) if file.is_file()]
 
 
