@@ -89,24 +89,32 @@ def anchors(document):
     return found
 
 
-def fault_of_link(document, target):
-    """What is wrong with a link of a document, or None."""
+def fault_of_link(document, target, root):
+    """What is wrong with a link of a document below a root, or None."""
     path, _, anchor = unquote(target).partition("#")
     file = (document.parent / path).resolve() if path else document
     if not file.exists():
         return f"{target} leads to nothing"
-    if not file.is_relative_to(ROOT):
-        return f"{target} leads out of the repository"
+    if not file.is_relative_to(root):
+        return f"{target} leads out of {root.name}"
     if anchor and (file.suffix != ".md" or anchor not in anchors(file)):
         return f"{target} leads to no heading"
     return None
 
 
-def links(document, text):
-    """Each link of a text, by its place, with its fault."""
+def links(document, text, root=ROOT):
+    """Each link of a text without its blocks of code, by its place, with its fault."""
     for found in LINK.finditer(CODE.sub(blank, text)):
         if not WEB.match(found[1]):
-            yield found.start(), fault_of_link(document, found[1])
+            yield found.start(), fault_of_link(document, found[1], root)
+
+
+def lost_links(root):
+    """What is wrong with the links of all documents below a folder."""
+    for document in sorted(root.rglob("*.md")):
+        for _, fault in links(document, FENCE.sub(blank, document.read_text()), root):
+            if fault:
+                yield f"{document.relative_to(root)}: {fault}"
 
 
 def document_named(document, linked, name):

@@ -1,11 +1,17 @@
 """What goes with a workspace that can be published."""
 import hashlib
+import re
 import shutil
 import subprocess
+from functools import partial
 
 from plain_workspace import OWN, ROOT
 
-DOCUMENTS = ("LAYOUT.md", "MECHANICS.md", "PLAIN.md", "PROGRAM.md", "TABLES.md")
+DOCUMENTS = ("GLOSSARY.md", "LAYOUT.md", "MECHANICS.md", "PLAIN.md", "PROGRAM.md", "SPEED.md", "TABLES.md", "TEAM_TEXT.md")
+# The inputs that docs/PROGRAM.md leads to.
+INPUTS = ("body_slam.json", "full_teams.json")
+# A block or span of code, in which nothing is a link, or a link: its words and where it leads.
+LINK = re.compile(r"^(```|~~~).*?^\1 *$|`[^`\n]*`|\[([^\]\n]*)\]\(([^)\s]+)\)", re.M | re.S)
 
 
 def sum_of(path):
@@ -18,6 +24,19 @@ def said(*words):
         return subprocess.run(words, cwd=ROOT, capture_output=True, text=True, check=True).stdout.strip()
     except (OSError, subprocess.CalledProcessError):
         return None
+
+
+def within(document, found):
+    """A link of a document as it stands, or its words alone where it leads to nothing."""
+    path = (found[3] or "").partition("#")[0]
+    is_lost = path and not re.match("[a-z]+:", path) and not (document.parent / path).exists()
+    return found[2] if is_lost else found[0]
+
+
+def keep_links_within(documents):
+    """Turns each link that leads to nothing, where the documents now stand, into its words; what they may lead to is there by then."""
+    for document in documents:
+        document.write_text(LINK.sub(partial(within, document), document.read_text()))
 
 
 def proved():
@@ -35,7 +54,7 @@ def proved():
 
 def write_release(out, library):
     """Adds to a workspace what a user wants beside it. `library` is the proved one for C, or None."""
-    for path in ("CHANGELOG.md", "LICENSE"):
+    for path in ("CHANGELOG.md", "LICENSE", "SECURITY.md", "VERSION"):
         shutil.copy(ROOT / path, out)
     for folder in ("docs", "examples", "include"):
         (out / folder).mkdir(exist_ok=True)
@@ -43,7 +62,9 @@ def write_release(out, library):
         shutil.copy(ROOT / "docs" / name, out / "docs")
     shutil.copy(ROOT / "include" / "gen1.h", out / "include")
     shutil.copy(OWN / "release" / "README.md", out)
-    shutil.copy(OWN / "release" / "tauros.json", out / "examples")
+    for path in (OWN / "release" / "tauros.json", *(ROOT / "examples" / name for name in INPUTS)):
+        shutil.copy(path, out / "examples")
+    keep_links_within([*out.glob("*.md"), *out.glob("docs/*.md"), *out.glob("examples/*/*.md")])
     if library:
         (out / "lib").mkdir()
         shutil.copy(library, out / "lib" / "libgen1_c.a")

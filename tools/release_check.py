@@ -12,6 +12,7 @@ from pathlib import Path
 
 from c_install import LINES, plays
 from c_library import Missing, Unbuilt, calls
+from links import lost_links
 from repository import ROOT, version
 
 REGISTRY = Path("/usr/share/cargo/registry")
@@ -91,6 +92,11 @@ class Trial:
         got = ran("cargo", "run", "-q", "--release", "--offline", "--", "run", cwd=folder, given=given)
         self.made = folder / "target" / "release" / "gen1"
         return due(got, wanted) or due(ran(self.made, "--version", cwd=folder), f"gen1 {version()}\n")
+
+    def links(self):
+        """Each link of the documents leads to something that is there, in the release and in the folder of the Rust sources."""
+        folders = [self.out, *(self.unpacked(path.name) for path in self.out.glob("gen1-*-rust.tar.gz"))]
+        return next((fault for folder in folders for fault in lost_links(folder.resolve())), None)
 
     def c(self):
         """A program by pkg-config over the shared and over the static library, from where the folder was unpacked."""
@@ -178,6 +184,7 @@ class Trial:
                     print(f"{name}: skipped: it was left out: {self.left_out[part]}", flush=True)
                 else:
                     self.tell(name, check, *given)
+        self.tell("links of the documents", self.links)
         self.tell("PROVED.txt", self.proved)
         self.tell("SECURITY.md", self.security)
         print(f"{self.counts['passed']} passed, {self.counts['failed']} failed, {self.counts['skipped']} skipped")
