@@ -1,7 +1,8 @@
 /*
  * gen1.h - first-generation link battles, for C and languages that call C.
  *
- * The library is libgen1.so or libgen1_c.a. It needs nothing but memcpy, memmove and memset of the C library.
+ * The library is libgen1.so or libgen1_c.a. It needs nothing but memcpy, memmove and memset of the C library; one that is built of
+ * the plain sources (docs/PLAIN.md) needs abort too, which it never reaches.
  * packaging/README.md says how to install it, and how a program is built with it.
  * The rules of battle are docs/MECHANICS.md, the numbers of species, moves and types docs/TABLES.md, the 384 bytes
  * docs/LAYOUT.md. crates/gen1_c/CALLING.md says what to call when, and which clause of a proved contract promises what.
@@ -11,11 +12,13 @@
  *   - No global state: calls on different battles may run at the same time in any threads. Calls on one battle may not, unless
  *     all of them take it as const.
  *   - Any number may be passed. One that is out of its range gets a code, and if a call answers a code, nothing that its
- *     pointers point to has changed.
+ *     pointers point to has changed, but for `fault` of gen1_team_from_text and gen1_team_from_packed, which says what is wrong.
  *   - What the library cannot check is up to you: a pointer points to as much memory as its type says, or as the size beside
- *     it says, and is not NULL (a NULL with size 0 is allowed); no two pointers of a call overlap.
- *   - A battle that gen1_new or gen1_load made, and that only gen1_update has changed, stands for a valid state. With other
- *     bytes every call still returns, and stays within your memory, but what it answers means nothing.
+ *     it says, and is not NULL (a NULL with size 0 is allowed). What a call may write overlaps nothing else that it is given;
+ *     what it takes as const may overlap: both teams of gen1_new may be the same one.
+ *   - A battle that gen1_new or gen1_load made, and that nothing but calls of this header has changed since, stands for a valid
+ *     state; after gen1_update_offered it does so if both choices were offered. With other bytes every call still returns, and
+ *     stays within your memory, but what it answers means nothing.
  */
 #ifndef GEN1_H
 #define GEN1_H
@@ -400,7 +403,7 @@ uint8_t gen1_offered_many(const gen1_battle *battles, size_t count, uint8_t side
  * unchanged, and the others are updated all the same. results[i] becomes what gen1_result answers of the battle as it now is.
  *
  * Each array stands with its own length. Answers 0; or GEN1_LENGTHS where one of them is not `count`, and then nothing at all has
- * changed. No two arrays overlap.
+ * changed. `ones` and `twos` may overlap, no other two.
  */
 uint8_t gen1_update_many(gen1_battle *battles, size_t count, const uint8_t *ones, size_t one_count, const uint8_t *twos,
                          size_t two_count, uint8_t *results, size_t result_count, uint8_t *codes, size_t code_count);
