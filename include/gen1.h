@@ -45,7 +45,8 @@ typedef struct gen1_member {
     uint8_t species;    /* 1 to 151 */
     uint8_t level;      /* 1 to 100 */
     uint8_t dvs[4];     /* 0 to 15: Attack, Defense, Speed, Special */
-    uint8_t moves[4];   /* 1 to 165, at least one and no two the same; a 0 is skipped, so the others get slots from 1 on */
+    uint8_t moves[4];   /* 1 to 164 but for 102, 118, 119 and 144, which are left out; at least one, and no two the same. A 0 is
+                           skipped, so the others get slots from 1 on */
     uint8_t pp_ups[4];  /* 0 to 3, of the move at the same place; ignored where the move is 0 */
     uint16_t exp[5];    /* HP, Attack, Defense, Speed, Special */
 } gen1_member;
@@ -96,7 +97,10 @@ enum {
     GEN1_CONDITION_LIGHT_SCREEN = 16384, GEN1_CONDITION_REFLECT = 32768, GEN1_CONDITION_DISABLED = 65536
 };
 
-/* tools/header.py writes the lines from here to "end of the tables", from docs/TABLES.md. */
+/* Why a battle could not go on: `detail` of GEN1_FAULT. The outcome is then GEN1_FAULT_ONE or GEN1_FAULT_TWO, likewise. */
+enum { GEN1_FAULT_DIVISION = 1, GEN1_FAULT_PSYWAVE };
+
+/* tools/header.py writes the lines from here to "end of the tables", from docs/TABLES.md and docs/MECHANICS.md. */
 
 /* Types. */
 enum {
@@ -174,6 +178,25 @@ enum {
     GEN1_MOVE_SUPER_FANG, GEN1_MOVE_SLASH, GEN1_MOVE_SUBSTITUTE, GEN1_MOVE_STRUGGLE
 };
 
+/* Why a member could not act: `detail` of GEN1_CANT. */
+enum {
+    GEN1_REASON_ASLEEP = 1, GEN1_REASON_FROZEN, GEN1_REASON_PARTIALLY_TRAPPED, GEN1_REASON_FLINCHED, GEN1_REASON_RECHARGING,
+    GEN1_REASON_DISABLED, GEN1_REASON_PARALYSED
+};
+
+/* What dealt damage: `detail` of GEN1_DAMAGE. */
+enum {
+    GEN1_SOURCE_DIRECT = 0, GEN1_SOURCE_POISON, GEN1_SOURCE_BURN, GEN1_SOURCE_LEECH_SEED, GEN1_SOURCE_RECOIL,
+    GEN1_SOURCE_CONFUSION
+};
+
+/* What began, ended or showed: `detail` of GEN1_START, GEN1_END and GEN1_ACTIVATE. */
+enum {
+    GEN1_VOLATILE_CONFUSION = 1, GEN1_VOLATILE_BIDE, GEN1_VOLATILE_SUBSTITUTE, GEN1_VOLATILE_LEECH_SEED, GEN1_VOLATILE_MIST,
+    GEN1_VOLATILE_FOCUS_ENERGY, GEN1_VOLATILE_LIGHT_SCREEN, GEN1_VOLATILE_REFLECT, GEN1_VOLATILE_DISABLE,
+    GEN1_VOLATILE_TYPE_CHANGE, GEN1_VOLATILE_TRAPPED, GEN1_VOLATILE_RAGE, GEN1_VOLATILE_SPLASH
+};
+
 /* end of the tables */
 
 /* ---- beginning ---- */
@@ -215,13 +238,21 @@ enum {
  */
 uint8_t gen1_load(gen1_battle *battle, const uint8_t *bytes, size_t count);
 
+/* The tests, each below what is wrong with bytes that fail it. */
 enum {
+    /* There are not 384 bytes. */
     GEN1_LOAD_LENGTH = 1,
+    /* The version, byte 0, is not 1, 2 or 3. */
     GEN1_LOAD_VERSION = 2,
+    /* A field of the header is out of its range. */
     GEN1_LOAD_HEADER = 3,
+    /* A member is out of its ranges, or stands behind an empty place. */
     GEN1_LOAD_MEMBER = 4,
+    /* An active block is out of its ranges, or does not fit its current move. */
     GEN1_LOAD_ACTIVE = 5,
+    /* A current stat is not what stage and penalties make of the member's own. */
     GEN1_LOAD_STAT = 6,
+    /* Turn, outcome, requests and living members do not fit together. */
     GEN1_LOAD_REQUEST = 7
 };
 
@@ -246,9 +277,21 @@ uint16_t gen1_offered(const gen1_battle *battle, uint8_t side);
 
 #define GEN1_NO_MASK 0xffff /* what gen1_offered answers for a side that is neither 1 nor 2 */
 
-/* The bit of a choice's byte, and the byte of a bit from 0 to 11. */
-#define GEN1_BIT(choice) ((choice) == 0 ? 0 : (choice) < 0x20 ? (choice) - 0x0f : (choice) - 0x1b)
-#define GEN1_CHOICE(bit) ((bit) == 0 ? 0 : (bit) < 6 ? (bit) + 0x0f : (bit) + 0x1b)
+/* The bit of a choice's byte, 0 to 11; or 12, which is 0 in each mask but GEN1_NO_MASK, for a byte that is no choice. */
+static inline int GEN1_BIT(int choice)
+{
+    if (choice == GEN1_PASS)
+        return 0;
+    if (choice >= GEN1_MOVE(0) && choice <= GEN1_MOVE(4))
+        return choice - GEN1_MOVE(0) + 1;
+    return choice >= GEN1_SWITCH(1) && choice <= GEN1_SWITCH(6) ? choice - GEN1_SWITCH(1) + 6 : 12;
+}
+
+/* The choice's byte of a bit from 0 to 11. */
+static inline int GEN1_CHOICE(int bit)
+{
+    return bit == 0 ? GEN1_PASS : bit < 6 ? GEN1_MOVE(0) + bit - 1 : GEN1_SWITCH(1) + bit - 6;
+}
 
 /*
  * An update by a choice of each side. The first update of a battle is GEN1_PASS and GEN1_PASS, and sends out both first
@@ -295,21 +338,22 @@ enum { GEN1_ASKED_NOTHING, GEN1_ASKED_MOVE, GEN1_ASKED_SWITCH };
  * have is 0.
  */
 typedef struct gen1_event {
-    uint8_t tag;            /* which event, 1 to 28 */
+    uint8_t tag;            /* which event: GEN1_TURN to GEN1_FAULT, 1 to 28 */
     uint8_t side;           /* whom it is about, or who wins: 1 or 2 */
     uint8_t species;        /* the species of whom it is about, 1 to 151 */
-    uint8_t move;           /* Move and Prepare: 1 to 165 */
-    uint8_t target_side;    /* Move: the foe */
-    uint8_t target_species; /* the foe's species, 1 to 151 */
-    uint8_t place;          /* Switch: 1 to 6 */
-    uint8_t level;          /* Switch: 1 to 100 */
-    uint8_t status;         /* of the health, and of Status and Cure: the kind of status, 1 to 5 */
-    uint8_t detail;         /* the reason of Cant, the source of Damage, the volatile of Start, End and Activate, the stat of
-                               Boost and Unboost, the code of Fault */
-    uint8_t amount;         /* the stages of Boost and Unboost, the hits of HitCount */
-    uint16_t hp;            /* the health of Switch, Damage and Heal: 0 to max_hp */
-    uint16_t max_hp;        /* 11 to 999 */
-    uint16_t turn;          /* Turn: 1 to 9,999 */
+    uint8_t move;           /* of GEN1_MOVED and GEN1_PREPARE: 1 to 165 */
+    uint8_t target_side;    /* of GEN1_MOVED: the foe's side, 1 or 2 */
+    uint8_t target_species; /* of GEN1_MOVED: the foe's species, 1 to 151 */
+    uint8_t place;          /* of GEN1_SWITCHED: 1 to 6 */
+    uint8_t level;          /* of GEN1_SWITCHED: 1 to 100 */
+    uint8_t status;         /* of the health: GEN1_STATUS_NONE to GEN1_STATUS_PARALYSIS; of GEN1_STATUS and GEN1_CURE: not NONE */
+    uint8_t detail;         /* of GEN1_CANT a GEN1_REASON_.., of GEN1_DAMAGE a GEN1_SOURCE_.., of GEN1_START, GEN1_END and
+                               GEN1_ACTIVATE a GEN1_VOLATILE_.., of GEN1_BOOST and GEN1_UNBOOST a GEN1_STAT_.., of GEN1_FAULT
+                               GEN1_FAULT_DIVISION or GEN1_FAULT_PSYWAVE */
+    uint8_t amount;         /* the stages of GEN1_BOOST and GEN1_UNBOOST, 1 or 2; the hits of GEN1_HIT_COUNT, 1 to 5 */
+    uint16_t hp;            /* the health of GEN1_SWITCHED, GEN1_DAMAGE and GEN1_HEAL: 0 to max_hp */
+    uint16_t max_hp;        /* of the health: 11 to 999 */
+    uint16_t turn;          /* of GEN1_TURN: 1 to 9,999 */
 } gen1_event;
 
 enum {
@@ -531,17 +575,19 @@ uint8_t gen1_move_data(uint8_t move, gen1_move *row);
 
 /*
  * A code in words: one sentence with the ranges that would have been right, such as "a DV is above 15". `about` says whose code
- * it is. Of an answer of gen1_new give GEN1_CODE(answer). The code 0 is "nothing is at fault". Answers 0 or one of the codes above.
+ * it is. Of an answer of gen1_new, and of the calls that answer as it does, give GEN1_CODE(answer). The code 0 is "nothing is at
+ * fault". GEN1_NO_SIDE, GEN1_NO_MASK, GEN1_LENGTHS and what a text of a team was expected to have (GEN1_TEXT_..) have no sentence.
+ * Answers 0 or one of the codes above.
  */
 uint8_t gen1_text(uint8_t about, uint8_t code, char *text, size_t room, size_t *length);
 
 enum {
-    GEN1_ABOUT_NEW = 1,    /* gen1_new: 1 to 13 */
-    GEN1_ABOUT_LOAD = 2,   /* gen1_load: 1 to 7 */
-    GEN1_ABOUT_UPDATE = 3, /* gen1_update: 1 to 4 */
-    GEN1_ABOUT_LOG = 4,    /* gen1_next_event and gen1_next_line: 1 to 5 */
-    GEN1_ABOUT_DAMAGE = 5, /* gen1_damage and gen1_hit_now: 1 to 5 */
-    GEN1_ABOUT_NAME = 6,   /* the calls of this section: 1 and 2 */
+    GEN1_ABOUT_NEW = 1,    /* gen1_new, gen1_spectator_begin, gen1_hit_between, and `rule` of gen1_text_fault: 1 to 13 */
+    GEN1_ABOUT_LOAD = 2,   /* gen1_load and gen1_playout: 1 to 7 */
+    GEN1_ABOUT_UPDATE = 3, /* gen1_update, gen1_update_offered, and each of `codes` of gen1_update_many: 1 to 4 */
+    GEN1_ABOUT_LOG = 4,    /* gen1_next_event, gen1_next_line and gen1_spectator_feed: 1 to 5 */
+    GEN1_ABOUT_DAMAGE = 5, /* gen1_damage, gen1_hit_now, and `code` of gen1_damages: 1 to 5 */
+    GEN1_ABOUT_NAME = 6,   /* the calls of this section that answer one of the codes above: 1 and 2 */
     GEN1_ABOUT_CHOICE = 7, /* gen1_choice_words: 1 to 4 */
     GEN1_ABOUT_RESEED = 8, /* gen1_reseed: 1 */
     GEN1_ABOUT_ROOM = 9    /* gen1_room_submit: 1 to 4 */

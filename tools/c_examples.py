@@ -1,4 +1,4 @@
-"""What tools/c_gate compares of each example of examples/c: its output on recorded cases, against what was recorded."""
+"""What tools/c_gate compares of each program of examples/c, and of tests/c/names.c: its output on cases, against what is due."""
 
 import json
 import math
@@ -66,6 +66,11 @@ def of_play(gate):
     for name in PLAYED:
         for case in cases(recorded(f"{name}.jsonl", gate.cases)):
             yield recorded_case(case, (), as_numbers(json.loads(case["input"])).encode())
+
+
+def of_names(_gate):
+    """It has no input, and compares by itself."""
+    yield Case("status", (), b"", b"", b"")
 
 
 def of_look(_gate):
@@ -214,6 +219,7 @@ def is_whole(case):
 
 EXAMPLES = (
     Example("play", ("examples/c/play.c",), of_play),
+    Example("names", ("tests/c/names.c",), of_names),
     Example("look", ("examples/c/look.c",), of_look),
     Example("replay", ("examples/c/replay/replay.c",), of_replay),
     Example("bot", ("examples/c/bot/bot.c",), of_bot),

@@ -1,5 +1,5 @@
 #!/usr/bin/env python3
-"""Writes the species, moves and types of include/gen1.h from the tables of docs/TABLES.md.
+"""Writes the species, moves and types of include/gen1.h from docs/TABLES.md, and the details of events from docs/MECHANICS.md.
 
     tools/header.py           writes the enums between their two marks, and says whether the header changed
     tools/header.py --check   writes nothing; fails if the header differs
@@ -8,43 +8,54 @@ The lines outside the two marks are written by hand, and stay as they are.
 """
 
 import argparse
-import re
 import sys
 import textwrap
 
 sys.dont_write_bytecode = True
+from python_names import constant, kind_rows
 from repository import ROOT
 from tables import element_names, numbered, table
 
 HEADER = ROOT / "include" / "gen1.h"
-BEGIN = '/* tools/header.py writes the lines from here to "end of the tables", from docs/TABLES.md. */\n'
+BEGIN = '/* tools/header.py writes the lines from here to "end of the tables", from docs/TABLES.md and docs/MECHANICS.md. */\n'
 END = "/* end of the tables */\n"
 WIDTH = 128
-
-
-def constant(kind, name):
-    """The name of a constant: GEN1_SPECIES_MR_MIME of "Mr. Mime"."""
-    return f"GEN1_{kind}_{re.sub('[^A-Z0-9]+', '_', name.upper())}"
+# Details of events: what stands above them, their kind, and the heading of their names in docs/MECHANICS.md, "Events".
+DETAILS = (
+    ("Why a member could not act: `detail` of GEN1_CANT.", "REASON", "Reason of Cant"),
+    ("What dealt damage: `detail` of GEN1_DAMAGE.", "SOURCE", "Source of Damage"),
+    ("What began, ended or showed: `detail` of GEN1_START, GEN1_END and GEN1_ACTIVATE.", "VOLATILE", "Volatile"),
+)
 
 
 def enum(about, kind, first, names):
-    """An enum whose first constant has the number `first`."""
-    constants = [constant(kind, name) for name in names]
+    """An enum whose first constant has the number `first`: GEN1_SPECIES_MR_MIME of the kind SPECIES and "Mr. Mime"."""
+    constants = [f"GEN1_{kind}_{constant(name)}" for name in names]
     if len(set(constants)) != len(constants):
-        sys.exit(f"docs/TABLES.md: two names of {kind} are the same constant")
+        sys.exit(f"two names of {kind} are the same constant")
     constants[0] += f" = {first}"
     body = textwrap.fill(", ".join(constants), WIDTH, initial_indent="    ", subsequent_indent="    ", break_long_words=False)
     return f"/* {about} */\nenum {{\n{body}\n}};\n"
 
 
-def enums(document):
-    """The three enums."""
+def detail_enum(rules, about, kind, heading):
+    """The enum of a column of "Events", whose numbers have no gap."""
+    rows = sorted(kind_rows(rules, heading))
+    first = rows[0][0]
+    if [number for number, _ in rows] != list(range(first, first + len(rows))):
+        sys.exit(f"docs/MECHANICS.md: the numbers of {heading} have a gap")
+    return enum(about, kind, first, [name for _, name in rows])
+
+
+def enums(document, rules):
+    """All enums between the marks."""
     species = [name for name, *_ in numbered(table(document, "Species"))]
     moves = [name for name, *_ in numbered(table(document, "Moves"))]
     return "\n".join([
         enum("Types.", "TYPE", 0, element_names(document)),
         enum("Species.", "SPECIES", 1, species),
-        enum("Moves. GEN1_MOVE(slot) above is a choice, and none of these.", "MOVE", 1, moves)])
+        enum("Moves. GEN1_MOVE(slot) above is a choice, and none of these.", "MOVE", 1, moves),
+        *(detail_enum(rules, *detail) for detail in DETAILS)])
 
 
 def main():
@@ -56,7 +67,8 @@ def main():
     _, ended, behind = after.partition(END)
     if not marked or not ended:
         sys.exit("include/gen1.h: the marks of the tables are not there")
-    new = before + BEGIN + "\n" + enums((ROOT / "docs" / "TABLES.md").read_text()) + "\n" + END + behind
+    documents = ((ROOT / "docs" / name).read_text() for name in ("TABLES.md", "MECHANICS.md"))
+    new = before + BEGIN + "\n" + enums(*documents) + "\n" + END + behind
     if new == text:
         return 0
     if not check:

@@ -100,7 +100,7 @@ static void show_state(const gen1_battle *battle)
     }
 }
 
-/* Prints how much damage the events of a log tell of. */
+/* Prints the turns, the damage and the paralysis that the events of a log tell of. */
 static void show_events(const uint8_t *log, size_t count)
 {
     gen1_event event;
@@ -109,6 +109,8 @@ static void show_events(const uint8_t *log, size_t count)
             printf("turn %d\n", event.turn);
         if (event.tag == GEN1_DAMAGE)
             printf("side %d is at %d of %d\n", event.side, event.hp, event.max_hp);
+        if (event.tag == GEN1_CANT && event.detail == GEN1_REASON_PARALYSED)
+            printf("side %d is paralysed, and does not move\n", event.side);
     }
 }
 

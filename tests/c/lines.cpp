@@ -15,6 +15,7 @@
 #include <utility>
 
 static_assert(sizeof(gen1_battle) == 384 && std::is_trivially_copyable_v<gen1_battle>);
+static_assert(sizeof(gen1_room) == GEN1_ROOM_SIZE && sizeof(gen1_spectator) == GEN1_SPECTATOR_SIZE);
 
 namespace {
 
