@@ -61,11 +61,23 @@ def recorded_case(case, words, given):
     return Case(case["name"], words, given, case["stdout"].encode(), case.get("stderr", "").encode(), case.get("status", 0))
 
 
+TAUROS, TAUROS_LINES = ROOT / "examples" / "tauros.txt", (ROOT / "crates" / "battle_tool" / "stdout").read_bytes()
+# What is no number from 0 to 255, of which 2 to the power of 32 and the powers above come to 0 or 17 where they are cut.
+NO_BYTES = (b"256", b"273", b"-1", b"-239", b"four", b"17x", b"4294967296", b"4294967313", b"18446744073709551633", b"0" * 30 + b"17")
+
+
 def of_play(gate):
-    """Every recorded battle."""
+    """Every recorded battle; and choices that are none, behind a first update, which are refused whatever they are cut to."""
     for name in PLAYED:
         for case in cases(recorded(f"{name}.jsonl", gate.cases)):
             yield recorded_case(case, (), as_numbers(json.loads(case["input"])).encode())
+    given, lines = TAUROS.read_bytes(), TAUROS_LINES.splitlines(keepends=True)
+    begun, first = given[:given.index(b"17 17")], b"".join(lines[:lines.index(b"|turn|1\n") + 1])
+    for word in NO_BYTES:
+        yield Case(f"{word} for side 1", (), begun + word + b" 17\n", first, b"error: input\n", 1)
+        yield Case(f"{word} for side 2", (), begun + b"17 " + word + b"\n", first, b"error: input\n", 1)
+    yield Case("half a pair", (), begun + b"17", first, b"error: input\n", 1)
+    yield Case("no species", (), given.replace(b"128", b"4294967424", 1), b"", b"error: input\n", 1)
 
 
 def of_names(_gate):
@@ -132,6 +144,8 @@ def of_damage(gate):
     words = team_files(gate, "no move", tauros, none)
     # GEN1_TEXT_MOVE, in the line behind species, level and the other move.
     yield Case("no move", words, b"", b"", f"error: {words[1]}: line 4 member 0 code 10 rule 0\n".encode(), 1)
+    for word in (b"4294967424", b"-128", b"Tauros", b"0" * 30 + b"128"):
+        yield Case(f"the species {word}", (), TAUROS.read_bytes().replace(b"128", word, 1), b"", b"error: input\n", 1)
 
 
 def team_files(gate, name, *members):

@@ -12,22 +12,36 @@
 
 #include <stdio.h>
 #include <stdlib.h>
+#include <string.h>
 
-/* The next number of standard input, or -1 at its end. */
-static int number(void)
+/* Ends the program, whose input is no battle. */
+static void stop_at_input(void)
 {
-    int value;
-    return scanf("%d", &value) == 1 ? value : -1;
+    fputs("error: input\n", stderr);
+    exit(1);
 }
 
-/* The next number, where there has to be one from 0 up to `most`. */
+/* The next number of standard input, from 0 up to `most`; or -1 at the end of the input. At anything else the program ends. */
+static int number_or_end(int most)
+{
+    char word[12];
+    if (scanf("%11s", word) != 1) {
+        if (ferror(stdin))
+            stop_at_input();
+        return -1;
+    }
+    /* A word that fills the room may go on behind it; no number here is as long. */
+    if (strspn(word, "0123456789") != strlen(word) || strlen(word) == sizeof word - 1 || strtol(word, NULL, 10) > most)
+        stop_at_input();
+    return (int)strtol(word, NULL, 10);
+}
+
+/* The next number, where there has to be one. */
 static int number_up_to(int most)
 {
-    int value = number();
-    if (value < 0 || value > most) {
-        fputs("error: input\n", stderr);
-        exit(1);
-    }
+    int value = number_or_end(most);
+    if (value < 0)
+        stop_at_input();
     return value;
 }
 
@@ -87,7 +101,7 @@ int main(void)
     size_t length = 0;
     begin(&battle);
     for (int pair = 0;; pair++) {
-        int one = number();
+        int one = number_or_end(255);
         if (one < 0)
             return 0;
         int two = number_up_to(255);

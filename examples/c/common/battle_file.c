@@ -1,16 +1,17 @@
 /* A battle as decimal numbers, and a team as text (battle_file.h). */
 #include "battle_file.h"
 
+#include <stdlib.h>
 #include <string.h>
 
 /* The next number, where there is one from 0 up to `most`; else `*is_read` becomes false. */
 static uint16_t next(FILE *from, int most, bool *is_read)
 {
-    int value;
-    if (*is_read && fscanf(from, "%d", &value) == 1 && value >= 0 && value <= most)
-        return (uint16_t)value;
-    *is_read = false;
-    return 0;
+    char word[12];
+    /* A word that fills the room may go on behind it; no number here is as long. */
+    *is_read = *is_read && fscanf(from, "%11s", word) == 1 && strspn(word, "0123456789") == strlen(word)
+        && strlen(word) < sizeof word - 1 && strtol(word, NULL, 10) <= most;
+    return *is_read ? (uint16_t)strtol(word, NULL, 10) : 0;
 }
 
 static uint8_t next_byte(FILE *from, bool *is_read)
