@@ -76,22 +76,29 @@ static uint8_t random_choice(const gen1_battle *battle, uint8_t side)
     return count == 0 ? GEN1_PASS : choices[draw(count)];
 }
 
-static void update(gen1_battle *battle, uint8_t one, uint8_t two)
+/* Ends the program at a code. No call here is to answer one. */
+static void stop_if_refused(uint8_t code)
 {
-    size_t length;
-    uint8_t refusal = gen1_update(battle, one, two, NULL, 0, &length);
-    if (refusal != 0) {
-        fprintf(stderr, "error: refused %d\n", refusal);
+    if (code != 0) {
+        fprintf(stderr, "error: refused %d\n", code);
         exit(1);
     }
 }
 
-/* A copy that does not draw what the battle itself will draw: else the bot would know its dice (docs/LAYOUT.md, "Header"). */
+static void update(gen1_battle *battle, uint8_t one, uint8_t two)
+{
+    size_t length;
+    stop_if_refused(gen1_update(battle, one, two, NULL, 0, &length));
+}
+
+/* A copy that does not draw what the battle itself will draw: else the bot would know its dice. */
 static gen1_battle fork_of(const gen1_battle *battle)
 {
-    gen1_battle fork = *battle, reseeded;
-    draw_seed(fork.bytes + 6);
-    return gen1_load(&reseeded, fork.bytes, sizeof fork.bytes) == 0 ? reseeded : *battle;
+    gen1_battle fork = *battle;
+    uint8_t seed[10];
+    draw_seed(seed);
+    stop_if_refused(gen1_reseed(&fork, seed, 0));
+    return fork;
 }
 
 /* What a fork comes to for side 1, after its choice and random ones up to the end: 2 for a win, 1 for a tie. */
