@@ -219,11 +219,26 @@ def of_room(gate):
         words = [f"{command} {' '.join(map(str, choices))}" for command, choices in zip(players, (one, two))]
         said = "".join(refused(side, choices) for side, choices in ((1, one), (2, two)) if players[side - 1] == rude)
         yield Case(case["name"], (file, *words, "60"), b"", case["stdout"].encode(), said.encode())
-    tauros, lines = ROOT / "examples" / "tauros.txt", (ROOT / "crates" / "battle_tool" / "stdout").read_bytes()
     flooded = re.compile(rb"side 2: refused 5: \d+\n")
-    yield Case("a flood without an end", (tauros, f"exec {player}", "exec yes", "1"), b"", lines, flooded, is_long=True)
-    yield Case("players that leave", (tauros, "exec true", "exec false"), b"", lines, b"")
-    yield Case("a player that is silent", (tauros, f"exec {player}", "exec sleep 100", "1"), b"", lines, b"", is_long=True)
+    # What a shell ignores, all that it begins ignores too.
+    deaf = f"trap '' TERM; {player}; exec sleep 1000"
+    for name, one, two, said in (
+        ("a flood without an end", f"exec {player}", "exec yes", flooded),
+        ("players that leave", "exec true", "exec false", b""),
+        ("a player with a pipe that breaks", f"yes | true; exec {player}", f"exec {player}", b""),
+        ("a player that is silent", f"exec {player}", "exec sleep 1000", b""),
+        ("a player that ignores SIGTERM", deaf, f"exec {player}", b""),
+        ("players that ignore SIGTERM, one with a process of its own", f"{deaf} & wait", deaf, b""),
+    ):
+        yield Case(name, (TAUROS, one, two, "1"), b"", TAUROS_LINES, said, is_long=True)
+    usage = re.compile(rb"usage: room BATTLE PLAYER PLAYER \[SECONDS\]\nSECONDS are 1 to 86400\n")
+    for seconds in ("0", "-1", "86401", "4294967297", "soon", "1s", ""):
+        yield Case(f"{seconds!r} seconds", (TAUROS, f"exec {player}", f"exec {player}", seconds), b"", b"", usage, 2)
+
+
+def of_player(_gate):
+    """The choices of its words, and then what is offered first; other lines are passed over."""
+    yield Case("asked thrice", ("18",), b"ask 7 17 18\nline |turn|2\ntaken\nask 8 34 35\nrefused 2\nask 9 0\n", b"7 18\n8 34\n9 0\n", b"")
 
 
 def is_whole(case):
@@ -238,6 +253,7 @@ EXAMPLES = (
     Example("replay", ("examples/c/replay/replay.c",), of_replay),
     Example("bot", ("examples/c/bot/bot.c",), of_bot),
     Example("room", ROOM, of_room),
+    Example("player", ("examples/c/room/player.c",), of_player),
     Example("damage", ("-Iexamples/c/common", "examples/c/damage/damage.c", "examples/c/common/battle_file.c"), of_damage),
 )
 

@@ -14,8 +14,9 @@
  *
  * Neither sees what the other has chosen before both have. What a player sends otherwise is refused by its code, and changes nothing;
  * one that floods the room is read no faster than the other, and what it does not read in turn is not kept for it. For a player that
- * leaves, or lets SECONDS go by (ten, where they are not given), the room chooses what is offered first. So every battle comes to its
- * end. Its lines are printed, and on standard error how often each player was refused, by code.
+ * leaves, or lets SECONDS go by (1 to 86,400; ten, where they are not given), the room chooses what is offered first. So every battle
+ * comes to its end. Its lines are printed, and on standard error how often each player was refused, by code. A player is told by the end
+ * of its input and by SIGTERM that the battle is over; what has not ended a second later is killed.
  */
 #define _POSIX_C_SOURCE 200809L
 #include "battle_file.h"
@@ -31,7 +32,10 @@
 #include <time.h>
 #include <unistd.h>
 
-enum { USUAL_PATIENCE = 10, LINE_MOST = 32, READ_AT_ONCE = 4096 };
+enum { USUAL_PATIENCE = 10, MOST_PATIENCE = 86400, LINE_MOST = 32, READ_AT_ONCE = 4096 };
+
+/* How often the room looks whether a player has ended before it kills it, and how many milliseconds it waits each time. */
+enum { LOOKS = 100, LOOK_EVERY = 10 };
 
 /* The code of a line that is no number of a pair with a choice, behind those of gen1_room_submit. */
 enum { RUBBISH = GEN1_ROOM_NOT_OFFERED + 1, CODES };
@@ -47,6 +51,14 @@ typedef struct player {
 
 /* ---- what goes over the pipes ---- */
 
+/* Closes an end of a pipe, if it is open. */
+static void close_end(int *end)
+{
+    if (*end >= 0)
+        close(*end);
+    *end = -1;
+}
+
 /* Sends a line. A player that does not read does not get it: the room never waits for one. */
 static void send(player *to, const char *format, ...)
 {
@@ -55,10 +67,8 @@ static void send(player *to, const char *format, ...)
     va_start(arguments, format);
     int length = vsnprintf(text, sizeof text, format, arguments);
     va_end(arguments);
-    if (to->to >= 0 && write(to->to, text, (size_t)length) < 0 && errno == EPIPE) {
-        close(to->to);
-        to->to = -1;
-    }
+    if (to->to >= 0 && write(to->to, text, (size_t)length) < 0 && errno == EPIPE)
+        close_end(&to->to);
 }
 
 /* Asks a player for its choice, where one is due. */
@@ -126,10 +136,8 @@ static void listen_to(player players[2], player *from, gen1_room *at)
 {
     char bytes[READ_AT_ONCE];
     ssize_t count = read(from->from, bytes, sizeof bytes);
-    if (count <= 0) {
-        close(from->from);
-        from->from = -1;
-    }
+    if (count <= 0)
+        close_end(&from->from);
     for (ssize_t k = 0; k < count; k++)
         if (bytes[k] == '\n')
             take_line(players, from, at);
@@ -152,12 +160,20 @@ static void choose_for_missing(player players[2], gen1_room *at, bool is_time_up
 
 /* ---- the battle ---- */
 
+/* Seconds of a clock that nobody sets. */
+static time_t now(void)
+{
+    struct timespec it;
+    clock_gettime(CLOCK_MONOTONIC, &it);
+    return it.tv_sec;
+}
+
 /* Waits for either player until a time, and reads what there is. */
 static void listen_to_both(player players[2], gen1_room *at, time_t until)
 {
     struct pollfd ends[2] = {{.fd = players[0].from, .events = POLLIN}, {.fd = players[1].from, .events = POLLIN}};
-    time_t now = time(NULL);
-    if (poll(ends, 2, until > now ? (int)(until - now) * 1000 : 0) > 0)
+    time_t left = until - now();
+    if (poll(ends, 2, left > 0 ? (int)left * 1000 : 0) > 0)
         for (int k = 0; k < 2; k++)
             if (ends[k].revents != 0)
                 listen_to(players, &players[k], at);
@@ -165,15 +181,15 @@ static void listen_to_both(player players[2], gen1_room *at, time_t until)
 
 static void play(player players[2], gen1_room *at, int patience)
 {
-    time_t until = time(NULL) + patience;
+    time_t until = now() + patience;
     tell_both(players, at);
     while (GEN1_OUTCOME(gen1_result(&at->battle)) == GEN1_ONGOING) {
         uint32_t number = at->number;
-        choose_for_missing(players, at, time(NULL) >= until);
+        choose_for_missing(players, at, now() >= until);
         if (at->number == number)
             listen_to_both(players, at, until);
         if (at->number != number)
-            until = time(NULL) + patience;
+            until = now() + patience;
     }
 }
 
@@ -197,8 +213,9 @@ static player begin(uint8_t side, const char *command)
     fcntl(to[1], F_SETFL, O_NONBLOCK);
     pid_t pid = fork();
     or_stop(pid >= 0, "fork");
+    setpgid(pid, pid); /* here and there, so that it is done whichever goes on first */
     if (pid == 0) {
-        setpgid(0, 0);
+        signal(SIGPIPE, SIG_DFL);
         dup2(to[0], STDIN_FILENO);
         dup2(from[1], STDOUT_FILENO);
         close(to[0]);
@@ -211,23 +228,43 @@ static player begin(uint8_t side, const char *command)
     return (player){.side = side, .pid = pid, .to = to[1], .from = from[0]};
 }
 
-/* Ends a player's process, and says how often it was refused. */
+/* Gives a process time to end. It is left to be waited for, so that its number stays its own. */
+static void let_end(pid_t pid)
+{
+    siginfo_t it = {0};
+    for (int look = 0; look < LOOKS && waitid(P_PID, (id_t)pid, &it, WEXITED | WNOHANG | WNOWAIT) == 0 && it.si_pid == 0; look++)
+        poll(NULL, 0, LOOK_EVERY);
+}
+
+/* Ends a player's process, with what it has begun, and says how often it was refused. */
 static void end(player *of)
 {
     kill(-of->pid, SIGTERM);
+    close_end(&of->to);
+    close_end(&of->from);
+    let_end(of->pid);
+    kill(-of->pid, SIGKILL);
     waitpid(of->pid, NULL, 0);
     for (int code = 1; code < CODES; code++)
         if (of->refused[code] > 0)
             fprintf(stderr, "side %d: refused %d: %ld\n", of->side, code, of->refused[code]);
 }
 
+/* The number of seconds that a word says, or 0 where it is none from 1 up to MOST_PATIENCE. */
+static int seconds_of(const char *word)
+{
+    bool is_number = word[0] != '\0' && strspn(word, "0123456789") == strlen(word) && strlen(word) <= 5;
+    long seconds = is_number ? strtol(word, NULL, 10) : 0;
+    return seconds <= MOST_PATIENCE ? (int)seconds : 0;
+}
+
 int main(int count, char **words)
 {
     battle_file file;
     gen1_room at;
-    int patience = count == 5 ? atoi(words[4]) : USUAL_PATIENCE;
+    int patience = count == 5 ? seconds_of(words[4]) : USUAL_PATIENCE;
     if (count < 4 || count > 5 || patience < 1) {
-        fputs("usage: room BATTLE PLAYER PLAYER [SECONDS]\n", stderr);
+        fprintf(stderr, "usage: room BATTLE PLAYER PLAYER [SECONDS]\nSECONDS are 1 to %d\n", MOST_PATIENCE);
         return 2;
     }
     FILE *from = fopen(words[1], "r");
@@ -245,6 +282,7 @@ int main(int count, char **words)
     signal(SIGPIPE, SIG_IGN);
     player players[2] = {begin(GEN1_ONE, words[2]), begin(GEN1_TWO, words[3])};
     play(players, &at, patience);
+    fflush(stdout);
     end(&players[0]);
     end(&players[1]);
     return 0;
