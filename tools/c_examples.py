@@ -85,6 +85,18 @@ def of_names(_gate):
     yield Case("status", (), b"", b"", b"")
 
 
+def of_text(_gate):
+    """Faults in the second line of a text, and in the fifth field of the second member of a packed line: GEN1_TEXT_MOVE; and a battle."""
+    faults = rb"line 2, member 0, field 0: code 10\nline 0, member 2, field 5: code 10\n"
+    yield Case("status", (), b"", re.compile(faults + rb"outcome [123]\n"), b"")
+
+
+def of_many(_gate):
+    """It has no input, and compares by itself; all battles end."""
+    playouts = rb"\d+ wins of side 1, \d+ of side 2, \d+ ties\n"
+    yield Case("status", (), b"", re.compile(playouts + rb"100 battles have ended\n"), b"")
+
+
 def of_look(_gate):
     """It has no input, and compares by itself."""
     yield Case("status", (), b"", re.compile(b"(.*\n)+outcome [12]\n(.*\n)+"), b"", 0)
@@ -250,6 +262,8 @@ EXAMPLES = (
     Example("play", ("examples/c/play.c",), of_play),
     Example("names", ("tests/c/names.c",), of_names),
     Example("look", ("examples/c/look.c",), of_look),
+    Example("text", ("examples/c/text.c",), of_text),
+    Example("many", ("examples/c/many.c",), of_many),
     Example("replay", ("examples/c/replay/replay.c",), of_replay),
     Example("bot", ("examples/c/bot/bot.c",), of_bot),
     Example("room", ROOM, of_room),

@@ -1,5 +1,5 @@
 /*
- * Plays many battles of a team out of text at once, by masks and batches, and asks playouts who is ahead.
+ * Plays many battles of a team at once, by masks and batches, and asks playouts who is ahead.
  *
  *     cc -O2 -I include examples/c/many.c crates/gen1_c/out/libgen1_c.a -o many
  *     ./many
@@ -9,9 +9,10 @@
 #include <stdio.h>
 #include <string.h>
 
-enum { BATTLES = 100 };
+enum { BATTLES = 100, ROUNDS = 1000 };
 
-static const char text[] = "Tauros\n- Body Slam\n- Hyper Beam\n- Blizzard\n- Earthquake\n\nChansey\n- Ice Beam\n- Thunderbolt\n";
+/* A team as a packed line (text.c has more of that). */
+static const char packed[] = "Tauros||||BodySlam,HyperBeam,Blizzard,Earthquake|||||||]Chansey||||IceBeam,Thunderbolt|||||||";
 
 /* The choice of the lowest bit. */
 static uint8_t first_choice(uint16_t mask)
@@ -22,43 +23,55 @@ static uint8_t first_choice(uint16_t mask)
     return GEN1_CHOICE(bit);
 }
 
-/* An update of all battles by the first choice of each side; how many went on. */
-static size_t step(gen1_battle battles[BATTLES])
+/* An update of all battles by the first choice of each side: how many went on, or -1 where something else than the end kept one. */
+static int step(gen1_battle battles[BATTLES])
 {
     uint16_t masks[2][BATTLES];
     uint8_t choices[2][BATTLES], results[BATTLES], codes[BATTLES];
-    size_t accepted = 0;
+    int went_on = 0;
     for (int side = 0; side < 2; side++) {
-        gen1_offered_many(battles, BATTLES, side == 0 ? GEN1_ONE : GEN1_TWO, masks[side], BATTLES);
-        for (size_t i = 0; i < BATTLES; i++)
-            choices[side][i] = first_choice(masks[side][i]);
+        if (gen1_offered_many(battles, BATTLES, side == 0 ? GEN1_ONE : GEN1_TWO, masks[side], BATTLES) != 0)
+            return -1;
+        for (int at = 0; at < BATTLES; at++)
+            choices[side][at] = first_choice(masks[side][at]);
     }
-    gen1_update_many(battles, BATTLES, choices[0], BATTLES, choices[1], BATTLES, results, BATTLES, codes, BATTLES);
-    for (size_t i = 0; i < BATTLES; i++)
-        accepted += codes[i] == 0;
-    return accepted;
+    if (gen1_update_many(battles, BATTLES, choices[0], BATTLES, choices[1], BATTLES, results, BATTLES, codes, BATTLES) != 0)
+        return -1;
+    for (int at = 0; at < BATTLES; at++) {
+        if (codes[at] != 0 && codes[at] != GEN1_OVER)
+            return -1;
+        went_on += codes[at] == 0;
+    }
+    return went_on;
+}
+
+/* Makes the battles, each with a seed of its own. */
+static bool begin(gen1_battle battles[BATTLES])
+{
+    gen1_team team;
+    gen1_text_fault fault;
+    bool are_made = gen1_team_from_packed(packed, strlen(packed), &team, &fault) == 0;
+    for (int at = 0; at < BATTLES && are_made; at++) {
+        uint8_t seed[10] = {(uint8_t)at, 36, 255, 7, 31, 100, 179, 254, 127, 10};
+        are_made = gen1_new(&battles[at], &team, &team, seed, 0, GEN1_LIMIT) == 0;
+    }
+    return are_made;
 }
 
 int main(void)
 {
-    gen1_team team, other;
-    gen1_text_fault fault;
     gen1_battle battles[BATTLES];
     gen1_playouts counts;
+    int went_on, ended = 0;
 
-    if (gen1_team_from_text(text, strlen(text), &team, &fault) != 0)
-        return 1;
-    if (gen1_team_from_packed("|Tauros|||Body Slm|||||||", 25, &other, &fault) != GEN1_TEXT_MOVE || fault.field != 5)
-        return 1;
-    for (int i = 0; i < BATTLES; i++) {
-        uint8_t seed[10] = {(uint8_t)i, 36, 255, 7, 31, 100, 179, 254, 127, 10};
-        if (gen1_new(&battles[i], &team, &team, seed, 0, GEN1_LIMIT) != 0)
-            return 1;
-    }
-    if (gen1_playout(&battles[0], 1, 1000, &counts) != 0)
+    if (!begin(battles) || gen1_playout(&battles[0], 1, ROUNDS, &counts) != 0)
         return 1;
     printf("%u wins of side 1, %u of side 2, %u ties\n", (unsigned)counts.wins_one, (unsigned)counts.wins_two, (unsigned)counts.ties);
-    while (step(battles) > 0)
-        continue;
-    return counts.wins_one + counts.wins_two + counts.ties + counts.faults == 1000 ? 0 : 1;
+    do
+        went_on = step(battles);
+    while (went_on > 0);
+    for (int at = 0; at < BATTLES; at++)
+        ended += GEN1_OUTCOME(gen1_result(&battles[at])) != GEN1_ONGOING;
+    printf("%d battles have ended\n", ended);
+    return went_on == 0 && counts.wins_one + counts.wins_two + counts.ties + counts.faults == ROUNDS ? 0 : 1;
 }

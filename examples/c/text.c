@@ -1,5 +1,5 @@
 /*
- * A battle of a team out of text, in which each side takes the choice of the lowest bit of its mask.
+ * Teams out of text: one as a team builder exports it, which plays against itself, and two with a fault, of which it is said where.
  *
  *     cc -O2 -I include examples/c/text.c crates/gen1_c/out/libgen1_c.a -o text
  *     ./text
@@ -10,35 +10,45 @@
 #include <string.h>
 
 static const char text[] = "Tauros\n- Body Slam\n- Hyper Beam\n- Blizzard\n- Earthquake\n\nChansey\n- Ice Beam\n- Thunderbolt\n";
+static const char misspelt[] = "Tauros\n- Body Slm\n";
+static const char misspelt_packed[] = "Tauros||||BodySlam|||||||]Chansey||||IceBeem|||||||";
 
-/* The choice of the lowest bit. */
-static uint8_t first_choice(uint16_t mask)
+typedef uint8_t reading(const char *text, size_t count, gen1_team *team, gen1_text_fault *fault);
+
+/* Prints where a text is at fault; whether it is. */
+static bool show_fault(reading *read, const char *of)
 {
-    int bit = 0;
-    while (bit < 11 && !(mask >> bit & 1))
-        bit++;
-    return GEN1_CHOICE(bit);
+    gen1_team team;
+    gen1_text_fault fault;
+    uint8_t code = read(of, strlen(of), &team, &fault);
+    if (code != 0)
+        printf("line %zu, member %zu, field %zu: code %d\n", fault.line, fault.member, fault.field, code);
+    return code != 0;
+}
+
+/* The first choice that a side is offered, while the battle goes on. */
+static uint8_t first_choice(const gen1_battle *battle, uint8_t side)
+{
+    uint8_t choices[9] = {GEN1_PASS};
+    gen1_choices(battle, side, choices);
+    return choices[0];
 }
 
 int main(void)
 {
     static const uint8_t seed[10] = {1, 36, 255, 7, 31, 100, 179, 254, 127, 10};
-    gen1_team team, other;
+    gen1_team team;
     gen1_text_fault fault;
     gen1_battle battle;
     size_t length;
 
-    if (gen1_team_from_text(text, strlen(text), &team, &fault) != 0)
+    if (!show_fault(gen1_team_from_text, misspelt) || !show_fault(gen1_team_from_packed, misspelt_packed))
         return 1;
-    if (gen1_team_from_packed("|Tauros|||Body Slm|||||||", 25, &other, &fault) != GEN1_TEXT_MOVE || fault.field != 5)
+    if (gen1_team_from_text(text, strlen(text), &team, &fault) != 0 || gen1_new(&battle, &team, &team, seed, 0, GEN1_LIMIT) != 0)
         return 1;
-    if (gen1_new(&battle, &team, &team, seed, 0, GEN1_LIMIT) != 0)
-        return 1;
-    while (GEN1_OUTCOME(gen1_result(&battle)) == GEN1_ONGOING) {
-        uint8_t one = first_choice(gen1_offered(&battle, GEN1_ONE)), two = first_choice(gen1_offered(&battle, GEN1_TWO));
-        if (gen1_update(&battle, one, two, NULL, 0, &length) != 0)
+    while (GEN1_OUTCOME(gen1_result(&battle)) == GEN1_ONGOING)
+        if (gen1_update(&battle, first_choice(&battle, GEN1_ONE), first_choice(&battle, GEN1_TWO), NULL, 0, &length) != 0)
             return 1;
-    }
     printf("outcome %d\n", GEN1_OUTCOME(gen1_result(&battle)));
     return 0;
 }
