@@ -160,6 +160,35 @@ class Tried:
         right = "libdir=/opt/gen1/lib/x86_64-linux-gnu\n" in pc
         return None if right and not said and not left else f"{said} say DESTDIR; {left} are left; {pc}"
 
+    def from_anywhere(self):
+        """A FILE by a relative path is one of the folder that tools/install is run in, and words stand in any order."""
+        to = self.gate.work / "anywhere"
+        shutil.rmtree(to, ignore_errors=True)
+        ran(ROOT / "tools" / "install", "PREFIX=/opt/gen1", "--library", self.gate.library.name, f"DESTDIR={to}", cwd=self.gate.library.parent)
+        return None if (to / "opt/gen1/lib/libgen1.so").is_file() else "there is no library"
+
+    def older(self):
+        """Shared libraries of other versions with the same major number are taken away too, and no other file."""
+        prefix, major = self.gate.work / "older", version()[0]
+        shutil.rmtree(prefix, ignore_errors=True)
+        (prefix / "lib").mkdir(parents=True)
+        others = {f"libgen1.so.{int(major) + 1}.0.0", f"libgen1.so.{major}.0.0.kept", f"libgen1.so.{major}x0x0", f"libgen10.so.{major}.0.0"}
+        for name in (f"libgen1.so.{major}.0.250", f"libgen1.so.{major}.250.0", *others):
+            (prefix / "lib" / name).touch()
+        installed("--uninstall", PREFIX=prefix)
+        left = {path.name for path in (prefix / "lib").iterdir()}
+        return None if left == others else f"{sorted(left)} are left"
+
+    def without_the_kit(self):
+        """tools/library says in a sentence that there is no kit and what needs none, and has a help as the other tools."""
+        nowhere = self.gate.work / "nowhere"
+        nowhere.mkdir(exist_ok=True)
+        for words, status, said in ((), 1, "tools/install --plain"), (("--wasm64",), 1, "tools/install --plain"), (("--other",), 2, "--other"):
+            done = subprocess.run([sys.executable, ROOT / "tools" / "library", *words], capture_output=True, text=True, env={"PATH": str(nowhere)})
+            if done.returncode != status or said not in done.stderr or len(done.stderr.splitlines()) != 1 or done.stdout:
+                return f"{words}: status {done.returncode}: {done.stderr}"
+        return None if "tools/library --wasm64" in ran(sys.executable, ROOT / "tools" / "library", "--help") else "there is no help"
+
     def refuses(self):
         """Words that mean nothing are refused, and nothing is put anywhere."""
         no_library = ["--library", "/nowhere.a", f"PREFIX={self.gate.work}/not"]
@@ -187,7 +216,7 @@ def compare_install(gate):
             installed(library=gate.library, PREFIX=it.prefix)
     except Unbuilt as fault:
         return gate.tell("install", fault)
-    for check in (it.files, it.archive, it.staged, it.refuses):
+    for check in (it.files, it.archive, it.staged, it.from_anywhere, it.older, it.without_the_kit, it.refuses):
         it.try_out(check.__name__, check)
     it.try_out("nm -D", it.names, "nm")
     it.try_out("soname", it.soname, "readelf")

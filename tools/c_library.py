@@ -54,6 +54,7 @@ def plain_library(folder):
 
     Only the library's own object is taken: those of rustc's core beside it are not needed.
     """
+    folder = folder.resolve()
     folder.mkdir(parents=True, exist_ok=True)
     subprocess.run([ROOT / "tools" / "setup", "plain"], stdout=sys.stderr)
     if not shutil.which("cargo"):
@@ -73,6 +74,7 @@ def plain_library(folder):
 
 def link_shared(archive, to, soname):
     """Links the archive into a shared library that shows the documented calls, and nothing else."""
+    archive, to = archive.resolve(), to.resolve()
     script = to.with_name(to.name + ".map")
     names = calls()
     script.write_text("{ global: %s; local: *; };\n" % "; ".join(names))
