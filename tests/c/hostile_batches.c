@@ -75,6 +75,10 @@ static void try_update_many(void)
         counts[which] = near_count(count);
         arrays[which] = block(1 + which, counts[which]);
     }
+    if (one_in(6)) { /* both choices are only read, so they may be one array */
+        arrays[1] = arrays[0];
+        counts[1] = counts[0];
+    }
     for (size_t at = 0; at < count; at++)
         for (uint8_t side = GEN1_ONE; side <= GEN1_TWO; side++)
             if (at < counts[side - 1] && !one_in(4))

@@ -98,11 +98,14 @@ static void try_new(void)
     gen1_team one = lawful_team(), two = lawful_team();
     for (uint32_t times = draw(4); times > 0; times--)
         spoil(one_in(2) ? &one : &two);
+    bool is_same = one_in(6); /* both teams are only read, so they may be one */
+    if (is_same)
+        two = one;
     uint8_t rules = one_in(8) ? any_byte() : (uint8_t)draw(4);
     uint16_t limit = (uint16_t)(one_in(8) ? (one_in(2) ? 10000 : draw(65536)) : 1 + draw(9999));
     uint32_t want = fault_of_new(&one, &two, rules, limit);
     gen1_battle *battle = block(0, sizeof *battle);
-    const gen1_team *first = block_of(1, &one, sizeof one), *second = block_of(2, &two, sizeof two);
+    const gen1_team *first = block_of(1, &one, sizeof one), *second = is_same ? first : block_of(2, &two, sizeof two);
     const uint8_t *seed = block(3, 10);
     note();
     uint32_t got = gen1_new(battle, first, second, seed, rules, limit);
