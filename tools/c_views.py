@@ -181,6 +181,8 @@ def compare_sentences(calls, count):
     got = {about: [code for code in range(256) if text_of(calls.gen1_text, about, code)[0] == 0] for about in range(256)}
     count.tell("sentences", got, {about: list(range(last[about] + 1)) if about in last else [] for about in range(256)})
     header = (ROOT / "include" / "gen1.h").read_text()
+    tests = [(int(code), said[0].lower() + said[1:]) for said, code in re.findall(r"/\* (.*)\. \*/\n    GEN1_LOAD_\w+ = (\d)", header)]
+    count.tell("tests of loading", tests, [(code, text_of(calls.gen1_text, 2, code)[1]) for code in range(1, 8)])
     version = re.search(r'GEN1_VERSION "(\d+)\.(\d+)\.(\d+)"', header).groups()
     count.tell("version", calls.gen1_version(), sum(int(n) << (16 - 8 * k) for k, n in enumerate(version)))
 
