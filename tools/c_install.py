@@ -12,7 +12,7 @@ from c_library import Unbuilt, calls, needed, ran, shown, version
 from repository import ROOT
 
 # What the library may want of the C library; abort only where it is of plain Rust.
-OF_THE_C_LIBRARY = {"memcpy", "memmove", "memset", "memcmp", "abort"}
+OF_THE_C_LIBRARY = {"memcpy", "memmove", "memset", "abort"}
 INPUT = ROOT / "examples" / "tauros.txt"
 LINES = ROOT / "crates" / "battle_tool" / "stdout"
 STRICT = ["-O2", "-Wall", "-Wextra", "-pedantic", "-Werror"]
