@@ -1,26 +1,17 @@
-// Holds the module against recorded battles, in any host of JavaScript.
+// Holds the module against recorded battles (tests/battles), in any host of JavaScript.
 import * as library from "./gen1.mjs";
+import { badInput } from "./faults.mjs";
+import { bytesOfHex, equal, hexOf, holds } from "./holding.mjs";
+import { uses } from "./uses.mjs";
+import { worked } from "./worked.mjs";
 
-function holds(fact, what) {
-  if (!fact) throw new Error(what);
-}
-
-function equal(found, wanted) {
-  const [one, two] = [found, wanted].map((value) => JSON.stringify(value));
-  holds(one === two, `found ${one?.slice(0, 200)}, not ${two?.slice(0, 200)}`);
-}
-
-function throws(call, type, text) {
-  try {
-    call();
-  } catch (fault) {
-    return holds(fault instanceof type && text.test(fault.message), `it threw ${fault}`);
-  }
-  throw new Error("it threw nothing");
-}
-
-const hexOf = (bytes) => Array.from(bytes, (byte) => byte.toString(16).padStart(2, "0")).join("");
-const bytesOfHex = (text) => Uint8Array.from(text.match(/../g) ?? [], (pair) => parseInt(pair, 16));
+const { SPECIES, MOVES, TYPES } = library;
+const KINDS_OF_STATUS = { 0: "none", 8: "poison", 16: "burn", 32: "freeze", 64: "paralysis" };
+// One of so many updates is viewed: a look takes ten times as long as an update.
+const VIEWED = 3;
+const wordOf = (bytes, at) => bytes[at] + 256 * bytes[at + 1];
+const wordsOf = (bytes, ...places) => places.map((at) => wordOf(bytes, at));
+const linesOf = (texts) => texts.map((line) => `${line}\n`).join("");
 
 // What `run` prints of an input, and how it ends.
 function run(gen1, asked) {
@@ -34,7 +25,7 @@ function run(gen1, asked) {
   }
   for (const [number, [one, two]] of asked.choices.entries()) {
     try {
-      text += battle.update(one, two).lines.map((line) => `${line}\n`).join("");
+      text += linesOf(battle.update(one, two).lines);
     } catch (fault) {
       return [text, `error: pair ${number} refused ${fault.code}\n`];
     }
@@ -48,9 +39,60 @@ function battleCase(gen1, one) {
   if ("stderr" in one) equal(fault, one.stderr);
 }
 
+// A member, by its 24 bytes (docs/LAYOUT.md, "Member").
+function memberOf(bytes) {
+  const slots = [0, 1, 2, 3].filter((slot) => bytes[15 + slot]);
+  const [maxHp, hp, ...stats] = wordsOf(bytes, 2, 4, 6, 8, 10, 12);
+  const [status, sleep] = [KINDS_OF_STATUS[bytes[14]] ?? "sleep", bytes[14] < 8 ? bytes[14] : 0];
+  const moves = slots.map((slot) => MOVES[bytes[15 + slot] - 1]);
+  return {
+    species: SPECIES[bytes[0] - 1], level: bytes[1], status, sleep, marked: bytes[23] === 1,
+    moves, pp: slots.map((slot) => bytes[19 + slot]), hp, maxHp, stats,
+  };
+}
+
+// Who is out, by the 36 bytes of the active block (docs/LAYOUT.md, "Active block").
+function activeOf(bytes) {
+  if (!bytes[0]) return null;
+  const [substitute, confusion, disabledSlot, disabledTurns, badPoison, turns] = bytes.slice(21, 27);
+  const [currentMove, pickedMove, keptAccuracy] = bytes.slice(29, 32);
+  const bits = wordOf(bytes, 17) + 65536 * wordOf(bytes, 19);
+  return {
+    stats: wordsOf(bytes, 9, 11, 13, 15), energy: wordOf(bytes, 27), place: bytes[0], currentMove, pickedMove, keptAccuracy, substitute, confusion,
+    disabledSlot, disabledTurns, badPoison, turns, types: [TYPES[bytes[1]], TYPES[bytes[2]]], stages: Array.from(bytes.slice(3, 9), (it) => it - 6),
+    conditions: library.CONDITIONS.filter((_, bit) => (bits >> bit) & 1),
+  };
+}
+
+// What the 384 bytes stand for (docs/LAYOUT.md).
+function stateOf(bytes) {
+  const [one, two] = [24, 204].map((at) => {
+    const places = [0, 1, 2, 3, 4, 5].map((place) => bytes.slice(at + 24 * place, at + 24 * place + 24));
+    return { members: places.filter((it) => it[0]).map(memberOf), active: activeOf(bytes.slice(at + 144, at + 180)) };
+  });
+  const [turn, lastDamage, limit] = wordsOf(bytes, 1, 3, 20);
+  const [outcome, requests] = [library.OUTCOMES[bytes[16]], [bytes[17], bytes[18]].map((it) => library.REQUESTS[it])];
+  return { one, two, turn, limit, lastDamage, rules: bytes[19], index: bytes[5], numbers: Array.from(bytes.slice(6, 16)), outcome, requests };
+}
+
+// What of a state shows to a watcher who has seen the log of each update (docs/MECHANICS.md, "Spectator's view").
+function shownOf({ one, two, turn, outcome }) {
+  const sides = [one, two].map(({ members, active }) => {
+    const is = (condition) => active?.conditions.includes(condition) ?? false;
+    const [place, stages] = active ? [active.place, active.stages] : [0, [0, 0, 0, 0, 0, 0]];
+    return {
+      members: members.map(({ hp, status }) => ({ hp, status })), place, stages,
+      substitute: is("substitute"), confused: is("confused"), lightScreen: is("light screen"), reflect: is("reflect"),
+    };
+  });
+  return { one: sides[0], two: sides[1], turn, outcome };
+}
+
+// A recorded battle, update by update: log, bytes, choices, state, and what a watcher knows.
 function traceCase(gen1, one) {
   const battle = gen1.battle(one.object);
-  for (const update of one.updates) {
+  const watcher = gen1.spectator(one.object.one, one.object.two);
+  for (const [number, update] of one.updates.entries()) {
     let log = "";
     let refused = null;
     try {
@@ -60,8 +102,60 @@ function traceCase(gen1, one) {
     }
     equal([refused, log], [update.refused, update.log]);
     equal(hexOf(battle.bytes), update.bytes);
-    equal([1, 2].map((side) => battle.choices(side).map(library.byteOf)), update.offered);
+    stands(battle, update);
+    const [given, middle] = [bytesOfHex(log), log.length >> 2];
+    for (const piece of [given.subarray(0, middle), given.subarray(middle)]) watcher.feed(piece);
+    if (number % VIEWED === 0) viewed(battle, watcher, stateOf(bytesOfHex(update.bytes)));
   }
+  roomCase(gen1, one.object, one.updates.filter((it) => it.refused === null));
+}
+
+// What is asked of the battle after a recorded update.
+function stands(battle, update) {
+  const offered = [1, 2].map((side) => battle.choices(side).map(library.byteOf));
+  equal(offered, update.offered);
+  const masks = [1, 2].map((side) => library.CHOICES.filter((_, bit) => (battle.offeredMask(side) >> bit) & 1).map((it) => library.byteOf(it)));
+  equal(masks, update.offered);
+}
+
+// A battle's state, and what a watcher knows of it.
+function viewed(battle, watcher, state) {
+  equal(sorted(battle.state), sorted(state));
+  equal(watcher.state, shownOf(state));
+}
+
+// An object with its keys in order, and so those of the objects in it.
+function sorted(value) {
+  if (typeof value !== "object" || value === null || Array.isArray(value)) return Array.isArray(value) ? value.map(sorted) : value;
+  return Object.fromEntries(Object.entries(value).sort(([one], [two]) => (one < two ? -1 : 1)).map(([key, it]) => [key, sorted(it)]));
+}
+
+// The same updates as two players' submissions, side 2 first in every other pair.
+function roomCase(gen1, terms, [first, ...updates]) {
+  const room = gen1.room(gen1.battle(terms));
+  equal([hexOf(room.log), hexOf(room.battle.bytes)], [first.log, first.bytes]);
+  for (const [number, update] of updates.entries()) {
+    const due = [1, 2].filter((side) => room.choices(side).length);
+    for (const side of number % 2 ? due.reverse() : due) room.submit(side, number, update.pair[side - 1]);
+    equal([room.number, hexOf(room.log), hexOf(room.battle.bytes)], [number + 1, update.log, update.bytes]);
+  }
+}
+
+// What `battle_tool room` prints (docs/PROGRAM.md, "room").
+function submissionsCase(gen1, one) {
+  const { submissions, ...terms } = JSON.parse(one.input);
+  const room = gen1.room(gen1.battle(terms));
+  const told = gen1.lines(room.log);
+  for (const submission of submissions) {
+    try {
+      const update = room.submit(...submission);
+      told.push(...(update ? ["|room|advanced", ...update.lines] : ["|room|waiting"]));
+    } catch (fault) {
+      if (!(fault instanceof library.RoomError)) throw fault;
+      told.push(`|room|refused|${fault.code}${fault.code === 2 ? `|${fault.current}` : ""}`);
+    }
+  }
+  equal(linesOf(told), one.stdout);
 }
 
 function damageCase(gen1, one) {
@@ -71,6 +165,8 @@ function damageCase(gen1, one) {
     const battle = gen1.battle({ one: [asked.attacker], two: [asked.defender], seed: Array(10).fill(0) });
     battle.update("pass", "pass");
     text = `${battle.damage(1, asked.move, asked.critical).join(" ")}\n`;
+    equal(gen1.damage(asked.attacker, asked.defender, asked.move, asked.critical), battle.damage(1, asked.move, asked.critical));
+    equal(gen1.hit(asked.attacker, asked.defender, asked.move), battle.hit(1, asked.move));
   } catch (fault) {
     holds(fault instanceof library.Gen1Error || fault instanceof RangeError, fault.message);
   }
@@ -81,47 +177,35 @@ function logCase(gen1, one) {
   let text = "";
   let fault = "";
   try {
-    text = gen1.lines(bytesOfHex(one.hex)).map((line) => `${line}\n`).join("");
+    text = linesOf(gen1.lines(bytesOfHex(one.hex)));
+    equal(gen1.events(bytesOfHex(one.hex)).length, gen1.lines(bytesOfHex(one.hex)).length);
   } catch (error) {
     fault = `error: log ${error.code}\n`;
   }
   equal([text, fault], [one.stdout, one.stderr]);
 }
 
-const KINDS = { battles: battleCase, first_path: battleCase, limit: battleCase, rules: battleCase, traces: traceCase, calc: damageCase, print: logCase };
-
-// Bad input: a named error that says what was wrong, and nothing changed.
-function badInput(gen1, check) {
-  const tauros = { species: "Tauros", moves: [["Strength", 3]] };
-  const terms = { one: [tauros], two: [tauros], seed: [1, 36, 255, 7, 31, 100, 179, 254, 127, 10] };
-  const bad = (name, type, text, call) => check(name, () => throws(call, type, text));
-  const started = gen1.battle(terms);
-  started.update("pass", "pass");
-  const before = started.bytes.slice();
-  bad("a level", library.TeamError, /team 2: member 1: the level/, () => gen1.battle({ ...terms, two: [{ ...tauros, level: 101 }] }));
-  bad("a species", RangeError, /one\[0\].species is "Missingno."/, () => gen1.battle({ ...terms, one: [{ ...tauros, species: "Missingno." }] }));
-  bad("a seed", RangeError, /seed has 3 numbers, not 10/, () => gen1.battle({ ...terms, seed: [1, 2, 3] }));
-  bad("a seed's number", RangeError, /seed\[0\] is 256/, () => gen1.battle({ ...terms, seed: [256, 0, 0, 0, 0, 0, 0, 0, 0, 0] }));
-  bad("a limit", library.TeamError, /turn limit/, () => gen1.battle({ ...terms, limit: 0 }));
-  bad("bytes", library.LoadError, /test 1 of 7/, () => gen1.load(new Uint8Array(383)));
-  bad("a choice", RangeError, /"jump" is no choice/, () => started.update("jump", "move 1"));
-  bad("a refusal", library.RefusedError, /side 2's choice/, () => started.update("move 1", "switch 2"));
-  bad("a side", RangeError, /side is 3/, () => started.choices(3));
-  bad("a move", library.DamageError, /usual damage/, () => started.damage(1, "Splash"));
-  bad("a log", library.LogError, /byte 2: no tag/, () => gen1.lines(Uint8Array.of(26, 1, 99)));
-  check("nothing changed", () => equal(hexOf(started.bytes), hexOf(before)));
-  check("a loaded battle goes on alike", () => {
-    const copy = gen1.load(started.bytes);
-    equal(copy.update("move 1", "move 1").lines, started.clone().update(17, 17).lines);
-    equal(copy.isOver, false);
-  });
+// A byte string, by the number of the load fault and its hexadecimal digits.
+function loadCase(gen1, [fault, hex = ""]) {
+  let code = 0;
+  try {
+    holds(gen1.load(bytesOfHex(hex)).bytes.length === 384, "no 384 bytes");
+  } catch (error) {
+    code = error.code;
+  }
+  equal(code, Number(fault));
 }
 
+const KINDS = {
+  battles: battleCase, first_path: battleCase, limit: battleCase, rules: battleCase, traces: traceCase, corners: traceCase, calc: damageCase,
+  print: logCase, room: submissionsCase,
+};
+
 /**
- * Runs all checks, and answers how many passed and what failed. `casesOf(name)` gives the recorded cases of a name, one after the
+ * Runs all checks, and answers how many passed and what failed. `linesIn(name)` gives the lines of a recorded file, one after the
  * other; none where there is no such file.
  */
-export async function checks(gen1, casesOf) {
+export async function checks(gen1, linesIn) {
   let passed = 0;
   const faults = [];
   const check = (name, test) => {
@@ -133,7 +217,14 @@ export async function checks(gen1, casesOf) {
     }
   };
   for (const [kind, held] of Object.entries(KINDS))
-    for await (const one of casesOf(kind)) check(one.name ?? kind, () => held(gen1, one));
+    for await (const line of linesIn(`${kind}.jsonl`)) {
+      const one = JSON.parse(line);
+      check(one.name ?? one.corner ?? kind, () => held(gen1, one));
+    }
+  let loads = 0;
+  for await (const line of linesIn("loads.txt")) check(`byte string ${++loads}`, () => loadCase(gen1, line.split(" ")));
+  worked(gen1, check);
   badInput(gen1, check);
+  check("uses, by their types", () => uses(gen1));
   return { passed, faults };
 }

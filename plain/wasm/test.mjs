@@ -7,13 +7,12 @@ import { load } from "./gen1.mjs";
 
 const [folder, module = new URL("./gen1.wasm", import.meta.url).pathname] = process.argv.slice(2);
 
-async function* casesOf(name) {
-  const path = `${folder}/${name}.jsonl`;
-  if (!existsSync(path)) return;
-  for await (const line of createInterface({ input: createReadStream(path) })) yield JSON.parse(line);
+async function* linesIn(name) {
+  const path = `${folder}/${name}`;
+  if (existsSync(path)) yield* createInterface({ input: createReadStream(path) });
 }
 
-const { passed, faults } = await checks(await load(pathToFileURL(module)), casesOf);
+const { passed, faults } = await checks(await load(pathToFileURL(module)), linesIn);
 faults.slice(0, 10).forEach((fault) => console.log(fault));
 console.log(`${passed} passed, ${faults.length} failed`);
 process.exit(faults.length ? 1 : 0);

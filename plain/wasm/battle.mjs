@@ -1,0 +1,242 @@
+// A battle, and what an update of it told.
+import { choiceByte, choiceOf, choiceText, seedBytes, shown, sideOf, truth, whole, within, wrongType } from "./arguments.mjs";
+import { ArgumentError, ArgumentTypeError, DamageError, LoadError, LogError, RefusedError } from "./errors.mjs";
+import { CODES } from "./header.mjs";
+import { Library } from "./memory.mjs";
+import { moveOf } from "./teams.mjs";
+import { hitOf, resultOf, stateOf } from "./views.mjs";
+
+export const BATTLE_SIZE = 384;
+const FACTORS = 39;
+const MOST_CHOICES = 9;
+
+/** Refuses a call of a constructor from outside. */
+export function made(library, what, by) {
+  if (!(library instanceof Library)) throw new ArgumentTypeError(`a ${what} is made by ${by}, and not by new`, "library");
+  return library;
+}
+
+/** Why a choice was refused that is none of those that are offered. */
+export function notOffered(sentence, byte, offered) {
+  return `${sentence}: ${choiceText(byte)}; offered: ${offered.join(", ")}`;
+}
+
+/** The choices that a call writes to the front of its room. */
+export function offeredBy(library, call, it, side) {
+  const room = library.room(MOST_CHOICES);
+  const count = library.calls[call](it, side, room);
+  return Array.from(library.read(room, count), choiceOf);
+}
+
+/** A battle. `update` changes it in place; `clone` keeps it. */
+export class Battle {
+  #library;
+  #bytes;
+
+  constructor(library, bytes) {
+    this.#library = made(library, "Battle", "gen1.battle or gen1.load");
+    this.#bytes = bytes;
+  }
+
+  /** A copy of the 384 bytes, which are all there is of it (docs/LAYOUT.md). */
+  get bytes() {
+    return this.#bytes.slice();
+  }
+
+  /** A battle of its own with the same bytes. It will draw the same numbers, unless it is reseeded. */
+  clone() {
+    return new Battle(this.#library, this.bytes);
+  }
+
+  // Begins a call, with the battle as its first argument.
+  #put() {
+    this.#library.begin();
+    return this.#library.put(this.#bytes);
+  }
+
+  /** How the battle stands, and what is asked of each side. */
+  get result() {
+    return resultOf(this.#library.calls.gen1_result(this.#put()));
+  }
+
+  get isOver() {
+    return this.result.outcome !== "ongoing";
+  }
+
+  /** All that the bytes stand for. */
+  get state() {
+    const [battle, state] = [this.#put(), this.#library.roomOf("gen1_state")];
+    this.#library.calls.gen1_view(battle, state);
+    return stateOf(this.#library.readStruct("gen1_state", state));
+  }
+
+  /** What a side, 1 or 2, may choose: none where the battle is over. */
+  choices(side) {
+    return offeredBy(this.#library, "gen1_choices", this.#put(), sideOf(side));
+  }
+
+  /** The same as a mask: its bit N stands for CHOICES[N]. */
+  offeredMask(side) {
+    return this.#library.calls.gen1_offered(this.#put(), sideOf(side));
+  }
+
+  /** A choice of a side in words, as the battle stands: "move 2 Body Slam". It need not be offered. */
+  words(side, choice) {
+    const byte = choiceByte(choice, sideOf(side));
+    const [code, text] = this.#library.written("gen1_choice_words", CODES.WORDS_ROOM, this.#put(), side, byte);
+    if (!code) return text;
+    throw new ArgumentError(`side ${side}'s choice: ${this.#library.sentence(CODES.ABOUT_CHOICE, code)}: ${choiceText(byte)}`, `side ${side}'s choice`);
+  }
+
+  /** Updates the battle by a choice of each side. */
+  update(one, two) {
+    const log = this.#play(one, two, CODES.LOG_ROOM);
+    return new Update(this.#library, this.result, log);
+  }
+
+  /** The same without a log, which is quicker: the result after it. */
+  play(one, two) {
+    this.#play(one, two, 0);
+    return this.result;
+  }
+
+  #play(one, two, room) {
+    const pair = [choiceByte(one, 1), choiceByte(two, 2)];
+    const library = this.#library;
+    const [battle, log, length] = [this.#put(), library.room(room), library.room(8)];
+    const code = library.calls.gen1_update(battle, ...pair, log, library.size(room), length);
+    if (code) throw this.#refused(code, pair);
+    this.#bytes = library.read(battle, BATTLE_SIZE);
+    return library.read(log, library.sizeAt(length));
+  }
+
+  #refused(code, pair) {
+    const sentence = this.#library.sentence(CODES.ABOUT_UPDATE, code);
+    if (code === CODES.OVER) return new RefusedError(`${sentence}: ${this.result.outcome}`, code);
+    const side = code === CODES.NOT_OFFERED_ONE ? 1 : 2;
+    const [choice, offered] = [pair[side - 1], this.choices(side)];
+    return new RefusedError(notOffered(sentence, choice, offered), code, { side, choice, offered });
+  }
+
+  /** Gives the battle other numbers to draw: ten bytes, and the place, 0 to 8, of the one that is drawn next. */
+  reseed(seed, index = 0) {
+    const numbers = seedBytes(seed);
+    const place = whole(index, "index");
+    const [battle, given] = [this.#put(), this.#library.put(numbers)];
+    const code = this.#library.calls.gen1_reseed(battle, given, place >= 0 && place <= 255 ? place : 255);
+    if (code) throw new ArgumentError(`${this.#library.sentence(CODES.ABOUT_RESEED, code)}: index is ${place}`, "index");
+    this.#bytes = this.#library.read(battle, BATTLE_SIZE);
+  }
+
+  /** How so many copies end, each side choosing at random among what it is offered; the battle stays as it is. */
+  playout(seed, rounds) {
+    const state = seedOf(seed);
+    const [battle, counts] = [this.#put(), this.#library.roomOf("gen1_playouts")];
+    const code = this.#library.calls.gen1_playout(battle, state, within(rounds, "rounds", 0, 2 ** 32 - 1), counts);
+    if (code) throw loadError(this.#library, code, BATTLE_SIZE);
+    return this.#library.readStruct("gen1_playouts", counts);
+  }
+
+  /** What a use of a move by a side would come to, as both members that are out now stand. */
+  hit(side, move) {
+    const number = moveOf(this.#library, move);
+    const [battle, hit] = [this.#put(), this.#library.roomOf("gen1_hit")];
+    const code = this.#library.calls.gen1_hit_now(battle, sideOf(side), number, hit);
+    if (code) throw damageError(this.#library, code, move);
+    return hitOf(this.#library.readStruct("gen1_hit", hit));
+  }
+
+  /** The damage of a hit by a move, as both members that are out now stand, at each factor from 217 to 255. */
+  damage(side, move, critical = false) {
+    const number = moveOf(this.#library, move);
+    const [battle, numbers] = [this.#put(), this.#library.room(2 * FACTORS)];
+    const code = this.#library.calls.gen1_damage(battle, sideOf(side), number, truth(critical, "critical") ? 1 : 0, numbers);
+    if (code) throw damageError(this.#library, code, move);
+    return Array.from(new Uint16Array(this.#library.read(numbers, 2 * FACTORS).buffer));
+  }
+}
+
+/** What an update told. */
+export class Update {
+  #library;
+
+  constructor(library, result, log) {
+    this.#library = made(library, "Update", "battle.update or room.submit");
+    this.result = result;
+    this.log = log;
+  }
+
+  /** The events of the log. */
+  get events() {
+    return eventsOf(this.#library, this.log);
+  }
+
+  /** The lines of the log, without line feeds. */
+  get lines() {
+    return linesOf(this.#library, this.log);
+  }
+}
+
+function seedOf(value) {
+  if (typeof value !== "bigint" && !Number.isInteger(value)) throw wrongType(value, "seed", "a whole number or a BigInt");
+  if (value < 0 || value >= 2n ** 64n || (typeof value === "number" && !Number.isSafeInteger(value)))
+    throw new ArgumentError(`seed is ${shown(value)}, not 0 to 2 ** 53 - 1, or as a BigInt to 2n ** 64n - 1n`, "seed");
+  return BigInt(value);
+}
+
+/** Why there are no damage numbers of a move. */
+export function damageError(library, code, move) {
+  return new DamageError(`no damage of ${shown(move)}: ${library.sentence(CODES.ABOUT_DAMAGE, code)}`, code);
+}
+
+/** Why so many bytes are no battle. */
+export function loadError(library, code, count) {
+  const was = code === CODES.LOAD_LENGTH ? `: there are ${count}` : "";
+  return new LoadError(`the bytes are no battle: test ${code} of 7 fails: ${library.sentence(CODES.ABOUT_LOAD, code)}${was} (docs/LAYOUT.md, "Loading")`, code);
+}
+
+/** Why bytes are no log: the event at fault begins at byte `at` of these, or below 0 in those before them. */
+export function logError(library, code, at) {
+  const where = at < 0 ? `${-at} bytes before these` : `byte ${at}`;
+  return new LogError(`${where}: ${library.sentence(CODES.ABOUT_LOG, code)}`, code, at);
+}
+
+// What is read of each event of a log, which is put into memory once. `reader` is given the call's first arguments, and answers
+// what reads the next event: its code, and what there is of it.
+function told(library, log, reader) {
+  library.begin();
+  const [bytes, at, found] = [library.put(log), library.room(8), []];
+  const read = reader(bytes, library.size(log.length), at);
+  for (;;) {
+    const [code, next] = read();
+    if (code === CODES.LOG_END) return found;
+    if (code) throw logError(library, code, library.sizeAt(at));
+    found.push(next());
+  }
+}
+
+/** The events of log bytes, with the numbers that stand in them. */
+export function eventsOf(library, log) {
+  return told(library, log, (...given) => {
+    const event = library.roomOf("gen1_event");
+    const next = () => library.readStruct("gen1_event", event);
+    return () => [library.calls.gen1_next_event(...given, event), next];
+  });
+}
+
+/** The lines of log bytes, without line feeds. */
+export function linesOf(library, log) {
+  return told(library, log, (...given) => {
+    const [line, length] = [library.room(CODES.LINE_ROOM), library.room(8)];
+    const next = () => library.textAt(line, library.sizeAt(length) - 1);
+    return () => [library.calls.gen1_next_line(...given, line, library.size(CODES.LINE_ROOM), length), next];
+  });
+}
+
+/** Where the first event of log bytes begins that cannot be read. */
+export function faultPlace(library, log) {
+  library.begin();
+  const [bytes, at, event] = [library.put(log), library.room(8), library.roomOf("gen1_event")];
+  while (library.calls.gen1_next_event(bytes, library.size(log.length), at, event) === 0);
+  return library.sizeAt(at);
+}

@@ -1,0 +1,109 @@
+// The module's memory, and what a call puts there. Pointers and sizes are BigInts in a module with a 64-bit memory.
+import { CODES } from "./header.mjs";
+import { ModuleError } from "./errors.mjs";
+import { layoutOf, readStruct } from "./structs.mjs";
+
+const DECODER = new TextDecoder();
+const PAGE = 65536;
+
+/** The exports of a module, with a place for the arguments of one call at a time behind what is the module's own. */
+export class Library {
+  #begin;
+  #end;
+  #memory;
+
+  /** The functions of include/gen1.h. */
+  calls;
+  /** Whether the module has a 64-bit memory. */
+  isLong;
+
+  constructor(instance) {
+    const { memory, __heap_base: base } = instance.exports;
+    if (!memory || !base || !instance.exports.gen1_version) throw new ModuleError("the module is none of gen1.h: it exports no gen1_version, memory or __heap_base");
+    this.calls = instance.exports;
+    this.#memory = memory;
+    this.#begin = Number(base.value);
+    this.#end = this.#begin;
+    this.isLong = typeof base.value === "bigint";
+  }
+
+  /** Begins a call: what the call before it has put down is given up. */
+  begin() {
+    this.#end = this.#begin;
+  }
+
+  /** So many bytes of zeros, as a pointer. It lies as any struct wants it. */
+  room(count) {
+    const place = (this.#end + 7) & ~7;
+    this.#end = place + count;
+    const short = this.#end - this.#memory.buffer.byteLength;
+    if (short > 0) this.#grow(Math.ceil(short / PAGE));
+    new Uint8Array(this.#memory.buffer, place, count).fill(0);
+    return this.size(place);
+  }
+
+  // Hosts have changed their minds: of a 64-bit memory some take the number of pages as a BigInt, and some, as Node 20, as a number.
+  #grow(pages) {
+    try {
+      this.#memory.grow(this.size(pages));
+    } catch (fault) {
+      if (!this.isLong || !(fault instanceof TypeError)) throw fault;
+      this.#memory.grow(pages);
+    }
+  }
+
+  /** Bytes, as a pointer to them. */
+  put(bytes) {
+    const pointer = this.room(bytes.length);
+    this.write(pointer, bytes);
+    return pointer;
+  }
+
+  /** Writes bytes to a pointer. */
+  write(pointer, bytes) {
+    new Uint8Array(this.#memory.buffer).set(bytes, Number(pointer));
+  }
+
+  /** Room for a struct of gen1.h. */
+  roomOf(struct) {
+    return this.room(layoutOf(struct, this.isLong).size);
+  }
+
+  /** A number as the module takes pointers and sizes. */
+  size(number) {
+    return this.isLong ? BigInt(number) : number;
+  }
+
+  /** The size_t at a pointer. */
+  sizeAt(pointer) {
+    return new DataView(this.#memory.buffer).getUint32(Number(pointer), true);
+  }
+
+  /** A copy of the bytes at a pointer. */
+  read(pointer, count) {
+    return new Uint8Array(this.#memory.buffer).slice(Number(pointer), Number(pointer) + count);
+  }
+
+  /** The ASCII text at a pointer. */
+  textAt(pointer, count) {
+    return DECODER.decode(new Uint8Array(this.#memory.buffer, Number(pointer), count));
+  }
+
+  /** The struct of gen1.h at a pointer, as an object with its fields. */
+  readStruct(struct, pointer) {
+    return readStruct(struct, new DataView(this.#memory.buffer), Number(pointer), this.isLong);
+  }
+
+  /** What a call writes as text, which takes `room`, text, its room and its length last: its code, and the text. */
+  written(call, room, ...words) {
+    const [text, length] = [this.room(room), this.room(8)];
+    const code = this.calls[call](...words, text, this.size(room), length);
+    return [code, code ? "" : this.textAt(text, this.sizeAt(length))];
+  }
+
+  /** A code in words. `about` is one of CODES.ABOUT_NEW to CODES.ABOUT_ROOM. */
+  sentence(about, code) {
+    this.begin();
+    return this.written("gen1_text", CODES.SENTENCE_ROOM, about, code)[1];
+  }
+}

@@ -1,0 +1,89 @@
+// A battle of two players who choose apart from each other (docs/MECHANICS.md, "Rooms").
+import { choiceByte, sideOf, within, wrongType } from "./arguments.mjs";
+import { Battle, BATTLE_SIZE, made, notOffered, offeredBy, Update } from "./battle.mjs";
+import { RoomError } from "./errors.mjs";
+import { CODES } from "./header.mjs";
+import { fieldOf, layoutOf } from "./structs.mjs";
+
+const MOST_NUMBER = 2 ** 32 - 1;
+
+/** The bytes of a room of a battle, which is started at once if it has not begun. */
+export function roomOf(library, battle) {
+  if (!(battle instanceof Battle)) throw wrongType(battle, "battle", "a Battle");
+  library.begin();
+  const room = library.roomOf("gen1_room");
+  library.write(room, battle.bytes);
+  library.calls.gen1_room_begin(room);
+  return library.read(room, layoutOf("gen1_room", library.isLong).size);
+}
+
+/** A room: the first choice of a pair is kept until the other is there, and then the battle is updated. Pairs are numbered from 0. */
+export class Room {
+  #library;
+  #bytes;
+
+  constructor(library, bytes) {
+    this.#library = made(library, "Room", "gen1.room");
+    this.#bytes = bytes;
+  }
+
+  #field(name) {
+    return fieldOf("gen1_room", name, this.#bytes, this.#library.isLong);
+  }
+
+  /** A copy of the battle. It has everything, also what neither player knows. */
+  get battle() {
+    return new Battle(this.#library, this.#bytes.slice(0, BATTLE_SIZE));
+  }
+
+  /** How the battle stands, and what is asked of each side. */
+  get result() {
+    return this.battle.result;
+  }
+
+  /** The number of the current pair of choices, which is how many pairs have ended. */
+  get number() {
+    return this.#field("number");
+  }
+
+  /** The log bytes of the last pair that ended; before one has, those of the start, if that was here. */
+  get log() {
+    return this.#field("log").slice(0, this.#field("log_length"));
+  }
+
+  /** A room of its own with the same battle, number, log and choices. */
+  clone() {
+    return new Room(this.#library, this.#bytes.slice());
+  }
+
+  #put() {
+    this.#library.begin();
+    return this.#library.put(this.#bytes);
+  }
+
+  /** What a side may submit for the current pair: nothing where its choice is there, or where the battle is over. */
+  choices(side) {
+    return offeredBy(this.#library, "gen1_room_choices", this.#put(), sideOf(side));
+  }
+
+  /** Takes a player's choice for the pair of this number: the update, or null while the foe's choice is awaited. */
+  submit(side, number, choice) {
+    const asked = [sideOf(side), within(number, "number", 0, MOST_NUMBER), choiceByte(choice, side)];
+    const [before, room] = [this.number, this.#put()];
+    const code = this.#library.calls.gen1_room_submit(room, ...asked);
+    if (code) throw this.#refused(code, ...asked);
+    this.#bytes = this.#library.read(room, this.#bytes.length);
+    return this.number === before ? null : new Update(this.#library, this.result, this.log);
+  }
+
+  #refused(code, side, number, choice) {
+    const [offered, current, sentence] = [this.choices(side), this.number, this.#library.sentence(CODES.ABOUT_ROOM, code)];
+    const said = {
+      [CODES.ROOM_OVER]: () => `${sentence}: ${this.result.outcome}`,
+      [CODES.ROOM_STALE]: () => `${sentence}: ${number}; the current pair is ${current}`,
+      [CODES.ROOM_CHOSEN]: () => `${sentence}: side ${side} may submit nothing for pair ${number} any more`,
+      [CODES.ROOM_NOT_OFFERED]: () => `side ${side}: ${notOffered(sentence, choice, offered)}`,
+    }[code]();
+    return new RoomError(said, code, { side, choice, offered, number, current });
+  }
+}

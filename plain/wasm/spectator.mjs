@@ -1,0 +1,65 @@
+// What a watcher knows of a battle who has both teams and its log, and nothing else (docs/MECHANICS.md, "Spectator's view").
+import { octets } from "./arguments.mjs";
+import { faultPlace, logError, made } from "./battle.mjs";
+import { fieldOf, layoutOf, readStruct } from "./structs.mjs";
+import { teamBytes, teamError } from "./teams.mjs";
+import { shownOf } from "./views.mjs";
+
+/** The bytes of a watcher before a battle of two teams. */
+export function spectatorOf(library, one, two) {
+  const teams = [teamBytes(library, one, "one"), teamBytes(library, two, "two")];
+  library.begin();
+  const spectator = library.roomOf("gen1_spectator");
+  const answer = library.calls.gen1_spectator_begin(spectator, ...teams.map((team) => library.put(team)));
+  if (answer) throw teamError(library, answer, [one, two]);
+  return library.read(spectator, layoutOf("gen1_spectator", library.isLong).size);
+}
+
+/** A watcher, who is fed the log of each update. */
+export class Spectator {
+  #library;
+  #bytes;
+
+  constructor(library, bytes) {
+    this.#library = made(library, "Spectator", "gen1.spectator");
+    this.#bytes = bytes;
+  }
+
+  #field(name) {
+    return fieldOf("gen1_spectator", name, this.#bytes, this.#library.isLong);
+  }
+
+  /** What is known. */
+  get state() {
+    return shownOf(readStruct("gen1_spectator", new DataView(this.#bytes.buffer), 0, this.#library.isLong));
+  }
+
+  /** The bytes, at most 9, of an event that has come in part. */
+  get held() {
+    return this.#field("held").slice(0, this.#field("held_count"));
+  }
+
+  /** A watcher of its own who knows the same. */
+  clone() {
+    return new Spectator(this.#library, this.#bytes.slice());
+  }
+
+  /** Takes in the next bytes of the battle's log, which may be cut anywhere: an event counts as soon as its last byte is there. */
+  feed(log) {
+    const given = octets(log, "log");
+    const library = this.#library;
+    library.begin();
+    const spectator = library.put(this.#bytes);
+    const code = library.calls.gen1_spectator_feed(spectator, library.put(given), library.size(given.length));
+    if (code) throw this.#noLog(code, given);
+    this.#bytes = library.read(spectator, this.#bytes.length);
+  }
+
+  #noLog(code, given) {
+    const { held } = this;
+    const all = new Uint8Array(held.length + given.length);
+    all.set(held);
+    all.set(given, held.length);
+    return logError(this.#library, code, faultPlace(this.#library, all) - held.length);
+  }
+}

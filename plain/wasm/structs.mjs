@@ -1,0 +1,76 @@
+// The structs of include/gen1.h as they lie in the module's memory: C's rules, over the fields of header.mjs.
+import { STRUCTS } from "./header.mjs";
+
+const NUMBERS = { uint8_t: 1, uint16_t: 2, uint32_t: 4 };
+const READERS = { 1: "getUint8", 2: "getUint16", 4: "getUint32" };
+const WRITERS = { 1: "setUint8", 2: "setUint16", 4: "setUint32" };
+const layouts = [new Map(), new Map()];
+
+const up = (place, alignment) => Math.ceil(place / alignment) * alignment;
+
+// What a type takes: a number's bytes, or the layout of a struct.
+function typeOf(type, isLong) {
+  const size = type === "size_t" ? (isLong ? 8 : 4) : NUMBERS[type];
+  return size ? { size, alignment: size } : layoutOf(type, isLong);
+}
+
+function made(name, isLong) {
+  let [place, alignment] = [0, 1];
+  const fields = Object.entries(STRUCTS[name]).map(([field, [type, count]]) => {
+    const of = typeOf(type, isLong);
+    const at = up(place, of.alignment);
+    place = at + of.size * (count ?? 1);
+    alignment = Math.max(alignment, of.alignment);
+    const key = field.replace(/_(.)/g, (_, letter) => letter.toUpperCase());
+    return { name: field, key, at, count, size: of.size, struct: of.fields ? type : null };
+  });
+  return { size: up(place, alignment), alignment, fields };
+}
+
+/** Size and alignment of a struct in bytes, and each field with its place (`at`), in a module with a 32-bit or a 64-bit memory. */
+export function layoutOf(name, isLong) {
+  const known = layouts[isLong ? 1 : 0];
+  if (!known.has(name)) known.set(name, made(name, isLong));
+  return known.get(name);
+}
+
+// A value of a field. A size_t is never above 4 GB here, so its lower half is all of it.
+function read(field, view, at, isLong) {
+  return field.struct ? readStruct(field.struct, view, at, isLong) : view[READERS[Math.min(field.size, 4)]](at, true);
+}
+
+function valueOf(field, view, place, isLong) {
+  if (field.count === undefined) return read(field, view, place, isLong);
+  const values = [];
+  for (let turn = 0; turn < field.count; turn++) values.push(read(field, view, place + turn * field.size, isLong));
+  return values;
+}
+
+/** The struct at a place of a DataView, as an object with its fields; a field of several values is an array. */
+export function readStruct(name, view, at, isLong) {
+  const found = {};
+  for (const field of layoutOf(name, isLong).fields) {
+    found[field.key] = valueOf(field, view, at + field.at, isLong);
+  }
+  return found;
+}
+
+/** The value of one field of the struct whose bytes these are; several bytes are a Uint8Array. `name` is that of the header. */
+export function fieldOf(struct, name, bytes, isLong) {
+  const field = layoutOf(struct, isLong).fields.find((it) => it.name === name);
+  if (field.count !== undefined && field.size === 1) return bytes.slice(field.at, field.at + field.count);
+  return valueOf(field, new DataView(bytes.buffer, bytes.byteOffset), field.at, isLong);
+}
+
+/** Writes an object's fields to a place of a DataView; fields that it has not, and values behind its last, are left alone. */
+export function writeStruct(name, view, at, isLong, object) {
+  for (const field of layoutOf(name, isLong).fields) {
+    if (object[field.key] === undefined) continue;
+    const values = field.count === undefined ? [object[field.key]] : object[field.key];
+    values.forEach((value, turn) => {
+      const place = at + field.at + turn * field.size;
+      if (field.struct) writeStruct(field.struct, view, place, isLong, value);
+      else view[WRITERS[field.size]](place, value, true);
+    });
+  }
+}

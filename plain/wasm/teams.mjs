@@ -1,0 +1,108 @@
+// Teams as the library takes them, out of objects and out of a team builder's text, and why there is none.
+import { ArgumentError, TeamError, TextError } from "./errors.mjs";
+import { byteOr255, list, numbers, object, shown, text, within, wrongType } from "./arguments.mjs";
+import { CODES, TEXT_FAULTS } from "./header.mjs";
+import { layoutOf, writeStruct } from "./structs.mjs";
+import { MOVES, SPECIES } from "./tables.mjs";
+
+const MOST_MEMBERS = 6;
+const MOST_MOVES = 4;
+const FULL_DVS = Object.freeze([15, 15, 15, 15]);
+const FULL_EXP = Object.freeze([65535, 65535, 65535, 65535, 65535]);
+const SPECIES_KIND = { names: SPECIES, find: "gen1_species_from_name" };
+const MOVE_KIND = { names: MOVES, find: "gen1_move_from_name" };
+// The field that a code of gen1_new is about; where it is not here, it is the moves.
+const FIELDS = {
+  [CODES.EMPTY]: "members", [CODES.TOO_MANY]: "members", [CODES.LEVEL]: "level", [CODES.DV]: "dvs", [CODES.NO_SUCH_SPECIES]: "species",
+  [CODES.RULES]: "rules", [CODES.TURN_LIMIT]: "limit",
+};
+
+// The number of a name to the letter, or a number as a byte; 255, which the library refuses, for one that has no place in a byte.
+function numberOf(library, value, kind, what) {
+  if (typeof value === "number") return byteOr255(value, what) || 255;
+  if (typeof value !== "string") throw wrongType(value, what, "a name or a number");
+  const found = kind.names.indexOf(value) + 1;
+  if (found) return found;
+  library.begin();
+  const name = new TextEncoder().encode(value);
+  const near = library.calls[kind.find](library.put(name), library.size(name.length));
+  const meant = near ? `; did you mean ${shown(kind.names[near - 1])}?` : "";
+  throw new ArgumentError(`${what} is ${shown(value)}, which is none of docs/TABLES.md${meant}`, what);
+}
+
+/** A move as the library takes it. */
+export function moveOf(library, value) {
+  return numberOf(library, value, MOVE_KIND, "move");
+}
+
+function pairOf(library, value, what) {
+  const lawful = "a pair: a move, and its PP ups from 0 to 3";
+  if (list(value, what, lawful).length !== 2) throw new ArgumentError(`${what} is ${shown(value)}, not ${lawful}`, what);
+  return [numberOf(library, value[0], MOVE_KIND, `${what}[0]`), byteOr255(value[1], `${what}[1]`)];
+}
+
+function memberOf(library, given, what) {
+  const it = object(given, what, "a member: an object with species and moves");
+  const moves = list(it.moves, `${what}.moves`, "a list of pairs: a move, and its PP ups from 0 to 3");
+  if (moves.length > MOST_MOVES) throw new ArgumentError(`${what}.moves has ${moves.length} moves, not at most ${MOST_MOVES}`, `${what}.moves`);
+  const pairs = Array.from(moves, (pair, slot) => pairOf(library, pair, `${what}.moves[${slot}]`));
+  return {
+    species: numberOf(library, it.species, SPECIES_KIND, `${what}.species`),
+    level: byteOr255(it.level ?? 100, `${what}.level`),
+    dvs: numbers(it.dvs ?? FULL_DVS, `${what}.dvs`, 4, byteOr255),
+    moves: pairs.map(([move]) => move),
+    ppUps: pairs.map(([, ups]) => ups),
+    exp: numbers(it.exp ?? FULL_EXP, `${what}.exp`, 5, (value, name) => within(value, name, 0, 65535)),
+  };
+}
+
+function bytesOf(struct, isLong, fields) {
+  const view = new DataView(new ArrayBuffer(layoutOf(struct, isLong).size));
+  writeStruct(struct, view, 0, isLong, fields);
+  return new Uint8Array(view.buffer);
+}
+
+/** A member's bytes. `what` names the argument. */
+export function memberBytes(library, given, what) {
+  return bytesOf("gen1_member", library.isLong, memberOf(library, given, what));
+}
+
+/** A team's bytes. `what` names the argument. Of too many members only the count is looked at, which the library refuses. */
+export function teamBytes(library, given, what) {
+  const { length } = list(given, what, "a list of 1 to 6 members");
+  const members = length > MOST_MEMBERS ? [] : Array.from(given, (it, place) => memberOf(library, it, `${what}[${place}]`));
+  return bytesOf("gen1_team", library.isLong, { members, count: Math.min(length, 255) });
+}
+
+const ofTeams = (side, place) => (side ? `team ${side}: ` : "") + (place ? `member ${place}: ` : "");
+
+/** Why there is no battle of these teams and with these terms, by an answer of gen1_new; `where` says whose fault it is. */
+export function teamError(library, answer, teams, terms = {}, where = ofTeams) {
+  const [code, place, side] = [answer & 255, (answer >> 8) & 255, answer >> 16];
+  const [field, team] = [FIELDS[code] ?? "moves", teams[side - 1]];
+  const was = field === "members" ? `there are ${team.length}` : `${field} is ${shown(place ? team[place - 1][field] : terms[field])}`;
+  return new TeamError(`${where(side, place)}${library.sentence(CODES.ABOUT_NEW, code)}: ${was}`, code, { side, place, field });
+}
+
+// A member as `battle` takes it, of the library's own.
+function memberFrom(of) {
+  const moves = of.moves.flatMap((move, slot) => (move ? [[MOVES[move - 1], of.ppUps[slot]]] : []));
+  return { species: SPECIES[of.species - 1], level: of.level, dvs: of.dvs, exp: of.exp, moves };
+}
+
+function textError(library, of) {
+  const places = Object.entries({ line: of.line, member: of.member, field: of.field }).filter(([, number]) => number);
+  const where = places.map(([name, number]) => `${name} ${number}`).join(", ");
+  const said = of.rule ? library.sentence(CODES.ABOUT_NEW, of.rule) : `expected: ${TEXT_FAULTS[of.code]}`;
+  return new TextError(where ? `${where}: ${said}` : said, of);
+}
+
+/** The members that a text tells of, by the call that reads such texts: gen1_team_from_text or gen1_team_from_packed. */
+export function membersFrom(library, call, given) {
+  const bytes = new TextEncoder().encode(text(given, "text"));
+  library.begin();
+  const [words, team, fault] = [library.put(bytes), library.roomOf("gen1_team"), library.roomOf("gen1_text_fault")];
+  if (library.calls[call](words, library.size(bytes.length), team, fault)) throw textError(library, library.readStruct("gen1_text_fault", fault));
+  const { members, count } = library.readStruct("gen1_team", team);
+  return members.slice(0, count).map(memberFrom);
+}

@@ -1,0 +1,183 @@
+// Uses of the library that are checked twice: `tsc -p tsconfig.json` holds them against gen1.d.mts, and `uses` runs them. So the types
+// say what the module does: each key of a type is there and no other, and what a type refuses is refused by the module too.
+import * as library from "./gen1.mjs";
+import { equal, holds, thrown } from "./holding.mjs";
+
+/** @typedef {import("./gen1.mjs").Gen1} Gen1 */
+const { Battle, CHOICES, CONDITIONS, OUTCOMES, REQUESTS, Room, Spectator, STATUSES, Update } = library;
+
+/** @type {Record<Exclude<keyof typeof library, "default">, true>} */
+const EXPORTS = {
+  ArgumentError: true, ArgumentTypeError: true, Battle: true, byteOf: true, CHOICES: true, choiceOf: true, CONDITIONS: true, DamageError: true,
+  Gen1: true, Gen1Error: true, HAS_LONG_MEMORIES: true, load: true, LOG_ROOM: true, LoadError: true, LogError: true, ModuleError: true, MOVES: true,
+  OUTCOMES: true, RefusedError: true, REQUESTS: true, Room: true, RoomError: true, SPECIES: true, Spectator: true, STATUSES: true, TeamError: true,
+  TextError: true, TYPES: true, Update: true,
+};
+/** @type {Record<keyof Gen1, true>} */
+const OF_GEN1 = {
+  is64: true, build: true, version: true, battle: true, load: true, room: true, spectator: true, teamFromText: true, teamFromPacked: true, hit: true,
+  damage: true, events: true, lines: true,
+};
+/** @type {Record<keyof import("./gen1.mjs").Battle, true>} */
+const OF_BATTLE = {
+  bytes: true, result: true, isOver: true, state: true, clone: true, choices: true, offeredMask: true, words: true, update: true, play: true,
+  reseed: true, playout: true, hit: true, damage: true,
+};
+/** @type {Record<keyof import("./gen1.mjs").Room, true>} */
+const OF_ROOM = { battle: true, result: true, number: true, log: true, clone: true, choices: true, submit: true };
+/** @type {Record<keyof import("./gen1.mjs").Spectator, true>} */
+const OF_SPECTATOR = { state: true, held: true, clone: true, feed: true };
+/** @type {Record<keyof import("./gen1.mjs").Update, true>} */
+const OF_UPDATE = { result: true, log: true, events: true, lines: true };
+/** @type {Record<keyof import("./gen1.mjs").State, true>} */
+const OF_STATE = { one: true, two: true, turn: true, limit: true, lastDamage: true, rules: true, outcome: true, requests: true, index: true, numbers: true };
+/** @type {Record<keyof import("./gen1.mjs").MemberState, true>} */
+const OF_MEMBER = { species: true, level: true, status: true, sleep: true, marked: true, moves: true, pp: true, hp: true, maxHp: true, stats: true };
+/** @type {Record<keyof import("./gen1.mjs").ActiveState, true>} */
+const OF_ACTIVE = {
+  place: true, types: true, stats: true, stages: true, conditions: true, currentMove: true, pickedMove: true, keptAccuracy: true, substitute: true,
+  confusion: true, disabledSlot: true, disabledTurns: true, badPoison: true, turns: true, energy: true,
+};
+/** @type {Record<keyof import("./gen1.mjs").ShownState, true>} */
+const OF_SHOWN = { one: true, two: true, turn: true, outcome: true };
+/** @type {Record<keyof import("./gen1.mjs").ShownSide, true>} */
+const OF_SHOWN_SIDE = { members: true, place: true, stages: true, substitute: true, confused: true, lightScreen: true, reflect: true };
+/** @type {Record<keyof import("./gen1.mjs").Hit, true>} */
+const OF_HIT = { usual: true, critical: true, criticalChance: true, hitChance: true };
+/** @type {Record<keyof import("./gen1.mjs").Playouts, true>} */
+const OF_PLAYOUTS = { winsOne: true, winsTwo: true, ties: true, faults: true };
+/** @type {Record<keyof import("./gen1.mjs").WholeMember, true>} */
+const OF_WHOLE_MEMBER = { species: true, level: true, dvs: true, exp: true, moves: true };
+/** @type {Record<keyof import("./gen1.mjs").GameEvent, true>} */
+const OF_EVENT = {
+  tag: true, side: true, species: true, move: true, targetSide: true, targetSpecies: true, place: true, level: true, status: true, detail: true,
+  amount: true, hp: true, maxHp: true, turn: true,
+};
+// The names of docs/MECHANICS.md and docs/LAYOUT.md, in the order of their numbers and bits.
+/** @type {Record<import("./gen1.mjs").Condition, true>} */
+const ALL_CONDITIONS = {
+  bide: true, thrash: true, trapping: true, flinch: true, charging: true, invulnerable: true, confused: true, mist: true, "focus energy": true,
+  substitute: true, recharge: true, rage: true, seeded: true, "bad poison": true, "light screen": true, reflect: true, disabled: true,
+};
+/** @type {Record<import("./gen1.mjs").Status, true>} */
+const ALL_STATUSES = { none: true, sleep: true, poison: true, burn: true, freeze: true, paralysis: true };
+/** @type {Record<import("./gen1.mjs").Outcome, true>} */
+const ALL_OUTCOMES = { ongoing: true, "win one": true, "win two": true, tie: true, "fault 1": true, "fault 2": true };
+/** @type {Record<import("./gen1.mjs").Request, true>} */
+const ALL_REQUESTS = { pass: true, move: true, switch: true };
+/** @type {Record<import("./gen1.mjs").ChoiceName, true>} */
+const ALL_CHOICES = {
+  pass: true, "move 0": true, "move 1": true, "move 2": true, "move 3": true, "move 4": true, "switch 1": true, "switch 2": true, "switch 3": true,
+  "switch 4": true, "switch 5": true, "switch 6": true,
+};
+
+/** @type {import("./gen1.mjs").Member} */
+const TAUROS = { species: "Tauros", level: 100, dvs: Uint8Array.of(15, 15, 15, 15), moves: [["Strength", 3], [34, 0]] };
+/** @type {import("./gen1.mjs").Terms} */
+const TERMS = { one: [TAUROS], two: [TAUROS, { species: 94, moves: [["Splash", 3]] }], seed: new Uint8Array(10), rules: 3, limit: 9999 };
+
+/** @param {object} found @param {Record<string, true>} wanted */
+function hasKeys(found, wanted) {
+  equal(Object.keys(found).sort(), Object.keys(wanted).sort());
+}
+
+// What a class of the module offers: its methods and getters, and the fields of one of its instances.
+/** @param {object} one @param {Record<string, true>} wanted */
+function offers(one, wanted) {
+  const names = [...Object.getOwnPropertyNames(Object.getPrototypeOf(one)), ...Object.keys(one)].filter((name) => name !== "constructor");
+  equal(names.sort(), Object.keys(wanted).sort());
+}
+
+function lists() {
+  hasKeys(library, EXPORTS);
+  equal([CONDITIONS, STATUSES], [Object.keys(ALL_CONDITIONS), Object.keys(ALL_STATUSES)]);
+  equal([OUTCOMES, REQUESTS, CHOICES], [Object.keys(ALL_OUTCOMES), Object.keys(ALL_REQUESTS), Object.keys(ALL_CHOICES)]);
+  equal([library.SPECIES.length, library.MOVES.length, library.TYPES.length, library.LOG_ROOM], [151, 165, 15, 512]);
+  equal(CHOICES.map((choice) => library.choiceOf(library.byteOf(choice))), CHOICES);
+}
+
+/** @param {Gen1} gen1 */
+function battles(gen1) {
+  const battle = gen1.battle(TERMS);
+  const update = battle.update("pass", 0);
+  /** @type {string[]} */
+  const choices = battle.choices(1);
+  holds(choices.every((choice) => typeof choice === "string") && typeof gen1.is64 === "boolean" && /^\d+\.\d+\.\d+$/.test(gen1.version), "other types");
+  for (const [one, wanted] of /** @type {[object, Record<string, true>][]} */ ([[gen1, OF_GEN1], [battle, OF_BATTLE], [update, OF_UPDATE]])) offers(one, wanted);
+  const { one, two, outcome } = battle.state;
+  holds(one.active !== null && two.members.length === 2 && outcome === "ongoing", "another state");
+  hasKeys(battle.state, OF_STATE);
+  hasKeys(one.members[0], OF_MEMBER);
+  hasKeys(one.active ?? {}, OF_ACTIVE);
+  hasKeys(update.events[0], OF_EVENT);
+  hasKeys(battle.hit(1, "Strength"), OF_HIT);
+  hasKeys(battle.playout(1n, 1), OF_PLAYOUTS);
+  hasKeys(gen1.teamFromText("Tauros\n- Strength\n")[0], OF_WHOLE_MEMBER);
+  hasKeys(battle.play(battle.choices(1)[0], battle.choices(2)[0]), { outcome: true, requests: true });
+  /** @type {Uint8Array} */
+  const bytes = gen1.load(battle.bytes.buffer).bytes;
+  holds(bytes.length === 384 && battle.clone() instanceof Battle && update instanceof Update, "another battle");
+}
+
+/** @param {Gen1} gen1 */
+function roomsAndWatchers(gen1) {
+  const room = gen1.room(gen1.battle(TERMS));
+  const watcher = gen1.spectator(TERMS.one, TERMS.two);
+  offers(room, OF_ROOM);
+  offers(watcher, OF_SPECTATOR);
+  /** @type {import("./gen1.mjs").Update | null} */
+  const waiting = room.submit(1, room.number, room.choices(1)[0]);
+  watcher.feed(room.submit(2, 0, "move 1")?.log ?? new Uint8Array(0));
+  holds(waiting === null && watcher.state.one.place === 0 && room.clone() instanceof Room && watcher.clone() instanceof Spectator, "another room");
+  hasKeys(watcher.state, OF_SHOWN);
+  hasKeys(watcher.state.two, OF_SHOWN_SIDE);
+  hasKeys(watcher.state.two.members[0], { hp: true, status: true });
+}
+
+// Each of these is refused by its types, else tsc calls the directive above it unused; and by the module.
+/** @param {Gen1} gen1 */
+function refused(gen1) {
+  const battle = gen1.battle(TERMS);
+  const calls = [
+    // @ts-expect-error
+    () => new library.Gen1(),
+    // @ts-expect-error
+    () => new Battle(),
+    // @ts-expect-error
+    () => new Room(),
+    // @ts-expect-error
+    () => new Spectator(),
+    // @ts-expect-error
+    () => new Update(),
+    // @ts-expect-error
+    () => gen1.battle({ one: [{ species: "Tauros" }], two: [TAUROS], seed: TERMS.seed }),
+    // @ts-expect-error
+    () => gen1.battle({ ...TERMS, seed: "0123456789" }),
+    // @ts-expect-error
+    () => gen1.battle({ one: [TAUROS], two: [TAUROS] }),
+    // @ts-expect-error
+    () => battle.update("jump", "pass"),
+    // @ts-expect-error
+    () => battle.choices(3),
+    // @ts-expect-error
+    () => battle.choices("1"),
+    // @ts-expect-error
+    () => gen1.lines("a log"),
+    // @ts-expect-error
+    () => gen1.room(battle.bytes),
+    // @ts-expect-error
+    () => battle.damage(1, "Strength", "yes"),
+  ];
+  for (const call of calls) holds(/ArgumentE|ArgumentTypeE/.test(thrown(call, Error, /./).name), `${call} threw another error`);
+}
+
+/**
+ * Runs all of them.
+ * @param {Gen1} gen1
+ */
+export function uses(gen1) {
+  lists();
+  battles(gen1);
+  roomsAndWatchers(gen1);
+  refused(gen1);
+}

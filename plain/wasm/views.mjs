@@ -1,0 +1,69 @@
+// What the library shows of battles, as plain objects with names in place of numbers.
+import { CODES } from "./header.mjs";
+import { MOVES, SPECIES, TYPES } from "./tables.mjs";
+
+// The names of the header's codes that begin so, in the order of their numbers: BAD_POISON is "bad poison".
+function namesOf(start) {
+  const found = Object.entries(CODES).filter(([name]) => name.startsWith(start)).sort(([, one], [, two]) => one - two);
+  return Object.freeze(found.map(([name]) => name.slice(start.length).replaceAll("_", " ").toLowerCase()));
+}
+
+/** What ails a member, by number. */
+export const STATUSES = namesOf("STATUS_");
+/** What an active is under, by bit (docs/LAYOUT.md, "Condition bits"). */
+export const CONDITIONS = namesOf("CONDITION_");
+/** How a battle stands, by number. */
+export const OUTCOMES = Object.freeze(["ongoing", "win one", "win two", "tie", "fault 1", "fault 2"]);
+/** What a side is asked for, by number. */
+export const REQUESTS = Object.freeze(["pass", "move", "switch"]);
+const MIDDLE = 6;
+
+/** An answer of gen1_result. */
+export function resultOf(answer) {
+  return { outcome: OUTCOMES[answer & 7], requests: [REQUESTS[(answer >> 3) & 3], REQUESTS[(answer >> 5) & 3]] };
+}
+
+const stagesOf = (stages) => stages.map((stage) => stage - MIDDLE);
+const typesOf = (types) => types.map((type) => TYPES[type]);
+
+function memberOf(of) {
+  const slots = [0, 1, 2, 3].filter((slot) => of.moves[slot]);
+  return {
+    species: SPECIES[of.species - 1], level: of.level, status: STATUSES[of.status], sleep: of.sleep, marked: of.marked === 1,
+    moves: slots.map((slot) => MOVES[of.moves[slot] - 1]), pp: slots.map((slot) => of.pp[slot]), hp: of.hp, maxHp: of.maxHp, stats: of.stats,
+  };
+}
+
+function activeOf({ conditions, types, stages, ...rest }) {
+  if (!rest.place) return null;
+  return { ...rest, types: typesOf(types), stages: stagesOf(stages), conditions: CONDITIONS.filter((_, bit) => (conditions >> bit) & 1) };
+}
+
+const sideOf = (of) => ({ members: of.members.filter((it) => it.species).map(memberOf), active: activeOf(of.active) });
+
+/** A gen1_state. */
+export function stateOf({ sides, outcome, requests, ...rest }) {
+  const [one, two] = sides.map(sideOf);
+  return { one, two, ...rest, outcome: OUTCOMES[outcome], requests: requests.map((request) => REQUESTS[request]) };
+}
+
+function shownSide({ members, count, stages, place, ...up }) {
+  const truths = Object.entries(up).map(([name, bit]) => [name, bit === 1]);
+  return {
+    members: members.slice(0, count).map(({ hp, status }) => ({ hp, status: STATUSES[status] })),
+    place, stages: stagesOf(stages), ...Object.fromEntries(truths),
+  };
+}
+
+/** A gen1_spectator. */
+export function shownOf({ sides, turn, outcome }) {
+  const [one, two] = sides.map(shownSide);
+  return { one, two, turn, outcome: OUTCOMES[outcome] };
+}
+
+const damagesOf = ({ numbers, count, code }) => ({ numbers: numbers.slice(0, count), code });
+
+/** A gen1_hit. Draws are of 256, so each chance is exact. */
+export function hitOf({ usual, critical, criticalDraws, hitDraws }) {
+  return { usual: damagesOf(usual), critical: damagesOf(critical), criticalChance: criticalDraws / 256, hitChance: hitDraws / 256 };
+}

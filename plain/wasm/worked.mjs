@@ -1,0 +1,250 @@
+// Examples that were worked out by hand, from docs/MECHANICS.md, docs/TEAM_TEXT.md, README.md and include/gen1.h.
+import * as library from "./gen1.mjs";
+import { CODES } from "./header.mjs";
+import { bytesOfHex, equal, hexOf, holds, thrown } from "./holding.mjs";
+import { layoutOf } from "./structs.mjs";
+
+const SEED = [1, 36, 255, 7, 31, 100, 179, 254, 127, 10];
+const STRONG = { species: "Tauros", moves: [["Strength", 3]] };
+const BATTLE = { one: [STRONG], two: [STRONG], seed: SEED };
+const PAIR = [{ ...STRONG }, { species: "Chansey", moves: [["Strength", 3]] }];
+const OUT = [2, 1, 128, 1, 100, 97, 1, 97, 1, 0, 2, 2, 128, 1, 100, 97, 1, 97, 1, 0];
+// The lines of README.md, and the log that they are of (docs/MECHANICS.md, "Log bytes").
+const LINES = `|switch|p1a: Tauros|Tauros|353/353
+|switch|p2a: Tauros|Tauros|353/353
+|turn|1
+|move|p1a: Tauros|Strength|p2a: Tauros
+|-crit|p2a: Tauros
+|-damage|p2a: Tauros|149/353
+|move|p2a: Tauros|Strength|p1a: Tauros
+|-damage|p1a: Tauros|263/353
+|turn|2
+|move|p1a: Tauros|Strength|p2a: Tauros
+|-crit|p2a: Tauros
+|-damage|p2a: Tauros|0 fnt
+|faint|p2a: Tauros
+|win|p1`.split("\n");
+const LOG = bytesOfHex("020180016461016101000202800164610161010001010003018046028007028005028095006101000003028046018005018007016101000001020003018046"
+  + "02800702800502800000610100001902801a01");
+
+// The lines and log bytes of whole battles, and of many one after the other.
+function logs(gen1, check) {
+  check("the battle of README.md", () => {
+    const battle = gen1.battle(BATTLE);
+    const updates = [["pass", "pass"], ["move 1", "move 1"], [17, 17]].map((pair) => battle.update(...pair));
+    equal(updates.flatMap((it) => it.lines), LINES);
+    equal(updates.map((it) => hexOf(it.log)).join(""), hexOf(LOG));
+    equal([battle.result, battle.isOver, battle.choices(1)], [{ outcome: "win one", requests: ["pass", "pass"] }, true, []]);
+    equal(updates[2].result, battle.result);
+  });
+  check("a log of many updates", () => {
+    const [many, times] = [new Uint8Array(3000 * LOG.length), 3000];
+    for (let at = 0; at < many.length; at += LOG.length) many.set(LOG, at);
+    const [lines, events] = [gen1.lines(many), gen1.events(many)];
+    equal([lines.length, events.length, events[13]], [times * LINES.length, times * LINES.length, { ...events[13], tag: 26, side: 1 }]);
+    holds(lines.every((line, at) => line === LINES[at % LINES.length]), "a line is another one");
+    equal(thrown(() => gen1.lines(Uint8Array.of(...LOG, 26)), library.LogError, /the bytes end within an event/).at, LOG.length);
+  });
+  check("an event", () => {
+    const wanted = { tag: 5, side: 2, species: 128, move: 0, targetSide: 0, targetSpecies: 0, place: 0, level: 0, status: 0, detail: 0, amount: 0 };
+    equal(gen1.events(LOG)[5], { ...wanted, hp: 149, maxHp: 353, turn: 0 });
+  });
+}
+
+// docs/MECHANICS.md, "Critical hits" and "Hit test".
+function hits(gen1, check) {
+  const [persian, gengar] = [{ species: "Persian", moves: [["Focus Energy", 3]] }, { species: "Gengar", moves: [["Splash", 3]] }];
+  const chances = (move) => gen1.hit(persian, gengar, move);
+  check("chances of a critical hit", () => {
+    equal(["Slash", "Strength"].map((move) => chances(move).criticalChance), [255 / 256, 57 / 256]);
+    const focused = gen1.battle({ one: [persian], two: [gengar], seed: SEED });
+    focused.play("pass", "pass");
+    focused.play("move 1", "move 1");
+    equal(["Slash", "Strength"].map((move) => focused.hit(1, move).criticalChance), [112 / 256, 14 / 256]);
+  });
+  check("chances of a hit", () => {
+    // The accuracies of docs/TABLES.md in 255ths: 100 % is 255, 80 % 204, 70 % 178, 55 % 140; each draw below that hits.
+    equal(["Swift", "Dream Eater", "Strength", "Hydro Pump", "Thunder", "Sing"].map((move) => 256 * chances(move).hitChance), [256, 0, 255, 204, 178, 140]);
+  });
+  check("moves without the usual damage", () => {
+    for (const move of ["Splash", "Seismic Toss", "Super Fang"]) {
+      const none = { numbers: [], code: CODES.DAMAGE_UNUSUAL };
+      equal([chances(move).usual, chances(move).critical, chances(move).criticalChance], [none, none, 0]);
+      thrown(() => gen1.damage(persian, gengar, move), library.DamageError, new RegExp(`no damage of "${move}": .*usual damage`));
+    }
+    equal(chances("Strength").usual, { numbers: Array(39).fill(0), code: 0 });
+  });
+  check("each draw of a hit", () => everyDraw(gen1));
+}
+
+// A use of Thunder with each byte as the draw that decides: as many are critical, and as many hit, as `hit` tells.
+function everyDraw(gen1) {
+  const [user, foe] = [{ species: "Tauros", moves: [["Thunder", 3]] }, { species: "Snorlax", moves: [["Splash", 3]] }];
+  let [critical, missed] = [0, 0];
+  const begun = gen1.battle({ one: [user], two: [foe], seed: SEED });
+  begun.play("pass", "pass");
+  for (let byte = 0; byte < 256; byte++)
+    for (const draws of [[byte, 255, 0], [255, 255, byte]]) {
+      const battle = begun.clone();
+      battle.reseed([...draws, 0, 0, 0, 0, 0, 0, 0]);
+      const tags = battle.update("move 1", "move 1").events.map(({ tag }) => tag);
+      critical += tags.includes(CODES.CRIT) ? 1 : 0;
+      missed += tags.includes(CODES.MISS) ? 1 : 0;
+    }
+  // Tauros' base Speed is 110, and half of it is drawn against.
+  const { criticalChance, hitChance } = gen1.hit(user, foe, "Thunder");
+  equal([critical, 256 - missed], [55, 256 * hitChance]);
+  equal(criticalChance, 55 / 256);
+}
+
+// docs/MECHANICS.md, "Rooms".
+function rooms(gen1, check) {
+  const replied = (room, ...submission) => {
+    try {
+      return room.submit(...submission) ? "advanced" : "waiting";
+    } catch (fault) {
+      return fault.code;
+    }
+  };
+  check("the example of rooms", () => {
+    const room = gen1.room(gen1.battle(BATTLE));
+    equal([room.number, hexOf(room.log), room.result.requests], [0, hexOf(LOG.subarray(0, 23)), ["move", "move"]]);
+    const submissions = [[1, 0, 17], [1, 0, "move 1"], [2, 1, 17], [2, 0, "move 1"], [2, 0, 17], [1, 1, 20]];
+    equal(submissions.map((it) => replied(room, ...it)), ["waiting", 3, 2, "advanced", 2, 4]);
+    equal([room.number, hexOf(room.log)], [1, hexOf(LOG.subarray(23, 59))]);
+    const kept = room.clone();
+    equal([[1, 1, 17], [2, 1, 17]].map((it) => replied(room, ...it)), ["waiting", "advanced"]);
+    equal([room.result.outcome, room.choices(1), room.choices(2), replied(room, 1, 2, 17)], ["win one", [], [], 1]);
+    equal([kept.number, kept.choices(1), kept.battle.isOver], [1, ["move 1"], false]);
+  });
+  check("a side of which nothing is asked passes by itself", () => {
+    const one = [{ species: "Tauros", moves: [["Explosion", 3]] }, { species: "Chansey", moves: [["Strength", 3]] }];
+    const room = gen1.room(gen1.battle({ one, two: [{ species: "Gengar", moves: [["Splash", 3]] }], seed: SEED }));
+    equal([[1, 0, 17], [2, 0, 17]].map((it) => replied(room, ...it)), ["waiting", "advanced"]);
+    equal([room.result.requests, room.choices(2)], [["switch", "pass"], []]);
+    equal([[2, 1, 0], [1, 1, 17], [1, 1, "switch 2"]].map((it) => replied(room, ...it)), [3, 4, "advanced"]);
+  });
+}
+
+// docs/MECHANICS.md, "Spectator's view".
+function watchers(gen1, check) {
+  const begun = (...events) => {
+    const watcher = gen1.spectator(PAIR, PAIR);
+    watcher.feed(Uint8Array.from([...OUT, ...events.flat()]));
+    return watcher.state;
+  };
+  check("before the start", () => {
+    const side = { members: [{ hp: 353, status: "none" }, { hp: 703, status: "none" }], place: 0, stages: [0, 0, 0, 0, 0, 0] };
+    const all = { ...side, substitute: false, confused: false, lightScreen: false, reflect: false };
+    equal(gen1.spectator(PAIR, PAIR).state, { one: all, two: all, turn: 0, outcome: "ongoing" });
+  });
+  check("a log is followed however it is cut", () => {
+    for (let cut = 0; cut <= LOG.length; cut++) {
+      const watcher = gen1.spectator(PAIR, PAIR);
+      watcher.feed(LOG.subarray(0, cut));
+      const held = watcher.held.length;
+      equal(hexOf(watcher.held), hexOf(LOG.subarray(cut - held, cut)));
+      watcher.clone().feed(LOG.subarray(cut));
+      watcher.feed(LOG.subarray(cut));
+      const { one, two, turn, outcome } = watcher.state;
+      equal([one.members[0].hp, two.members[0].hp, turn, outcome, watcher.held.length], [263, 0, 2, "win one", 0]);
+    }
+  });
+  check("what events change", () => {
+    const out = begun([2, 1, 128, 2, 100, 244, 1, 191, 2, 5]).one;
+    equal([out.place, out.members], [2, [{ hp: 353, status: "none" }, { hp: 500, status: "paralysis" }]]);
+    equal(begun([13, 1, 128, 3], [5, 1, 128, 12, 0, 97, 1, 0, 0]).one.members[0], { hp: 12, status: "burn" });
+    const stages = begun(...Array(4).fill([15, 1, 128, 6, 2]), ...Array(4).fill([16, 2, 128, 4, 2]));
+    equal([stages.one.stages, stages.two.stages, begun([1, 15, 39]).turn], [[0, 0, 0, 0, 0, 6], [0, 0, 0, -6, 0, 0], 9999]);
+  });
+  check("no log", () => {
+    const watcher = gen1.spectator(PAIR, PAIR);
+    watcher.feed(LOG.subarray(0, 26));
+    const before = [watcher.state, hexOf(watcher.held)];
+    equal(before[1], "030180");
+    const fault = thrown(() => watcher.feed(Uint8Array.of(255, 255, 255)), library.LogError, /^3 bytes before these: a field of an event is out of its range$/);
+    equal([fault.code, fault.at, watcher.state, hexOf(watcher.held)], [2, -3, ...before]);
+  });
+}
+
+// docs/TEAM_TEXT.md.
+function texts(gen1, check) {
+  check("a team from text", () => {
+    const text = "Tauros (M)\nLevel: 88\nEVs: 252 HP / 4 Atk / 100 SpA / 100 SpD\nIVs: 6 HP / 0 Atk / 20 Def\n- Body Slam\n";
+    const wanted = { species: "Tauros", level: 88, dvs: [0, 10, 15, 15], exp: [252 * 252, 16, 0, 0, 10000], moves: [["Body Slam", 3]] };
+    equal(gen1.teamFromText(text), [wanted]);
+    const battle = gen1.battle({ one: gen1.teamFromText(text), two: [wanted], seed: SEED });
+    equal(battle.state.one, battle.state.two);
+    equal(gen1.teamFromText("Starmie\n- Surf\n")[0].exp, Array(5).fill(63504));
+  });
+  check("a team from a packed line", () => {
+    const line = "Bob|Tauros||NoAbility|bodyslam,hyperbeam||,4,,,,|M|,0,,,,||88|]Starmie||||psychic,recover|||||||";
+    const [one, two] = gen1.teamFromPacked(line);
+    equal([one.species, one.moves, one.exp, two.species], ["Tauros", [["Body Slam", 3], ["Hyper Beam", 3]], [0, 16, 0, 0, 0], "Starmie"]);
+  });
+  check("every name is the library's", () => {
+    for (const name of library.SPECIES) equal(gen1.teamFromText(`${name}\n- Pound\n`)[0].species, name);
+    for (const name of library.MOVES) {
+      const read = () => gen1.teamFromText(`Mew\n- ${name}\n`)[0].moves;
+      if (["Mimic", "Metronome", "Mirror Move", "Transform", "Struggle"].includes(name)) thrown(read, library.TextError, /^member 1: /);
+      else equal(read(), [[name, 3]]);
+    }
+  });
+}
+
+// The same rounds update by update, by the generator that include/gen1.h describes.
+function playedOut(battle, seed, rounds) {
+  const counts = { winsOne: 0, winsTwo: 0, ties: 0, faults: 0 };
+  const names = { "win one": "winsOne", "win two": "winsTwo", tie: "ties", "fault 1": "faults", "fault 2": "faults" };
+  let state = seed;
+  const pick = (offered) => {
+    state = (state * 6364136223846793005n + 1442695040888963407n) % 2n ** 64n;
+    return offered[Number((state >> 32n) % BigInt(offered.length))];
+  };
+  for (let round = 0; round < rounds; round++) {
+    const copy = battle.clone();
+    while (!copy.isOver) copy.play(pick(copy.choices(1)), pick(copy.choices(2)));
+    counts[names[copy.result.outcome]]++;
+  }
+  return counts;
+}
+
+function searching(gen1, check) {
+  const team = [{ species: "Tauros", moves: [["Body Slam", 3], ["Hyper Beam", 3], ["Earthquake", 3], ["Blizzard", 3]] },
+    { species: "Gengar", level: 73, moves: [["Hypnosis", 3], ["Night Shade", 3]] }];
+  const battle = gen1.battle({ one: team, two: team, seed: [0, 1, 2, 3, 4, 5, 6, 7, 8, 9], limit: 60 });
+  check("choices in words", () => {
+    battle.play("pass", "pass");
+    const words = battle.choices(1).map((choice) => battle.words(1, choice));
+    equal(words, ["move 1 Body Slam", "move 2 Hyper Beam", "move 3 Earthquake", "move 4 Blizzard", "switch 2 Gengar"]);
+    equal([battle.words(2, "pass"), battle.words(2, "move 0"), battle.words(2, 0x21)], ["pass", "move 0", "switch 1 Tauros"]);
+    // Bits 2 to 5 are the moves in slots 1 to 4, bit 7 the switch to place 2.
+    equal([battle.offeredMask(1), gen1.battle({ one: team, two: team, seed: SEED }).offeredMask(2)], [0b10111100, 1]);
+  });
+  check("a battle that is reseeded", () => {
+    const copy = battle.clone();
+    copy.reseed([9, 8, 7, 6, 5, 4, 3, 2, 1, 0], 8);
+    equal(copy.state, { ...battle.state, index: 8, numbers: [9, 8, 7, 6, 5, 4, 3, 2, 1, 0] });
+    equal(hexOf(gen1.load(battle.bytes).bytes), hexOf(battle.bytes));
+  });
+  check("playouts", () => {
+    for (const seed of [0n, 7n, 2n ** 64n - 1n]) equal(battle.playout(seed, 5), playedOut(battle, seed, 5));
+    equal([battle.playout(7, 5), battle.playout(1, 0)], [battle.playout(7n, 5), { winsOne: 0, winsTwo: 0, ties: 0, faults: 0 }]);
+  });
+}
+
+// The sizes that include/gen1.h names, and where C puts the rest of a struct with a size_t.
+function layouts(check) {
+  check("structs", () => {
+    const sizes = (isLong) => ["gen1_battle", "gen1_team", "gen1_event", "gen1_room", "gen1_spectator", "gen1_hit"].map((it) => layoutOf(it, isLong).size);
+    for (const isLong of [false, true]) equal(sizes(isLong), [384, 146, 18, CODES.ROOM_SIZE, CODES.SPECTATOR_SIZE, 164]);
+    const places = (isLong) => layoutOf("gen1_text_fault", isLong).fields.map((field) => field.at);
+    equal([places(false), places(true)], [[0, 4, 8, 12, 13], [0, 8, 16, 24, 25]]);
+  });
+}
+
+/** Runs all of them. */
+export function worked(gen1, check) {
+  for (const part of [logs, hits, rooms, watchers, texts, searching]) part(gen1, check);
+  layouts(check);
+}
