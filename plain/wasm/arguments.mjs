@@ -13,7 +13,8 @@ export function shown(value) {
   if (typeof value === "function" || typeof value === "symbol") return `a ${typeof value}`;
   let text;
   try {
-    text = typeof value === "bigint" ? `${value}n` : typeof value === "object" ? JSON.stringify(value) : typeof value === "string" ? JSON.stringify(value) : String(value);
+    const isJson = typeof value === "object" || typeof value === "string";
+    text = typeof value === "bigint" ? `${value}n` : isJson ? JSON.stringify(value) : String(value);
   } catch {
     text = Object.prototype.toString.call(value);
   }
@@ -62,7 +63,8 @@ export function object(value, what, lawful) {
 
 /** A list: an array, a typed array, or what else has a length and is no text. */
 export function list(value, what, lawful = "a list") {
-  if (typeof value !== "object" || value === null || !Number.isInteger(value.length) || value.length < 0) throw wrongType(value, what, lawful);
+  const isList = typeof value === "object" && value !== null && Number.isInteger(value.length) && value.length >= 0;
+  if (!isList) throw wrongType(value, what, lawful);
   return value;
 }
 
@@ -96,7 +98,7 @@ export function byteOf(choice, what = "choice") {
   if (typeof choice === "number") return within(choice, what, 0, 255);
   const bit = CHOICES.indexOf(choice);
   if (bit >= 0) return BYTES[bit];
-  const lawful = `pass, move 0 to 4, or switch 1 to 6`;
+  const lawful = "pass, move 0 to 4, or switch 1 to 6";
   if (typeof choice === "string") throw new ArgumentError(`${what}: ${shown(choice)} is no choice: ${lawful}`, what);
   throw wrongType(choice, what, `a choice: ${lawful}, or its byte`);
 }

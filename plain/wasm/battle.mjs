@@ -85,7 +85,8 @@ export class Battle {
     const byte = choiceByte(choice, sideOf(side));
     const [code, text] = this.#library.written("gen1_choice_words", CODES.WORDS_ROOM, this.#put(), side, byte);
     if (!code) return text;
-    throw new ArgumentError(`side ${side}'s choice: ${this.#library.sentence(CODES.ABOUT_CHOICE, code)}: ${choiceText(byte)}`, `side ${side}'s choice`);
+    const what = `side ${side}'s choice`;
+    throw new ArgumentError(`${what}: ${this.#library.sentence(CODES.ABOUT_CHOICE, code)}: ${choiceText(byte)}`, what);
   }
 
   /** Updates the battle by a choice of each side. */
@@ -192,7 +193,8 @@ export function damageError(library, code, move) {
 /** Why so many bytes are no battle. */
 export function loadError(library, code, count) {
   const was = code === CODES.LOAD_LENGTH ? `: there are ${count}` : "";
-  return new LoadError(`the bytes are no battle: test ${code} of 7 fails: ${library.sentence(CODES.ABOUT_LOAD, code)}${was} (docs/LAYOUT.md, "Loading")`, code);
+  const test = `test ${code} of 7 fails: ${library.sentence(CODES.ABOUT_LOAD, code)}${was}`;
+  return new LoadError(`the bytes are no battle: ${test} (docs/LAYOUT.md, "Loading")`, code);
 }
 
 /** Why bytes are no log: the event at fault begins at byte `at` of these, or below 0 in those before them. */

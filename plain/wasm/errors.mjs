@@ -40,7 +40,7 @@ export class TeamError extends Gen1Error {
   }
 }
 
-/** A text tells of no team: where, and with code 14 (CODES.TEXT_TEAM) the rule of teams, as TeamError's code. Places are from 1, 0 for none. */
+/** A text tells of no team: where, by places from 1, 0 for none; and with the code 14 the rule of teams, as TeamError's code. */
 export class TextError extends Gen1Error {
   constructor(message, { code, line, member, field, rule }) {
     super(message, code);

@@ -5,6 +5,12 @@ import { layoutOf, readStruct } from "./structs.mjs";
 
 const DECODER = new TextDecoder();
 const PAGE = 65536;
+// All that is called, and the memory. A module of an older version may lack some.
+const NEEDED = [
+  "memory", "__heap_base", ...["version", "new", "load", "choices", "offered", "update", "result", "next_event", "next_line", "damage", "hit_now",
+    "hit_between", "playout", "team_from_text", "team_from_packed", "species_from_name", "move_from_name", "text", "view", "choice_words",
+    "reseed", "room_begin", "room_choices", "room_submit", "spectator_begin", "spectator_feed"].map((call) => `gen1_${call}`),
+];
 
 /** The exports of a module, with a place for the arguments of one call at a time behind what is the module's own. */
 export class Library {
@@ -19,7 +25,8 @@ export class Library {
 
   constructor(instance) {
     const { memory, __heap_base: base } = instance.exports;
-    if (!memory || !base || !instance.exports.gen1_version) throw new ModuleError("the module is none of gen1.h: it exports no gen1_version, memory or __heap_base");
+    const lacking = NEEDED.filter((name) => instance.exports[name] === undefined);
+    if (lacking.length) throw new ModuleError(`the module is not the C library's: it exports no ${lacking.join(", ")}`);
     this.calls = instance.exports;
     this.#memory = memory;
     this.#begin = Number(base.value);

@@ -44,7 +44,8 @@ function pairOf(library, value, what) {
 function memberOf(library, given, what) {
   const it = object(given, what, "a member: an object with species and moves");
   const moves = list(it.moves, `${what}.moves`, "a list of pairs: a move, and its PP ups from 0 to 3");
-  if (moves.length > MOST_MOVES) throw new ArgumentError(`${what}.moves has ${moves.length} moves, not at most ${MOST_MOVES}`, `${what}.moves`);
+  const most = `not at most ${MOST_MOVES}`;
+  if (moves.length > MOST_MOVES) throw new ArgumentError(`${what}.moves has ${moves.length} moves, ${most}`, `${what}.moves`);
   const pairs = Array.from(moves, (pair, slot) => pairOf(library, pair, `${what}.moves[${slot}]`));
   return {
     species: numberOf(library, it.species, SPECIES_KIND, `${what}.species`),
@@ -102,7 +103,8 @@ export function membersFrom(library, call, given) {
   const bytes = new TextEncoder().encode(text(given, "text"));
   library.begin();
   const [words, team, fault] = [library.put(bytes), library.roomOf("gen1_team"), library.roomOf("gen1_text_fault")];
-  if (library.calls[call](words, library.size(bytes.length), team, fault)) throw textError(library, library.readStruct("gen1_text_fault", fault));
+  const code = library.calls[call](words, library.size(bytes.length), team, fault);
+  if (code) throw textError(library, library.readStruct("gen1_text_fault", fault));
   const { members, count } = library.readStruct("gen1_team", team);
   return members.slice(0, count).map(memberFrom);
 }

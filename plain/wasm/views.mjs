@@ -30,7 +30,8 @@ function memberOf(of) {
   const slots = [0, 1, 2, 3].filter((slot) => of.moves[slot]);
   return {
     species: SPECIES[of.species - 1], level: of.level, status: STATUSES[of.status], sleep: of.sleep, marked: of.marked === 1,
-    moves: slots.map((slot) => MOVES[of.moves[slot] - 1]), pp: slots.map((slot) => of.pp[slot]), hp: of.hp, maxHp: of.maxHp, stats: of.stats,
+    moves: slots.map((slot) => MOVES[of.moves[slot] - 1]), pp: slots.map((slot) => of.pp[slot]),
+    hp: of.hp, maxHp: of.maxHp, stats: of.stats,
   };
 }
 

@@ -1,0 +1,67 @@
+// A bot with playouts against a player that chooses at random, both with the same team. Prints each battle's end, and how many it won.
+import { load } from "./gen1.mjs";
+
+const BATTLES = 20;
+const FORKS = 32;
+const TEAM = `Starmie
+- Surf
+- Thunderbolt
+- Blizzard
+- Recover
+
+Tauros
+- Body Slam
+- Hyper Beam
+- Earthquake
+- Blizzard
+
+Snorlax
+- Body Slam
+- Earthquake
+- Rest
+- Self-Destruct
+`;
+
+const gen1 = await load(new URL("./gen1.wasm", import.meta.url));
+const team = gen1.teamFromText(TEAM);
+let drawn = 1;
+
+// A number from 0 to `count` - 1; the same ones in each run.
+/** @param {number} count */
+function random(count) {
+  drawn = (Math.imul(drawn, 1664525) + 1013904223) >>> 0;
+  return Math.floor((drawn / 2 ** 32) * count);
+}
+
+const seed = () => Array.from({ length: 10 }, () => random(256));
+
+/** @template T @param {readonly T[]} list */
+const any = (list) => list[random(list.length)];
+
+// How often side 1 wins after a choice. A copy holds the numbers that the battle will draw, so each fork is given others.
+/** @param {import("./gen1.mjs").Battle} battle @param {import("./gen1.mjs").ChoiceName} choice */
+function wins(battle, choice) {
+  let won = 0;
+  for (let fork = 0; fork < FORKS; fork++) {
+    const copy = battle.clone();
+    copy.reseed(seed());
+    copy.play(choice, any(copy.choices(2)));
+    won += copy.playout(random(2 ** 32), 1).winsOne;
+  }
+  return won;
+}
+
+/** @param {import("./gen1.mjs").Battle} battle */
+function best(battle) {
+  const tried = battle.choices(1).map((choice) => ({ choice, won: wins(battle, choice) }));
+  return tried.reduce((one, two) => (two.won > one.won ? two : one)).choice;
+}
+
+let won = 0;
+for (let number = 1; number <= BATTLES; number++) {
+  const battle = gen1.battle({ one: team, two: team, seed: seed(), rules: 3 });
+  while (!battle.isOver) battle.play(best(battle), any(battle.choices(2)));
+  console.log(`battle ${number}: ${battle.result.outcome} in turn ${battle.state.turn}`);
+  won += battle.result.outcome === "win one" ? 1 : 0;
+}
+console.log(`${won} of ${BATTLES} won`);

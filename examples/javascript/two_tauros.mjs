@@ -1,0 +1,9 @@
+// The battle of README.md, two Tauros with Strength: each side takes the first choice that it is offered. Prints its lines.
+import { load } from "./gen1.mjs";
+
+const gen1 = await load(new URL("./gen1.wasm", import.meta.url));
+/** @type {import("./gen1.mjs").Member} */
+const tauros = { species: "Tauros", moves: [["Strength", 3]] };
+const battle = gen1.battle({ one: [tauros], two: [tauros], seed: [1, 36, 255, 7, 31, 100, 179, 254, 127, 10] });
+while (!battle.isOver)
+  for (const line of battle.update(battle.choices(1)[0], battle.choices(2)[0]).lines) console.log(line);
