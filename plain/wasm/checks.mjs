@@ -1,6 +1,6 @@
 // Holds the module against recorded battles (tests/battles), in any host of JavaScript.
 import * as library from "./gen1.mjs";
-import { badInput } from "./faults.mjs";
+import { badInput, badSources } from "./faults.mjs";
 import { bytesOfHex, equal, hexOf, holds } from "./holding.mjs";
 import { uses } from "./uses.mjs";
 import { worked } from "./worked.mjs";
@@ -225,6 +225,7 @@ export async function checks(gen1, linesIn) {
   for await (const line of linesIn("loads.txt")) check(`byte string ${++loads}`, () => loadCase(gen1, line.split(" ")));
   worked(gen1, check);
   badInput(gen1, check);
+  await badSources(check);
   check("uses, by their types", () => uses(gen1));
   return { passed, faults };
 }

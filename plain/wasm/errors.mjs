@@ -27,7 +27,7 @@ export class ArgumentError extends RangeError {
   }
 }
 
-/** A module that is not the C library's, or of another version of it. */
+/** A module that is not there, that cannot be run here, or that is not the C library's. */
 export class ModuleError extends Gen1Error {}
 
 /** There is no battle of these teams, rules or limit: the side (0 where neither team is at fault), the member's place, and the field. */

@@ -2,7 +2,7 @@
 import * as library from "./gen1.mjs";
 import { equal, hexOf, holds, thrown } from "./holding.mjs";
 
-const { ArgumentError, ArgumentTypeError, DamageError, LoadError, LogError, RefusedError, RoomError, TeamError, TextError } = library;
+const { ArgumentError, ArgumentTypeError, DamageError, LoadError, LogError, ModuleError, RefusedError, RoomError, TeamError, TextError } = library;
 const SEED = [1, 36, 255, 7, 31, 100, 179, 254, 127, 10];
 const TAUROS = { species: "Tauros", moves: [["Strength", 3]] };
 const TERMS = { one: [TAUROS], two: [TAUROS], seed: SEED };
@@ -217,6 +217,22 @@ function rooms(gen1, check) {
     for (const kind of [library.Gen1, library.Battle, library.Update, library.Room, library.Spectator])
       thrown(() => new kind(), ArgumentTypeError, /(is made by|not by new|and not by new)/);
   });
+}
+
+// Each is a source that is no module of the library's, the error, and its text. The last is the smallest module that there is.
+const SOURCES = [
+  ...[undefined, null, 5, true, {}, [1], { plain: 5 }].map((it) => [it, ArgumentTypeError, /^source(\.plain)? is .*, not a module: a URL or its text/]),
+  [new URL("data:text/plain,none"), ModuleError, /^source, data:.* is no module that can be run here: /],
+  [{ plain: Uint8Array.of(1, 2, 3) }, ModuleError, /^source\.plain is no module that can be run here: /],
+  [Uint8Array.of(0, 0x61, 0x73, 0x6d, 1, 0, 0, 0), ModuleError, /^the module is not the C library's: it exports no memory, /],
+];
+
+/** Loads what is no module. */
+export async function badSources(check) {
+  for (const [source, type, text] of SOURCES) {
+    const fault = await library.load(source).then(() => null, (it) => it);
+    check("a source", () => thrown(() => { throw fault; }, type, text));
+  }
 }
 
 /** Runs all of them. */

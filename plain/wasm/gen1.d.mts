@@ -194,7 +194,7 @@ export class Gen1Error extends Error {
   /** That of include/gen1.h. */
   readonly code: number;
 }
-/** The module is not the C library's. */
+/** The module is not there, cannot be run here, or is not the C library's. `cause` is what the host threw, where it did. */
 export class ModuleError extends Gen1Error {}
 export class TeamError extends Gen1Error {
   /** 1 or 2; 0 where neither team is at fault. */
@@ -331,7 +331,10 @@ export class Gen1 {
 
 export type Source = URL | string | BufferSource;
 
-/** The library of a module; of two, that of the proved one where this host has 64-bit memories, else that of the plain one. */
+/**
+ * The library of a module; of two, that of the proved one where this host has 64-bit memories, else that of the plain one. Rejects with
+ * ArgumentTypeError, ModuleError.
+ */
 export function load(source: Source | { proved?: Source; plain: Source }): Promise<Gen1>;
 /** Whether this host has 64-bit memories. */
 export const HAS_LONG_MEMORIES: boolean;

@@ -124,15 +124,23 @@ export class Gen1 {
 
 const SOURCE = "a module: a URL or its text, its bytes, or { proved, plain } with one of these each";
 
-async function bytesOf(source, what) {
+async function fetched(source) {
   if (source instanceof URL && source.protocol === "file:") return (await import("node:fs/promises")).readFile(source);
-  if (source instanceof URL || typeof source === "string") {
-    const answer = await fetch(source);
-    if (!answer.ok) throw new ModuleError(`${what}: ${source}: ${answer.status} ${answer.statusText}`);
-    return answer.arrayBuffer();
+  const answer = await fetch(source);
+  if (!answer.ok) throw new Error(`${answer.status} ${answer.statusText}`);
+  return answer.arrayBuffer();
+}
+
+// The instance of a module. What the host throws of one that is not there, or that is none, becomes the cause of a ModuleError.
+async function instanceOf(source, what) {
+  const isPlace = source instanceof URL || typeof source === "string";
+  if (!isPlace && !(source instanceof ArrayBuffer) && !ArrayBuffer.isView(source)) throw wrongType(source, what, SOURCE);
+  try {
+    return (await WebAssembly.instantiate(isPlace ? await fetched(source) : source, {})).instance;
+  } catch (cause) {
+    const where = isPlace ? `${what}, ${source},` : what;
+    throw Object.assign(new ModuleError(`${where} is no module that can be run here: ${cause.message}`), { cause });
   }
-  if (source instanceof ArrayBuffer || ArrayBuffer.isView(source)) return source;
-  throw wrongType(source, what, SOURCE);
 }
 
 /** Whether this host runs modules with a 64-bit memory, as the proved one is: it takes the smallest of them. */
@@ -146,8 +154,7 @@ export async function load(source) {
   const isNamed = source?.proved !== undefined || source?.plain !== undefined;
   const build = !isNamed ? null : source.proved !== undefined && HAS_LONG_MEMORIES ? "proved" : "plain";
   const what = build ? `source.${build}` : "source";
-  const { instance } = await WebAssembly.instantiate(await bytesOf(build ? source[build] : source, what), {});
-  return new Gen1(new Library(instance), build);
+  return new Gen1(new Library(await instanceOf(build ? source[build] : source, what)), build);
 }
 
 export {
