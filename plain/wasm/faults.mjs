@@ -8,6 +8,9 @@ const TAUROS = { species: "Tauros", moves: [["Strength", 3]] };
 const TERMS = { one: [TAUROS], two: [TAUROS], seed: SEED };
 const NO_NUMBERS = [null, 1.5, NaN, Infinity, "1", true, [1], {}, 1n, Symbol("1"), () => 1];
 const BIG = [-1, 256, 257, 300, 65536, 2 ** 32, 2 ** 53, -(2 ** 70)];
+// What a call throws of an argument of a wrong type, and of one out of its range.
+const wrong = (call, text) => thrown(call, ArgumentTypeError, text);
+const outside = (call, text) => thrown(call, ArgumentError, text);
 const NO_OBJECTS = [undefined, null, 5, "Tauros", true];
 
 // Fields of a member: what is given, the error, its argument and text, and with a TeamError its code.
@@ -53,41 +56,50 @@ function members(gen1, check) {
     }
   });
   check("teams", () => {
-    for (const it of [...NO_OBJECTS, {}]) thrown(() => gen1.battle({ ...TERMS, one: it }), ArgumentTypeError, /^one is .*, not a list of 1 to 6 members$/);
-    for (const it of [...NO_OBJECTS, ["Tauros"]]) thrown(() => gen1.battle({ ...TERMS, two: [TAUROS, it] }), ArgumentTypeError, /^two\[1\] is .*, not a member: an object/);
+    for (const it of [...NO_OBJECTS, {}])
+      wrong(() => gen1.battle({ ...TERMS, one: it }), /^one is .*, not a list of 1 to 6 members$/);
+    for (const it of [...NO_OBJECTS, ["Tauros"]])
+      wrong(() => gen1.battle({ ...TERMS, two: [TAUROS, it] }), /^two\[1\] is .*, not a member: an object/);
     thrown(() => gen1.battle({ ...TERMS, one: [] }), TeamError, /^team 1: the team has no member: it has 1 to 6: there are 0$/);
     for (const count of [7, 255, 256, 257, 262, 1000])
-      thrown(() => gen1.battle({ ...TERMS, two: Array(count).fill(TAUROS) }), TeamError, new RegExp(`^team 2: the team has more than 6 members: there are ${count}$`));
-    for (const it of NO_OBJECTS) thrown(() => gen1.battle(it), ArgumentTypeError, /^terms is .*, not an object with one, two and seed$/);
+      thrown(() => gen1.battle({ ...TERMS, two: Array(count).fill(TAUROS) }), TeamError, new RegExp(`^team 2: .* more than 6 members: there are ${count}$`));
+    for (const it of NO_OBJECTS) wrong(() => gen1.battle(it), /^terms is .*, not an object with one, two and seed$/);
     thrown(() => gen1.spectator([TAUROS], []), TeamError, /^team 2: the team has no member/);
-    thrown(() => gen1.spectator(5, [TAUROS]), ArgumentTypeError, /^one is 5, not a list of 1 to 6 members$/);
+    wrong(() => gen1.spectator(5, [TAUROS]), /^one is 5, not a list of 1 to 6 members$/);
   });
 }
 
 function terms(gen1, check) {
   check("seeds", () => {
     for (const seed of [[1, 2, 3], Array(11).fill(0), new Uint8Array(9)])
-      thrown(() => gen1.battle({ ...TERMS, seed }), ArgumentError, new RegExp(`^seed has ${seed.length} numbers, not 10$`));
-    for (const it of BIG) thrown(() => gen1.battle({ ...TERMS, seed: [it, ...SEED.slice(1)] }), ArgumentError, /^seed\[0\] is -?\d.*, not 0 to 255$/);
-    for (const seed of [undefined, null, 5, "0123456789", {}]) thrown(() => gen1.battle({ ...TERMS, seed }), ArgumentTypeError, /^seed is .*, not a list of 10 numbers$/);
-    for (const it of NO_NUMBERS) thrown(() => gen1.battle({ ...TERMS, seed: [it, ...SEED.slice(1)] }), ArgumentTypeError, /^seed\[0\] is .*, not a whole number$/);
+      outside(() => gen1.battle({ ...TERMS, seed }), new RegExp(`^seed has ${seed.length} numbers, not 10$`));
+    for (const it of BIG)
+      outside(() => gen1.battle({ ...TERMS, seed: [it, ...SEED.slice(1)] }), /^seed\[0\] is -?\d.*, not 0 to 255$/);
+    for (const seed of [undefined, null, 5, "0123456789", {}])
+      wrong(() => gen1.battle({ ...TERMS, seed }), /^seed is .*, not a list of 10 numbers$/);
+    for (const it of NO_NUMBERS)
+      wrong(() => gen1.battle({ ...TERMS, seed: [it, ...SEED.slice(1)] }), /^seed\[0\] is .*, not a whole number$/);
   });
   check("rules and limits", () => {
-    for (const rules of [4, ...BIG]) equal(thrown(() => gen1.battle({ ...TERMS, rules }), TeamError, /^the rules are not 0 to 3: rules is -?\d/).side, 0);
-    for (const limit of [0, -1, 10000, 65536, 65537, 2 ** 53]) thrown(() => gen1.battle({ ...TERMS, limit }), TeamError, /^the turn limit is not 1 to 9,999: limit is -?\d/);
+    for (const rules of [4, ...BIG])
+      equal(thrown(() => gen1.battle({ ...TERMS, rules }), TeamError, /^the rules are not 0 to 3: rules is -?\d/).side, 0);
+    for (const limit of [0, -1, 10000, 65536, 65537, 2 ** 53])
+      thrown(() => gen1.battle({ ...TERMS, limit }), TeamError, /^the turn limit is not 1 to 9,999: limit is -?\d/);
     for (const it of NO_NUMBERS) {
-      thrown(() => gen1.battle({ ...TERMS, rules: it }), ArgumentTypeError, /^rules is .*, not a whole number$/);
-      thrown(() => gen1.battle({ ...TERMS, limit: it }), ArgumentTypeError, /^limit is .*, not a whole number$/);
+      wrong(() => gen1.battle({ ...TERMS, rules: it }), /^rules is .*, not a whole number$/);
+      wrong(() => gen1.battle({ ...TERMS, limit: it }), /^limit is .*, not a whole number$/);
     }
   });
 }
 
 function bytes(gen1, check) {
   check("bytes", () => {
-    for (const count of [0, 383, 385]) equal(thrown(() => gen1.load(new Uint8Array(count)), LoadError, new RegExp(`test 1 of 7 fails: there are not 384 bytes: there are ${count} `)).code, 1);
+    for (const count of [0, 383, 385])
+      equal(thrown(() => gen1.load(new Uint8Array(count)), LoadError, new RegExp(`test 1 of 7 fails: there are not 384 bytes: there are ${count} `)).code, 1);
     equal(thrown(() => gen1.load(new Uint8Array(384)), LoadError, /test 2 of 7 fails: the version, byte 0, is not 1, 2 or 3/).code, 2);
     for (const it of [undefined, null, "a battle", 384, Array(384).fill(0), new Uint16Array(192)])
-      for (const call of [gen1.load, gen1.lines, gen1.events]) thrown(() => call.call(gen1, it), ArgumentTypeError, /^(bytes|log) is .*, not bytes, as a Uint8Array$/);
+      for (const call of [gen1.load, gen1.lines, gen1.events])
+        wrong(() => call.call(gen1, it), /^(bytes|log) is .*, not bytes, as a Uint8Array$/);
   });
   check("logs", () => {
     for (const [more, code, text] of [[[0], 1, /no tag/], [[29], 1, /no tag/], [[26, 3], 2, /out of its range/], [[26], 3, /end within/]])
@@ -98,7 +110,7 @@ function bytes(gen1, check) {
   });
   check("texts", () => {
     for (const it of [undefined, null, 5, ["Tauros"], Uint8Array.of(1)])
-      for (const call of [gen1.teamFromText, gen1.teamFromPacked]) thrown(() => call.call(gen1, it), ArgumentTypeError, /^text is .*, not a text$/);
+      for (const call of [gen1.teamFromText, gen1.teamFromPacked]) wrong(() => call.call(gen1, it), /^text is .*, not a text$/);
     const lines = [["Tauros\n- Body Slm\n", 2, 10], ["\n\nTaurus\n- Body Slam\n", 3, 1], ["Tauros @ Leftovers\n- Body Slam\n", 1, 2],
       ["Tauros\nLevel: 101\n- Body Slam\n", 2, 4], ["Tauros\nEVs: 256 Atk\n", 2, 5], ["Tauros\nIVs: 32 Atk\n", 2, 7],
       ["Tauros\nEVs: 4 SpA / 8 SpD\n", 2, 6], ["Tauros\n- Pound\n- Cut\n- Surf\n- Fly\n- Dig\n", 6, 11], ["Tauros\nsomething\n", 2, 12],
@@ -117,66 +129,85 @@ function bytes(gen1, check) {
   });
 }
 
-// What is asked of a battle that has begun.
-function calls(gen1, check) {
-  const battle = gen1.battle(TERMS);
-  battle.update("pass", "pass");
-  const before = hexOf(battle.bytes);
+// Sides and choices that are none, or not offered.
+function choices(battle, check) {
   check("sides", () => {
     const asked = [(side) => battle.choices(side), (side) => battle.offeredMask(side), (side) => battle.damage(side, "Pound"),
       (side) => battle.hit(side, "Pound"), (side) => battle.words(side, "pass")];
     for (const call of asked) {
-      for (const side of [0, 3, ...BIG]) thrown(() => call(side), ArgumentError, /^side is -?\d.*, not 1 or 2$/);
-      for (const side of [undefined, ...NO_NUMBERS]) thrown(() => call(side), ArgumentTypeError, /^side is .*, not a whole number$/);
+      for (const side of [0, 3, ...BIG]) outside(() => call(side), /^side is -?\d.*, not 1 or 2$/);
+      for (const side of [undefined, ...NO_NUMBERS]) wrong(() => call(side), /^side is .*, not a whole number$/);
     }
   });
   check("choices that are none", () => {
     for (const call of [(one) => battle.update(one, 17), (one) => battle.play(one, 17)]) {
-      for (const it of BIG) thrown(() => call(it), ArgumentError, /^side 1's choice is -?\d.*, not 0 to 255$/);
-      for (const it of [1.5, NaN, Infinity]) thrown(() => call(it), ArgumentTypeError, /^side 1's choice is .*, not a whole number$/);
-      for (const it of [undefined, null, true, [17], {}, 17n]) thrown(() => call(it), ArgumentTypeError, /^side 1's choice is .*, not a choice: pass, move 0 to 4, or switch 1 to 6, or its byte$/);
-      for (const it of ["jump", "move 5", "switch 0", "", "Move 1"]) thrown(() => call(it), ArgumentError, /^side 1's choice: ".*" is no choice: pass, move 0 to 4, or switch 1 to 6$/);
+      for (const it of BIG) outside(() => call(it), /^side 1's choice is -?\d.*, not 0 to 255$/);
+      for (const it of [1.5, NaN, Infinity]) wrong(() => call(it), /^side 1's choice is .*, not a whole number$/);
+      for (const it of [undefined, null, true, [17], {}, 17n])
+        wrong(() => call(it), /^side 1's choice is .*, not a choice: pass, move 0 to 4, or switch 1 to 6, or its byte$/);
+      for (const it of ["jump", "move 5", "switch 0", "", "Move 1"])
+        outside(() => call(it), /^side 1's choice: ".*" is no choice: pass, move 0 to 4, or switch 1 to 6$/);
     }
   });
   check("choices that are not offered", () => {
     for (let choice = 0; choice < 256; choice++)
       for (const side of choice === 17 ? [] : [1, 2]) {
         const pair = side === 1 ? [choice, 17] : [17, choice];
-        const fault = thrown(() => battle.update(...pair), RefusedError, new RegExp(`^the choice of side ${side} was not offered: .*; offered: move 1$`));
+        const text = new RegExp(`^the choice of side ${side} was not offered: .*; offered: move 1$`);
+        const fault = thrown(() => battle.update(...pair), RefusedError, text);
         equal([fault.code, fault.side, fault.choice, fault.offered], [side + 1, side, choice, ["move 1"]]);
       }
     thrown(() => battle.update("move 1", "switch 2"), RefusedError, /^the choice of side 2 was not offered: switch 2; offered: move 1$/);
-    for (const byte of [1, 15, 21, 32, 39, 255]) thrown(() => library.choiceOf(byte), ArgumentError, /is no choice/);
+    for (const byte of [1, 15, 21, 32, 39, 255]) outside(() => library.choiceOf(byte), /is no choice/);
   });
   check("choices in words that are none", () => {
-    thrown(() => battle.words(1, 0x22), ArgumentError, /^side 1's choice: there is no move in that slot, .*: switch 2$/);
-    thrown(() => battle.words(1, 5), ArgumentError, /^side 1's choice: the byte is no choice: .*: 5, which is no choice$/);
+    outside(() => battle.words(1, 0x22), /^side 1's choice: there is no move in that slot, .*: switch 2$/);
+    outside(() => battle.words(1, 5), /^side 1's choice: the byte is no choice: .*: 5, which is no choice$/);
   });
+}
+
+function moves(gen1, battle, check) {
   check("moves", () => {
     for (const move of [0, 166, ...BIG])
       for (const call of [() => battle.damage(1, move), () => battle.hit(1, move), () => gen1.hit(TAUROS, TAUROS, move)])
         thrown(call, DamageError, /^no damage of -?\d.*: the move is not 1 to 165$/);
     for (const call of [(move) => battle.damage(1, move), (move) => battle.hit(1, move), (move) => gen1.damage(TAUROS, TAUROS, move)]) {
-      thrown(() => call("Pond"), ArgumentError, /^move is "Pond", which is none of docs\/TABLES.md$/);
-      thrown(() => call("body slam"), ArgumentError, /did you mean "Body Slam"\?$/);
-      for (const it of [undefined, null, true, [1], {}, 1n]) thrown(() => call(it), ArgumentTypeError, /^move is .*, not a name or a number$/);
+      outside(() => call("Pond"), /^move is "Pond", which is none of docs\/TABLES.md$/);
+      outside(() => call("body slam"), /did you mean "Body Slam"\?$/);
+      for (const it of [undefined, null, true, [1], {}, 1n]) wrong(() => call(it), /^move is .*, not a name or a number$/);
     }
-    for (const it of [null, 1, 0, "yes"]) thrown(() => battle.damage(1, "Pound", it), ArgumentTypeError, /^critical is .*, not true or false$/);
+    for (const it of [null, 1, 0, "yes"]) wrong(() => battle.damage(1, "Pound", it), /^critical is .*, not true or false$/);
     thrown(() => battle.damage(1, "Splash"), DamageError, /^no damage of "Splash": the move does not have the usual damage/);
     thrown(() => gen1.battle(TERMS).damage(1, "Pound"), DamageError, /nobody is out/);
     thrown(() => gen1.battle(TERMS).hit(1, "Pound"), DamageError, /nobody is out/);
   });
+}
+
+function seeds(battle, check) {
   check("seeds and indexes to reseed", () => {
-    for (const index of [9, 255, ...BIG]) thrown(() => battle.reseed(SEED, index), ArgumentError, /^the index is not 0 to 8: index is -?\d/);
-    for (const index of NO_NUMBERS) thrown(() => battle.reseed(SEED, index), ArgumentTypeError, /^index is .*, not a whole number$/);
-    thrown(() => battle.reseed([1]), ArgumentError, /^seed has 1 numbers, not 10$/);
+    for (const index of [9, 255, ...BIG]) outside(() => battle.reseed(SEED, index), /^the index is not 0 to 8: index is -?\d/);
+    for (const index of NO_NUMBERS) wrong(() => battle.reseed(SEED, index), /^index is .*, not a whole number$/);
+    outside(() => battle.reseed([1]), /^seed has 1 numbers, not 10$/);
   });
   check("playouts of nothing", () => {
-    for (const seed of [-1, -1n, 2n ** 64n, 2 ** 53, 2 ** 64]) thrown(() => battle.playout(seed, 1), ArgumentError, /^seed is -?\d.*, not 0 to 2/);
-    for (const seed of [undefined, null, 1.5, "1", true]) thrown(() => battle.playout(seed, 1), ArgumentTypeError, /^seed is .*, not a whole number or a BigInt$/);
-    for (const rounds of [-1, 2 ** 32, 2 ** 53]) thrown(() => battle.playout(1, rounds), ArgumentError, /^rounds is -?\d.*, not 0 to 4294967295$/);
-    for (const rounds of NO_NUMBERS) thrown(() => battle.playout(1, rounds), ArgumentTypeError, /^rounds is .*, not a whole number$/);
+    for (const seed of [-1, -1n, 2n ** 64n, 2 ** 53, 2 ** 64])
+      outside(() => battle.playout(seed, 1), /^seed is -?\d.*, not 0 to 2/);
+    for (const seed of [undefined, null, 1.5, "1", true])
+      wrong(() => battle.playout(seed, 1), /^seed is .*, not a whole number or a BigInt$/);
+    for (const rounds of [-1, 2 ** 32, 2 ** 53])
+      outside(() => battle.playout(1, rounds), /^rounds is -?\d.*, not 0 to 4294967295$/);
+    for (const rounds of NO_NUMBERS) wrong(() => battle.playout(1, rounds), /^rounds is .*, not a whole number$/);
   });
+}
+
+// What is asked of a battle that has begun.
+function calls(gen1, check) {
+  const battle = gen1.battle(TERMS);
+  battle.update("pass", "pass");
+  const before = hexOf(battle.bytes);
+  choices(battle, check);
+  moves(gen1, battle, check);
+  seeds(battle, check);
   check("nothing has changed", () => equal(hexOf(battle.bytes), before));
   check("a loaded battle goes on alike", () => {
     const copy = gen1.load(battle.bytes);
@@ -198,24 +229,25 @@ function rooms(gen1, check) {
     chosen.submit(1, 0, 17);
     thrown(() => chosen.submit(1, 0, 17), RoomError, /^the side has chosen: side 1 may submit nothing for pair 0 any more$/);
     for (const call of [(side) => room.submit(side, 0, 17), (side) => room.choices(side)]) {
-      for (const side of [0, 3, ...BIG]) thrown(() => call(side), ArgumentError, /^side is -?\d.*, not 1 or 2$/);
-      for (const side of NO_NUMBERS) thrown(() => call(side), ArgumentTypeError, /^side is .*, not a whole number$/);
+      for (const side of [0, 3, ...BIG]) outside(() => call(side), /^side is -?\d.*, not 1 or 2$/);
+      for (const side of NO_NUMBERS) wrong(() => call(side), /^side is .*, not a whole number$/);
     }
-    for (const number of [-1, 2 ** 32, 2 ** 53]) thrown(() => room.submit(1, number, 17), ArgumentError, /^number is -?\d.*, not 0 to 4294967295$/);
-    for (const number of NO_NUMBERS) thrown(() => room.submit(1, number, 17), ArgumentTypeError, /^number is .*, not a whole number$/);
-    for (const choice of BIG) thrown(() => room.submit(2, 0, choice), ArgumentError, /^side 2's choice is -?\d.*, not 0 to 255$/);
-    for (const it of [...NO_OBJECTS, room, SEED]) thrown(() => gen1.room(it), ArgumentTypeError, /^battle is .*, not a Battle$/);
+    for (const number of [-1, 2 ** 32, 2 ** 53])
+      outside(() => room.submit(1, number, 17), /^number is -?\d.*, not 0 to 4294967295$/);
+    for (const number of NO_NUMBERS) wrong(() => room.submit(1, number, 17), /^number is .*, not a whole number$/);
+    for (const choice of BIG) outside(() => room.submit(2, 0, choice), /^side 2's choice is -?\d.*, not 0 to 255$/);
+    for (const it of [...NO_OBJECTS, room, SEED]) wrong(() => gen1.room(it), /^battle is .*, not a Battle$/);
     equal(seen(), before);
   });
   check("what a watcher refuses", () => {
     const watcher = gen1.spectator([TAUROS], [TAUROS]);
-    for (const it of [undefined, null, 5, "a log", [1]]) thrown(() => watcher.feed(it), ArgumentTypeError, /^log is .*, not bytes, as a Uint8Array$/);
+    for (const it of [undefined, null, 5, "a log", [1]]) wrong(() => watcher.feed(it), /^log is .*, not bytes, as a Uint8Array$/);
     equal(thrown(() => watcher.feed(Uint8Array.of(26, 1, 0)), LogError, /^byte 2: a byte in a tag's place is no tag/).at, 2);
     equal([watcher.state, watcher.held], [gen1.spectator([TAUROS], [TAUROS]).state, new Uint8Array(0)]);
   });
   check("constructors", () => {
     for (const kind of [library.Gen1, library.Battle, library.Update, library.Room, library.Spectator])
-      thrown(() => new kind(), ArgumentTypeError, /(is made by|not by new|and not by new)/);
+      wrong(() => new kind(), /(is made by|not by new|and not by new)/);
   });
 }
 
