@@ -188,20 +188,18 @@ def take_derives(source, place, opening, closing):
         source.put(place, closing, f"#[derive({', '.join(kept)})]")
 
 
-ERROR = """
+DISPLAY = """
 impl core::fmt::Display for {name} {{
     fn fmt(&self, f: &mut core::fmt::Formatter<'_>) -> core::fmt::Result {{
         match self {{
 {arms}        }}
     }}
 }}
-
-impl core::error::Error for {name} {{}}
 """
 
 
 def error_impls(source, place):
-    """What thiserror's derive writes for the enum at a place."""
+    """What thiserror's derive writes for the enum at a place; its text only where the additions have none of their own."""
     place += source.is_at(place, "pub")
     if not source.is_at(place, "enum"):
         source.fail(source.code[place], "an error that is no enum")
@@ -209,7 +207,8 @@ def error_impls(source, place):
     while at < source.ends[place + 2]:
         arm, at = error_arm(source, at)
         arms += f"            {name}::{arm},\n"
-    return ERROR.format(name=name, arms=arms)
+    shown = "" if f"Display for {name} " in source.crate.added else DISPLAY.format(name=name, arms=arms)
+    return f"{shown}\nimpl core::error::Error for {name} {{}}\n"
 
 
 def error_arm(source, at):

@@ -28,6 +28,8 @@ class Crate:
     def __init__(self, name, depends, is_for_c):
         self.name, self.depends, self.is_for_c = name, depends, is_for_c
         self.folder = ROOT / "crates" / name / "src"
+        additions = OWN / "additions" / f"{name}.rs"
+        self.added = additions.read_text() if additions.exists() else ""
         self.texts = {path: path.read_text() for path in sorted(self.folder.rglob("*.rt"))}
         self.modules = {path.stem for path in self.texts} - {"lib"}
         self.macros = {name for text in self.texts.values() for name in re.findall(r"macro_rules! (\w+)", text)}
@@ -64,10 +66,9 @@ class Crate:
             to.parent.mkdir(parents=True, exist_ok=True)
             to.write_text(plain)
             whole += plain
-        extra = OWN / "additions" / f"{self.name}.rs"
-        if extra.exists():
-            shutil.copy(extra, out / "src" / "additions.rs")
-            whole += extra.read_text()
+        if self.added:
+            (out / "src" / "additions.rs").write_text(self.added)
+            whole += self.added
         self.write_manifest(out, whole)
 
     def with_head(self, plain, text):
@@ -77,16 +78,21 @@ class Crate:
         lines[line] = '#![cfg_attr(not(feature = "std"), no_std)]' if self.is_for_c else "#![no_std]"
         if not self.is_for_c:
             lines[line] += " #![forbid(unsafe_code)]"
-        added = (OWN / "additions" / f"{self.name}.rs").exists()
-        return "\n".join(lines) + ("\nmod additions;\npub use additions::*;\n" if added else "")
+        return "\n".join(lines) + ("\nmod additions;\npub use additions::*;\n" if self.added else "")
+
+    def has_serde(self):
+        """Whether the crate has a feature of that name."""
+        return 'feature = "serde"' in self.added
 
     def write_manifest(self, out, whole):
         named = set(re.findall(r"\b([a-z_0-9]+)::", re.sub(r"//[^\n]*", "", whole)))
         uses = sorted((self.depends - NOT_HERE | {"gen1_adapter"}) & named)
-        serde = '\n[features]\nserde = ["dep:serde"]\n' if "feature = \"serde\"" in whole else ""
-        lines = [f"{name}.workspace = true" for name in uses]
-        if serde:
-            lines.append("serde = { workspace = true, optional = true }")
+        lines, serde = [f"{name}.workspace = true" for name in uses], ""
+        if self.has_serde():
+            derives = ', features = ["derive"]' if "#[serde(" in self.added else ""
+            lines.append(f"serde = {{ workspace = true{derives}, optional = true }}")
+            below = [f"{name}/serde" for name in uses if name == "arrayvec" or name in self.others and self.others[name].has_serde()]
+            serde = f"\n[features]\nserde = {json.dumps(['dep:serde', *below])}\n"
         text = MANIFEST.format(name=self.name, description=json.dumps(self.description()), uses="\n".join(lines))
         if self.is_for_c:
             text += FOR_C

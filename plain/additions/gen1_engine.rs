@@ -1,6 +1,8 @@
 //! What plain Rust has beside the sources (docs/PLAIN.md, "What is added").
-use crate::Battle;
+use crate::{Battle, BattleResult, Refusal};
 use core::fmt;
+use core::hash::{Hash, Hasher};
+use gen1_machine::{Request, Side};
 
 /// The battle's result and turn limit.
 impl fmt::Debug for Battle {
@@ -19,3 +21,30 @@ impl PartialEq for Battle {
 }
 
 impl Eq for Battle {}
+
+impl Hash for Battle {
+    fn hash<H: Hasher>(&self, state: &mut H) {
+        self.bytes().hash(state);
+    }
+}
+
+impl BattleResult {
+    /// What is asked of a side for the next update.
+    #[must_use]
+    pub fn request(self, side: Side) -> Request {
+        match side {
+            Side::One => self.request_one,
+            Side::Two => self.request_two,
+        }
+    }
+}
+
+/// `the battle is over`, or `side 1's choice is not offered`.
+impl fmt::Display for Refusal {
+    fn fmt(&self, f: &mut fmt::Formatter<'_>) -> fmt::Result {
+        match self {
+            Refusal::Over => f.write_str("the battle is over"),
+            Refusal::NotOffered(side) => write!(f, "side {side}'s choice is not offered"),
+        }
+    }
+}

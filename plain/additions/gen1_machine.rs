@@ -1,5 +1,8 @@
-//! What plain Rust has beside the sources (docs/PLAIN.md, "What is added"): choices, sides and outcomes as text.
-use crate::{Choice, Kind, MoveSlot, Outcome, Place, Request, Side};
+//! What plain Rust has beside the sources (docs/PLAIN.md, "What is added"): choices, sides and outcomes as text, and
+//! types that maps and sorted lists take.
+use crate::{
+    Choice, Kind, MoveSlot, Outcome, Place, Ranged, Request, Rules, Side, TurnLimit, TurnNumber,
+};
 use core::fmt;
 use core::str::FromStr;
 
@@ -108,4 +111,39 @@ gen1_adapter::serde_as_text!(Choice, Side);
 impl Side {
     /// Side 1, and side 2.
     pub const BOTH: [Side; 2] = [Side::One, Side::Two];
+}
+
+impl Outcome {
+    /// The side that has won; `None` while the battle goes on, and where neither has.
+    #[must_use]
+    pub fn winner(self) -> Option<Side> {
+        match self {
+            Outcome::WinOne => Some(Side::One),
+            Outcome::WinTwo => Some(Side::Two),
+            Outcome::Ongoing | Outcome::Tie | Outcome::Fault(_) => None,
+        }
+    }
+
+    /// The place among the variants, and the code of a fault.
+    fn key(self) -> (u8, u8) {
+        match self {
+            Outcome::Ongoing => (0, 0),
+            Outcome::WinOne => (1, 0),
+            Outcome::WinTwo => (2, 0),
+            Outcome::Tie => (3, 0),
+            Outcome::Fault(code) => (4, code),
+        }
+    }
+}
+
+gen1_tables::ordered_by_key! {
+    [] Choice, |it| it.byte();
+    [] Kind, |it| it.number();
+    [] Outcome, |it| it.key();
+    [] Request, |it| *it as u8;
+    [] Rules, |it| it.bits();
+    [] Side, |it| it.number();
+    [] TurnLimit, |it| it.number();
+    [] TurnNumber, |it| it.number();
+    [const LOW: u8, const HIGH: u8] Ranged<LOW, HIGH>, |it| it.number();
 }

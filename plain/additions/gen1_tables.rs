@@ -1,4 +1,4 @@
-//! What plain Rust has beside the sources (docs/PLAIN.md, "What is added"): names as text.
+//! What plain Rust has beside the sources (docs/PLAIN.md, "What is added"): names as text, and types that maps and sorted lists take.
 use crate::{Element, MoveId, Species, Stat};
 use core::fmt;
 use core::str::FromStr;
@@ -80,3 +80,37 @@ impl fmt::Display for Stat {
 
 #[cfg(feature = "serde")]
 gen1_adapter::serde_as_text!(Species, MoveId);
+
+/// Orders and hashes values as their keys are.
+#[doc(hidden)]
+#[macro_export]
+macro_rules! ordered_by_key {
+    ($([$($generics:tt)*] $name:ty, |$it:ident| $key:expr;)*) => {$(
+        impl<$($generics)*> Ord for $name {
+            fn cmp(&self, other: &Self) -> core::cmp::Ordering {
+                let key = |$it: &Self| $key;
+                key(self).cmp(&key(other))
+            }
+        }
+
+        impl<$($generics)*> PartialOrd for $name {
+            fn partial_cmp(&self, other: &Self) -> Option<core::cmp::Ordering> {
+                Some(self.cmp(other))
+            }
+        }
+
+        impl<$($generics)*> core::hash::Hash for $name {
+            fn hash<H: core::hash::Hasher>(&self, state: &mut H) {
+                let key = |$it: &Self| $key;
+                key(self).hash(state);
+            }
+        }
+    )*};
+}
+
+ordered_by_key! {
+    [] Element, |it| it.number();
+    [] MoveId, |it| it.number();
+    [] Species, |it| it.number();
+    [] Stat, |it| *it as u8;
+}

@@ -12,7 +12,7 @@ use gen1_rolls::LinkRandom;
 ///
 /// Two battles that were made alike and updated alike are equal, byte for byte; a clone goes on by itself. It is aligned to 64
 /// bytes, so that it lies in six lines of a cache, in an array too.
-#[derive(Clone, PartialEq, Eq)]
+#[derive(Clone, PartialEq, Eq, Hash)]
 #[repr(align(64))]
 pub struct Battle {
     pub(crate) inner: gen1_engine::Battle,
@@ -183,7 +183,8 @@ impl Battle {
 
     /// [`Battle::update_silent`] by two choices that were taken from what is offered, which are not tested again.
     ///
-    /// By others the battle may be none afterwards; that harms no memory. A debug build tests them.
+    /// By others the battle may be none afterwards, and then [`Battle::state`], [`Battle::damage`] and [`Battle::hit`] may panic; that
+    /// harms no memory. A debug build tests them.
     ///
     /// ```
     /// # use gen1::{Battle, Side, Team, member};

@@ -1,5 +1,5 @@
 //! First-generation Pokémon link battles: two teams, ten seed bytes and a list of choices give a battle that is exact to the last
-//! draw. A battle is 384 bytes that are changed in place; an update takes no memory and a quarter of a microsecond.
+//! draw. A battle is 384 bytes that are changed in place; an update takes no memory.
 //!
 //! The sources are those of a proved engine with their contracts taken off, built by your own compiler (docs/PLAIN.md of the
 //! repository says what was proved and how the two builds are compared).
@@ -30,8 +30,9 @@
 //! | For | Look at |
 //! |---|---|
 //! | teams | [`member`], [`MemberSpec`], [`Team`], [`Species`], [`MoveId`] |
-//! | battles | [`Battle`], [`Choice`], [`Update`], [`Event`], [`Line`], [`State`] |
-//! | damage | [`Battle::damage`] |
+//! | battles | [`Battle`], [`Choice`], [`Update`], [`Event`], [`Line`] |
+//! | all that a battle stands for | [`Battle::state`], [`State`] |
+//! | damage and exact chances | [`Battle::damage`], [`Battle::hit`] |
 //! | searches | [`Battle::offered_mask`], [`Battle::update_silent`], [`Battle::update_offered`], [`Battle::reseed`] |
 //! | logs | [`Update::log`], [`events_of`], [`Line::of`] |
 //! | what a watcher knows | [`Spectator`] |
@@ -39,8 +40,16 @@
 //!
 //! # Features
 //!
-//! Without features the crate is `no_std` and needs no allocator. `std` adds sinks and sources over std's readers and writers;
-//! `serde` adds `Serialize` and `Deserialize` for teams, names, choices and battles.
+//! The crate is `no_std` and needs no allocator. `serde` adds `Serialize` and `Deserialize` for members of teams, names, choices,
+//! sides and battles. A member is the object of docs/PROGRAM.md, a battle its 384 bytes, and all else its text:
+//!
+#![cfg_attr(feature = "serde", doc = "```")]
+#![cfg_attr(not(feature = "serde"), doc = "```ignore")]
+//! let text = r#"{"species":"Tauros","level":100,"dvs":[15,15,15,15],"exp":[0,0,0,0,0],"moves":[["Strength",3]]}"#;
+//! let tauros: gen1::MemberSpec = serde_json::from_str(text)?;
+//! assert_eq!(serde_json::to_string(&tauros)?, text);
+//! # Ok::<(), serde_json::Error>(())
+//! ```
 //!
 //! # Errors
 //!
@@ -48,9 +57,6 @@
 #![no_std]
 #![forbid(unsafe_code)]
 #![warn(missing_docs, missing_debug_implementations)]
-
-#[cfg(feature = "std")]
-extern crate std;
 
 mod battle;
 mod damage;
@@ -62,16 +68,22 @@ mod serde_impls;
 mod state;
 mod teams;
 
+/// A list that lies in place: what [`MemberSpec::moves`], [`State`] and [`Choices`] hold.
+#[doc(no_inline)]
+pub use arrayvec::ArrayVec;
 pub use battle::{Battle, Update};
-pub use damage::DamageRefusal;
+pub use damage::{DamageRefusal, Hit};
 #[doc(inline)]
 pub use gen1_engine::{BattleResult, Choices, LoadFault, Refusal, write_log};
 #[doc(inline)]
 pub use gen1_events::{LogBuf, LogFault, LogReader};
 #[doc(inline)]
+pub use gen1_layout::Conditions;
+#[doc(inline)]
 pub use gen1_machine::{
-    CantReason, Choice, DamageSource, Event, EventList, Health, Kind, MoveSlot, Outcome, Place,
-    Request, Rules, Side, TurnLimit, UnknownText, Volatile, Who,
+    CantReason, Choice, DamageSource, DisabledSlot, Event, EventList, FaultCode, Health, HitCount,
+    Kind, Level, MoveSlot, Outcome, Place, Ranged, Request, Rules, Side, StageCount, TurnLimit,
+    TurnNumber, UnknownText, UsedMove, Volatile, Who,
 };
 #[doc(inline)]
 pub use gen1_room::{Reply, RoomRefusal, Submitted};
@@ -107,8 +119,8 @@ pub use gen1_tables::{Effect, Element, MoveId, Species, Stat, UnknownName};
 pub use lines::{Events, Line, Lines, events_of};
 pub use mask::OfferedMask;
 pub use room::Room;
-pub use state::{MemberState, SideState, State};
-pub use teams::{MemberFault, member};
+pub use state::{ActiveState, MemberState, SideState, State};
+pub use teams::{NameFault, member};
 
 /// Teams out of the text of a team builder: its export text, and packed lines (docs/TEAM_TEXT.md).
 ///
@@ -127,3 +139,8 @@ pub mod text {
         species_called, team_in_packed, team_in_text,
     };
 }
+
+/// The example of the README is run too.
+#[cfg(doctest)]
+#[doc = include_str!("../README.md")]
+struct Readme;

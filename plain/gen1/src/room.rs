@@ -1,6 +1,6 @@
 //! Two players who choose apart from each other.
-use crate::{Battle, Choices, Reply, Side};
-use core::fmt;
+use crate::{Battle, Choice, Choices, Reply, Side};
+use gen1_room::plain::{self, PlainRoom};
 
 /// A battle of two players who submit their choices apart from each other, and do not see each other's.
 ///
@@ -13,7 +13,7 @@ use core::fmt;
 /// # fn main() -> Result<(), Box<dyn std::error::Error>> {
 /// let team = Team::new(&[member("Tauros", &["Strength"])?])?;
 /// let mut room = Room::new(Battle::new(&team, &team, [1, 36, 255, 7, 31, 100, 179, 254, 127, 10]));
-/// let strength = room.choices(Side::One)[0].byte();
+/// let strength = room.choices(Side::One)[0];
 /// assert_eq!(room.submit(Side::One, 0, strength), Ok(Submitted::Waiting));
 /// assert_eq!(room.submit(Side::One, 0, strength), Err(RoomRefusal::AlreadyChosen));
 /// assert_eq!(room.submit(Side::Two, 1, strength), Err(RoomRefusal::Stale(0)));
@@ -22,59 +22,73 @@ use core::fmt;
 /// # Ok(())
 /// # }
 /// ```
+///
+/// A clone goes on by itself, as the battle's does: for who keeps a room while another one is tried.
+#[derive(Clone, Debug, PartialEq, Eq)]
 pub struct Room {
-    inner: gen1_room::Room,
+    inner: PlainRoom,
 }
 
 impl Room {
     /// A room for a battle. One that has not begun is started at once.
     #[must_use]
     pub fn new(battle: Battle) -> Self {
-        Room {
-            inner: gen1_room::Room::new(battle.into()),
-        }
+        let mut inner = PlainRoom {
+            battle: battle.packed(),
+            number: 0,
+            log_length: 0,
+            one: 0,
+            two: 0,
+            log: [0; 512],
+        };
+        plain::begin(&mut inner);
+        Room { inner }
     }
 
     /// The number of the current pair: how many have ended since the room was made.
     #[must_use]
     pub fn number(&self) -> u32 {
-        self.inner.number()
+        self.inner.number
     }
 
     /// A copy of the battle as it stands. It has everything in it, both teams and the numbers still to be drawn: it is not for
     /// the players.
     #[must_use]
     pub fn battle(&self) -> Battle {
-        self.inner.battle().clone().into()
+        Battle::load(self.inner.battle.as_bytes()).expect("a room keeps a battle")
     }
 
     /// What a side may submit for the current pair, by rising bytes.
     #[must_use]
     pub fn choices(&self, side: Side) -> Choices {
-        self.inner.battle().choices(side)
+        gen1_requests::offered(&self.inner.battle, side)
     }
 
     /// The log bytes of the last pair that ended; before there is one those of the battle's start, or none where it had begun
     /// already. They are for both players.
     #[must_use]
     pub fn log(&self) -> &[u8] {
-        self.inner.log()
+        &self.inner.log[..usize::from(self.inner.log_length)]
     }
 
-    /// A side submits the byte of a choice for the pair of a number. Once both choices are there the battle is updated, and the
-    /// log is that of the update.
+    /// A side submits a choice for the pair of a number. Once both choices are there the battle is updated, and the log is that of
+    /// the update.
     ///
     /// # Errors
     ///
     /// The first that applies: the battle is over; the number is not that of the current pair; the side has chosen already; the
-    /// byte is none of [`Room::choices`]. Nothing has changed then.
-    pub fn submit(&mut self, side: Side, number: u32, byte: u8) -> Reply {
-        self.inner.submit(side, number, byte)
+    /// choice is none of [`Room::choices`]. Nothing has changed then.
+    pub fn submit(&mut self, side: Side, number: u32, choice: Choice) -> Reply {
+        self.submit_byte(side, number, choice.byte())
     }
-}
 
-impl fmt::Debug for Room {
-    fn fmt(&self, f: &mut fmt::Formatter<'_>) -> fmt::Result {
-        self.inner.fmt(f)
+    /// The same by the byte of a choice, as players send it (docs/MECHANICS.md, "Offered choices"): one that stands for no choice
+    /// was not offered.
+    ///
+    /// # Errors
+    ///
+    /// As [`Room::submit`] has them.
+    pub fn submit_byte(&mut self, side: Side, number: u32, byte: u8) -> Reply {
+        plain::submit(&mut self.inner, side, number, byte)
     }
 }

@@ -5,7 +5,8 @@ use core::fmt;
 
 /// Why there is no member of some names.
 #[derive(Clone, Copy, Debug, PartialEq, Eq)]
-pub enum MemberFault {
+#[non_exhaustive]
+pub enum NameFault {
     /// The species' name is not in docs/TABLES.md, to the letter.
     NoSuchSpecies,
     /// The name of the move at this place, from 1, is not there.
@@ -14,40 +15,40 @@ pub enum MemberFault {
     TooManyMoves,
 }
 
-impl fmt::Display for MemberFault {
+impl fmt::Display for NameFault {
     fn fmt(&self, f: &mut fmt::Formatter<'_>) -> fmt::Result {
         match self {
-            MemberFault::NoSuchSpecies => f.write_str("no species has this name"),
-            MemberFault::NoSuchMove(place) => write!(f, "move {place}: no move has this name"),
-            MemberFault::TooManyMoves => f.write_str("there are more than four moves"),
+            NameFault::NoSuchSpecies => f.write_str("no species has this name"),
+            NameFault::NoSuchMove(place) => write!(f, "move {place}: no move has this name"),
+            NameFault::TooManyMoves => f.write_str("there are more than four moves"),
         }
     }
 }
 
-impl core::error::Error for MemberFault {}
+impl core::error::Error for NameFault {}
 
 /// A member at level 100 with full DVs, experience and PP, as most competitive rules have it. Its fields may be changed before it
 /// goes into a [`Team`](crate::Team), which tests them all.
 ///
 /// ```
-/// use gen1::{MemberFault, member};
+/// use gen1::{NameFault, member};
 ///
 /// let mut tauros = member("Tauros", &["Body Slam", "Earthquake"]).unwrap();
 /// tauros.level = 50;
-/// assert_eq!(member("Missingno.", &[]), Err(MemberFault::NoSuchSpecies));
+/// assert_eq!(member("Missingno.", &[]), Err(NameFault::NoSuchSpecies));
 /// ```
 ///
 /// # Errors
 ///
 /// A name that is unknown, or more than four moves.
-pub fn member(species: &str, moves: &[&str]) -> Result<MemberSpec, MemberFault> {
-    let species = Species::from_name(species).ok_or(MemberFault::NoSuchSpecies)?;
+pub fn member(species: &str, moves: &[&str]) -> Result<MemberSpec, NameFault> {
+    let species = Species::from_name(species).ok_or(NameFault::NoSuchSpecies)?;
     let mut chosen = ArrayVec::new();
     for (place, name) in moves.iter().enumerate() {
-        let id = MoveId::from_name(name).ok_or(MemberFault::NoSuchMove(place + 1))?;
+        let id = MoveId::from_name(name).ok_or(NameFault::NoSuchMove(place + 1))?;
         chosen
             .try_push((id, 3))
-            .map_err(|_| MemberFault::TooManyMoves)?;
+            .map_err(|_| NameFault::TooManyMoves)?;
     }
     Ok(MemberSpec {
         species,

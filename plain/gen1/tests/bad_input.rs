@@ -1,6 +1,6 @@
 //! Bad input: each gets a named error that says what was wrong, and nothing has changed.
 use gen1::{
-    Battle, Choice, DamageRefusal, LogFault, MemberFault, MoveSlot, Place, Refusal, Side, Team,
+    Battle, Choice, DamageRefusal, LogFault, MoveSlot, NameFault, Place, Refusal, Side, Team,
     TeamRefusal, TurnLimit, events_of, member,
 };
 
@@ -20,14 +20,14 @@ fn started() -> Battle {
 
 #[test]
 fn names() {
-    assert_eq!(member("tauros", &[]), Err(MemberFault::NoSuchSpecies));
+    assert_eq!(member("tauros", &[]), Err(NameFault::NoSuchSpecies));
     assert_eq!(
         member("Tauros", &["Strength", "Fly Away"]),
-        Err(MemberFault::NoSuchMove(2))
+        Err(NameFault::NoSuchMove(2))
     );
     assert_eq!(
         member("Tauros", &["Cut", "Fly", "Surf", "Strength", "Flash"]),
-        Err(MemberFault::TooManyMoves)
+        Err(NameFault::TooManyMoves)
     );
     assert_eq!(
         member("Tauros", &["Fly Away"]).unwrap_err().to_string(),

@@ -1,11 +1,11 @@
-//! Damage, hit and critical hit of moves, as two members stand: the numbers by the libraries' own functions, and the chances as how
+//! Damage, hit and critical hit of moves, as two members stand: all of it by the libraries' own functions. Chances are told as how
 //! many of the 256 bytes that may be drawn bring them about.
 use crate::battles::BATTLE;
 use crate::json::Out;
 use gen1::{Effect, MoveId, Side};
-use gen1_hits::{critical_bound, damage_list, has_usual_damage, hit_test, numbers};
-use gen1_layout::{Conditions, Packed};
-use gen1_rolls::Sweep;
+use gen1_hits::{has_usual_damage, settled_hit};
+use gen1_layout::Packed;
+use gen1_odds::{Damages, Odds, odds_of};
 
 /// Whether a move takes the hit test at all (docs/MECHANICS.md, "Early effects", "Late effects").
 pub fn is_tested(effect: Effect) -> bool {
@@ -28,47 +28,49 @@ pub fn is_tested(effect: Effect) -> bool {
 
 /// How many of the 256 draws let a move hit, and whether it is drawn at all; `None` where there is no hit test.
 pub fn hitting_bytes(packed: &Packed, side: Side, id: MoveId) -> Option<(u16, bool)> {
-    if !is_tested(id.effect()) {
-        return None;
-    }
-    let mut count = 0;
-    let mut is_drawn = false;
-    for byte in 0..=255 {
-        let mut copy = packed.clone();
-        let mut random = Sweep::new(byte);
-        count += u16::from(hit_test(&mut copy, side, id, id.accuracy_byte(), &mut random).hit);
-        is_drawn |= random != Sweep::new(byte);
-    }
-    Some((count, is_drawn))
+    is_tested(id.effect()).then(|| hits_of(&odds_of(packed, side, id), packed, side, id))
+}
+
+fn hits_of(odds: &Odds, packed: &Packed, side: Side, id: MoveId) -> (u16, bool) {
+    (odds.hit_draws, settled_hit(packed, side, id).is_none())
 }
 
 /// The damage of a hit at each of the 39 factors; `None` where the move has no such damage.
 pub fn damages(packed: &Packed, side: Side, id: MoveId, critical: bool) -> Option<[u16; 39]> {
-    has_usual_damage(id)
-        .then(|| damage_list(&numbers(packed, side, id, critical)))
-        .flatten()
+    let odds = odds_of(packed, side, id);
+    list_of(if critical {
+        &odds.critical
+    } else {
+        &odds.usual
+    })
+}
+
+fn list_of(of: &Damages) -> Option<[u16; 39]> {
+    (of.count > 0).then_some(of.numbers)
 }
 
 /// `{"slot":slot,"move":number,"damage":[..]|null,"critical":[..]|null,"bound":number|null,"hit":[bytes,is drawn]|null}`
 pub fn write_move(packed: &Packed, side: Side, slot: u8, id: MoveId, out: &mut Out<'_>) {
+    let odds = odds_of(packed, side, id);
     out.raw("{\"slot\":");
     out.number(slot);
     out.field("move", id.number());
-    for (key, critical) in [("damage", false), ("critical", true)] {
-        match damages(packed, side, id, critical) {
+    for (key, of) in [("damage", &odds.usual), ("critical", &odds.critical)] {
+        match list_of(of) {
             Some(list) => out.numbers(key, list),
             None => null(key, out),
         }
     }
     if has_usual_damage(id) {
-        let focused = packed.is_on(side, Conditions::FOCUS_ENERGY);
-        out.field("bound", critical_bound(packed.species(side), focused, id));
+        out.field("bound", odds.critical_draws);
     } else {
         null("bound", out);
     }
-    match hitting_bytes(packed, side, id) {
-        Some((count, is_drawn)) => out.numbers("hit", [count, is_drawn.into()]),
-        None => null("hit", out),
+    if is_tested(id.effect()) {
+        let (count, is_drawn) = hits_of(&odds, packed, side, id);
+        out.numbers("hit", [count, is_drawn.into()]);
+    } else {
+        null("hit", out);
     }
     out.raw("}");
 }

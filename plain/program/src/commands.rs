@@ -139,7 +139,7 @@ pub fn room(input: &[u8]) -> Result<(), Fault> {
     let mut room = Room::new(battle);
     put(&lines_of(room.log())?)?;
     for (side, number, byte) in submissions {
-        let answer = match room.submit(side, number, byte) {
+        let answer = match room.submit_byte(side, number, byte) {
             Ok(Submitted::Waiting) => "|room|waiting\n".into(),
             Ok(Submitted::Advanced(_)) => format!("|room|advanced\n{}", lines_of(room.log())?),
             Err(RoomRefusal::Stale(current)) => format!("|room|refused|2|{current}\n"),

@@ -1,6 +1,6 @@
 //! Why the program did not do all that it was asked (docs/PROGRAM.md, "Faults and statuses", "Explanations").
 use crate::misfit::Misfit;
-use gen1::{LogFault, Refusal, Side, TeamRefusal};
+use gen1::{LogFault, Refusal, TeamRefusal};
 use std::fmt;
 use std::io::Write;
 use std::process::ExitCode;
@@ -77,23 +77,12 @@ impl Fault {
             Fault::TooLong => "expected at most 1048576 bytes".into(),
             Fault::Team(side, why) if why.place() == 0 => format!("team {side}: {why}"),
             Fault::Team(side, why) => format!("team {side}, {why}"),
-            Fault::Pair(number, why) => format!("at .choices[{number}]: {}", words_of(why)),
+            Fault::Pair(number, why) => format!("at .choices[{number}]: {why}"),
             Fault::Log(why) => why.to_string(),
             Fault::Calc => "at .move: expected a move with the usual damage".into(),
             Fault::Page => "the page has not one place for a battle".into(),
             Fault::Read => "the input could not be opened or read".into(),
             Fault::Write => "the output could not be written".into(),
-        }
-    }
-}
-
-/// Why a pair was refused.
-fn words_of(why: &Refusal) -> String {
-    match why {
-        Refusal::Over => "the battle is over".into(),
-        Refusal::NotOffered(side) => {
-            let number = if *side == Side::One { 1 } else { 2 };
-            format!("side {number}'s choice is not offered")
         }
     }
 }

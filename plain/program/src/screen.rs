@@ -1,5 +1,5 @@
 //! A battle as a person looks at it.
-use gen1::{Battle, Choice, KnownMove, MemberState, Side, SideState};
+use gen1::{Battle, Choice, KnownMove, MemberState, Side};
 
 /// How many characters an HP bar has.
 const BAR: u16 = 20;
@@ -31,17 +31,12 @@ fn member(it: &MemberState) -> String {
     )
 }
 
-/// The member of a side that is out.
-fn out(side: &SideState) -> Option<&MemberState> {
-    side.members.get(usize::from(side.active?.number()) - 1)
-}
-
 /// Who is out, on both sides.
 pub fn both(battle: &Battle) -> String {
     let state = battle.state();
     let mut text = format!("-- turn {} --\n", state.turn);
     for (side, name) in state.sides.iter().rev().zip(["foe", "you"]) {
-        if let Some(it) = out(side) {
+        if let Some(it) = side.member_out() {
             text += &format!("{name}  {}\n", member(it));
         }
     }
@@ -64,14 +59,11 @@ pub fn whole(battle: &Battle) -> String {
     for (side, it) in Side::BOTH.into_iter().zip(&state.sides) {
         text += &format!("\nside {side}\n");
         for (place, one) in it.members.iter().enumerate() {
-            let mark = if it
+            let is_out = it
                 .active
-                .is_some_and(|active| usize::from(active.number()) == place + 1)
-            {
-                '*'
-            } else {
-                ' '
-            };
+                .as_ref()
+                .is_some_and(|active| usize::from(active.place.number()) == place + 1);
+            let mark = if is_out { '*' } else { ' ' };
             let moves: Vec<_> = one.moves.iter().map(known).collect();
             text += &format!(
                 "{mark} {} {}\n      {}\n",
@@ -96,12 +88,13 @@ pub fn whole(battle: &Battle) -> String {
 /// A choice of a side in words: the move's name, or who comes out.
 pub fn choice(battle: &Battle, side: Side, it: Choice) -> String {
     let state = battle.state();
-    let of_side = &state.sides[usize::from(side.number()) - 1];
+    let of_side = state.side(side);
     match it {
         Choice::Pass => "wait".into(),
         Choice::Move(slot) if slot.number() == 0 => "go on".into(),
         Choice::Move(slot) => {
-            let moves = out(of_side)
+            let moves = of_side
+                .member_out()
                 .map(|it| it.moves.as_slice())
                 .unwrap_or_default();
             moves

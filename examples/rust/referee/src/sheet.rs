@@ -1,5 +1,5 @@
 //! A line of a file of battles: a battle, and what it says of its pairs.
-use gen1::{Battle, MemberSpec, MoveId, Rules, Species, Team, TeamRefusal, TurnLimit};
+use gen1::{Battle, MemberSpec, Rules, Team, TeamRefusal, TurnLimit};
 use serde::Deserialize;
 use serde::de::{Deserializer, Error};
 
@@ -7,22 +7,13 @@ use serde::de::{Deserializer, Error};
 #[derive(Deserialize)]
 pub struct Sheet {
     seed: [u8; 10],
-    one: Vec<Member>,
-    two: Vec<Member>,
+    one: Vec<MemberSpec>,
+    two: Vec<MemberSpec>,
     pub choices: Vec<[u8; 2]>,
     #[serde(default)]
     rules: u8,
     #[serde(default = "usual_limit")]
     limit: u16,
-}
-
-#[derive(Deserialize)]
-struct Member {
-    species: Species,
-    level: u8,
-    dvs: [u8; 4],
-    exp: [u16; 5],
-    moves: Vec<(MoveId, u8)>,
 }
 
 fn usual_limit() -> u16 {
@@ -41,28 +32,10 @@ impl Sheet {
     pub fn battle(&self) -> Result<Result<Battle, TeamFault>, String> {
         let rules = Rules::new(self.rules).ok_or("rules: 0 to 3 were expected")?;
         let limit = TurnLimit::new(self.limit).ok_or("limit: 1 to 9,999 were expected")?;
-        let (one, two) = (specs_of(&self.one)?, specs_of(&self.two)?);
         let team = |side, specs: &[_]| Team::new(specs).map_err(|why| (side, why));
-        let teams = team(1, &one).and_then(|one| Ok((one, team(2, &two)?)));
+        let teams = team(1, &self.one).and_then(|one| Ok((one, team(2, &self.two)?)));
         Ok(teams.map(|(one, two)| Battle::with_limit(&one, &two, self.seed, rules, limit)))
     }
-}
-
-fn specs_of(members: &[Member]) -> Result<Vec<MemberSpec>, String> {
-    let spec = |member: &Member| {
-        Ok(MemberSpec {
-            species: member.species,
-            level: member.level,
-            dvs: member.dvs,
-            exp: member.exp,
-            moves: member
-                .moves
-                .as_slice()
-                .try_into()
-                .map_err(|_| "at most four moves were expected")?,
-        })
-    };
-    members.iter().map(spec).collect()
 }
 
 /// What a line says, in the order in which it is looked at. What is left out is not compared.

@@ -109,7 +109,7 @@ impl Host {
             Said::Rubbish => RUBBISH,
             Said::Choice(pair, byte) => self
                 .room
-                .submit(side, pair, byte)
+                .submit_byte(side, pair, byte)
                 .map_or_else(RoomRefusal::number, |_| 0),
         };
         let most = self.terms.refusals;
@@ -155,12 +155,7 @@ impl Host {
     /// Whether a side has a choice of its own in this pair.
     fn is_asked(&self, side: Side) -> bool {
         let result = self.room.battle().result();
-        let request = if side == Side::One {
-            result.request_one
-        } else {
-            result.request_two
-        };
-        !result.outcome.is_over() && request != Request::Pass
+        !result.outcome.is_over() && result.request(side) != Request::Pass
     }
 
     /// Takes the first choice for a player that is out, and says whether there was one to take.
@@ -170,7 +165,7 @@ impl Host {
             if self.player(side).out.is_none() || !self.is_asked(side) {
                 continue;
             }
-            let first = self.room.choices(side)[0].byte();
+            let first = self.room.choices(side)[0];
             if self.room.submit(side, number, first).is_ok() {
                 if self.room.number() != number {
                     self.tell_all();
@@ -192,7 +187,7 @@ impl Host {
 
     /// Whether a side's choice for this pair is there. No byte is a choice less than 255, so asking so changes nothing.
     fn has_chosen(&mut self, side: Side) -> bool {
-        self.room.submit(side, self.room.number(), 255) == Err(RoomRefusal::AlreadyChosen)
+        self.room.submit_byte(side, self.room.number(), 255) == Err(RoomRefusal::AlreadyChosen)
     }
 
     /// From now on the room chooses for a side.

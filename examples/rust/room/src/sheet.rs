@@ -1,27 +1,17 @@
 //! A battle as a file has it: the JSON that the program's `run` takes (docs/PROGRAM.md, "run"), without its choices.
-use gen1::{Battle, MemberSpec, MoveId, Rules, Side, Species, Team, TurnLimit};
-use serde::{Deserialize, Serialize};
+use gen1::{Battle, MemberSpec, Rules, Side, Team, TurnLimit};
+use serde::Deserialize;
 
 /// A battle before any test of its teams.
 #[derive(Deserialize)]
 pub struct Sheet {
     seed: [u8; 10],
-    one: Vec<Member>,
-    two: Vec<Member>,
+    one: Vec<MemberSpec>,
+    two: Vec<MemberSpec>,
     #[serde(default)]
     rules: u8,
     #[serde(default = "usual_limit")]
     limit: u16,
-}
-
-/// A member of a team, as text.
-#[derive(Clone, Deserialize, Serialize)]
-struct Member {
-    species: Species,
-    level: u8,
-    dvs: [u8; 4],
-    exp: [u16; 5],
-    moves: Vec<(MoveId, u8)>,
 }
 
 fn usual_limit() -> u16 {
@@ -55,28 +45,8 @@ impl Sheet {
     }
 }
 
-fn team_of(side: u8, members: &[Member]) -> Result<Team, String> {
-    let specs: Vec<MemberSpec> = members
-        .iter()
-        .enumerate()
-        .map(|(at, member)| {
-            let moves = member.moves.as_slice().try_into();
-            let fault = |_| {
-                format!(
-                    "side {side}, member {}: at most four moves were expected",
-                    at + 1
-                )
-            };
-            Ok(MemberSpec {
-                species: member.species,
-                level: member.level,
-                dvs: member.dvs,
-                exp: member.exp,
-                moves: moves.map_err(fault)?,
-            })
-        })
-        .collect::<Result<_, String>>()?;
-    Team::new(&specs).map_err(|why| {
+fn team_of(side: u8, members: &[MemberSpec]) -> Result<Team, String> {
+    Team::new(members).map_err(|why| {
         format!(
             "side {side}, member {}: refusal {}: {why}",
             why.place(),

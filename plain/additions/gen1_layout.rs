@@ -1,0 +1,40 @@
+//! What plain Rust has beside the sources (docs/PLAIN.md, "What is added"): conditions as names and bits.
+use crate::Conditions;
+use core::fmt;
+use gen1_adapter::bitflags::Flags;
+
+impl Conditions {
+    /// The 17 bits (docs/LAYOUT.md, "Condition bits").
+    #[must_use]
+    pub fn bits(self) -> u32 {
+        Flags::bits(&self)
+    }
+
+    /// Whether none is on.
+    #[must_use]
+    pub fn is_empty(self) -> bool {
+        self.bits() == 0
+    }
+
+    /// The names of those that are on, as `FOCUS_ENERGY`, by rising bits.
+    pub fn names(self) -> impl Iterator<Item = &'static str> {
+        let all = Conditions::flags().iter();
+        all.filter(move |flag| self.has(*flag.value()))
+            .map(|flag| flag.name())
+    }
+}
+
+/// The names with blanks between them; nothing where none is on.
+impl fmt::Display for Conditions {
+    fn fmt(&self, f: &mut fmt::Formatter<'_>) -> fmt::Result {
+        for (place, name) in self.names().enumerate() {
+            f.write_str(if place == 0 { "" } else { " " })?;
+            f.write_str(name)?;
+        }
+        Ok(())
+    }
+}
+
+gen1_tables::ordered_by_key! {
+    [] Conditions, |it| it.bits();
+}

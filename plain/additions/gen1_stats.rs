@@ -1,0 +1,31 @@
+//! What plain Rust has beside the sources (docs/PLAIN.md, "What is added"): members as serde's data.
+#[cfg(feature = "serde")]
+mod serde_impls {
+    use crate::MemberSpec;
+    use arrayvec::ArrayVec;
+    use gen1_tables::{MoveId, Species};
+    use serde::{Deserialize, Deserializer, Serialize, Serializer};
+
+    /// The object of docs/PROGRAM.md, "Input". Each key has to be there; others are not looked at, as the program has it.
+    #[derive(Serialize, Deserialize)]
+    #[serde(remote = "MemberSpec")]
+    struct MemberObject {
+        species: Species,
+        level: u8,
+        dvs: [u8; 4],
+        exp: [u16; 5],
+        moves: ArrayVec<(MoveId, u8), 4>,
+    }
+
+    impl Serialize for MemberSpec {
+        fn serialize<S: Serializer>(&self, serializer: S) -> Result<S::Ok, S::Error> {
+            MemberObject::serialize(self, serializer)
+        }
+    }
+
+    impl<'de> Deserialize<'de> for MemberSpec {
+        fn deserialize<D: Deserializer<'de>>(deserializer: D) -> Result<Self, D::Error> {
+            MemberObject::deserialize(deserializer)
+        }
+    }
+}

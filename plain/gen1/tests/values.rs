@@ -1,0 +1,171 @@
+//! What a user of Rust expects of values: keys of maps, order, text, and members as data.
+use gen1::{
+    ArrayVec, Battle, Choice, Element, Event, Kind, MoveId, Outcome, Place, Request, Room,
+    RoomRefusal, Side, Species, Stat, Submitted, Team, TurnNumber, member,
+};
+use std::collections::{BTreeMap, BTreeSet, HashMap, HashSet};
+
+fn battle() -> Battle {
+    let team = Team::new(&[member("Tauros", &["Strength"]).unwrap()]).unwrap();
+    Battle::new(&team, &team, [1, 36, 255, 7, 31, 100, 179, 254, 127, 10])
+}
+
+#[test]
+fn values_are_keys_and_are_in_the_order_of_their_numbers() {
+    let species: BTreeSet<_> = (1..=151).rev().filter_map(Species::new).collect();
+    assert!(species.iter().map(|it| it.number()).eq(1..=151));
+    let moves: HashSet<_> = (1..=165).filter_map(MoveId::new).collect();
+    assert_eq!(moves.len(), 165);
+    let choices: BTreeSet<_> = (0..=255).rev().filter_map(Choice::from_byte).collect();
+    let bytes: Vec<_> = choices.iter().map(|it| it.byte()).collect();
+    assert_eq!(bytes, [0, 16, 17, 18, 19, 20, 33, 34, 35, 36, 37, 38]);
+    assert!(
+        Side::One < Side::Two && Element::Normal < Element::Dragon && Stat::Attack < Stat::Evasion
+    );
+    assert!(Place::new(1) < Place::new(6) && TurnNumber::new(9) < TurnNumber::new(10));
+    assert!(Kind::Sleep < Kind::Paralysis && Request::Pass < Request::Switch);
+    let mut ends = BTreeMap::new();
+    for it in [
+        Outcome::Tie,
+        Outcome::Fault(2),
+        Outcome::WinOne,
+        Outcome::Fault(1),
+        Outcome::Tie,
+    ] {
+        *ends.entry(it).or_insert(0) += 1;
+    }
+    let counted = [
+        (Outcome::WinOne, 1),
+        (Outcome::Tie, 2),
+        (Outcome::Fault(1), 1),
+        (Outcome::Fault(2), 1),
+    ];
+    assert!(ends.into_iter().eq(counted));
+}
+
+#[test]
+fn battles_are_keys_by_their_bytes() {
+    let (mut seen, same) = (HashMap::from([(battle(), 1)]), battle());
+    assert_eq!(seen.get(&same), Some(&1));
+    let mut later = battle();
+    later.update(Choice::Pass, Choice::Pass).unwrap();
+    assert_eq!(seen.insert(later, 2), None);
+}
+
+#[test]
+fn winners_and_requests_go_by_sides() {
+    let mut battle = battle();
+    assert_eq!(battle.result().request(Side::Two), Request::Pass);
+    battle.update(Choice::Pass, Choice::Pass).unwrap();
+    assert_eq!(
+        (
+            battle.result().request(Side::One),
+            battle.outcome().winner()
+        ),
+        (Request::Move, None)
+    );
+    let won = [
+        Outcome::WinOne,
+        Outcome::WinTwo,
+        Outcome::Tie,
+        Outcome::Fault(1),
+    ]
+    .map(Outcome::winner);
+    assert_eq!(won, [Some(Side::One), Some(Side::Two), None, None]);
+}
+
+#[test]
+fn refusals_say_whose_choice_it_was() {
+    let mut battle = battle();
+    let switch = "switch 2".parse().unwrap();
+    let told = |refused: Result<gen1::Update, gen1::Refusal>| refused.unwrap_err().to_string();
+    assert_eq!(
+        told(battle.update(switch, Choice::Pass)),
+        "side 1's choice is not offered"
+    );
+    assert_eq!(
+        told(battle.update(Choice::Pass, switch)),
+        "side 2's choice is not offered"
+    );
+}
+
+#[test]
+fn a_room_takes_choices_and_bytes() {
+    let mut room = Room::new(battle());
+    let strength = room.choices(Side::One)[0];
+    assert_eq!(
+        room.submit(Side::One, 0, Choice::Pass),
+        Err(RoomRefusal::NotOffered)
+    );
+    assert_eq!(
+        room.submit_byte(Side::One, 0, 255),
+        Err(RoomRefusal::NotOffered)
+    );
+    assert_eq!(room.submit(Side::One, 0, strength), Ok(Submitted::Waiting));
+    assert_eq!(
+        room.submit_byte(Side::One, 0, 17),
+        Err(RoomRefusal::AlreadyChosen)
+    );
+    let (mut other, log) = (room.clone(), room.log().to_vec());
+    assert!(matches!(
+        room.submit_byte(Side::Two, 0, 17),
+        Ok(Submitted::Advanced(_))
+    ));
+    assert_eq!((other.number(), other.log()), (0, &log[..]));
+    assert_ne!(other, room);
+    assert_eq!(
+        other.submit_byte(Side::One, 0, 17),
+        Err(RoomRefusal::AlreadyChosen)
+    );
+    assert!(other.submit_byte(Side::Two, 0, 17).is_ok());
+    assert_eq!(other, room);
+}
+
+#[test]
+fn what_events_hold_has_a_name() {
+    let turns: ArrayVec<TurnNumber, 4> = battle()
+        .update(Choice::Pass, Choice::Pass)
+        .unwrap()
+        .events()
+        .filter_map(|event| match event {
+            Event::Turn(turn) => Some(turn),
+            _ => None,
+        })
+        .collect();
+    assert_eq!(turns.as_slice(), [TurnNumber::new(1).unwrap()]);
+    assert_eq!(format!("{:?}", gen1::LogReader::new()), "LogReader { .. }");
+}
+
+#[cfg(feature = "serde")]
+#[test]
+fn a_member_is_the_object_of_the_document() {
+    let text = r#"{"species":"Mr. Mime","level":100,"dvs":[15,14,13,12],"exp":[1,2,3,4,65535],"moves":[["Psychic",3],["Double-Edge",0]]}"#;
+    let read = |text: &str| serde_json::from_str::<gen1::MemberSpec>(text);
+    let mut spec = member("Mr. Mime", &["Psychic", "Double-Edge"]).unwrap();
+    (spec.dvs, spec.exp, spec.moves[1].1) = ([15, 14, 13, 12], [1, 2, 3, 4, 65535], 0);
+    assert_eq!(read(text).unwrap(), spec);
+    assert_eq!(serde_json::to_string(&spec).unwrap(), text);
+    for (old, new, why) in [
+        (
+            "Mr. Mime",
+            "mr mime",
+            "nothing has this name; names are compared to the letter",
+        ),
+        ("Psychic", "Psychic!", "nothing has this name"),
+        ("\"level\":100", "\"lvl\":100", "missing field `level`"),
+        ("100", "256", "invalid value: integer `256`, expected u8"),
+        ("[1,2,3,4,65535]", "[1,2,3,4]", "invalid length 4"),
+        ("65535", "65536", "expected u16"),
+        (r#"["Psychic",3]"#, r#"["Psychic"]"#, "invalid length 1"),
+        (
+            r#"["Psychic",3]"#,
+            r#"["Cut",0],["Cut",0],["Cut",0],["Cut",0]"#,
+            "no more than 4",
+        ),
+    ] {
+        let fault = read(&text.replace(old, new)).unwrap_err().to_string();
+        assert!(fault.contains(why), "{fault}");
+    }
+    // Other keys are not looked at, as the program has it.
+    assert_eq!(read(&text.replace('{', r#"{"name":"Joe","#)).unwrap(), spec);
+}
