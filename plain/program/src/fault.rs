@@ -3,6 +3,7 @@ use crate::misfit::Misfit;
 use gen1::{LogFault, Refusal, TeamRefusal};
 use std::fmt;
 use std::io::Write;
+use std::path::Path;
 use std::process::ExitCode;
 
 /// Why the program did not do all that it was asked.
@@ -28,6 +29,8 @@ pub enum Fault {
     Read,
     /// A write failed.
     Write,
+    /// A fault of the file of this name, where a command has several.
+    Of(String, Box<Fault>),
 }
 
 impl fmt::Display for Fault {
@@ -47,11 +50,20 @@ impl fmt::Display for Fault {
             Fault::Page => f.write_str("page"),
             Fault::Read => f.write_str("read"),
             Fault::Write => f.write_str("write"),
+            Fault::Of(_, fault) => fault.fmt(f),
         }
     }
 }
 
 impl Fault {
+    /// The same as the fault of a file; without one it is that of standard input or output.
+    pub fn of(self, file: Option<&Path>) -> Fault {
+        match file {
+            Some(path) => Fault::Of(path.display().to_string(), Box::new(self)),
+            None => self,
+        }
+    }
+
     /// Tells the fault on standard error, with its explanation where `explains`, and answers the exit status.
     pub fn tell(&self, explains: bool) -> ExitCode {
         let behind = if explains {
@@ -61,10 +73,15 @@ impl Fault {
         };
         // Where standard error cannot be written, the status says it alone.
         let _ = write!(std::io::stderr(), "error: {self}\n{behind}");
-        ExitCode::from(match self {
+        ExitCode::from(self.status())
+    }
+
+    fn status(&self) -> u8 {
+        match self {
             Fault::Read | Fault::Write => 3,
+            Fault::Of(_, fault) => fault.status(),
             _ => 1,
-        })
+        }
     }
 
     /// What is wrong: where it is and what was expected there, or why it was refused.
@@ -80,9 +97,12 @@ impl Fault {
             Fault::Pair(number, why) => format!("at .choices[{number}]: {why}"),
             Fault::Log(why) => why.to_string(),
             Fault::Calc => "at .move: expected a move with the usual damage".into(),
-            Fault::Page => "the page has not one place for a battle".into(),
+            Fault::Page => {
+                "expected a page with one place for a battle, as web/build makes it".into()
+            }
             Fault::Read => "the input could not be opened or read".into(),
             Fault::Write => "the output could not be written".into(),
+            Fault::Of(name, fault) => format!("{name}: {}", fault.explanation()),
         }
     }
 }

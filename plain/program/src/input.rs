@@ -6,13 +6,13 @@ use gen1::{Battle, MemberSpec, MoveId, Rules, Side, Species, Team, TurnLimit};
 use serde_json::Value;
 use std::fs::File;
 use std::io::Read;
-use std::path::PathBuf;
+use std::path::Path;
 
 /// The most bytes that an input may have.
 const LIMIT: u64 = 1_048_576;
 
 /// Reads a file, or standard input where none is named.
-pub fn read(file: Option<PathBuf>) -> Result<Vec<u8>, Fault> {
+pub fn read(file: Option<&Path>) -> Result<Vec<u8>, Fault> {
     let mut input = Vec::new();
     let done = match file {
         Some(path) => File::open(path)

@@ -68,22 +68,28 @@ struct Look {
     bytes: bool,
 }
 
-fn answer(command: Command) -> Result<(), Fault> {
+impl Input {
+    fn read(&self) -> Result<Vec<u8>, Fault> {
+        input::read(self.file.as_deref())
+    }
+}
+
+fn answer(command: &Command) -> Result<(), Fault> {
     match command {
-        Command::Run(input) => commands::run(&input::read(input.file)?),
-        Command::Log(input) => commands::log(&input::read(input.file)?),
-        Command::Print(input) => commands::print(&input::read(input.file)?),
-        Command::Calc(input) => commands::calc(&input::read(input.file)?),
-        Command::Room(input) => commands::room(&input::read(input.file)?),
-        Command::State(look) => commands::state(&input::read(look.input.file)?, look.bytes),
-        Command::Play(game) => play::play(&game),
+        Command::Run(input) => commands::run(&input.read()?),
+        Command::Log(input) => commands::log(&input.read()?),
+        Command::Print(input) => commands::print(&input.read()?),
+        Command::Calc(input) => commands::calc(&input.read()?),
+        Command::Room(input) => commands::room(&input.read()?),
+        Command::State(look) => commands::state(&look.input.read()?, look.bytes),
+        Command::Play(game) => play::play(game),
         Command::Replay(asked) => replay::replay(asked),
-        Command::Bench(measure) => bench::bench(&measure),
+        Command::Bench(measure) => bench::bench(measure),
     }
 }
 
 impl Command {
-    /// Whether a fault is to be explained.
+    /// Whether a fault is to be explained: where it is asked for, and always by what programs do not read.
     fn explains(&self) -> bool {
         match self {
             Command::Run(input)
@@ -92,16 +98,15 @@ impl Command {
             | Command::Calc(input)
             | Command::Room(input) => input.explain,
             Command::State(look) => look.input.explain,
-            Command::Play(_) | Command::Replay(_) | Command::Bench(_) => false,
+            Command::Play(_) | Command::Replay(_) | Command::Bench(_) => true,
         }
     }
 }
 
 fn main() -> ExitCode {
     let command = Words::parse().command;
-    let explains = command.explains();
-    match answer(command) {
+    match answer(&command) {
         Ok(()) => ExitCode::SUCCESS,
-        Err(fault) => fault.tell(explains),
+        Err(fault) => fault.tell(command.explains()),
     }
 }

@@ -7,7 +7,7 @@ use crate::screen;
 use clap::{Args, ValueEnum};
 use gen1::{Battle, Choice, EventList, Outcome, Side};
 use std::io::BufRead;
-use std::path::PathBuf;
+use std::path::{Path, PathBuf};
 
 /// What is played.
 #[derive(Args)]
@@ -39,10 +39,8 @@ enum Foe {
 /// Plays a battle.
 pub fn play(game: &Game) -> Result<(), Fault> {
     let mut random = game.seed.map_or_else(Random::any, Random::new);
-    let mut battle = match &game.file {
-        Some(path) => Sheet::of(&value_of(&read(Some(path.clone()))?)?)
-            .map_err(Fault::Value)?
-            .battle()?,
+    let mut battle = match game.file.as_deref() {
+        Some(path) => battle_in(path).map_err(|why| why.of(Some(path)))?,
         None => {
             let members = usize::from(game.members);
             let (one, two) = (random.team(members), random.team(members));
@@ -66,6 +64,12 @@ pub fn play(game: &Game) -> Result<(), Fault> {
         Outcome::WinTwo => "You lose.\n",
         _ => "Nobody wins.\n",
     })
+}
+
+/// The battle that a file asks for.
+fn battle_in(path: &Path) -> Result<Battle, Fault> {
+    let value = value_of(&read(Some(path))?)?;
+    Sheet::of(&value).map_err(Fault::Value)?.battle()
 }
 
 /// What the person chooses; `None` where the input ends.

@@ -24,19 +24,25 @@ pub struct Replay {
 }
 
 /// Writes the page with the battle in it.
-pub fn replay(asked: Replay) -> Result<(), Fault> {
-    let battle = battle_in(&read(asked.file)?)?;
-    let page = String::from_utf8(read(Some(asked.page))?).map_err(|_| Fault::Page)?;
-    let whole = filled(&page, &battle).ok_or(Fault::Page)?;
-    match asked.out {
-        Some(path) => std::fs::write(path, whole).map_err(|_| Fault::Write),
+pub fn replay(asked: &Replay) -> Result<(), Fault> {
+    let file = asked.file.as_deref();
+    let battle = read(file)
+        .and_then(|input| battle_in(&input))
+        .map_err(|why| why.of(file))?;
+    let page = Some(asked.page.as_path());
+    let whole = read(page)
+        .and_then(|text| filled(&text, &battle).ok_or(Fault::Page))
+        .map_err(|why| why.of(page))?;
+    let out = asked.out.as_deref();
+    match out {
+        Some(path) => std::fs::write(path, whole).map_err(|_| Fault::Write.of(out)),
         None => put(&whole),
     }
 }
 
 /// The page with a battle in the one place for it.
-fn filled(page: &str, battle: &str) -> Option<String> {
-    let (before, after) = page.split_once(PLACE)?;
+fn filled(page: &[u8], battle: &str) -> Option<String> {
+    let (before, after) = std::str::from_utf8(page).ok()?.split_once(PLACE)?;
     if after.contains(PLACE) {
         return None;
     }
