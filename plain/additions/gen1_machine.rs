@@ -23,8 +23,8 @@ impl fmt::Display for Choice {
     fn fmt(&self, f: &mut fmt::Formatter<'_>) -> fmt::Result {
         match self {
             Choice::Pass => f.write_str("pass"),
-            Choice::Move(slot) => write!(f, "move {}", slot.number()),
-            Choice::Switch(place) => write!(f, "switch {}", place.number()),
+            Choice::Move(slot) => write!(f, "move {slot}"),
+            Choice::Switch(place) => write!(f, "switch {place}"),
         }
     }
 }
@@ -102,6 +102,27 @@ impl fmt::Display for Kind {
             Kind::Freeze => "frozen",
             Kind::Paralysis => "paralysed",
         })
+    }
+}
+
+/// The number.
+impl<const LOW: u8, const HIGH: u8> fmt::Display for Ranged<LOW, HIGH> {
+    fn fmt(&self, f: &mut fmt::Formatter<'_>) -> fmt::Result {
+        self.number().fmt(f)
+    }
+}
+
+/// The number.
+impl fmt::Display for TurnNumber {
+    fn fmt(&self, f: &mut fmt::Formatter<'_>) -> fmt::Result {
+        self.number().fmt(f)
+    }
+}
+
+/// The number.
+impl fmt::Display for TurnLimit {
+    fn fmt(&self, f: &mut fmt::Formatter<'_>) -> fmt::Result {
+        self.number().fmt(f)
     }
 }
 

@@ -133,6 +133,10 @@ fn what_events_hold_has_a_name() {
         })
         .collect();
     assert_eq!(turns.as_slice(), [TurnNumber::new(1).unwrap()]);
+    assert_eq!(
+        format!("turn {:>2}, place {}", turns[0], Place::new(6).unwrap()),
+        "turn  1, place 6"
+    );
     assert_eq!(format!("{:?}", gen1::LogReader::new()), "LogReader { .. }");
 }
 
