@@ -5,7 +5,7 @@ use crate::input::{Sheet, read, value_of};
 use crate::random::Random;
 use crate::screen;
 use clap::{Args, ValueEnum};
-use gen1::{Battle, Choice, EventList, Outcome, Side};
+use gen1::{Battle, Choice, EventList, Side};
 use std::io::BufRead;
 use std::path::{Path, PathBuf};
 
@@ -59,10 +59,10 @@ pub fn play(game: &Game) -> Result<(), Fault> {
             put(&text_of(&events))?;
         }
     }
-    put(match battle.outcome() {
-        Outcome::WinOne => "You win.\n",
-        Outcome::WinTwo => "You lose.\n",
-        _ => "Nobody wins.\n",
+    put(match battle.outcome().winner() {
+        Some(Side::One) => "You win.\n",
+        Some(Side::Two) => "You lose.\n",
+        None => "Nobody wins.\n",
     })
 }
 
@@ -140,9 +140,8 @@ fn won(battle: &Battle, choice: Choice, random: &mut Random) -> u32 {
         }
         two = random.pick(&copy.choices(Side::Two)).copied();
     }
-    match copy.outcome() {
-        Outcome::WinTwo => 2,
-        Outcome::WinOne => 0,
-        _ => 1,
+    match copy.outcome().winner() {
+        Some(winner) => 2 * u32::from(winner == Side::Two),
+        None => 1,
     }
 }

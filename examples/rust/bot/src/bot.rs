@@ -72,10 +72,9 @@ fn play_out(mut battle: Battle, side: Side, first: Choice, random: &mut Random) 
 
 /// Two for a win of a side, and one for a tie.
 fn points(outcome: Outcome, side: Side) -> u32 {
-    match outcome {
-        Outcome::WinOne => 2 * u32::from(side == Side::One),
-        Outcome::WinTwo => 2 * u32::from(side == Side::Two),
-        _ => 1,
+    match outcome.winner() {
+        Some(winner) => 2 * u32::from(winner == side),
+        None => 1,
     }
 }
 

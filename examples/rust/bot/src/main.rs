@@ -5,7 +5,7 @@ mod share;
 mod teams;
 
 use clap::Parser;
-use gen1::{Battle, Choice, Outcome, Rules, Side, TurnLimit, Update};
+use gen1::{Battle, Choice, Rules, Side, TurnLimit, Update};
 use random::Random;
 use std::io::{IsTerminal, Write};
 use std::process::ExitCode;
@@ -86,11 +86,10 @@ impl Words {
             update = battle.update(one, two).expect("both choices are offered");
             each(me, &tried, &update);
         }
-        match battle.outcome() {
-            Outcome::WinOne if me == Side::One => End::Won,
-            Outcome::WinTwo if me == Side::Two => End::Won,
-            Outcome::WinOne | Outcome::WinTwo => End::Lost,
-            _ => End::Tied,
+        match battle.outcome().winner() {
+            Some(winner) if winner == me => End::Won,
+            Some(_) => End::Lost,
+            None => End::Tied,
         }
     }
 
