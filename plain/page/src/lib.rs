@@ -126,7 +126,8 @@ pub extern "C" fn page_calculate() -> usize {
 }
 
 /// For each offered choice of a side its byte and, in four bytes, what random battles that begin with it brought: 2 for a win, 1
-/// for a tie. Answers how many choices there are.
+/// for a tie. Each draws link numbers of its own, so that nothing of what the battle will draw is known. Answers how many choices
+/// there are.
 #[unsafe(no_mangle)]
 pub extern "C" fn page_playouts(side: u8, count: u32, seed: u32) -> usize {
     answer(|input, out, _| players::playouts(input, side, count, seed, out))

@@ -12,13 +12,23 @@ impl Random {
         Random(seed.wrapping_mul(0x9e37_79b9) | 1)
     }
 
-    fn pick(&mut self, choices: &Choices) -> Option<Choice> {
+    /// 24 bits.
+    fn draw(&mut self) -> u32 {
         self.0 ^= self.0 << 13;
         self.0 ^= self.0 >> 17;
         self.0 ^= self.0 << 5;
+        self.0 >> 8
+    }
+
+    fn pick(&mut self, choices: &Choices) -> Option<Choice> {
         choices
-            .get((self.0 >> 8) as usize % choices.len().max(1))
+            .get(self.draw() as usize % choices.len().max(1))
             .copied()
+    }
+
+    /// Ten numbers for a copy of a battle to draw.
+    fn seed(&mut self) -> [u8; 10] {
+        core::array::from_fn(|_| self.draw() as u8)
     }
 }
 
@@ -41,6 +51,8 @@ pub fn playouts(input: &[u8], side: u8, count: u32, seed: u32, out: &mut Out<'_>
 /// 2 where the side wins a random battle that begins with a choice, 1 where nobody does.
 fn brought(battle: &Battle, side: Side, choice: Choice, random: &mut Random) -> u32 {
     let mut copy = battle.clone();
+    // With the battle's own numbers the player would know what will be drawn.
+    copy.reseed(random.seed());
     let mut events = EventList::new();
     let mut own = Some(choice);
     while let (Some(mine), Some(other)) = (own, random.pick(&copy.choices(side.other()))) {

@@ -115,58 +115,52 @@ fn going_on(packed: &Packed, side: Side) -> u8 {
     }
 }
 
-/// `[[name,number]..]` of the conditions that are on; the number is 0 where a condition has none.
+/// The conditions, as the page names them.
+const CONDITIONS: [(&str, Conditions); 17] = [
+    ("Bide", Conditions::BIDE),
+    ("Thrash", Conditions::THRASH),
+    ("Trapping", Conditions::TRAPPING),
+    ("Flinch", Conditions::FLINCH),
+    ("Charging", Conditions::CHARGING),
+    ("Invulnerable", Conditions::INVULNERABLE),
+    ("Confused", Conditions::CONFUSED),
+    ("Mist", Conditions::MIST),
+    ("FocusEnergy", Conditions::FOCUS_ENERGY),
+    ("Substitute", Conditions::SUBSTITUTE),
+    ("Recharge", Conditions::RECHARGE),
+    ("Rage", Conditions::RAGE),
+    ("Seeded", Conditions::SEEDED),
+    ("BadPoison", Conditions::BAD_POISON),
+    ("LightScreen", Conditions::LIGHT_SCREEN),
+    ("Reflect", Conditions::REFLECT),
+    ("Disabled", Conditions::DISABLED),
+];
+
+/// The turns, HP, count or slot of a condition that is on; 0 where it has no number.
+fn number_of(packed: &Packed, side: Side, which: Conditions) -> u16 {
+    let number = match which {
+        Conditions::BIDE => packed.bide(side).map(u16::from),
+        Conditions::THRASH => packed.thrash(side).map(u16::from),
+        Conditions::TRAPPING => packed.trapping(side).map(u16::from),
+        Conditions::CONFUSED => packed.confused(side).map(u16::from),
+        Conditions::SUBSTITUTE => packed.substitute(side).map(u16::from),
+        Conditions::BAD_POISON => packed.bad_poison(side).map(u16::from),
+        Conditions::DISABLED => packed.disabled(side).map(|it| u16::from(it.slot)),
+        _ => None,
+    };
+    number.unwrap_or(0)
+}
+
+/// `[[name,number]..]` of the conditions that are on.
 fn write_conditions(packed: &Packed, side: Side, out: &mut Out<'_>) {
-    let disabled = packed
-        .disabled(side)
-        .map(|disabled| u16::from(disabled.slot));
-    let all = [
-        ("Bide", Conditions::BIDE, packed.bide(side).map(u16::from)),
-        (
-            "Thrash",
-            Conditions::THRASH,
-            packed.thrash(side).map(u16::from),
-        ),
-        (
-            "Trapping",
-            Conditions::TRAPPING,
-            packed.trapping(side).map(u16::from),
-        ),
-        ("Flinch", Conditions::FLINCH, None),
-        ("Charging", Conditions::CHARGING, None),
-        ("Invulnerable", Conditions::INVULNERABLE, None),
-        (
-            "Confused",
-            Conditions::CONFUSED,
-            packed.confused(side).map(u16::from),
-        ),
-        ("Mist", Conditions::MIST, None),
-        ("FocusEnergy", Conditions::FOCUS_ENERGY, None),
-        (
-            "Substitute",
-            Conditions::SUBSTITUTE,
-            packed.substitute(side).map(u16::from),
-        ),
-        ("Recharge", Conditions::RECHARGE, None),
-        ("Rage", Conditions::RAGE, None),
-        ("Seeded", Conditions::SEEDED, None),
-        (
-            "BadPoison",
-            Conditions::BAD_POISON,
-            packed.bad_poison(side).map(u16::from),
-        ),
-        ("LightScreen", Conditions::LIGHT_SCREEN, None),
-        ("Reflect", Conditions::REFLECT, None),
-        ("Disabled", Conditions::DISABLED, disabled),
-    ];
-    let on = all
+    let on = CONDITIONS
         .into_iter()
-        .filter(|(_, which, _)| packed.is_on(side, *which));
-    out.list(on, |out, (name, _, number)| {
+        .filter(|(_, which)| packed.is_on(side, *which));
+    out.list(on, |out, (name, which)| {
         out.raw("[");
         out.text(name);
         out.raw(",");
-        out.number(number.unwrap_or(0));
+        out.number(number_of(packed, side, which));
         out.raw("]");
     });
 }

@@ -181,6 +181,25 @@ fn a_status_is_told_as_the_lines_print_it() {
     }
 }
 
+#[test]
+fn conditions_are_told_with_their_numbers() {
+    let _alone = alone();
+    let mut battle = updated(&begin(), 0, 0).0;
+    // Side 1's condition bits that no move is tied to, and their numbers (docs/LAYOUT.md, "Active block").
+    battle[168 + 17..168 + 20].copy_from_slice(&[0xe8, 0xf3, 1]);
+    battle[168 + 21..168 + 26].copy_from_slice(&[30, 3, 1, 2, 5]);
+    put(&battle);
+    let told = text(page_state());
+    let (_, told) = told.split_once(r#""conditions":"#).unwrap();
+    assert!(
+        told.starts_with(concat!(
+            r#"[["Flinch",0],["Invulnerable",0],["Confused",3],["Mist",0],["FocusEnergy",0],["Substitute",30],["#,
+            r#""Seeded",0],["BadPoison",5],["LightScreen",0],["Reflect",0],["Disabled",1]]"#
+        )),
+        "{told}"
+    );
+}
+
 /// Whether the user misses in its first two updates, at the lowest accuracy against the highest evasion.
 fn misses(id: u8, seed: u8) -> bool {
     let mut splashes = team(150, 1);
@@ -242,4 +261,42 @@ fn the_computer_chooses_what_is_offered() {
     let told = got(5);
     assert_eq!(told[0], 17);
     assert!(u32::from_le_bytes([told[1], told[2], told[3], told[4]]) <= 100);
+}
+
+/// A battle of two Tauros with two moves each, after its first update.
+fn with_two_moves() -> Vec<u8> {
+    let mut both = team(STRENGTH, 1);
+    (both[7], both[11]) = (34, 3);
+    put(&[&both[..], &both, &SEED, &[0, 0xe8, 3]].concat());
+    assert_eq!(page_begin(), 0);
+    updated(&got(384), 0, 0).0
+}
+
+#[test]
+fn playouts_do_not_know_what_the_battle_will_draw() {
+    let _alone = alone();
+    let mut battle = with_two_moves();
+    let mut brought = |numbers: [u8; 10]| {
+        // The index and the numbers of the battle (docs/LAYOUT.md, "Header").
+        battle[5] = numbers[9] % 9;
+        battle[6..16].copy_from_slice(&numbers);
+        put(&battle);
+        assert_eq!(page_playouts(1, 50, 7), 2);
+        got(10)
+    };
+    let first = brought([0; 10]);
+    assert_eq!(first, brought([255; 10]));
+    assert_eq!(first, brought([9, 200, 31, 4, 77, 128, 3, 250, 66, 5]));
+}
+
+#[test]
+fn playouts_differ_from_each_other() {
+    let _alone = alone();
+    // With one move a side nothing but what is drawn tells two battles apart.
+    let (battle, _) = updated(&begin(), 0, 0);
+    put(&battle);
+    assert_eq!(page_playouts(1, 50, 7), 1);
+    let told = got(5);
+    let brought = u32::from_le_bytes([told[1], told[2], told[3], told[4]]);
+    assert!((20..=80).contains(&brought), "{brought}");
 }
