@@ -141,7 +141,33 @@ def nothing_is_fetched_and_nothing_is_wrong(browser):
     assert not browser.said, browser.said
 
 
+def the_focus_goes_to_a_heading(browser):
+    at = "return document.activeElement.id"
+    browser.open()
+    browser.click("#replay-example")
+    assert browser.run(at) == "replay-now"
+    browser.run("document.getElementById('replay-open').open = true; document.getElementById('replay-text').closest('details').open = true")
+    browser.fill("#replay-text", browser.run("return document.getElementById('example').text"))
+    browser.click("#replay-read")
+    assert browser.run(at) == "replay-now"
+    browser.open("#play")
+    for side in (1, 2):
+        browser.fill(f"#play-who-{side}", "person")
+        browser.fill(f"#play-team-{side}", "Tauros\n- Explosion")
+    browser.click("#play-start")
+    assert browser.run(at) == "play-now"
+    for side in (1, 2):
+        browser.find(f"#play-choices-{side} button").send_keys(Keys.ENTER)
+    assert browser.text("#play-now").endswith("A tie.") or "has won" in browser.text("#play-now")
+    assert browser.run(at) == "play-now"
+    browser.click("#play-watch")
+    assert browser.run(at) == "replay-now"
+    browser.click("#tab-play")
+    browser.click("#play-again")
+    assert browser.run(at) == "play-teams"
+
+
 CHECKS = [
-    all_has_a_name, lines_are_read_out, contrast_is_enough, a_theme_can_be_chosen, keys_alone_reach_all, a_phone_is_wide_enough,
+    the_focus_goes_to_a_heading, all_has_a_name, lines_are_read_out, contrast_is_enough, a_theme_can_be_chosen, keys_alone_reach_all, a_phone_is_wide_enough,
     it_is_painted_within_a_second,
 ]

@@ -79,6 +79,12 @@ class Browser:
         path.write_bytes(content if isinstance(content, bytes) else content.encode())
         self.find("#replay-file").send_keys(str(path))
 
+    def type(self, selector, value):
+        """Types a value key by key, and stays in the field."""
+        field = self.find(selector)
+        field.clear()
+        field.send_keys(value)
+
     def press(self, key):
         """Presses a key, wherever the focus is."""
         ActionChains(self.driver, duration=0).send_keys(key).perform()
@@ -86,6 +92,10 @@ class Browser:
     def lines(self, selector):
         """The lines of a list, as the program prints them."""
         return self.run("return [...document.querySelectorAll(arguments[0] + ' [data-line]')].map((it) => it.dataset.line)", selector)
+
+    def words(self, selector):
+        """The texts of elements, as a person reads them."""
+        return self.run("return [...document.querySelectorAll(arguments[0])].map((it) => it.textContent)", selector)
 
     def notice(self):
         """The message that is shown; empty where there is none."""

@@ -57,7 +57,9 @@ def stages_status_and_screens_count(browser):
     assert "Attack 596 (own 298)" in browser.text("#calc-results-1")
     browser.fill("#calc-member-1 [name=stage-Attack]", "0")
     browser.run("document.querySelector(\"#calc-member-2 [name='Reflect']\").click()")
-    assert damage() not in ("95–112", "")
+    # Defense 576: 74 and 144, so 42 * 85 * 74 / 144 / 50 + 2 is 38, and 57 with its own type.
+    assert damage() == "48–57"
+    assert browser.text("#calc-results-1 tr[data-move='Body Slam'] td:nth-of-type(4)") == "184–217"
     browser.run("document.querySelector(\"#calc-member-2 [name='Reflect']\").click()")
     browser.fill("#calc-member-1 [name=stage-Accuracy]", "-6")
     browser.fill("#calc-member-1 [name=move-1]", "Guillotine")
@@ -88,4 +90,56 @@ def a_wrong_field_is_said(browser):
         assert not browser.text("#calc-fault")
 
 
-CHECKS = [recorded_calculations_come_out, a_text_is_taken, stages_status_and_screens_count, an_address_is_a_calculation, a_wrong_field_is_said]
+def half_a_name_is_no_fault_yet(browser):
+    browser.open("#calculator")
+    shown = browser.text("#calc-results")
+    stale = "return document.getElementById('calc-results').hasAttribute('data-stale')"
+    field = "#calc-member-1 [name=move-1]"
+    browser.type(field, "Body Sl")
+    assert not browser.text("#calc-fault") and browser.run(stale)
+    browser.wait("return document.getElementById('calc-fault').textContent")
+    assert browser.text("#calc-fault") == 'Side 1: there is no move "Body Sl". The numbers below are of what stood here before.'
+    assert browser.run("return document.getElementById('calc-fault').getAttribute('role')") == "status"
+    assert browser.run(f"const it = document.querySelector('{field}'); return it === document.activeElement && it.getAttribute('aria-invalid')") == "true"
+    browser.find(field).send_keys("am")
+    assert not browser.text("#calc-fault") and not browser.run(stale) and browser.text("#calc-results") == shown
+    assert not browser.run("return document.querySelectorAll('[aria-invalid]').length")
+
+
+def too_many_hp_are_those_of_a_side(browser):
+    """Tauros has 353 HP, and Alakazam 313: base 55, DV 15 and all experience (docs/MECHANICS.md, "Stats")."""
+    browser.open("#calculator")
+    for side, name, most in ((1, "Tauros", 353), (2, "Alakazam", 313)):
+        browser.fill(f"#calc-member-{side} [name=hp]", str(most + 1))
+        assert f"Side {side}: {most + 1} HP are above the maximum of {name}, which is {most}." in browser.text("#calc-fault")
+        browser.fill(f"#calc-member-{side} [name=hp]", str(most))
+        assert not browser.text("#calc-fault") and f"{name} (side {side})" in browser.text(f"#calc-results-{3 - side}")
+        assert f"{name}: {most} of {most} HP" in browser.text(f"#calc-results-{3 - side}")
+
+
+def a_text_at_fault_is_that_of_a_side(browser):
+    browser.open("#calculator")
+    browser.fill("#calc-member-2 textarea", "Tauros\n- Body Slap")
+    browser.run("document.querySelector('#calc-member-2 details button').click()")
+    assert browser.notice().startswith("The text of side 2's member: line 2: "), browser.notice()
+    assert browser.run("return document.activeElement === document.querySelector('#calc-member-2 textarea')")
+
+
+def a_hit_has_the_same_share_everywhere(browser):
+    """Body Slam takes 95 to 112 of Tauros' 353 HP (docs/MECHANICS.md, "Damage formula"): 26.9 to 31.7 in a hundred."""
+    browser.open("#calculator")
+    for side in (1, 2):
+        type_member(browser, side, {"species": "Tauros", "level": 100, "dvs": [15] * 4, "exp": [65535] * 5, "moves": [["Body Slam", 3]]})
+    assert browser.text("#calc-results-1 tr[data-move='Body Slam'] td:nth-of-type(2)") == "26–31%"
+    browser.open("#play")
+    for side in (1, 2):
+        browser.fill(f"#play-team-{side}", "Tauros\n- Body Slam")
+        browser.fill(f"#play-who-{side}", "person")
+    browser.click("#play-start")
+    assert "damage 95–112 (26–31% of its HP)" in browser.text("#play-choices-1 [data-choice='17']")
+
+
+CHECKS = [
+    half_a_name_is_no_fault_yet, too_many_hp_are_those_of_a_side, a_text_at_fault_is_that_of_a_side, a_hit_has_the_same_share_everywhere,
+    recorded_calculations_come_out, a_text_is_taken, stages_status_and_screens_count, an_address_is_a_calculation, a_wrong_field_is_said,
+]

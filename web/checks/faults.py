@@ -2,7 +2,7 @@
 import json
 
 from checks.cases import cases
-from checks.replay import battle
+from checks.replay import battle, fill_page, shown
 
 
 def goes_on(browser):
@@ -37,6 +37,7 @@ def files_that_are_no_battles_are_refused(browser):
     said(browser, "team.json", json.dumps({**asked, "one": []}), "side 1: the team has no member")
     said(browser, "name.json", json.dumps({**asked, "two": [{**asked["two"][0], "species": "Missingno."}]}), "two[0].species")
     said(browser, "seed.json", json.dumps({**asked, "seed": [1, 2]}), "seed has 2 items, not 10")
+    said(browser, "limit.json", json.dumps({**asked, "limit": 0}), "limit is 0, which is no whole number from 1 to 9999")
     said(browser, "page.html", "<!doctype html><p>nothing", "holds no battle")
     goes_on(browser)
 
@@ -59,7 +60,7 @@ def damaged_addresses_are_refused(browser):
 def teams_and_seeds_are_tested(browser):
     browser.open("#play")
     for field, value, word in (
-        ("play-team-1", "", "no member"), ("play-team-2", "Tauros\n- Body Slap", "line 2"), ("play-seed", "1 2 3", "ten whole numbers"),
+        ("play-team-1", "", "no member"), ("play-team-2", "Tauros\n- Body Slap", "Side 2's team: line 2"), ("play-seed", "1 2 3", "ten whole numbers"),
         ("play-team-1", "Tauros", "move"), ("play-limit", "0", "limit"), ("play-team-2", "Mew\n- Metronome", "side 2, member 1"),
     ):
         kept = browser.run("return document.getElementById(arguments[0]).value", field)
@@ -71,4 +72,45 @@ def teams_and_seeds_are_tested(browser):
     assert not browser.notice() and "Turn 1" in browser.text("#play-now")
 
 
-CHECKS = [damaged_logs_are_refused, files_that_are_no_battles_are_refused, what_was_shown_stays, damaged_addresses_are_refused, teams_and_seeds_are_tested]
+def a_wrong_turn_limit_is_named(browser):
+    browser.open("#play")
+    for value in ("70000", "-60000", "2.5", "0", "10000", ""):
+        browser.fill("#play-limit", value)
+        browser.click("#play-start")
+        assert browser.notice() == f"The turn limit is {value or 'missing'}: it is to be a whole number from 1 to 9999.", (value, browser.notice())
+        assert browser.run("return document.activeElement.id") == "play-limit" and not browser.run("return document.getElementById('play-setup').hidden")
+    for value in ("1", "9999"):
+        browser.open("#play")
+        browser.fill("#play-limit", value)
+        browser.click("#play-start")
+        assert not browser.notice() and f"of at most {value}" in browser.text("#play-now")
+
+
+def a_log_that_is_too_long_is_refused(browser):
+    message = "The log has 1,048,577 bytes; at most 1,048,576 are read."
+    text = json.dumps({"log": "1b" * 1_048_577})
+    browser.open()
+    browser.run("document.getElementById('replay-text').closest('details').open = true")
+    browser.fill("#replay-text", text)
+    browser.click("#replay-read")
+    assert browser.notice() == message
+    browser.open(page=fill_page(browser, text))
+    assert browser.notice() == message
+    goes_on(browser)
+
+
+def a_mark_at_the_beginning_of_a_text_is_skipped(browser):
+    text = battle(5, 10)["input"]
+    shown(browser, b"\xef\xbb\xbf" + text.encode())
+    lines = browser.text("#replay-stage")
+    browser.open()
+    browser.run("document.getElementById('replay-text').closest('details').open = true")
+    browser.fill("#replay-text", "\ufeff" + text)
+    browser.click("#replay-read")
+    assert not browser.notice() and browser.text("#replay-stage") == lines
+
+
+CHECKS = [
+    damaged_logs_are_refused, files_that_are_no_battles_are_refused, what_was_shown_stays, damaged_addresses_are_refused, teams_and_seeds_are_tested,
+    a_wrong_turn_limit_is_named, a_log_that_is_too_long_is_refused, a_mark_at_the_beginning_of_a_text_is_skipped,
+]

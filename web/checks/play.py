@@ -106,8 +106,103 @@ def a_battle_that_was_played_is_watched(browser):
     assert browser.lines("#replay-whole-lines") == lines_of(case)
 
 
+# Workers that fail, each in its own way.
+FAILING = {
+    "an error": "postMessage() { setTimeout(() => this.onerror(new ErrorEvent('error', {message: 'broken', cancelable: true}))); }",
+    "a message that cannot be read": "postMessage() { setTimeout(() => this.onmessageerror(new MessageEvent('messageerror'))); }",
+    "a fault": "postMessage({id}) { if (id) setTimeout(() => this.onmessage({data: {id, fault: 'broken'}})); }",
+    "no worker": "constructor() { throw new Error('broken'); }",
+}
+
+
+def a_worker_that_fails_is_done_without(browser):
+    for name, how in FAILING.items():
+        browser.open("#play")
+        browser.run(f"window.Worker = class {{ {how} terminate() {{ window.ended = true; }} }}")
+        browser.fill("#play-who-2", "greedy")
+        for side in (1, 2):
+            browser.fill(f"#play-team-{side}", "Tauros\n- Body Slam\n- Strength")
+        browser.click("#play-start")
+        for turn in (2, 3):
+            browser.click("#play-choices-1 [data-choice='18']")
+            browser.wait(f"return document.getElementById('play-now').textContent.startsWith('Turn {turn} ')")
+        assert not browser.text("#play-wait") and not browser.notice(), name
+        assert name == "no worker" or browser.run("return window.ended"), name
+
+
+def a_worker_says_why_it_cannot(browser):
+    browser.open("#play")
+    told = browser.run("""
+        const worker = new Worker(URL.createObjectURL(new Blob([document.getElementById('worker').text], {type: 'text/javascript'})));
+        worker.postMessage({module: new Uint8Array([1, 2, 3])});
+        worker.postMessage({id: 7, battle: new Uint8Array(384), side: 1, player: 'greedy', seed: 1});
+        return new Promise((done) => (worker.onmessage = ({data}) => done(data)));""")
+    assert told["id"] == 7 and "CompileError" in told["fault"], told
+
+
+def two_tauros(browser):
+    """Begins a battle of two persons."""
+    browser.open("#play")
+    for side in (1, 2):
+        browser.fill(f"#play-who-{side}", "person")
+        browser.fill(f"#play-team-{side}", "Tauros\n- Body Slam\n- Strength\n\nStarmie\n- Surf\n\nChansey\n- Ice Beam")
+    browser.click("#play-start")
+
+
+def a_key_that_is_held_plays_once(browser):
+    two_tauros(browser)
+    pressed = "document.body.dispatchEvent(new KeyboardEvent('keydown', {key: arguments[0], repeat: arguments[1], bubbles: true, cancelable: true}))"
+    for key in "1q1q":
+        browser.run(pressed, key, True)
+    assert browser.text("#play-now").startswith("Turn 1 ")
+    for key in "1q":
+        browser.run(pressed, key, False)
+    assert browser.text("#play-now").startswith("Turn 2 ")
+
+
+def keys_of_one_character_can_be_switched_off(browser):
+    two_tauros(browser)
+    assert browser.run("return document.querySelectorAll('#play-choices-1 kbd, #play-choices-1 [aria-keyshortcuts]').length")
+    browser.click("#keys")
+    browser.run("document.activeElement.blur()")
+    assert not browser.run("return document.querySelectorAll('#play-choices-1 kbd, #play-choices-1 [aria-keyshortcuts]').length")
+    browser.press("1q")
+    assert browser.text("#play-now").startswith("Turn 1 ")
+    two_tauros(browser)
+    assert not browser.run("return document.getElementById('keys').checked")
+    browser.click("#keys")
+    browser.run("document.activeElement.blur()")
+    browser.press("1q")
+    assert browser.text("#play-now").startswith("Turn 2 ")
+
+
+def a_battle_that_was_left_is_gone_back_to(browser):
+    two_tauros(browser)
+    browser.press("1q")
+    shown = browser.text("#play-game")
+    browser.click("#play-again")
+    assert browser.run("return document.getElementById('play-game').hidden")
+    browser.click("#play-return")
+    assert browser.text("#play-game") == shown and browser.run("return document.activeElement.id") == "play-now"
+    browser.wait("return location.hash.startsWith('#play?b=')")
+
+
+def open_details_stay_with_their_member(browser):
+    two_tauros(browser)
+    names = "return [...document.querySelectorAll('#play-side-1 .members details[open]')].map((it) => it.parentElement.querySelector('.name').textContent)"
+    browser.run("document.querySelector('#play-side-1 .members > li:nth-child(2) details summary').focus()")
+    browser.press(" ")
+    browser.wait("return document.querySelector('#play-side-1 .members > li:nth-child(2) details').open")
+    assert browser.run(names) == ["Starmie"]
+    # Chansey comes out, and Tauros stands where Starmie's details were.
+    browser.run("for (const it of ['1 [data-choice=\"35\"]', '2 [data-choice=\"17\"]']) document.querySelector('#play-choices-' + it).click()")
+    assert "Chansey" in browser.text("#play-side-1 .head") and browser.run(names) == ["Starmie"]
+    assert browser.run("return document.activeElement.textContent") == "Moves of Starmie"
+
+
 CHECKS = [
-    a_recorded_battle_is_played_by_clicks, a_recorded_battle_is_played_by_keys, only_what_is_offered_can_be_pressed,
+    a_worker_that_fails_is_done_without, a_worker_says_why_it_cannot, a_key_that_is_held_plays_once, keys_of_one_character_can_be_switched_off,
+    a_battle_that_was_left_is_gone_back_to, open_details_stay_with_their_member, a_recorded_battle_is_played_by_clicks, a_recorded_battle_is_played_by_keys, only_what_is_offered_can_be_pressed,
     taking_back_and_playing_again_is_the_same, battles_against_the_computer_go_on, two_computers_play_to_the_end,
     a_battle_that_was_played_is_watched,
 ]

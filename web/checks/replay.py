@@ -110,9 +110,26 @@ def an_address_is_a_position(browser):
 def a_watcher_sees_less(browser):
     case = battle(20, 40)
     shown(browser, case["input"])
-    assert " PP" in browser.text("#replay-side-1")
+    hidden = "return ['.moves', '.stats'].map((it) => document.querySelectorAll('#replay-stage ' + it).length)"
+    assert all(browser.run(hidden)) and " PP" in browser.text("#replay-side-1")
     browser.fill("#replay-see", "watcher")
-    assert " PP" not in browser.text("#replay-side-1") and "HP" not in browser.text("#replay-side-1 .moves, #replay-side-1 .members")
+    assert not any(browser.run(hidden)) and " PP" not in browser.text("#replay-stage")
+
+
+def a_battle_after_a_log_shows_all(browser):
+    case = battle(20, 40)
+    shown(browser, case["input"])
+    log = browser.saved("#replay-share [data-share=log]", "battle.log")
+    see = "return document.getElementById('replay-see').value"
+    for wanted in ("all", "watcher"):
+        shown(browser, case["input"])
+        browser.fill("#replay-see", wanted)
+        browser.file("log.log", log)
+        browser.wait("return document.getElementById('replay-see').options[0].disabled")
+        assert browser.run(see) == "watcher"
+        browser.run("document.getElementById('replay-open').open = true")
+        browser.click("#replay-example")
+        assert browser.run(see) == wanted
 
 
 def a_saved_page_holds_its_battle(browser):
@@ -126,18 +143,24 @@ def a_saved_page_holds_its_battle(browser):
     assert steps(browser) == lines_of(case)
 
 
-def a_page_is_filled_by_others(browser):
-    case = battle(5, 10)
+def fill_page(browser, text):
+    """Puts a battle's JSON into the page, as a file of its own, and answers where that is."""
     source = Path(browser.page.removeprefix("file://")).read_text()
     place = '<script id="battle" type="application/json">null</script>'
     assert source.count(place) == 1
-    filled = source.replace(place, place.replace("null", case["input"].replace("<", "\\u003c")))
-    (browser.folder / "filled.html").write_text(filled)
-    browser.open(page=(browser.folder / "filled.html").as_uri())
+    path = browser.folder / "filled.html"
+    path.write_text(source.replace(place, place.replace("null", text.replace("<", "\\u003c"))))
+    return path.as_uri()
+
+
+def a_page_is_filled_by_others(browser):
+    case = battle(5, 10)
+    page = fill_page(browser, case["input"])
+    browser.open(page=page)
     assert steps(browser) == lines_of(case)
     if browser.program:
         words = [browser.program, "replay", "--page", browser.page.removeprefix("file://")]
-        assert subprocess.run(words, input=case["input"].encode(), capture_output=True).stdout.decode() == filled
+        assert subprocess.run(words, input=case["input"].encode(), capture_output=True).stdout.decode() == Path(page.removeprefix("file://")).read_text()
 
 
 def what_is_saved_is_what_was_opened(browser):
@@ -160,8 +183,31 @@ def a_log_as_long_as_may_be_is_shown(browser):
     assert "too long for an address" in browser.notice()
 
 
+def a_page_with_a_long_log_opens_again(browser):
+    log = next(bytes.fromhex(case["hex"]) for case in cases("print") if case["status"] == 0 and case["stdout"].startswith("|switch"))
+    page = Path(fill_page(browser, json.dumps({"log": (log * (450_000 // len(log))).hex()})).removeprefix("file://")).read_bytes()
+    assert len(page) > 1_048_576
+    shown(browser, page, "saved.html")
+    assert int(browser.run("return document.getElementById('replay-slider').max")) > 4_000
+
+
+def a_text_is_dropped_on_a_field(browser):
+    browser.open("#play")
+    cancelled = """
+        const moved = new DataTransfer();
+        if (arguments[0]) moved.items.add(new File(['{'], 'battle.json')); else moved.items.add('Tauros', 'text/plain');
+        return ['dragover', 'drop'].map((name) => !document.getElementById('play-team-1').dispatchEvent(
+          new DragEvent(name, {dataTransfer: moved, bubbles: true, cancelable: true})));"""
+    assert browser.run(cancelled, False) == [False, False] and not browser.notice()
+    assert browser.run(cancelled, True) == [True, True]
+    browser.wait("return !document.getElementById('notice').hidden")
+    assert "no JSON" in browser.notice()
+
+
 CHECKS = [
     a_recorded_battle_is_replayed_by_clicks, the_longest_recorded_battle_is_whole_at_its_end, a_refused_pair_is_said_and_the_rest_is_shown,
     a_recorded_log_is_replayed, a_dropped_file_is_shown, keys_go_through_a_battle, an_address_is_a_position, a_watcher_sees_less,
+    a_battle_after_a_log_shows_all, a_text_is_dropped_on_a_field,
     a_saved_page_holds_its_battle, a_page_is_filled_by_others, what_is_saved_is_what_was_opened, a_log_as_long_as_may_be_is_shown,
+    a_page_with_a_long_log_opens_again,
 ]

@@ -1,6 +1,9 @@
 // The address behind the #: the part of the page, and what stands there, as a link holds it.
 
-/** @typedef {{ tab: string, values: URLSearchParams }} Address */
+/**
+ * @typedef {{ tab: string, values: URLSearchParams }} Address
+ * @typedef {Record<string, string | number>} Values what stands in a part; empty ones are left out of an address
+ */
 
 /** @returns {Address} */
 export function address() {
@@ -9,17 +12,33 @@ export function address() {
 }
 
 let due = 0;
-let wanted = "";
+let shown = "";
 
 /**
- * Puts a part of the page and what stands there into the address, without a step in the history.
+ * Names the part that is shown: the address is that part's alone.
  * @param {string} tab
- * @param {Record<string, string | number>} values empty ones are left out
  */
-export function setAddress(tab, values) {
+export function giveAddress(tab) {
+  window.clearTimeout(due);
+  shown = tab;
+}
+
+/** @param {string} tab @param {Values} values */
+function hash(tab, values) {
   const kept = new URLSearchParams();
   for (const [key, value] of Object.entries(values)) if (value !== "") kept.set(key, String(value));
-  wanted = `#${tab}${String(kept) && `?${kept}`}`;
+  return `#${tab}${String(kept) && `?${kept}`}`;
+}
+
+/**
+ * Puts a part of the page and what stands there into the address, without a step in the history. For a part that is not shown it
+ * does nothing.
+ * @param {string} tab
+ * @param {Values} values
+ */
+export function setAddress(tab, values) {
+  if (tab !== shown) return;
+  const wanted = hash(tab, values);
   // Browsers take only so many changes a second.
   window.clearTimeout(due);
   due = window.setTimeout(() => {
@@ -31,7 +50,11 @@ export function setAddress(tab, values) {
   }, 150);
 }
 
-/** The page's address with what stands there now. */
-export function link() {
-  return `${location.href.split("#")[0]}${wanted || location.hash}`;
+/**
+ * The page's address with a part and what stands there.
+ * @param {string} tab
+ * @param {Values} values
+ */
+export function link(tab, values) {
+  return location.href.split("#")[0] + hash(tab, values);
 }

@@ -1,11 +1,11 @@
 // The calculator: the moves of two members upon each other, with the engine's damage numbers and the bytes that decide the rest.
-import { find, make, Problem } from "./dom.js";
+import { blame, find, guarded, make, Problem } from "./dom.js";
 import { setAddress } from "./address.js";
 import { joined } from "./engine.js";
 import { decoded, encoded } from "./inputs.js";
 import { MemberForm, moveCalled } from "./member_form.js";
 import { badge } from "./sides.js";
-import { hitWords } from "./words.js";
+import { hitWords, shares, span } from "./words.js";
 
 /**
  * @typedef {import("./engine.js").Odds} Odds
@@ -14,6 +14,9 @@ import { hitWords } from "./words.js";
 
 const HEADS = ["Move", "Damage", "Of its HP", "Hits to fall", "Critical damage", "Critical: hits to fall", "Bytes that hit", "Bytes that are critical", "All numbers"];
 const STATS = ["Attack", "Defense", "Speed", "Special"];
+
+/** How many milliseconds after the last key stroke a fault is said. */
+const PAUSE = 700;
 
 /**
  * How many hits of so much damage take so many HP.
@@ -24,16 +27,6 @@ function hits(damage, hp) {
   return damage ? String(Math.ceil(hp / damage)) : "never";
 }
 
-/** @param {number} damage @param {number} hp */
-function percent(damage, hp) {
-  return String(Math.floor((100 * damage) / hp));
-}
-
-/** @param {string} one @param {string} two */
-function span(one, two) {
-  return one === two ? one : `${one}–${two}`;
-}
-
 /** @param {number[] | null} list @param {number} hp */
 function hitsText(list, hp) {
   return list ? span(hits(list[38], hp), hits(list[0], hp)) : "—";
@@ -41,7 +34,7 @@ function hitsText(list, hp) {
 
 /** @param {number[] | null} list */
 function damageText(list) {
-  return list ? span(String(list[0]), String(list[38])) : "—";
+  return list ? span(list[0], list[38]) : "—";
 }
 
 /** @param {number} bytes */
@@ -55,18 +48,20 @@ export class Calculator {
   constructor(engine) {
     this.engine = engine;
     const { tables } = engine;
-    const changed = () => this.calculate();
+    const changed = (/** @type {Event} */ event) => this.calculate(event.type === "input" ? PAUSE : 0);
     this.forms = [1, 2].map((side) => new MemberForm(side, engine, changed));
     this.forms[0].set(engine.team("Tauros\n- Body Slam\n- Hyper Beam\n- Blizzard\n- Earthquake")[0]);
     this.forms[1].set(engine.team("Alakazam\n- Psychic\n- Seismic Toss\n- Thunder Wave\n- Recover")[0]);
     this.extra = find("calc-extra", HTMLInputElement);
-    this.extra.addEventListener("input", changed);
-    find("calc-swap", HTMLButtonElement).addEventListener("click", () => this.swap());
+    for (const type of ["input", "change"]) this.extra.addEventListener(type, changed);
+    find("calc-swap", HTMLButtonElement).addEventListener("click", () => void guarded(() => this.swap()));
     find("calc-members", HTMLElement).replaceChildren(...this.forms.map((form) => form.element));
     find("species-names", HTMLDataListElement).replaceChildren(...tables.species.map((it) => make("option", { value: it.name })));
     find("move-names", HTMLDataListElement).replaceChildren(...tables.moves.map((it) => make("option", { value: it.name })));
     this.code = "";
     this.isShown = false;
+    this.timer = 0;
+    this.numbers = find("calc-results", HTMLElement);
   }
 
   /**
@@ -92,22 +87,50 @@ export class Calculator {
     this.calculate();
   }
 
-  /** Shows the numbers, or what is missing for them. */
-  calculate() {
+  /**
+   * Shows the numbers, or what is missing for them: a name that is half typed is no fault yet.
+   * @param {number} [pause] the milliseconds before a fault is said
+   */
+  calculate(pause = 0) {
     if (!this.isShown) return;
-    const fault = find("calc-fault", HTMLElement);
+    window.clearTimeout(this.timer);
     try {
-      const extra = this.extra.value.trim() ? moveCalled(this.engine.tables, this.extra.value, 1) : 0;
-      const asked = joined(...this.forms.map((form) => form.bytes()), [extra]);
+      const asked = this.asked();
       const { sides } = this.engine.calculate(asked);
-      fault.textContent = "";
-      find("calc-results", HTMLElement).replaceChildren(...sides.map((_, at) => this.results(sides, at)));
+      this.numbers.replaceChildren(...sides.map((_, at) => this.results(sides, at)));
+      this.numbers.removeAttribute("data-stale");
+      this.say("");
       this.code = encoded(asked);
       setAddress("calculator", { c: this.code });
     } catch (error) {
       if (!(error instanceof Problem)) throw error;
-      fault.textContent = error.message;
+      const { message, field } = error;
+      this.numbers.setAttribute("data-stale", "");
+      const say = () => this.say(`${message} The numbers below are of what stood here before.`, field);
+      if (pause) this.timer = window.setTimeout(say, pause);
+      else say();
     }
+  }
+
+  /** What the fields ask for, as bytes. */
+  asked() {
+    const extra = this.extra.value.trim() ? moveCalled(this.engine.tables, this.extra, 1) : 0;
+    const asked = joined(...this.forms.map((form) => form.bytes()), [extra]);
+    if (this.forms.every((form) => !form.hp.value)) return asked;
+    // The engine knows the most HP of a member: with all of its HP none is refused.
+    const { sides } = this.engine.calculate(joined(...this.forms.map((form) => form.bytes().fill(0, 32)), [0]));
+    this.forms.forEach((form, at) => form.testHp(sides[at].max));
+    return asked;
+  }
+
+  /**
+   * Says what is wrong, quietly.
+   * @param {string} text empty where nothing is
+   * @param {HTMLElement} [field] the one at fault
+   */
+  say(text, field) {
+    find("calc-fault", HTMLElement).textContent = text;
+    blame(field, "calc-fault");
   }
 
   /** @param {Calculated[]} sides @param {number} at the side from 0 that uses its moves */
@@ -128,7 +151,7 @@ export class Calculator {
   rows(odds, foe, side, isOpen) {
     const { tables } = this.engine;
     const move = tables.moves[odds.move - 1];
-    const share = odds.damage ? `${span(percent(odds.damage[0], foe.hp), percent(odds.damage[38], foe.hp))}%` : "—";
+    const share = odds.damage ? shares(odds.damage, foe.hp) : "—";
     const id = `calc-all-${side}-${odds.slot}-${odds.move}`;
     const all = make("tr", { class: "all", id, hidden: !isOpen }, make("td", { colspan: HEADS.length },
       make("p", {}, make("strong", {}, "At the factors 217 to 255: "), odds.damage?.join(" ") ?? ""),

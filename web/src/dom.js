@@ -33,15 +33,77 @@ export function find(id, kind) {
 }
 
 /** Something that a person can mend, said in a sentence. */
-export class Problem extends Error {}
+export class Problem extends Error {
+  /**
+   * @param {string} message
+   * @param {{ field?: HTMLElement, side?: number }} [at] the field to mend, or the side whose team is at fault, where one is known
+   */
+  constructor(message, at = {}) {
+    super(message);
+    this.field = at.field;
+    this.side = at.side;
+  }
+}
 
 /**
- * Shows a message that is read out at once; an empty one takes the last away.
+ * Does something whose problems are those of a field.
+ * @template T
+ * @param {HTMLElement} field
+ * @param {() => T} work
+ * @returns {T}
+ */
+export function inField(field, work) {
+  try {
+    return work();
+  } catch (error) {
+    if (error instanceof Problem) error.field ??= field;
+    throw error;
+  }
+}
+
+/**
+ * Marks the field at fault, and no other any more.
+ * @param {HTMLElement | undefined} field
+ * @param {string} message the id of the element that says what is wrong
+ */
+export function blame(field, message) {
+  for (const blamed of document.querySelectorAll(`[aria-describedby="${message}"]`)) {
+    blamed.removeAttribute("aria-invalid");
+    blamed.removeAttribute("aria-describedby");
+  }
+  field?.setAttribute("aria-invalid", "true");
+  field?.setAttribute("aria-describedby", message);
+}
+
+/**
+ * Shows what went wrong, read out at once; an empty text takes the last away.
  * @param {string} text
  */
 export function notice(text) {
   find("notice", HTMLElement).hidden = !text;
   find("notice-text", HTMLElement).textContent = text;
+}
+
+let fading = 0;
+
+/**
+ * Says that something was done, quietly and for a while.
+ * @param {string} text
+ */
+export function done(text) {
+  window.clearTimeout(fading);
+  find("done", HTMLElement).textContent = text;
+  if (text) fading = window.setTimeout(() => done(""), 6000);
+}
+
+/** @param {unknown} error */
+function show(error) {
+  const field = error instanceof Problem ? error.field : undefined;
+  if (!(error instanceof Problem)) console.error(error);
+  notice(error instanceof Error ? error.message : String(error));
+  blame(field, "notice-text");
+  for (let it = field?.closest("details"); it; it = it.parentElement?.closest("details")) it.open = true;
+  field?.focus();
 }
 
 /**
@@ -51,11 +113,32 @@ export function notice(text) {
 export async function guarded(work) {
   try {
     notice("");
+    done("");
+    blame(undefined, "notice-text");
     await work();
   } catch (error) {
-    if (!(error instanceof Problem)) console.error(error);
-    notice(error instanceof Error ? error.message : String(error));
+    show(error);
   }
+}
+
+/**
+ * Whether an element can have the focus where it stands.
+ * @param {Element | null} element
+ */
+function isReached(element) {
+  if (!element || element === document.body || element.matches(":disabled")) return false;
+  return element.getClientRects().length > 0 && !element.closest("details:not([open]) > :not(summary)");
+}
+
+/**
+ * Does something that may take away or hide what has the focus, which then goes to a heading.
+ * @param {HTMLElement} heading
+ * @param {() => void} work
+ */
+export function keepingFocus(heading, work) {
+  const had = document.activeElement !== document.body;
+  work();
+  if (had && !isReached(document.activeElement)) heading.focus();
 }
 
 /**
@@ -76,13 +159,13 @@ export function save(name, content, type) {
 /**
  * Copies a text, or shows it where that is not allowed.
  * @param {string} text
- * @param {string} done what is said then
+ * @param {string} said what is said when it is copied
  */
-export async function copy(text, done) {
+export async function copy(text, said) {
   try {
     await navigator.clipboard.writeText(text);
-    notice(done);
   } catch {
-    notice(text);
+    throw new Problem(`The browser lets nothing be copied. Copy it from here: ${text}`);
   }
+  done(said);
 }

@@ -71,7 +71,7 @@ export function joined(...parts) {
 /** @param {Fault} fault */
 function sentence(fault) {
   const where = [fault.side ? `side ${fault.side}` : "", fault.place ? `member ${fault.place}` : ""].filter(Boolean).join(", ");
-  return `The team is refused: ${where ? `${where}: ` : ""}${fault.fault}.`;
+  return `The ${fault.side ? "team" : "battle"} is refused: ${where ? `${where}: ` : ""}${fault.fault}.`;
 }
 
 /** The library behind the page. */
@@ -90,8 +90,14 @@ export class Engine {
     return new Engine(instance.exports);
   }
 
-  /** @param {ArrayLike<number>} bytes */
-  put(bytes) {
+  /**
+   * Writes what a call reads.
+   * @param {ArrayLike<number>} bytes
+   * @param {string} what they are, as a message names them
+   */
+  put(bytes, what = "The battle") {
+    if (bytes.length > this.most)
+      throw new Problem(`${what} has ${bytes.length.toLocaleString("en")} bytes; at most ${this.most.toLocaleString("en")} are read.`);
     new Uint8Array(this.calls.memory.buffer).set(bytes, this.calls.page_input());
   }
 
@@ -107,13 +113,23 @@ export class Engine {
   }
 
   /**
+   * Says why teams are refused.
+   * @param {number} length of the answer
+   * @returns {never}
+   */
+  refuse(length) {
+    const fault = this.json(length);
+    throw new Problem(sentence(fault), { side: fault.side });
+  }
+
+  /**
    * The battle of two teams before its first update.
    * @param {Terms} terms
    */
   begin(terms) {
     this.put(joined(teamBytes(terms.one), teamBytes(terms.two), terms.seed, [terms.rules, terms.limit & 255, terms.limit >> 8]));
     const length = this.calls.page_begin();
-    if (length) throw new Problem(sentence(this.json(length)));
+    if (length) this.refuse(length);
     return this.got(BATTLE);
   }
 
@@ -138,13 +154,14 @@ export class Engine {
    * @returns {GameEvent[]}
    */
   events(log) {
-    this.put(log);
+    this.put(log, "The log");
     /** @type {GameEvent[]} */
     const events = [];
     for (let at = 0; at < log.length; ) {
       const told = this.json(this.calls.page_events(at, log.length));
       for (const [tag, side, place, length, line] of told.events) events.push({ tag, side, place, length, line });
       if (told.fault) throw new Problem(`This is no log of a battle: ${told.fault.text} at byte ${told.next}.`);
+      if (told.next <= at) throw new Error(`the module reads no event at byte ${at}`);
       at = told.next;
     }
     return events;
@@ -174,14 +191,14 @@ export class Engine {
   /**
    * The members of a text of a team builder.
    * @param {string} text
+   * @param {string} whose text it is, as a message names it
    * @returns {Member[]}
    */
-  team(text) {
+  team(text, whose = "The team's text") {
     const bytes = new TextEncoder().encode(text);
-    if (bytes.length > this.most) throw new Problem("The text of the team is too long.");
-    this.put(bytes);
+    this.put(bytes, whose);
     const told = this.json(this.calls.page_team(bytes.length));
-    if (told.fault) throw new Problem(`The team's text: ${told.fault}.`);
+    if (told.fault) throw new Problem(`${whose}: ${told.fault}.`);
     return told.members;
   }
 
@@ -193,7 +210,7 @@ export class Engine {
   watchBegin(one, two) {
     this.put(joined(teamBytes(one), teamBytes(two)));
     const length = this.calls.page_watch_begin();
-    if (length) throw new Problem(sentence(this.json(length)));
+    if (length) this.refuse(length);
   }
 
   /**

@@ -9,10 +9,10 @@ import { joined, memberBytes } from "./engine.js";
  * @typedef {{ input: Input } | { log: Uint8Array }} Recorded what a battle is shown from
  */
 
-/** @param {unknown} value @param {string} what @param {number} most @returns {number} */
-function whole(value, what, most) {
-  if (typeof value !== "number" || !Number.isInteger(value) || value < 0 || value > most)
-    throw new Problem(`${what} is ${JSON.stringify(value) ?? "missing"}, which is no whole number from 0 to ${most}.`);
+/** @param {unknown} value @param {string} what @param {number} most @param {number} [least] @returns {number} */
+function whole(value, what, most, least = 0) {
+  if (typeof value !== "number" || !Number.isInteger(value) || value < least || value > most)
+    throw new Problem(`${what} is ${JSON.stringify(value) ?? "missing"}, which is no whole number from ${least} to ${most}.`);
   return value;
 }
 
@@ -35,6 +35,9 @@ function numbered(value, names, what) {
   return found;
 }
 
+/** Blanks, and the three bytes that some editors begin a text with. */
+const BLANKS = [9, 10, 13, 32, 0xef, 0xbb, 0xbf];
+
 /** Reads and writes inputs, with the names of some tables. */
 export class Inputs {
   /** @param {import("./engine.js").Engine} engine */
@@ -42,6 +45,17 @@ export class Inputs {
     this.engine = engine;
     this.species = engine.tables.species.map((it) => it.name);
     this.moves = engine.tables.moves.map((it) => it.name);
+    /** The most bytes of a file: as hexadecimal digits in a page, the longest log takes twice its length and that of the page. */
+    this.most = 4 * engine.most;
+  }
+
+  /**
+   * A person's file.
+   * @param {File} file
+   */
+  async readFile(file) {
+    if (file.size > this.most) throw new Problem(`The file has ${file.size.toLocaleString("en")} bytes; at most ${this.most.toLocaleString("en")} are read.`);
+    return this.read(new Uint8Array(await file.arrayBuffer()));
   }
 
   /**
@@ -50,9 +64,8 @@ export class Inputs {
    * @returns {Recorded}
    */
   read(bytes) {
-    if (bytes.length > this.engine.most) throw new Problem(`The file has ${bytes.length} bytes; at most ${this.engine.most} are read.`);
     if (!bytes.length) throw new Problem("The file is empty: there is no battle in it.");
-    const begin = bytes.findIndex((byte) => ![9, 10, 13, 32].includes(byte));
+    const begin = bytes.findIndex((byte) => !BLANKS.includes(byte));
     if (bytes[begin] === 0x3c) return this.held(new TextDecoder().decode(bytes));
     return bytes[begin] === 0x7b ? this.parse(new TextDecoder().decode(bytes)) : this.log(bytes);
   }
@@ -76,7 +89,7 @@ export class Inputs {
   parse(text) {
     let value;
     try {
-      value = JSON.parse(text);
+      value = JSON.parse(text.replace(/^\ufeff/, ""));
     } catch (error) {
       throw new Problem(`The battle is no JSON: ${error instanceof Error ? error.message : error}.`);
     }
@@ -98,7 +111,7 @@ export class Inputs {
       one: list(value.one, "one").map((it, place) => this.member(it, `one[${place}]`)),
       two: list(value.two, "two").map((it, place) => this.member(it, `two[${place}]`)),
       rules: value.rules === undefined ? 0 : whole(value.rules, "rules", 3),
-      limit: value.limit === undefined ? 1000 : whole(value.limit, "limit", 9999),
+      limit: value.limit === undefined ? 1000 : whole(value.limit, "limit", 9999, 1),
       choices: list(value.choices, "choices").map((pair, place) => numbers(pair, `choices[${place}]`, 2, 255)),
     };
   }

@@ -1,5 +1,5 @@
 // The page: its three parts, the address, keys, themes, and files that are dropped on it.
-import { address, setAddress } from "./address.js";
+import { address, giveAddress, setAddress } from "./address.js";
 import { Calculator } from "./calculator.js";
 import { find, guarded, notice } from "./dom.js";
 import { Engine } from "./engine.js";
@@ -13,6 +13,7 @@ const TABS = ["replay", "play", "calculator"];
 
 /** @param {string} name */
 function showTab(name) {
+  giveAddress(name);
   for (const tab of TABS) {
     const button = find(`tab-${tab}`, HTMLButtonElement);
     button.setAttribute("aria-selected", String(tab === name));
@@ -21,22 +22,55 @@ function showTab(name) {
   }
 }
 
+/**
+ * What a person chose when the page was open before.
+ * @param {string} name
+ */
+function kept(name) {
+  try {
+    return localStorage.getItem(name);
+  } catch {
+    // Nothing may be kept.
+    return null;
+  }
+}
+
+/** @param {string} name @param {string} value */
+function keep(name, value) {
+  try {
+    localStorage.setItem(name, value);
+  } catch {
+    // It holds as long as the page is open.
+  }
+}
+
 function listenTheme() {
   const theme = find("theme", HTMLSelectElement);
   const put = () => (document.documentElement.dataset.theme = theme.value);
-  try {
-    theme.value = localStorage.getItem("theme") ?? "system";
-  } catch {
-    // Nothing may be kept: the theme is the system's.
-  }
+  theme.value = kept("theme") ?? "system";
   put();
   theme.addEventListener("change", () => {
     put();
-    try {
-      localStorage.setItem("theme", theme.value);
-    } catch {
-      // It holds as long as the page is open.
-    }
+    keep("theme", theme.value);
+  });
+}
+
+/**
+ * Keys for the part that is shown.
+ * @param {(event: KeyboardEvent) => void} press
+ * @param {() => void} changed
+ */
+function listenKeys(press, changed) {
+  const keys = find("keys", HTMLInputElement);
+  keys.checked = kept("keys") !== "off";
+  keys.addEventListener("change", () => {
+    keep("keys", keys.checked ? "on" : "off");
+    changed();
+  });
+  document.addEventListener("keydown", (event) => {
+    // A key of one character may be a word of who speaks to the machine: it can be switched off.
+    if (event.key.length === 1 && !keys.checked) return;
+    if (!takesKeys(event.target, event.key)) press(event);
   });
 }
 
@@ -73,8 +107,11 @@ function takesKeys(target, key) {
 
 /** @param {Replay} replay @param {(tab: string) => void} open */
 function listenDrops(replay, open) {
-  document.addEventListener("dragover", (event) => event.preventDefault());
+  // What is no file is dropped where the browser lets it: a text on a field.
+  const hasFile = (/** @type {DragEvent} */ event) => Boolean(event.dataTransfer?.types.includes("Files"));
+  document.addEventListener("dragover", (event) => hasFile(event) && event.preventDefault());
   document.addEventListener("drop", (event) => {
+    if (!hasFile(event)) return;
     event.preventDefault();
     const file = event.dataTransfer?.files[0];
     if (file) void guarded(async () => {
@@ -92,12 +129,17 @@ async function begin() {
   const replay = new Replay(engine, inputs);
   const calculator = new Calculator(engine);
   let tab = "";
-  const open = (/** @type {string} */ name) => {
+  const turnTo = (/** @type {string} */ name) => {
     tab = name;
     showTab(name);
+    if (name !== "replay") replay.pause();
+  };
+  const open = (/** @type {string} */ name) => {
+    turnTo(name);
+    setAddress(name, {});
     if (name === "replay") replay.toAddress();
     else if (name === "play") play.toAddress();
-    if (name === "calculator") calculator.route(new URLSearchParams());
+    else calculator.route(new URLSearchParams());
   };
   const play = new Play(engine, inputs, new Players(engine, module), (recorded, at) => {
     open("replay");
@@ -105,22 +147,17 @@ async function begin() {
   });
   const route = () => guarded(() => {
     const { tab: name, values } = address();
-    tab = TABS.includes(name) ? name : "replay";
-    showTab(tab);
+    turnTo(TABS.includes(name) ? name : "replay");
     if (tab === "replay") replay.route(values, heldBattle());
     else if (tab === "play") play.route(values);
     else calculator.route(values);
   });
-  listenTabs((name) => {
-    setAddress(name, {});
-    open(name);
-  });
+  listenTabs(open);
   listenDrops(replay, open);
-  document.addEventListener("keydown", (event) => {
-    if (takesKeys(event.target, event.key)) return;
+  listenKeys((event) => {
     if (tab === "replay") replay.key(event);
     else if (tab === "play") play.key(event);
-  });
+  }, () => play.drawAgain());
   window.addEventListener("hashchange", () => void route());
   await route();
   document.documentElement.dataset.ready = "true";

@@ -1,5 +1,5 @@
 // The form of a member of the calculator: from a text or by search, and how it stands.
-import { guarded, make, Problem } from "./dom.js";
+import { guarded, inField, make, Problem } from "./dom.js";
 import { joined, memberBytes } from "./engine.js";
 import { memberOf } from "./inputs.js";
 
@@ -28,7 +28,7 @@ export class MemberForm {
   /**
    * @param {number} side
    * @param {import("./engine.js").Engine} engine
-   * @param {() => void} changed
+   * @param {(event: Event) => void} changed
    */
   constructor(side, engine, changed) {
     this.side = side;
@@ -45,12 +45,11 @@ export class MemberForm {
     this.hp = make("input", { type: "number", name: "hp", min: 1, max: 999, placeholder: "all", inputmode: "numeric" });
     this.conditions = CONDITIONS.map((name) => make("input", { type: "checkbox", name }));
     this.element = this.drawn();
-    this.element.addEventListener("input", (event) => event.target !== this.text && changed());
-    this.changed = changed;
+    for (const type of ["input", "change"]) this.element.addEventListener(type, (event) => event.target !== this.text && changed(event));
   }
 
   drawn() {
-    const read = make("button", { type: "button", click: () => void guarded(() => this.read()) }, "Read the text");
+    const read = make("button", { type: "button", click: () => void guarded(() => inField(this.text, () => this.read())) }, "Read the text");
     const group = (/** @type {string} */ name, /** @type {Node[]} */ items) => make("fieldset", { class: "grid" }, make("legend", {}, name), ...items);
     return make("fieldset", { class: `member side-${this.side}`, id: `calc-member-${this.side}` }, make("legend", {}, `Member of side ${this.side}`),
       make("details", {}, make("summary", {}, "From a text of Showdown's team builder"), labelled(`Text of the member of side ${this.side}`, this.text), read),
@@ -65,10 +64,10 @@ export class MemberForm {
 
   /** Takes the first member of the text. */
   read() {
-    const members = this.engine.team(this.text.value);
+    const members = this.engine.team(this.text.value, `The text of side ${this.side}'s member`);
     if (!members.length) throw new Problem(`The text of side ${this.side}'s member has no member.`);
     this.set(members[0]);
-    this.changed();
+    this.species.dispatchEvent(new Event("change", { bubbles: true }));
   }
 
   /** @param {import("./engine.js").Member} member */
@@ -88,16 +87,26 @@ export class MemberForm {
   whole(field, what) {
     const value = field.value.trim() === "" ? NaN : Number(field.value);
     if (!Number.isInteger(value) || value < Number(field.min) || value > Number(field.max))
-      throw new Problem(`Side ${this.side}: ${what} is to be a whole number from ${field.min} to ${field.max}.`);
+      throw new Problem(`Side ${this.side}: ${what} is to be a whole number from ${field.min} to ${field.max}.`, { field });
     return value;
+  }
+
+  /**
+   * Tests the HP against what the member has at most.
+   * @param {number} most
+   */
+  testHp(most) {
+    if (Number(this.hp.value) > most)
+      throw new Problem(`Side ${this.side}: ${this.hp.value} HP are above the maximum of ${this.species.value}, which is ${most}.`, { field: this.hp });
   }
 
   /** The member, and how it stands: 34 bytes (plain/page, "calculator"). */
   bytes() {
     const { tables } = this.engine;
     const species = tables.species.findIndex((it) => same(it.name, this.species.value)) + 1;
-    if (!species) throw new Problem(`Side ${this.side}: ${this.species.value ? `there is no species "${this.species.value}"` : "choose a species"}.`);
-    const moves = this.moves.filter((field) => field.value.trim()).map((field) => [moveCalled(tables, field.value, this.side), 3]);
+    if (!species)
+      throw new Problem(`Side ${this.side}: ${this.species.value ? `there is no species "${this.species.value}"` : "choose a species"}.`, { field: this.species });
+    const moves = this.moves.filter((field) => field.value.trim()).map((field) => [moveCalled(tables, field, this.side), 3]);
     const hp = this.hp.value ? this.whole(this.hp, "HP") : 0;
     return joined(memberBytes({
       species, moves, level: this.whole(this.level, "the level"), dvs: this.dvs.map((field, at) => this.whole(field, `the DV of ${DVS[at]}`)),
@@ -127,13 +136,13 @@ export function same(one, two) {
 }
 
 /**
- * The number of a move.
+ * The number of the move that a field names.
  * @param {import("./engine.js").Tables} tables
- * @param {string} name
+ * @param {HTMLInputElement} field
  * @param {number} side
  */
-export function moveCalled(tables, name, side) {
-  const found = tables.moves.findIndex((it) => same(it.name, name)) + 1;
-  if (!found) throw new Problem(`Side ${side}: there is no move "${name}".`);
+export function moveCalled(tables, field, side) {
+  const found = tables.moves.findIndex((it) => same(it.name, field.value)) + 1;
+  if (!found) throw new Problem(`Side ${side}: there is no move "${field.value}".`, { field });
   return found;
 }

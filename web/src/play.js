@@ -1,13 +1,13 @@
 // Play: two at one screen, or against the computer. What can be pressed is what the engine offers.
-import { find, guarded, make, Problem } from "./dom.js";
-import { setAddress } from "./address.js";
+import { find, guarded, inField, keepingFocus, make, Problem } from "./dom.js";
+import { link, setAddress } from "./address.js";
 import { joined } from "./engine.js";
 import { ofAddress, toAddress } from "./inputs.js";
 import { lineItems } from "./replay.js";
 import { randomSeed, randomTeam } from "./random.js";
 import { shareButtons } from "./share.js";
 import { badge, showSide, whole } from "./sides.js";
-import { hitWords, OUTCOMES } from "./words.js";
+import { hitWords, OUTCOMES, shares, span } from "./words.js";
 
 /**
  * @typedef {import("./engine.js").State} State
@@ -19,18 +19,25 @@ const SIDES = [1, 2];
 const KEYS = ["123456789", "qwertyuio"];
 const PLAYERS = ["person", "random", "greedy", "playouts"];
 
-/** @param {string} text */
-function seedOf(text) {
-  const numbers = text.trim().split(/[\s,]+/).map(Number);
+/** @param {HTMLInputElement} field */
+function seedOf(field) {
+  const numbers = field.value.trim().split(/[\s,]+/).map(Number);
   if (numbers.length !== 10 || numbers.some((it) => !Number.isInteger(it) || it < 0 || it > 255))
-    throw new Problem("The seed is to be ten whole numbers from 0 to 255, with spaces between them.");
+    throw new Problem("The seed is to be ten whole numbers from 0 to 255, with spaces between them.", { field });
   return numbers;
 }
 
-/** @param {number} least @param {number} most @param {number} hp */
-function damageText(least, most, hp) {
-  const share = hp ? ` (${Math.floor((100 * least) / hp)}–${Math.ceil((100 * most) / hp)}% of its HP)` : "";
-  return `${least === most ? least : `${least}–${most}`}${share}`;
+/** @param {HTMLInputElement} field */
+function limitOf(field) {
+  const limit = field.value.trim() === "" ? NaN : Number(field.value);
+  if (!Number.isInteger(limit) || limit < 1 || limit > 9999)
+    throw new Problem(`The turn limit is ${field.value || "missing"}: it is to be a whole number from 1 to 9999.`, { field });
+  return limit;
+}
+
+/** @param {number[]} damage the 39 numbers @param {number} hp */
+function damageText(damage, hp) {
+  return `${span(damage[0], damage[38])}${hp ? ` (${shares(damage, hp)} of its HP)` : ""}`;
 }
 
 /** The part of the page that plays. */
@@ -55,6 +62,8 @@ export class Play {
     this.who = ["person", "playouts"];
     this.asked = 0;
     this.code = "";
+    /** @type {{ terms: import("./engine.js").Terms, steps: Step[], who: string[] } | null} the battle that was left last */
+    this.left = null;
     this.listen();
   }
 
@@ -73,11 +82,13 @@ export class Play {
     click("play-undo", () => this.undo());
     click("play-on", () => this.goOn());
     click("play-again", () => this.leave());
+    click("play-return", () => this.goBack());
     click("play-watch", () => this.watch({ input: this.input() }, this.steps.length));
     find("play-seed", HTMLInputElement).value = randomSeed().join(" ");
     for (const side of SIDES) find(`play-random-${side}`, HTMLButtonElement).click();
     shareButtons(find("play-share", HTMLElement), () => ({
       recorded: { input: this.input() }, log: joined(...this.steps.map((step) => step.log)), inputs: this.inputs,
+      link: link("play", this.values()),
     }));
   }
 
@@ -89,8 +100,9 @@ export class Play {
 
   /** @param {number} side */
   team(side) {
-    const members = this.engine.team(find(`play-team-${side}`, HTMLTextAreaElement).value);
-    if (!members.length) throw new Problem(`Side ${side}'s team has no member.`);
+    const field = find(`play-team-${side}`, HTMLTextAreaElement);
+    const members = inField(field, () => this.engine.team(field.value, `Side ${side}'s team`));
+    if (!members.length) throw new Problem(`Side ${side}'s team has no member.`, { field });
     return members;
   }
 
@@ -98,16 +110,21 @@ export class Play {
   start() {
     const checked = (/** @type {string} */ id) => (find(id, HTMLInputElement).checked ? 1 : 0);
     const terms = {
-      one: this.team(1), two: this.team(2), seed: seedOf(find("play-seed", HTMLInputElement).value),
-      rules: checked("play-sleep") + 2 * checked("play-freeze"), limit: Number(find("play-limit", HTMLInputElement).value),
+      one: this.team(1), two: this.team(2), seed: seedOf(find("play-seed", HTMLInputElement)),
+      rules: checked("play-sleep") + 2 * checked("play-freeze"), limit: limitOf(find("play-limit", HTMLInputElement)),
     };
-    this.who = SIDES.map((side) => find(`play-who-${side}`, HTMLSelectElement).value);
-    this.begin(terms, [[0, 0]]);
+    const who = SIDES.map((side) => find(`play-who-${side}`, HTMLSelectElement).value);
+    try {
+      this.begin(terms, [[0, 0]], who);
+    } catch (error) {
+      if (error instanceof Problem && error.side) error.field = find(`play-team-${error.side}`, HTMLTextAreaElement);
+      throw error;
+    }
     find("play-now", HTMLElement).focus();
   }
 
-  /** @param {import("./engine.js").Terms} terms @param {number[][]} pairs */
-  begin(terms, pairs) {
+  /** @param {import("./engine.js").Terms} terms @param {number[][]} pairs @param {string[]} who plays the sides */
+  begin(terms, pairs, who) {
     let battle = this.engine.begin(terms);
     /** @type {Step[]} */
     const steps = [];
@@ -116,8 +133,14 @@ export class Play {
       steps.push(step);
       battle = step.battle;
     }
+    this.open(terms, steps, who);
+  }
+
+  /** @param {import("./engine.js").Terms} terms @param {Step[]} steps @param {string[]} who */
+  open(terms, steps, who) {
     this.terms = terms;
     this.steps = steps;
+    this.who = who;
     find("play-setup", HTMLElement).hidden = true;
     find("play-game", HTMLElement).hidden = false;
     this.next();
@@ -143,9 +166,9 @@ export class Play {
     if (!code || code === this.code) return;
     const recorded = ofAddress(code, this.inputs);
     if (!("input" in recorded)) throw new Problem("The address is damaged: a log cannot be played on.");
-    this.who = ["p1", "p2"].map((key, at) => (PLAYERS.includes(values.get(key) ?? "") ? String(values.get(key)) : this.who[at]));
+    const who = ["p1", "p2"].map((key, at) => (PLAYERS.includes(values.get(key) ?? "") ? String(values.get(key)) : this.who[at]));
     const { choices, ...terms } = recorded.input;
-    this.begin(terms, choices.length ? choices : [[0, 0]]);
+    this.begin(terms, choices.length ? choices : [[0, 0]], who);
   }
 
   /**
@@ -163,10 +186,12 @@ export class Play {
     this.asked++;
     const state = this.engine.state(this.battle);
     this.chosen = [null, null];
-    this.draw(state);
     const isOver = state.outcome !== "ongoing";
     const isWatched = !this.who.includes("person");
-    find("play-on", HTMLElement).hidden = isOver || !isWatched;
+    keepingFocus(find("play-now", HTMLElement), () => {
+      this.draw(state);
+      find("play-on", HTMLElement).hidden = isOver || !isWatched;
+    });
     if (!isOver && !isWatched && !SIDES.some((_, at) => this.isAsked(state, at))) void guarded(() => this.goOn());
     this.toAddress();
   }
@@ -183,20 +208,34 @@ export class Play {
   /** Has the computer choose where a person does not, and updates the battle. */
   async goOn() {
     const asked = ++this.asked;
-    const state = this.engine.state(this.battle);
     const battle = this.battle;
-    const pair = await Promise.all(SIDES.map((side, at) => {
+    const pair = await this.choices(battle).finally(() => {
+      if (asked === this.asked) this.wait("");
+    });
+    // A choice that comes after the battle was left or taken back is late.
+    if (asked !== this.asked) return;
+    this.steps.push(this.stepOf(battle, pair));
+    this.next();
+  }
+
+  /**
+   * The choices of both sides: those that a person made, and the computer's.
+   * @param {Uint8Array} battle
+   */
+  async choices(battle) {
+    const state = this.engine.state(battle);
+    return Promise.all(SIDES.map((side, at) => {
       const chosen = this.chosen[at];
       if (chosen !== null) return chosen;
       if (state.sides[at].choices.length < 2) return state.sides[at].choices[0];
-      find("play-wait", HTMLElement).textContent = `Side ${side} is thinking.`;
+      this.wait(`Side ${side} is thinking.`);
       return this.players.choice(battle, side, this.who[at], randomSeed().reduce((sum, byte) => (sum * 256 + byte) % 0x7fffffff, 1));
     }));
-    // A choice that comes after the battle was left or taken back is late.
-    if (asked !== this.asked) return;
-    find("play-wait", HTMLElement).textContent = "";
-    this.steps.push(this.stepOf(battle, pair));
-    this.next();
+  }
+
+  /** @param {string} text what is waited for */
+  wait(text) {
+    find("play-wait", HTMLElement).textContent = text;
   }
 
   /** Takes back what happened since a person last had a choice. */
@@ -205,18 +244,31 @@ export class Play {
       if (this.steps.length < 2) break;
       this.steps.pop();
     } while (this.who.includes("person") && !SIDES.some((_, at) => this.isAsked(this.engine.state(this.battle), at)));
-    find("play-wait", HTMLElement).textContent = "";
+    this.wait("");
     this.next();
   }
 
-  /** Back to the teams. */
+  /** Back to the teams. The battle is kept until another is left. */
   leave() {
+    if (!this.terms) return;
+    this.left = { terms: this.terms, steps: this.steps, who: this.who };
     this.asked++;
     this.code = "";
     this.terms = null;
-    find("play-setup", HTMLElement).hidden = false;
-    find("play-game", HTMLElement).hidden = true;
+    this.wait("");
+    keepingFocus(find("play-teams", HTMLElement), () => {
+      find("play-setup", HTMLElement).hidden = false;
+      find("play-game", HTMLElement).hidden = true;
+      find("play-return", HTMLElement).hidden = false;
+    });
     setAddress("play", {});
+  }
+
+  /** Back to the battle that was left. */
+  goBack() {
+    if (!this.left) return;
+    this.open(this.left.terms, this.left.steps, this.left.who);
+    find("play-now", HTMLElement).focus();
   }
 
   /** @param {State} state */
@@ -232,13 +284,19 @@ export class Play {
     this.drawChoices(state);
   }
 
+  /** Shows what can be pressed anew, with its keys or without. */
+  drawAgain() {
+    if (this.terms) this.drawChoices(this.engine.state(this.battle));
+  }
+
   /** @param {State} state */
   drawChoices(state) {
     for (const [at, side] of SIDES.entries()) {
       const place = find(`play-choices-${side}`, HTMLElement);
       const hadFocus = place.contains(document.activeElement);
       place.replaceChildren(make("h3", {}, `Side ${side} chooses`), ...this.choiceItems(state, at));
-      if (hadFocus) /** @type {HTMLElement | null} */ (place.querySelector("button[aria-pressed='true'], button"))?.focus();
+      const button = hadFocus && /** @type {HTMLElement | null} */ (place.querySelector("button[aria-pressed='true'], button"));
+      if (hadFocus) (button || find("play-now", HTMLElement)).focus();
     }
   }
 
@@ -247,12 +305,13 @@ export class Play {
     if (state.outcome !== "ongoing") return [make("p", { class: "quiet" }, "The battle is over.")];
     if (!this.isAsked(state, at)) return [make("p", { class: "quiet" }, state.requests[at] === "pass" ? "It waits." : `The computer (${this.who[at]}) chooses.`)];
     const odds = this.engine.odds(this.battle, at + 1);
+    const hasKeys = find("keys", HTMLInputElement).checked;
     return state.sides[at].choices.map((choice, place) => {
       const key = this.keysOf(at)[place];
       return make("button", {
         type: "button", class: "choice", "data-choice": choice, "aria-pressed": String(this.chosen[at] === choice),
-        "aria-keyshortcuts": key, click: () => this.choose(at, choice),
-      }, make("kbd", { "aria-hidden": "true" }, key), ...this.choiceWords(state, at, choice, odds));
+        "aria-keyshortcuts": hasKeys && key, click: () => this.choose(at, choice),
+      }, hasKeys ? make("kbd", { "aria-hidden": "true" }, key) : null, ...this.choiceWords(state, at, choice, odds));
     });
   }
 
@@ -277,17 +336,23 @@ export class Play {
     const found = odds.find((it) => it.slot === choice - 0x10);
     const foe = state.sides[1 - at];
     const hp = foe.active ? foe.members[foe.active - 1].hp : 0;
-    const damage = found?.damage ? `damage ${damageText(found.damage[0], found.damage[38], hp)}` : "no damage by the formula";
+    const damage = found?.damage ? `damage ${damageText(found.damage, hp)}` : "no damage by the formula";
     const hit = found ? hitWords(found, tables.moves[id - 1], (bytes) => `hits with ${bytes} of 256 bytes`) : "";
     const critical = found?.bound === null || found?.bound === undefined ? "" : `; critical with ${found.bound} of 256`;
     return [make("strong", {}, tables.moves[id - 1].name), badge(tables, tables.moves[id - 1].type),
       make("span", { class: "quiet" }, `${pp} PP`), make("span", { class: "odds" }, `${damage}; ${hit}${critical}`)];
   }
 
+  /** What stands here, as an address holds it. */
+  values() {
+    return { b: toAddress({ input: this.input() }), p1: this.who[0], p2: this.who[1] };
+  }
+
   toAddress() {
     if (!this.terms) return;
-    this.code = toAddress({ input: this.input() });
-    setAddress("play", { b: this.code, p1: this.who[0], p2: this.who[1] });
+    const values = this.values();
+    this.code = values.b;
+    setAddress("play", values);
   }
 
   /**
@@ -295,7 +360,8 @@ export class Play {
    * @param {KeyboardEvent} event
    */
   key(event) {
-    if (!this.terms || event.ctrlKey || event.metaKey || event.altKey) return;
+    // A key that is held does not play on.
+    if (!this.terms || event.repeat || event.ctrlKey || event.metaKey || event.altKey) return;
     const state = this.engine.state(this.battle);
     if (event.key === "Backspace") return this.undo();
     for (const at of [0, 1]) {

@@ -1,7 +1,9 @@
 // The computer's choices, in a worker, so that the page stays quick.
 import { find } from "./dom.js";
 
-/** Asks a worker for choices; without workers the page's own engine answers. */
+/** @typedef {{ battle: Uint8Array, side: number, player: string, seed: number }} Asked */
+
+/** Asks a worker for choices; without one, or where it fails, the page's own engine answers. */
 export class Players {
   /** @param {import("./engine.js").Engine} engine @param {Uint8Array} module the bytes of the module */
   constructor(engine, module) {
@@ -9,26 +11,54 @@ export class Players {
     this.module = module;
     /** @type {Worker | null} */
     this.worker = null;
-    /** @type {Map<number, (choice: number) => void>} */
+    this.hasFailed = false;
+    /** @type {Map<number, { asked: Asked, settle: (choice: number | Promise<number>) => void }>} */
     this.waiting = new Map();
     this.count = 0;
   }
 
   /** @returns {Worker | null} */
   begun() {
-    if (this.worker) return this.worker;
+    if (this.worker || this.hasFailed) return this.worker;
     try {
       const url = URL.createObjectURL(new Blob([find("worker", HTMLScriptElement).text], { type: "text/javascript" }));
       this.worker = new Worker(url);
-      this.worker.postMessage({ module: this.module });
+      this.worker.onerror = (event) => {
+        event.preventDefault();
+        this.giveUp(event.message);
+      };
+      this.worker.onmessageerror = () => this.giveUp("a message could not be read");
       this.worker.onmessage = ({ data }) => {
-        this.waiting.get(data.id)?.(data.choice);
+        if (data.fault) return this.giveUp(data.fault);
+        this.waiting.get(data.id)?.settle(data.choice);
         this.waiting.delete(data.id);
       };
+      this.worker.postMessage({ module: this.module });
     } catch (error) {
-      console.warn("no worker", error);
+      this.giveUp(String(error));
     }
     return this.worker;
+  }
+
+  /**
+   * Does without the worker from now on, and answers what it was asked.
+   * @param {string} why
+   */
+  giveUp(why) {
+    console.info(`The worker failed (${why}): the page's own engine chooses.`);
+    this.hasFailed = true;
+    this.worker?.terminate();
+    this.worker = null;
+    for (const { asked, settle } of this.waiting.values()) settle(this.own(asked));
+    this.waiting.clear();
+  }
+
+  /**
+   * The choice by the page's own engine.
+   * @param {Asked} asked
+   */
+  async own({ battle, side, player, seed }) {
+    return this.engine.choice(battle, side, player, seed);
   }
 
   /**
@@ -40,12 +70,13 @@ export class Players {
    * @returns {Promise<number>}
    */
   choice(battle, side, player, seed) {
+    const asked = { battle, side, player, seed };
     const worker = this.begun();
-    if (!worker) return Promise.resolve(this.engine.choice(battle, side, player, seed));
+    if (!worker) return this.own(asked);
     const id = ++this.count;
-    return new Promise((resolve) => {
-      this.waiting.set(id, resolve);
-      worker.postMessage({ id, battle, side, player, seed });
+    return new Promise((settle) => {
+      this.waiting.set(id, { asked, settle });
+      worker.postMessage({ id, ...asked });
     });
   }
 }

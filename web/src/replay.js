@@ -1,6 +1,6 @@
 // Replay: a battle that is watched, forward and back by update and by turn.
-import { find, guarded, make, Problem } from "./dom.js";
-import { setAddress } from "./address.js";
+import { find, guarded, inField, keepingFocus, make, Problem } from "./dom.js";
+import { link, setAddress } from "./address.js";
 import { isShort, ofAddress, toAddress } from "./inputs.js";
 import { Recording } from "./recording.js";
 import { shareButtons } from "./share.js";
@@ -28,6 +28,8 @@ export class Replay {
     this.timer = 0;
     this.code = "";
     this.isHeld = false;
+    /** What a person wants to see; of a log there is only what a watcher knows. */
+    this.wanted = "all";
     this.see = find("replay-see", HTMLSelectElement);
     this.raw = find("replay-raw", HTMLSelectElement);
     this.slider = find("replay-slider", HTMLInputElement);
@@ -45,9 +47,13 @@ export class Replay {
     click("replay-turn-forward", () => this.goTurns(1));
     click("replay-last", () => this.go(Infinity));
     click("replay-example", () => void guarded(() => this.show(this.inputs.parse(find("example", HTMLScriptElement).text), { at: 1 })));
-    click("replay-read", () => void guarded(() => this.show(this.inputs.parse(find("replay-text", HTMLTextAreaElement).value), { at: 1 })));
+    click("replay-read", () => void guarded(() => {
+      const text = find("replay-text", HTMLTextAreaElement);
+      inField(text, () => this.show(this.inputs.parse(text.value), { at: 1 }));
+    }));
     this.slider.addEventListener("input", () => this.go(Number(this.slider.value)));
     this.turn.addEventListener("change", () => this.go(this.recording?.updateOf(Number(this.turn.value)) ?? 0));
+    this.see.addEventListener("change", () => (this.wanted = this.see.value));
     for (const select of [this.see, this.raw]) select.addEventListener("change", () => this.draw());
     find("replay-whole", HTMLDetailsElement).addEventListener("toggle", () => this.drawWhole());
     const file = find("replay-file", HTMLInputElement);
@@ -58,7 +64,7 @@ export class Replay {
     }));
     shareButtons(find("replay-share", HTMLElement), () => {
       if (!this.recording) throw new Problem("There is no battle yet.");
-      return { recorded: this.recording.recorded, log: this.recording.wholeLog(), inputs: this.inputs };
+      return { recorded: this.recording.recorded, log: this.recording.wholeLog(), inputs: this.inputs, link: link("replay", this.values()) };
     });
   }
 
@@ -67,8 +73,7 @@ export class Replay {
    * @param {File} file
    */
   async open(file) {
-    if (file.size > this.engine.most) throw new Problem(`The file has ${file.size.toLocaleString("en")} bytes; at most ${this.engine.most.toLocaleString("en")} are read.`);
-    this.show(this.inputs.read(new Uint8Array(await file.arrayBuffer())), { at: 1 });
+    this.show(await this.inputs.readFile(file), { at: 1 });
   }
 
   /**
@@ -84,9 +89,11 @@ export class Replay {
     this.pause();
     const isLog = "log" in recorded;
     this.see.options[0].disabled = isLog;
-    if (isLog) this.see.value = "watcher";
-    find("replay-stage", HTMLElement).hidden = false;
-    find("replay-open", HTMLDetailsElement).open = false;
+    this.see.value = isLog ? "watcher" : this.wanted;
+    keepingFocus(find("replay-now", HTMLElement), () => {
+      find("replay-stage", HTMLElement).hidden = false;
+      find("replay-open", HTMLDetailsElement).open = false;
+    });
     find("replay-fault", HTMLElement).textContent = this.recording.fault;
     find("replay-input", HTMLButtonElement).textContent = isLog ? "Save as JSON" : "Save the input";
     this.slider.max = String(this.recording.last);
@@ -101,7 +108,8 @@ export class Replay {
    */
   route(values, held) {
     const code = values.get("b") ?? "";
-    if (this.see.options[0].disabled === false) this.see.value = values.get("see") === "watcher" ? "watcher" : "all";
+    this.wanted = values.get("see") === "watcher" ? "watcher" : "all";
+    if (!this.see.options[0].disabled) this.see.value = this.wanted;
     this.raw.value = values.get("lines") === "raw" ? "raw" : "words";
     const at = Number(values.get("u") ?? 1);
     if (code && code !== this.code) this.show(ofAddress(code, this.inputs), { at, code });
@@ -189,10 +197,16 @@ export class Replay {
     find("replay-whole-lines", HTMLElement).replaceChildren(...lineItems(events, this.raw.value === "raw"));
   }
 
+  /** What stands here, as an address holds it. */
+  values() {
+    return {
+      b: this.isHeld || !isShort(this.code) ? "" : this.code, u: this.at, see: this.wanted === "watcher" ? "watcher" : "",
+      lines: this.raw.value === "raw" ? "raw" : "",
+    };
+  }
+
   toAddress() {
-    setAddress("replay", {
-      b: this.isHeld || !isShort(this.code) ? "" : this.code, u: this.at, see: this.see.value === "watcher" ? "watcher" : "", lines: this.raw.value === "raw" ? "raw" : "",
-    });
+    if (this.recording) setAddress("replay", this.values());
   }
 
   /**
@@ -212,6 +226,7 @@ export class Replay {
     if (event.altKey || event.ctrlKey || event.metaKey) return;
     if (!this.recording || !keys[event.key]) return;
     event.preventDefault();
+    if (event.repeat && event.key === " ") return;
     keys[event.key]();
   }
 }

@@ -1,6 +1,5 @@
 // Handing a battle on: as a page that holds it, as a link, as an input and as log bytes.
 import { copy, guarded, Problem, save } from "./dom.js";
-import { link } from "./address.js";
 import { isShort, toAddress } from "./inputs.js";
 
 // The page as it was loaded, taken before anything of it changes.
@@ -22,16 +21,21 @@ export function pageWith(battle) {
 }
 
 /**
+ * @typedef {{ recorded: import("./inputs.js").Recorded, log: Uint8Array, inputs: import("./inputs.js").Inputs, link: string }} Shown a
+ *   battle, and the address of where it stands
+ */
+
+/**
  * The buttons that hand on what is shown.
  * @param {HTMLElement} place
- * @param {() => { recorded: import("./inputs.js").Recorded, log: Uint8Array, inputs: import("./inputs.js").Inputs }} shown
+ * @param {() => Shown} shown
  */
 export function shareButtons(place, shown) {
   const actions = {
     page: () => save("battle.html", pageWith(shown().inputs.text(shown().recorded)), "text/html"),
     link: () => {
       if (!isShort(toAddress(shown().recorded))) throw new Problem("The battle is too long for an address: save it as a page.");
-      return copy(link(), "The link is copied.");
+      return copy(shown().link, "The link is copied.");
     },
     input: () => save("battle.json", shown().inputs.text(shown().recorded), "application/json"),
     log: () => save("battle.log", shown().log, "application/octet-stream"),

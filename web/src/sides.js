@@ -141,18 +141,18 @@ function out(tables, shown) {
  */
 function more(number, tables, shown) {
   const member = shown.members[shown.active - 1];
-  return make("details", { class: "more" }, make("summary", {}, "Stats, moves, members", make("span", { class: "unseen" }, ` of side ${number}`)),
+  return make("details", { class: "more", "data-of": "side" }, make("summary", {}, "Stats, moves, members", make("span", { class: "unseen" }, ` of side ${number}`)),
     stats(shown), member ? moves(tables, member) : null,
-    make("ol", { class: "members", "aria-label": `Members of side ${number}` }, ...shown.members.map((it, at) => behind(tables, it, at + 1 === shown.active))));
+    make("ol", { class: "members", "aria-label": `Members of side ${number}` }, ...shown.members.map((it, at) => behind(tables, it, at + 1, at + 1 === shown.active))));
 }
 
-/** @param {Tables} tables @param {ShownMember} member @param {boolean} isOut */
-function behind(tables, member, isOut) {
+/** @param {Tables} tables @param {ShownMember} member @param {number} place @param {boolean} isOut */
+function behind(tables, member, place, isOut) {
   if (!member.isKnown) return make("li", { class: "quiet" }, member.species);
   const line = [make("span", { class: "name" }, member.species), bar(member), hp(member), status(member), isOut ? make("span", { class: "quiet" }, "out") : null];
   const known = isOut ? null : moves(tables, member);
   if (!known) return make("li", {}, ...line);
-  return make("li", {}, ...line, make("details", {}, make("summary", {}, "Moves", make("span", { class: "unseen" }, ` of ${member.species}`)), known));
+  return make("li", {}, ...line, make("details", { "data-of": place }, make("summary", {}, "Moves", make("span", { class: "unseen" }, ` of ${member.species}`)), known));
 }
 
 /**
@@ -163,8 +163,13 @@ function behind(tables, member, isOut) {
  * @param {Shown} shown
  */
 export function showSide(place, number, tables, shown) {
-  const before = [...place.querySelectorAll("details")].map((it) => it.open);
-  if (!before.length) before.push(window.matchMedia("(min-width: 44.01rem)").matches);
+  // What is open stays open, and a summary that has the focus keeps it: by the place of its member, as others come and go.
+  const before = new Map([...place.querySelectorAll("details")].map((it) => [it.dataset.of, it.open]));
+  const focused = place.contains(document.activeElement) ? document.activeElement?.closest("details")?.dataset.of : undefined;
+  if (!before.size) before.set("side", window.matchMedia("(min-width: 44.01rem)").matches);
   place.replaceChildren(make("h3", {}, `Side ${number}`), out(tables, shown), more(number, tables, shown));
-  place.querySelectorAll("details").forEach((it, at) => (it.open = before[at] ?? false));
+  for (const it of place.querySelectorAll("details")) it.open = before.get(it.dataset.of) ?? false;
+  /** @type {HTMLElement | null} */
+  const summary = focused ? place.querySelector(`[data-of="${focused}"] > summary`) ?? place.querySelector("summary") : null;
+  summary?.focus();
 }

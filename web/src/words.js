@@ -89,7 +89,7 @@ const SENTENCES = {
   faint: (who) => `${named(who)} faints.`,
   win: (side) => `Side ${side[1]} wins.`,
   tie: () => "The battle is a tie.",
-  fault: (number) => `The battle stops: ${OUTCOMES[`fault ${number}`] ?? "a fault"}.`,
+  fault: (number) => `${OUTCOMES[`fault ${number}`] ?? "The battle stopped"}.`,
 };
 
 /**
@@ -108,6 +108,25 @@ export function inWords(line) {
 export function sideOf(line) {
   const found = /^\|[^|]*\|p([12])a?[:|]?/.exec(line);
   return found ? Number(found[1]) : 0;
+}
+
+/**
+ * A range, or the one number that it is.
+ * @param {string | number} least
+ * @param {string | number} most
+ */
+export function span(least, most) {
+  return least === most ? String(least) : `${least}–${most}`;
+}
+
+/**
+ * The least and the most damage as shares of HP, in whole percent that are reached: rounded down.
+ * @param {number[]} damage the 39 numbers, of which the first is the least
+ * @param {number} hp
+ */
+export function shares(damage, hp) {
+  const [least, most] = [damage[0], damage[38]].map((number) => Math.floor((100 * number) / hp));
+  return `${span(least, most)}%`;
 }
 
 /**

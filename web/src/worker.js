@@ -1,14 +1,23 @@
-// The worker: an engine of its own, which answers with the computer's choices.
+// The worker: an engine of its own, which answers with the computer's choices, or with why it cannot.
 import { Engine } from "./engine.js";
 
 /** @type {Promise<Engine> | null} */
 let engine = null;
 
-self.onmessage = async ({ data }) => {
-  if (data.module) {
-    engine = Engine.of(data.module);
-    return;
+/** @param {{ id: number, battle: Uint8Array, side: number, player: string, seed: number }} asked */
+async function answer({ id, battle, side, player, seed }) {
+  try {
+    const ready = await engine;
+    if (!ready) throw new Error("there is no module");
+    self.postMessage({ id, choice: ready.choice(battle, side, player, seed) });
+  } catch (error) {
+    self.postMessage({ id, fault: String(error) });
   }
-  const ready = await engine;
-  if (ready) self.postMessage({ id: data.id, choice: ready.choice(data.battle, data.side, data.player, data.seed) });
+}
+
+self.onmessage = ({ data }) => {
+  if (!data.module) return void answer(data);
+  engine = Engine.of(data.module);
+  // Whoever asks for a choice is told.
+  engine.catch(() => {});
 };

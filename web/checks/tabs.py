@@ -1,0 +1,89 @@
+"""The address is that of the part that is shown, and a link that of the part whose button is pressed."""
+import json
+
+from checks.cases import address_of
+from checks.replay import battle, shown
+
+# A worker that answers when it is told to.
+LATE = """
+window.held = [];
+window.Worker = class { postMessage(asked) { if (asked.id) window.held.push(() => this.onmessage({data: {id: asked.id, choice: 17}})); } terminate() {} };
+"""
+COPIES = "Object.defineProperty(navigator, 'clipboard', {value: {writeText: async (text) => { window.copied = text; }}})"
+HASH = "return location.hash"
+
+
+def rest(browser):
+    """Waits as long as an address takes to change, and longer."""
+    browser.run("return new Promise((done) => setTimeout(done, 400))")
+
+
+def copied(browser, part):
+    """The link that the button of a part copies, as what stands behind its #."""
+    browser.run("window.copied = ''")
+    browser.click(f"#{part}-share [data-share=link]")
+    return browser.wait("return window.copied").partition("#")[2]
+
+
+def late_choice(browser):
+    """Begins a battle against the computer, and presses a choice that the computer's does not follow yet."""
+    browser.run(LATE)
+    browser.fill("#play-who-2", "random")
+    for side in (1, 2):
+        browser.fill(f"#play-team-{side}", "Tauros\n- Body Slam\n- Strength")
+    browser.click("#play-start")
+    browser.click("#play-choices-1 [data-choice='17']")
+    browser.wait("return window.held.length")
+    assert browser.text("#play-wait") == "Side 2 is thinking."
+
+
+def a_replay_stops_when_its_tab_is_left(browser):
+    shown(browser, battle(25, 40)["input"])
+    browser.fill("#replay-speed", "20")
+    browser.click("#replay-play")
+    browser.wait("return Number(document.getElementById('replay-slider').value) > 3")
+    browser.click("#tab-play")
+    at = browser.run("return document.getElementById('replay-slider').value")
+    rest(browser)
+    assert browser.run("return document.getElementById('replay-slider').value") == at
+    assert browser.run(HASH) == "#play" and browser.text("#replay-play") == "Play"
+    browser.click("#tab-replay")
+    browser.wait(f"return location.hash.includes('u={at}')")
+
+
+def a_late_choice_leaves_the_address_of_another_part(browser):
+    shown(browser, battle(25, 40)["input"])
+    browser.click("#tab-play")
+    late_choice(browser)
+    browser.click("#tab-replay")
+    rest(browser)
+    address = browser.run(HASH)
+    assert address.startswith("#replay?b=")
+    browser.run("window.held.shift()()")
+    browser.wait("return document.getElementById('play-now').textContent.startsWith('Turn 2')")
+    rest(browser)
+    assert browser.run(HASH) == address
+    browser.click("#tab-play")
+    browser.wait("return location.hash.startsWith('#play?b=')")
+
+
+def a_link_is_that_of_its_part(browser):
+    asked = json.loads(battle(25, 40)["input"])
+    here = f"replay?b={address_of(asked, 1000)}&u=4"
+    browser.open(f"#{here}")
+    browser.run(COPIES)
+    assert copied(browser, "replay") == here
+    browser.click("#tab-play")
+    late_choice(browser)
+    link = copied(browser, "play")
+    assert link.startswith("play?b=i") and link.endswith("&p1=person&p2=random"), link
+    browser.click("#tab-replay")
+    browser.run("window.held.shift()()")
+    browser.wait("return document.getElementById('play-now').textContent.startsWith('Turn 2')")
+    assert copied(browser, "replay") == here
+    browser.click("#tab-play")
+    browser.run("document.getElementById('replay-forward').click()")
+    assert copied(browser, "play") not in (link, "") and copied(browser, "play").startswith("play?b=i")
+
+
+CHECKS = [a_replay_stops_when_its_tab_is_left, a_late_choice_leaves_the_address_of_another_part, a_link_is_that_of_its_part]
