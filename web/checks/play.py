@@ -120,8 +120,9 @@ def a_worker_that_fails_is_done_without(browser):
         browser.open("#play")
         browser.run(f"window.Worker = class {{ {how} terminate() {{ window.ended = true; }} }}")
         browser.fill("#play-who-2", "greedy")
+        # No seed brings these two down in two turns.
         for side in (1, 2):
-            browser.fill(f"#play-team-{side}", "Tauros\n- Body Slam\n- Strength")
+            browser.fill(f"#play-team-{side}", "Chansey\n- Strength\n- Pound")
         browser.click("#play-start")
         for turn in (2, 3):
             browser.click("#play-choices-1 [data-choice='18']")
@@ -202,7 +203,8 @@ def open_details_stay_with_their_member(browser):
 
 CHECKS = [
     a_worker_that_fails_is_done_without, a_worker_says_why_it_cannot, a_key_that_is_held_plays_once, keys_of_one_character_can_be_switched_off,
-    a_battle_that_was_left_is_gone_back_to, open_details_stay_with_their_member, a_recorded_battle_is_played_by_clicks, a_recorded_battle_is_played_by_keys, only_what_is_offered_can_be_pressed,
+    a_battle_that_was_left_is_gone_back_to, open_details_stay_with_their_member, a_recorded_battle_is_played_by_clicks,
+    a_recorded_battle_is_played_by_keys, only_what_is_offered_can_be_pressed,
     taking_back_and_playing_again_is_the_same, battles_against_the_computer_go_on, two_computers_play_to_the_end,
     a_battle_that_was_played_is_watched,
 ]

@@ -137,9 +137,8 @@ async function begin() {
   const open = (/** @type {string} */ name) => {
     turnTo(name);
     setAddress(name, {});
-    if (name === "replay") replay.toAddress();
-    else if (name === "play") play.toAddress();
-    else calculator.route(new URLSearchParams());
+    if (name === "calculator") calculator.route(new URLSearchParams());
+    else (name === "replay" ? replay : play).toAddress();
   };
   const play = new Play(engine, inputs, new Players(engine, module), (recorded, at) => {
     open("replay");
@@ -155,8 +154,7 @@ async function begin() {
   listenTabs(open);
   listenDrops(replay, open);
   listenKeys((event) => {
-    if (tab === "replay") replay.key(event);
-    else if (tab === "play") play.key(event);
+    if (tab !== "calculator") (tab === "replay" ? replay : play).key(event);
   }, () => play.drawAgain());
   window.addEventListener("hashchange", () => void route());
   await route();
