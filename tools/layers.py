@@ -25,7 +25,7 @@ WIDTH = 90
 LAYERS = (
     ("Tests and examples", "nothing of the product stands on these", (
         "uses", "test_battles", "test_machine", "test_layout", "test_operations", "test_generators",
-        "test_effects", "test_multiturn", "test_turn", "test_engine", "test_commands", "test_numbers", "test_devices")),
+        "test_effects", "test_multiturn", "test_turn", "test_engine", "test_views", "test_commands", "test_numbers", "test_devices")),
     ("Programs and C", "what opens files, prints, or is called from another language", (
         "battle_tool", "battle_commands", "battle_input", "trace_tool", "layout_tool", "gen1_c")),
     ("Battle", "a turn, an update, a room of two players", (

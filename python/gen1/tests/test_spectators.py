@@ -96,7 +96,7 @@ def test_random_battles():
         assert other == watcher
 
 
-# By hand, as docs/MECHANICS.md, "Spectator's view", and crates/test_engine have it.
+# By hand, as docs/MECHANICS.md, "Spectator's view", and crates/test_views have it.
 
 
 def test_before_the_start():

@@ -1,8 +1,6 @@
 //! Rooms, by the table and the example of docs/MECHANICS.md, "Rooms".
 use crate::comparing::assert_same;
-use crate::stored_run::START;
-use crate::teams::{chansey, gengar, lead_and_chansey, tauros};
-use crate::two_tauros::SEED;
+use crate::teams::{SEED, chansey, gengar, lead_and_chansey, tauros};
 use gen1_engine::Battle;
 use gen1_machine::{Outcome, Request, Side};
 use gen1_room::{Reply, Room, RoomRefusal, Submitted, pairs_are_answered, replies_hide_choices};
@@ -11,6 +9,11 @@ use std::test::Fail;
 const ONE: Side = Side::One;
 
 const TWO: Side = Side::Two;
+
+// The first update of the battle that is stored in crates/battle_tool: both come out, and turn 1 begins.
+static START: [u8; 23] = [
+    0x02, 1, 128, 1, 100, 97, 1, 97, 1, 0, 0x02, 2, 128, 1, 100, 97, 1, 97, 1, 0, 0x01, 1, 0,
+];
 
 fn two_tauros() -> Result<Room, Fail> {
     let team = tauros()?;

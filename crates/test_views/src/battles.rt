@@ -1,7 +1,6 @@
 //! Whole battles: after each update the view that followed the logs shows what the bytes of the battle do.
 use crate::comparing::assert_same;
-use crate::teams::{lead_and_chansey, tauros};
-use crate::two_tauros::SEED;
+use crate::teams::{SEED, lead_and_chansey, tauros};
 use gen1_engine::Battle;
 use gen1_events::{LogBuf, LogReader};
 use gen1_machine::{Choice, Kind, Outcome, Side};
