@@ -80,8 +80,7 @@ def best_choices(weights, array, side, dice):
     battle, choice = (np.repeat(it, FORKS) for it in offered.nonzero())
     judged = np.full(offered.shape, -np.inf)
     if len(battle):
-        forks = BattleArray(len(battle), start())
-        forks.bytes[:] = array.bytes[battle]
+        forks = array.take(battle)
         forks.reseed(dice.integers(0, 256, (len(battle), 10), np.uint8))
         mine, theirs = CHOICES[choice], random_choices(forks, 3 - side, dice)
         forks.step(*((mine, theirs) if side == 1 else (theirs, mine)))

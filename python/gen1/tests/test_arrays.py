@@ -11,7 +11,7 @@ from conftest import random_team
 
 np = pytest.importorskip("numpy")
 
-from gen1 import BadArgument, BadType, Battle, BattleArray, Conditions  # noqa: E402
+from gen1 import BadArgument, BadType, Battle, BattleArray, Conditions, Error  # noqa: E402
 from gen1._library import PATH  # noqa: E402
 from gen1.arrays import ACTIONS, CHOICES, bits  # noqa: E402
 from gen1.layout import ACTIVE, BATTLE, MEMBER  # noqa: E402
@@ -37,6 +37,95 @@ def test_the_array(battle):
         assert copied != array and array[0] == battle
         copied.reset()
         assert copied == array
+
+
+def test_it_is_a_sequence_of_battles(battle):
+    """Python walks an object by `__iter__`, and what only has `__getitem__` until an IndexError."""
+    battles = random_battles(3, 14)
+    array = BattleArray.of(iter(battles))
+    assert list(array) == battles == [*reversed(list(reversed(array)))] and battles[1] in array and battle not in array
+    assert repr(BattleArray(1000, battle)) == "<BattleArray of 1,000, 0 over>"
+    for at in (3, -4, 10**5000):
+        with pytest.raises(IndexError) as fault:
+            array[at]
+        assert isinstance(fault.value, BadArgument) and str(fault.value).startswith("place must be -3 to 2, not ")
+        with pytest.raises(IndexError):
+            array[at] = battle
+        assert list(array) == battles
+
+
+def test_what_a_step_answers_is_the_callers(battle):
+    """A later step, reset or battle that is put in leaves what was answered before as it was."""
+    array, dice = BattleArray(20, battle), np.random.default_rng(15)
+    while not array.over.all():
+        array.random_step(dice)
+    before = [array.step([0] * 20, [0] * 20), array.over, array.outcomes]
+    kept = [it.copy() for it in before]
+    array.reset()
+    assert all(np.array_equal(one, two) for one, two in zip(before, kept)) and not array.over.any()
+    array[3] = battle
+    assert list(array.results) == [int(battle.result.outcome) | battle.result.requests[0] << 3 | battle.result.requests[1] << 5] * 20
+
+
+def test_the_arrays_can_only_be_read(battle):
+    """So that results are always those of the bytes."""
+    array = BattleArray(4, battle)
+    for held in (array.bytes, array.fields["turn"], array.fields["sides"]["members"]["hp"], array.results, array.codes):
+        with pytest.raises(ValueError):
+            held[:] = 0
+    assert list(array) == [battle] * 4
+
+
+def test_battles_that_are_taken():
+    """Copies by their places, with results; each goes its own way, and back to where it was taken."""
+    battles = random_battles(4, 16)
+    array = BattleArray.of(battles)
+    array.random_step(np.random.default_rng(1))
+    now = list(array)
+    taken = array.take([2, 2, 0, -1])
+    assert list(taken) == [now[2], now[2], now[0], now[3]] and list(taken.results) == list(array.results[[2, 2, 0, 3]])
+    taken.reseed(np.arange(40).reshape(4, 10))
+    taken.random_step(np.random.default_rng(2))
+    assert taken[0] != taken[1] and list(array) == now
+    taken.reset()
+    assert list(taken) == [now[2], now[2], now[0], now[3]]
+    for wrong, kind, said in (
+        ([], BadArgument, "at least one"),
+        (2, BadArgument, "(m,)"),
+        (None, BadArgument, "(m,)"),
+        ([[1]], BadArgument, "(m,)"),
+        ([0, 4], IndexError, "places[1] must be -4 to 3, not 4"),
+        ([-5], IndexError, "places[0] must be -4 to 3, not -5"),
+        ([1.0], BadType, "float64"),
+        ([True], BadType, "bool"),
+        ([[1], [1, 2]], BadType, "places must be an array"),
+    ):
+        with pytest.raises(kind) as fault:
+            array.take(wrong)
+        assert isinstance(fault.value, Error) and said in str(fault.value) and list(array) == now
+
+
+def test_what_is_wrong_is_named(battle):
+    """Which item of an array, and what it is."""
+    array = BattleArray(5, battle)
+    seeds = np.zeros((5, 10), int)
+    seeds[2, 3] = 256
+    for call, said in (
+        (lambda: array.reseed(seeds), "seeds[2, 3] must be 0 to 255, not 256"),
+        (lambda: array.reset(None, seeds), "seeds[2, 3] must be 0 to 255, not 256"),
+        (lambda: BattleArray(5, battle, -seeds), "seeds[2, 3] must be 0 to 255, not -256"),
+        (lambda: array.step([0, 1, 2, 300, 4], [0] * 5), "ones[3] must be 0 to 255, not 300"),
+        (lambda: array.step([0] * 5, [[1], [1, 2]]), "twos must be an array"),
+        (lambda: array.random_step(None), "dice must be a numpy.random.Generator, not None"),
+        (lambda: array.random_step(random.Random(1)), "dice must be a numpy.random.Generator"),
+        (lambda: BattleArray.of(5), "battles must be a list, not 5 (int)"),
+        (lambda: BattleArray.of([]), "battles must be one or more"),
+        (lambda: BattleArray.of([battle, 5]), "battles[1] must be a Battle, not 5 (int)"),
+        (lambda: BattleArray(5, None), "battle must be a Battle, not None"),
+    ):
+        with pytest.raises(Error) as fault:
+            call()
+        assert said in str(fault.value) and array == BattleArray(5, battle)
 
 
 def test_seeds_are_those_of_new_battles(team):
@@ -190,9 +279,9 @@ def test_nothing_else_of_the_foe_can_be_seen():
         array = BattleArray(1, battle)
         for side in (1, 2):
             row, changed = array.observe(side), array.copy()
-            changed.fields["numbers"], changed.fields["index"] = dice.integers(0, 256, 10), dice.integers(0, 9)
-            changed.fields["last_damage"] = dice.integers(0, 65536)
-            foe = changed.fields["sides"][:, 2 - side]
+            changed._fields["numbers"], changed._fields["index"] = dice.integers(0, 256, 10), dice.integers(0, 9)
+            changed._fields["last_damage"] = dice.integers(0, 65536)
+            foe = changed._fields["sides"][:, 2 - side]
             for name in ("moves", "pp", "stats", "mark"):
                 foe["members"][name] = dice.integers(0, 256, foe["members"][name].shape)
             asleep = (foe["members"]["status"] > 0) & (foe["members"]["status"] < 8)
@@ -200,7 +289,7 @@ def test_nothing_else_of_the_foe_can_be_seen():
             for name in ("types", "stats", "substitute", "confusion", "disabled_slot", "disabled_turns", "bad_poison", "turns", "energy",
                          "current_move", "picked_move", "kept_accuracy"):
                 foe["active"][name] = dice.integers(0, 256, foe["active"][name].shape)
-            own = changed.fields["sides"][:, side - 1]
+            own = changed._fields["sides"][:, side - 1]
             for name in ("confusion", "disabled_turns", "turns"):
                 own["active"][name] = dice.integers(0, 256)
             mask = len(COLUMNS) - ACTIONS

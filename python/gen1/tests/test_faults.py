@@ -267,6 +267,69 @@ def test_damages_out_of_range(battle, team, tauros):
         gen1.damage(tauros, None, "Pound")
 
 
+LONG = 10**5000
+
+
+def test_numbers_and_names_of_any_length(team, tauros, battle):
+    """Python refuses to write a number of thousands of digits, so an error that would show it says how long it is; and names are cut."""
+    member, before = tauros.to_dict(), battle.bytes
+    calls = (
+        lambda: Choice.move(LONG),
+        lambda: Choice.switch(-LONG),
+        lambda: battle.update(LONG, 17),
+        lambda: battle.choices(LONG),
+        lambda: battle.reseed(bytes(10), LONG),
+        lambda: battle.playout(LONG, 1),
+        lambda: battle.damage(1, LONG),
+        lambda: Battle(team, team, bytes(10), rules=LONG),
+        lambda: Battle(team, team, bytes(10), limit=-LONG),
+        lambda: Battle(team, team, [LONG] * 10),
+        lambda: Member(LONG, ["Pound"]),
+        lambda: Member("Tauros", [LONG]),
+        lambda: Member("Tauros", ["Pound"], level=LONG),
+        lambda: Member("Tauros", ["Pound"], dvs=[LONG, 1, 1, 1]),
+        lambda: Member("Tauros", ["Pound"], exp=[LONG, 1, 1, 1, 1]),
+        lambda: Member("Tauros", ["Pound"], pp_ups=[LONG]),
+        lambda: Team([member | {"moves": [["Pound", 3, LONG]]}]),
+        lambda: Team([LONG]),
+        lambda: Team.from_text(LONG),
+        lambda: Member("a" * 100_000, ["Pound"]),
+        lambda: Member("Tauros", ["a" * 100_000]),
+    )
+    for at, call in enumerate(calls):
+        with pytest.raises(gen1.Error) as fault:
+            call()
+        assert len(said(fault)) < 200 and battle.bytes == before, at
+    with pytest.raises(BadArgument) as fault:
+        Choice.move(LONG)
+    assert str(fault.value) == f"slot must be 0 to 4, not a number of {LONG.bit_length():,} bits"
+
+
+def test_what_cannot_be_shown():
+    """A value of a class whose `repr` raises is named by its class."""
+
+    class Hidden:
+        def __repr__(self):
+            raise KeyError("no")
+
+    with pytest.raises(BadType) as fault:
+        Choice.move(Hidden())
+    assert str(fault.value) == "slot must be a whole number, not what cannot be shown (Hidden)"
+
+
+def test_types_that_are_wrong_say_where(team, tauros):
+    """The side and the member, as where a number is out of range."""
+    given = tauros.to_dict()
+    for two, said_of in (
+        (5, "side 2: a team must be a list, not 5 (int)"),
+        ([tauros, None], "side 2: member 2: a member must be a dict, not None (NoneType)"),
+        ([tauros, given | {"level": "9"}], "side 2: member 2: level must be a whole number, not '9' (str)"),
+    ):
+        with pytest.raises(BadType) as fault:
+            Battle(team, two, range(10))
+        assert said(fault) == said_of
+
+
 def test_choices_by_slot():
     for slot in (-1, 5, *BIG):
         with pytest.raises(BadArgument):

@@ -11,6 +11,9 @@ from conftest import ROOT
 from gen1 import Battle, BattleArray, Choice, Member
 
 np = pytest.importorskip("numpy")
+
+from gen1.layout import BATTLE  # noqa: E402
+
 LINEAR_VALUE = ROOT / "examples" / "python" / "linear_value"
 pytestmark = pytest.mark.skipif(not LINEAR_VALUE.is_dir(), reason="examples/python/linear_value is not here")
 SHORT = ("--rounds", "8", "--battles", "32", "--every", "8", "--tested", "400", "--rate", "0.1", "--seed", "1")
@@ -85,14 +88,14 @@ def test_features_show_what_a_side_knows_alone(parts):
         battle.play(Choice.PASS, Choice.PASS)
         seen.append(value.features(BattleArray(1, battle).observe(1)))
     assert (seen[0] == seen[1]).all()
-    array = BattleArray(1, value.start())
-    members = array.fields["sides"]["members"]
-    members["status"][0, 1, 0] = 3
-    asleep = value.features(array.observe(1))
-    members["status"][0, 1, 0] = 5
-    assert (value.features(array.observe(1)) == asleep).all()
-    members["hp"][0, 1, 0] -= 1
-    assert (value.features(array.observe(1)) != asleep).any()
+    held = BattleArray(1, value.start()).bytes.copy()
+    member = held.view(BATTLE)[0, 0]["sides"][1]["members"][0]
+    member["status"] = 3
+    asleep = value.features(BattleArray(1, Battle.load(held)).observe(1))
+    member["status"] = 5
+    assert (value.features(BattleArray(1, Battle.load(held)).observe(1)) == asleep).all()
+    member["hp"] -= 1
+    assert (value.features(BattleArray(1, Battle.load(held)).observe(1)) != asleep).any()
 
 
 def test_what_is_over_has_its_worth(parts):

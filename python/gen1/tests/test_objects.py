@@ -3,6 +3,7 @@
 import dataclasses
 import pickle
 import random
+from collections.abc import Iterable
 from functools import cached_property
 
 import gen1
@@ -20,6 +21,13 @@ def test_choices_and_their_bytes():
         assert Choice.switch(place) == 0x20 + place and Choice.switch(place).is_switch and Choice.switch(place).slot == place
     assert not Choice.PASS.is_move and not Choice.PASS.is_switch and Choice.PASS.slot == 0
     assert str(Choice.MOVE_2) == "move 2"
+
+
+def test_formats_of_names():
+    """The same by every Python: the label, or where the format is a number's the number."""
+    move, side = Move.BODY_SLAM, Side.ONE
+    assert (f"{move}", f"{move:>10}", f"{move:s}", f"{move!s}") == ("Body Slam", " Body Slam", "Body Slam", "Body Slam")
+    assert (f"{move:d}", f"{move:03d}", f"{move:#04x}", f"{side:b}", "%d" % move) == ("34", "034", "0x22", "1", "34")
 
 
 def test_sides():
@@ -64,6 +72,19 @@ def test_members_and_teams(tauros, team):
     assert len(team) == 2 and team[1].species is Species.GENGAR and hash(Team(team.members)) == hash(team)
     assert pickle.loads(pickle.dumps(team)) == team and pickle.loads(pickle.dumps(tauros)) == tauros
     assert [it.species.label for it in team] == ["Tauros", "Gengar"]
+
+
+def test_a_team_is_a_sequence_of_members(team):
+    assert isinstance(team, Iterable) and Team(team) == team == Team(list(team)) and tuple(team) == team.members
+    assert team[-1] is team[1] and team[:1] == team.members[:1] and team[5:] == () and team[0] in team
+    for at in (2, -3, 10**5000):
+        with pytest.raises(IndexError) as fault:
+            team[at]
+        assert isinstance(fault.value, gen1.BadArgument) and str(fault.value).startswith("place must be -2 to 1, not ")
+    with pytest.raises(gen1.BadType):
+        team["Tauros"]
+    shorter = dataclasses.replace(team, members=team[:1])
+    assert shorter == Team(team[:1]) and Battle(shorter, shorter, range(10))
 
 
 def test_random_teams_to_dicts_and_back():

@@ -153,12 +153,31 @@ def test_play(monkeypatch, capsys):
         (b"[" * 100000, ["run"], 1, "JSON"),
         (b"", ["run", "/no/such/file"], 3, "No such file"),
         (b"", ["fly"], 2, "fly"),
+        (b'{"attacker":5,"defender":5,"move":1,"critical":false}', ["calc"], 1, "attacker: a member must be a dict"),
         (b"", [], 2, "SUBCOMMAND"),
     ],
 )
 def test_wrong_input(monkeypatch, capsys, given, words, status, said):
     out, got, err = ran(monkeypatch, capsys, given, *words)
     assert (out, got) == ("", status) and said in err and "Traceback" not in err
+
+
+def test_input_that_is_wrong_says_where(monkeypatch, capsys, tmp_path, tauros):
+    """The attacker or the defender, the side and the member, and no traceback for a number of any length."""
+    whole, wrong = tauros.to_dict(), tauros.to_dict() | {"level": 0}
+    asked = {"seed": [0] * 10, "one": [whole], "two": [whole, wrong], "choices": [[0, 0]]}
+    for key in ("attacker", "defender"):
+        given = {"attacker": whole, "defender": whole, "move": "Body Slam", "critical": False} | {key: wrong}
+        out, status, err = ran(monkeypatch, capsys, json.dumps(given).encode(), "calc")
+        assert (out, status) == ("", 1) and err.startswith(f"error: {key}: the level is not 1 to 100")
+    path = tmp_path / "battle.json"
+    path.write_text(json.dumps(asked))
+    out, status, err = ran(monkeypatch, capsys, b"", "play", str(path))
+    assert (out, status) == ("", 1) and err.startswith("error: side 2, member 2: the level is not 1 to 100")
+    for place in ('"limit": ', '"seed": ['):
+        given = json.dumps(asked | {"two": [whole]})[:-1] + f', {place}{"9" * 5000}' + "]" * place.endswith("[") + "}"
+        out, status, err = ran(monkeypatch, capsys, given.encode(), "run")
+        assert (out, status) == ("", 1) and err.startswith("error: ") and len(err) < 200
 
 
 def test_choices_that_are_refused(monkeypatch, capsys):

@@ -5,7 +5,7 @@ import operator
 from collections.abc import Iterable
 from typing import TypeVar
 
-from gen1.errors import BadArgument, BadTeam, BadType
+from gen1.errors import BadArgument, BadPlace, BadTeam, BadType
 from gen1.names import Move, Named, NewFault, Species
 
 N = TypeVar("N", bound=Named)
@@ -25,7 +25,15 @@ def within(value: object, what: str, low: int, high: int) -> int:
     """A whole number from `low` to `high`."""
     number = whole(value, what)
     if not low <= number <= high:
-        raise BadArgument(f"{what} must be {low:,} to {high:,}, not {number}")
+        raise BadArgument(f"{what} must be {low:,} to {high:,}, not {digits(number)}")
+    return number
+
+
+def place(value: object, count: int) -> int:
+    """A place in something of so many, from 0 on, or from -1 on counted from its end."""
+    number = whole(value, "place")
+    if not -count <= number < count:
+        raise BadPlace(f"place must be {-count:,} to {count - 1:,}, not {digits(number)}")
     return number
 
 
@@ -49,10 +57,14 @@ def listed(value: object, what: str) -> list[object]:
 
 
 def octets(value: object, what: str) -> bytes:
-    """Bytes, out of anything that has them."""
-    if isinstance(value, (bytes, bytearray, memoryview)):
-        return bytes(value)
-    raise BadType(f"{what} must be bytes, not {shown(value)}")
+    """Bytes, out of anything that has them by the buffer protocol: a `bytearray`, an mmap, an array of numpy whose items are bytes."""
+    try:
+        view = memoryview(value)  # type: ignore[arg-type]
+    except TypeError:
+        raise BadType(f"{what} must be bytes, not {shown(value)}") from None
+    if view.itemsize != 1:
+        raise BadType(f"{what} must be bytes, not items of {view.itemsize} bytes: {shown(value)}")
+    return view.tobytes()
 
 
 def seed_bytes(value: object) -> bytes:
@@ -77,12 +89,12 @@ def named(kind: type[N], value: object, field: str) -> N:
                 return it
         near = difflib.get_close_matches(value, [it.label for it in kind], 1)
         meant = f"; did you mean {near[0]!r}?" if near else ""
-        raise BadTeam(f"{field}: there is no {value!r}{meant}", field=field, code=code)
+        raise BadTeam(f"{field}: there is no {cut(repr(value))}{meant}", field=field, code=code)
     number = whole(value, field)
     try:
         return kind(number)
     except ValueError:
-        said = f"{field} must be {min(kind):d} to {max(kind):d} or a name, not {number}"
+        said = f"{field} must be {int(min(kind))} to {int(max(kind))} or a name, not {digits(number)}"
         raise BadTeam(said, field=field, code=code) from None
 
 
@@ -98,5 +110,18 @@ def move(value: object, field: str = "move") -> Move:
 
 def shown(value: object) -> str:
     """A value as an error shows it, cut to a screen's width."""
-    text = repr(value)
-    return f"{text if len(text) <= 60 else text[:57] + '...'} ({type(value).__name__})"
+    try:
+        text = cut(repr(value))
+    except Exception:  # whatever a value of the caller's own class raises, and a number too long to be written
+        text = "what cannot be shown"
+    return f"{text} ({type(value).__name__})"
+
+
+def digits(number: int) -> str:
+    """A number as an error shows it; of one that fills more than a line how long it is, as Python writes none of any length."""
+    return str(int(number)) if number.bit_length() <= 192 else f"a number of {number.bit_length():,} bits"
+
+
+def cut(text: str) -> str:
+    """The front of a text, as far as an error shows it."""
+    return text if len(text) <= 60 else text[:57] + "..."

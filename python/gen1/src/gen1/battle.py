@@ -9,10 +9,10 @@ from typing import Any, TypeAlias
 from gen1 import _library
 from gen1._check import byte as a_byte
 from gen1._check import move as a_move
-from gen1._check import octets, seed_bytes, truth, whole, within
+from gen1._check import digits, octets, seed_bytes, truth, whole, within
 from gen1._structs import DAMAGES, LOG_ROOM, BattleBytes, HitStruct, PlayoutsStruct
 from gen1.choices import Choice, Rules, Side, a_choice, a_side, choice_text, not_offered
-from gen1.errors import BadArgument, BadBytes, BadTeam, NoDamage, Refused
+from gen1.errors import BadArgument, BadBytes, BadTeam, BadType, NoDamage, Refused
 from gen1.events import Event, events, lines
 from gen1.hits import Hit, hit_of, no_damage
 from gen1.names import DamageFault, LoadFault, Move, NewFault, Outcome, Refusal, Request
@@ -84,14 +84,15 @@ class Battle:
         `seed` is ten bytes; `rules` 0 to 3 (`Rules`); `limit` the last turn, 1 to 9,999. Raises `BadTeam`, `BadArgument`,
         `BadType`.
         """
-        terms = a_byte(whole(rules, "rules")), min(max(whole(limit, "limit"), 0), 65535)
+        asked_rules, asked_limit = whole(rules, "rules"), whole(limit, "limit")
+        terms = a_byte(asked_rules), min(max(asked_limit, 0), 65535)
         numbers, sides = seed_bytes(seed), sides_of(one, two)
         self._held = BattleBytes()
         teams = [byref(it._struct) for it in sides]
         answer = _library.new(byref(self._held), *teams, _library.SeedBytes(*numbers), *terms)
         if answer:
             code = NewFault(answer & 0xFF)
-            raise BadArgument(f"{code.label}: {int(rules) if code is NewFault.RULES else int(limit)}")
+            raise BadArgument(f"{code.label}: {digits(asked_rules if code is NewFault.RULES else asked_limit)}")
 
     @classmethod
     def new(cls, one: TeamLike, two: TeamLike, seed: SeedLike, rules: int = 0, limit: int = 1000) -> "Battle":
@@ -200,7 +201,7 @@ class Battle:
         """
         numbers, place = seed_bytes(seed), whole(index, "index")
         if _library.reseed(byref(self._held), _library.SeedBytes(*numbers), a_byte(place)):
-            raise BadArgument(f"index must be 0 to 8, not {place}")
+            raise BadArgument(f"index must be 0 to 8, not {digits(place)}")
 
     def playout(self, seed: int, rounds: int) -> Playouts:
         """How so many copies of the battle end, each side choosing at random among what it is offered; the battle stays as it is.
@@ -269,6 +270,8 @@ def _side(number: int, given: TeamLike) -> Team:
         return as_team(given)
     except BadTeam as fault:
         raise fault.of(number) from None
+    except BadType as fault:
+        raise BadType(f"side {number}: {fault}") from None
 
 
 def _load_text(code: LoadFault, given: "bytes") -> str:

@@ -3,7 +3,7 @@
 from collections.abc import Iterable
 from enum import IntFlag
 
-from gen1._check import whole, within
+from gen1._check import digits, whole, within
 from gen1.errors import BadArgument
 from gen1.names import Named
 
@@ -77,7 +77,7 @@ def a_side(value: object) -> int:
     """A side, 1 or 2."""
     number = whole(value, "side")
     if number not in (1, 2):
-        raise BadArgument(f"side must be 1 or 2, not {number}")
+        raise BadArgument(f"side must be 1 or 2, not {digits(number)}")
     return number
 
 

@@ -24,6 +24,10 @@ class BadArgument(Error, ValueError):
     """An argument that is out of its range."""
 
 
+class BadPlace(BadArgument, IndexError):
+    """A place behind the last battle of an array, or behind the last member of a team."""
+
+
 class BadTeam(BadArgument):
     """A team, or a member of one, that the rules of teams refuse (docs/MECHANICS.md, "Teams").
 

@@ -6,7 +6,8 @@ from enum import IntEnum, IntFlag
 class Named(IntEnum):
     """A number of the library with a text for people.
 
-    `label` is the name as lines and tables print it ("Mr. Mime"), of a code what it says ("the level is not 1 to 100").
+    `label` is the name as lines and tables print it ("Mr. Mime"), of a code what it says ("the level is not 1 to 100"). A format that
+    ends in a number's type (`d`, `02x`) formats the number, any other the label, by every Python alike.
     """
 
     label: str
@@ -22,6 +23,9 @@ class Named(IntEnum):
 
     def __str__(self) -> str:
         return self.label
+
+    def __format__(self, spec: str) -> str:
+        return format(int(self) if spec and spec[-1] in "bcdeEfFgGnoxX%" else self.label, spec)
 
 
 class Species(Named):

@@ -1,16 +1,16 @@
 """Members and teams (docs/MECHANICS.md, "Teams"), from dicts and back. What makes a team is the library's to say."""
 
-from collections.abc import Iterable, Mapping
+from collections.abc import Iterable, Iterator, Mapping
 from ctypes import byref
 from dataclasses import dataclass, field
-from typing import Any
+from typing import Any, overload
 
 from gen1 import _library
-from gen1._check import byte, listed, move, shown, whole
+from gen1._check import byte, digits, listed, move, place, shown, whole
 from gen1._check import species as a_species
 from gen1._structs import BattleBytes
 from gen1.errors import BadTeam, BadType
-from gen1.names import Move, NewFault, Species
+from gen1.names import Move, Named, NewFault, Species
 from gen1.team_text import read_packed, read_text, written
 
 KEYS = ("species", "level", "dvs", "exp", "moves")
@@ -57,7 +57,7 @@ class Member:
             object.__setattr__(self, name, value)
         for at, it in enumerate(self.exp):
             if not 0 <= it <= 65535:
-                raise BadTeam(f"exp[{at}] must be 0 to 65,535, not {it}", field="exp")
+                raise BadTeam(f"exp[{at}] must be 0 to 65,535, not {digits(it)}", field="exp")
         _test([self])
 
     @classmethod
@@ -71,7 +71,7 @@ class Member:
         pairs = [listed(pair, f"moves[{at}]") for at, pair in enumerate(listed(given["moves"], "moves"))]
         for at, pair in enumerate(pairs):
             if len(pair) != 2:
-                raise BadTeam(f"moves[{at}] must be a move and its PP ups, not {pair}", field="moves")
+                raise BadTeam(f"moves[{at}] must be a move and its PP ups, not {shown(pair)}", field="moves")
         moves: list[Any] = [name for name, _ in pairs]
         ups: list[Any] = [it for _, it in pairs]
         return cls(given["species"], moves, given["level"], given["dvs"], given["exp"], ups)
@@ -87,9 +87,10 @@ class Member:
             "moves": moves,
         }
 
-    def _value(self, name: str) -> object:
+    def _text(self, name: str) -> str:
+        """A field as an error shows it."""
         found = getattr(self, name)
-        return [it.label for it in found] if name == "moves" else found
+        return _shown(found) if not isinstance(found, tuple) else f"[{', '.join(map(_shown, found))}]"
 
 
 @dataclass(frozen=True, init=False)
@@ -97,7 +98,7 @@ class Team:
     """One to six members. Every way to make one tests it by the rules of teams, and raises `BadTeam` or `BadType`."""
 
     members: tuple[Member, ...]
-    _struct: _library.TeamStruct = field(repr=False, compare=False)
+    _struct: _library.TeamStruct = field(init=False, repr=False, compare=False)
 
     def __init__(self, members: Iterable[Member | Mapping[str, Any]]) -> None:
         given = listed(members, "a team")
@@ -140,8 +141,18 @@ class Team:
     def __len__(self) -> int:
         return len(self.members)
 
-    def __getitem__(self, at: int) -> Member:
-        return self.members[at]
+    @overload
+    def __getitem__(self, at: int) -> Member: ...
+
+    @overload
+    def __getitem__(self, at: slice) -> tuple[Member, ...]: ...
+
+    def __getitem__(self, at: int | slice) -> Member | tuple[Member, ...]:
+        """The member at a place from 0 on, or those of a slice. Raises `BadPlace`, which is an `IndexError` too."""
+        return self.members[at] if isinstance(at, slice) else self.members[place(at, len(self))]
+
+    def __iter__(self) -> Iterator[Member]:
+        return iter(self.members)
 
     def __reduce__(self) -> tuple[Any, ...]:
         return Team, (self.members,)
@@ -166,6 +177,8 @@ def _member(at: int, given: object) -> Member:
         return given if isinstance(given, Member) else Member.from_dict(given)  # type: ignore[arg-type]
     except BadTeam as fault:
         raise fault.at(at) from None
+    except BadType as fault:
+        raise BadType(f"member {at}: {fault}") from None
 
 
 def struct_of(members: Iterable[Member]) -> _library.TeamStruct:
@@ -188,6 +201,11 @@ def _fault_of(team: _library.TeamStruct) -> NewFault | None:
     return NewFault(answer & 0xFF) if answer else None
 
 
+def _shown(value: int) -> str:
+    """A species or a move by its name, else the number."""
+    return value.label if isinstance(value, Named) else digits(value)
+
+
 def _test_count(count: int) -> None:
     """Tests the number of members, of which the library says what is too few and too many."""
     fault = _fault_of(_library.TeamStruct(count=byte(count)))
@@ -199,4 +217,4 @@ def _test(members: list[Member]) -> None:
     fault = _fault_of(struct_of(members))
     if fault is not None:
         name = FIELDS.get(fault, "moves")
-        raise BadTeam(f"{fault.label}: {name} is {members[0]._value(name)}", field=name, code=fault)
+        raise BadTeam(f"{fault.label}: {name} is {members[0]._text(name)}", field=name, code=fault)

@@ -5,8 +5,9 @@ import sys
 from pathlib import Path
 from typing import Any
 
-from gen1._check import listed, shown, whole
+from gen1._check import digits, listed, shown, whole
 from gen1.battle import Battle
+from gen1.errors import Error
 from gen1.teams import Member
 
 
@@ -43,6 +44,8 @@ def an_object(given: bytes, *keys: str) -> dict[str, Any]:
         it = json.loads(given.decode("utf-8"))
     except (UnicodeDecodeError, json.JSONDecodeError) as fault:
         raise Fault(f"the input is no JSON: {fault}") from None
+    except ValueError:  # the one more that json.loads raises, by Pythons that read no number of any length
+        raise Fault("the input is no JSON that can be read: a number of it has too many digits") from None
     except RecursionError:
         raise Fault("the input is no JSON that can be read: it is nested too deep") from None
     if not isinstance(it, dict):
@@ -67,11 +70,14 @@ def pairs(asked: dict[str, Any]) -> list[tuple[int, int]]:
             raise Fault(f"choices[{at}] must be two numbers, not {len(pair)}")
         one, two = (whole(byte, f"choices[{at}]") for byte in pair)
         if not (0 <= one <= 255 and 0 <= two <= 255):
-            raise Fault(f"choices[{at}] must be 0 to 255, not {one} and {two}")
+            raise Fault(f"choices[{at}] must be 0 to 255, not {digits(one)} and {digits(two)}")
         found.append((one, two))
     return found
 
 
 def a_member(asked: dict[str, Any], key: str) -> Member:
-    """The member of an object of `calc`."""
-    return Member.from_dict(asked[key])
+    """The member of an object of `calc`; a fault says which of the two it is of."""
+    try:
+        return Member.from_dict(asked[key])
+    except Error as fault:
+        raise Fault(f"{key}: {fault}") from None

@@ -4,7 +4,7 @@ import argparse
 import random
 import sys
 
-from gen1.battle import Battle
+from gen1.battle import Battle, sides_of
 from gen1.choices import Choice, Side
 from gen1.errors import NoDamage
 from gen1.program.inputs import Fault, a_battle, an_object, read
@@ -28,7 +28,7 @@ def play(asked: argparse.Namespace) -> None:
     teams, battle = (TEAM, TEAM), Battle(TEAM, TEAM, dice.randbytes(10))
     if asked.file is not None:
         given = an_object(read(asked.file), "seed", "one", "two")
-        teams, battle = (Team(given["one"]), Team(given["two"])), a_battle(given)
+        teams, battle = sides_of(given["one"], given["two"]), a_battle(given)
     pair: tuple[Choice, Choice] | None = (Choice.PASS, Choice.PASS)
     while pair is not None:
         update = battle.update(*pair)
