@@ -5,6 +5,9 @@ import ctypes
 import json
 import pickle
 import random
+import sys
+import threading
+import time
 
 import pytest
 from conftest import RECORDED, random_team, recorded_only
@@ -187,6 +190,52 @@ def test_random_rooms():
             if room.number != before:
                 assert room.log == battle.update(chosen.get(1, 0), chosen.get(2, 0)).log and room.battle == battle
                 chosen = {}
+
+
+@pytest.fixture
+def hurried():
+    """Threads take turns as often as they can."""
+    interval = sys.getswitchinterval()
+    sys.setswitchinterval(1e-5)
+    yield
+    sys.setswitchinterval(interval)
+
+
+def player(room, side, told):
+    """A thread that takes choices at random for a side until the battle is over; `told` has each choice and its answer by its pair."""
+
+    def play():
+        dice = random.Random(side)
+        while not room.result.is_over:
+            number, offered = room.number, room.choices(side)
+            try:
+                if offered:
+                    choice = dice.choice(offered)
+                    told[number, side] = choice, room.submit(side, number, choice)
+                else:
+                    time.sleep(0)  # the foe's turn
+            except RoomRefused as fault:
+                assert fault.code in (RoomRefusal.STALE, RoomRefusal.CHOSEN, RoomRefusal.OVER)
+
+    return threading.Thread(target=play)
+
+
+def test_both_players_in_threads_of_their_own(hurried):
+    """Each pair ends for one of them, who is told its log; and the battle is that of the same choices in turn."""
+    dice, pairs = random.Random(17), 0
+    for _ in range(20):
+        room, told = Room(Battle(random_team(dice), random_team(dice), dice.randbytes(10), limit=40)), {}
+        alone, players = room.battle, [player(room, side, told) for side in (1, 2)]
+        for it in players:
+            it.start()
+        for it in players:
+            it.join()
+        for number in range(room.number):
+            both = [told.get((number, side), (0, None)) for side in (1, 2)]
+            assert [update for _, update in both if update is not None] == [alone.update(both[0][0], both[1][0])]
+        assert alone == room.battle and alone.result.is_over
+        pairs += room.number
+    assert pairs > 100
 
 
 def test_the_struct_is_that_of_the_header():

@@ -1,4 +1,8 @@
-"""The calls of libgen1 (include/gen1.h) by ctypes, with their types, and where the library is found."""
+"""The calls of libgen1 (include/gen1.h) by ctypes, with their types, and where the library is found.
+
+A call of microseconds keeps the interpreter's lock (`PyDLL`): to wait for it again would take far longer than the call where other threads
+run Python. A call that may take long lets them run (`CDLL`).
+"""
 
 import ctypes
 import os
@@ -73,21 +77,21 @@ def _found() -> str:
     return found
 
 
-def _loaded(path: str) -> ctypes.CDLL:
+def _loaded(path: str) -> tuple[ctypes.PyDLL, ctypes.CDLL]:
     try:
-        return ctypes.CDLL(path)
+        return ctypes.PyDLL(path), ctypes.CDLL(path)
     except OSError as fault:
         raise LibraryMissing(f"{path} cannot be loaded: {fault}") from fault
 
 
 PATH = _found()
-CALLS = _loaded(PATH)
+SHORT, LONG = _loaded(PATH)
 
 
-def bind(name: str, answer: Any, *takes: Any) -> Any:
-    """A call of the library with its types."""
+def bind(name: str, answer: Any, *takes: Any, of: ctypes.CDLL = SHORT) -> Any:
+    """A call of the library with its types; `LONG` lets other threads run meanwhile."""
     try:
-        call = getattr(CALLS, name)
+        call = getattr(of, name)
     except AttributeError:
         raise LibraryMissing(f"{PATH} has no {name}; it is older than this package") from None
     call.restype, call.argtypes = answer, takes
@@ -106,7 +110,7 @@ next_line = bind("gen1_next_line", c_uint8, _BYTES, c_size_t, _SIZES, _TEXT, c_s
 damage = bind("gen1_damage", c_uint8, _BATTLE, c_uint8, c_uint8, c_bool, c_uint16 * DAMAGES)
 hit_now = bind("gen1_hit_now", c_uint8, _BATTLE, c_uint8, c_uint8, POINTER(HitStruct))
 hit_between = bind("gen1_hit_between", c_uint32, _MEMBER, _MEMBER, c_uint8, POINTER(HitStruct))
-playout = bind("gen1_playout", c_uint8, _BATTLE, c_uint64, c_uint32, POINTER(PlayoutsStruct))
+playout = bind("gen1_playout", c_uint8, _BATTLE, c_uint64, c_uint32, POINTER(PlayoutsStruct), of=LONG)
 view = bind("gen1_view", None, _BATTLE, POINTER(StateStruct))
 choice_words = bind("gen1_choice_words", c_uint8, _BATTLE, c_uint8, c_uint8, _TEXT, c_size_t, _SIZES)
 reseed = bind("gen1_reseed", c_uint8, _BATTLE, SeedBytes, c_uint8)

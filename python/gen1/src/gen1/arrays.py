@@ -18,8 +18,8 @@ from gen1.observations import observe
 Bytes: TypeAlias = NDArray[np.uint8]
 Masks: TypeAlias = NDArray[np.uint16]
 
-_offered = _library.bind("gen1_offered_many", c_uint8, c_void_p, c_size_t, c_uint8, c_void_p, c_size_t)
-_update = _library.bind("gen1_update_many", c_uint8, c_void_p, c_size_t, *[c_void_p, c_size_t] * 4)
+_offered = _library.bind("gen1_offered_many", c_uint8, c_void_p, c_size_t, c_uint8, c_void_p, c_size_t, of=_library.LONG)
+_update = _library.bind("gen1_update_many", c_uint8, c_void_p, c_size_t, *[c_void_p, c_size_t] * 4, of=_library.LONG)
 
 # The number of each choice in the order of the bits of a mask: bit 0 is `PASS`, bits 1 to 5 moves 0 to 4, bits 6 to 11 switches.
 CHOICES: Bytes = np.array([int(it) for it in Choice], np.uint8)
@@ -39,6 +39,8 @@ class BattleArray:
     (n, 2, 6)); `results` (n) are the result bytes of the battles, `codes` (n) what each answered to the last step: 0, or the number of its
     `Refusal`. All four can only be read, and show the battles as they are now: copy what is to be kept over a step. Battles are put in by
     `array[place] = battle`, `reseed`, `reset` and `take`.
+
+    One array is for one thread at a time. A step and the masks let other threads run, so that arrays of their own step in parallel.
     """
 
     def __init__(self, n: int, battle: Battle, seeds: ArrayLike | None = None) -> None:

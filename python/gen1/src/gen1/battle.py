@@ -73,7 +73,7 @@ class Battle:
     """A battle of two teams. `update` changes it in place; `copy` keeps it.
 
     Two battles are equal where their bytes are. The hash is that of the bytes at the time: a battle that stands in a set or is
-    the key of a dict must not be updated there.
+    the key of a dict must not be updated there. One battle is for one thread at a time; a `Room` takes the choices of several.
     """
 
     __slots__ = ("_held",)
@@ -208,7 +208,7 @@ class Battle:
 
         `seed`, 0 to 2 ** 64 - 1, is of the choices, and the same one gives the same counts (include/gen1.h, "many battles"); `rounds` 0 to
         2 ** 32 - 1. What the copies draw is what the battle will draw: a search that must not know it takes reseeded copies. The call
-        comes back when all are played, some ten thousand a second. Raises `BadArgument`, `BadType`.
+        comes back when all are played, some ten thousand a second, and lets other threads run meanwhile. Raises `BadArgument`, `BadType`.
         """
         of, numbers = PlayoutsStruct(), (within(seed, "seed", 0, (1 << 64) - 1), within(rounds, "rounds", 0, (1 << 32) - 1))
         test = _library.playout(byref(self._held), *numbers, byref(of))

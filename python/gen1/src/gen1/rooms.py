@@ -1,6 +1,7 @@
 """Rooms: battles of two players who choose apart from each other (docs/MECHANICS.md, "Rooms")."""
 
 from ctypes import byref
+from threading import RLock
 from typing import Any
 
 from gen1 import _library
@@ -18,16 +19,17 @@ class Room:
     """A battle of two players: the first choice of a pair is kept until the other is there, and then the battle is updated.
 
     Pairs are numbered from 0. Until a pair has ended, no answer tells which of the offered choices a side has made. Two rooms are equal
-    where battle, number, log and choices are; a room has no hash.
+    where battle, number, log and choices are; a room has no hash. Several threads may use one room, as the handlers of both players do.
     """
 
-    __slots__ = ("_held",)
+    # Each call of the library is one step to other threads; the lock makes one of those that look twice.
+    __slots__ = ("_held", "_lock")
 
     def __init__(self, battle: Battle) -> None:
         """A room with a copy of the battle. One that is before its first update is started at once. Raises `BadType`."""
         if not isinstance(battle, Battle):
             raise BadType(f"battle must be a Battle, not {shown(battle)}")
-        self._held = RoomStruct()
+        self._held, self._lock = RoomStruct(), RLock()
         self._held.battle[:] = battle.bytes
         _library.room_begin(byref(self._held))
 
@@ -49,7 +51,8 @@ class Room:
     @property
     def log(self) -> bytes:
         """The log bytes of the last pair that ended; before one has, those of the start, or none where the battle had been started."""
-        return bytes(self._held.log[: self._held.log_length])
+        with self._lock:
+            return bytes(self._held.log[: self._held.log_length])
 
     def choices(self, side: Side | int) -> tuple[Choice, ...]:
         """What a side may submit for the current pair, in rising order.
@@ -67,16 +70,18 @@ class Room:
         Raises `RoomRefused`, and then nothing has changed; `BadArgument` and `BadType` for what is no side, number or byte.
         """
         known, pair = a_side(side), within(number, "number", 0, NUMBERS)
-        byte, before = a_choice(choice, known), self.number
-        code = _library.room_submit(byref(self._held), known, pair, byte)
-        if code:
-            raise self._refused(RoomRefusal(code), known, pair, byte)
-        return Update(self.result, self.log) if self.number != before else None
+        byte = a_choice(choice, known)
+        with self._lock:
+            before = self.number
+            code = _library.room_submit(byref(self._held), known, pair, byte)
+            if code:
+                raise self._refused(RoomRefusal(code), known, pair, byte)
+            return Update(self.result, self.log) if self.number != before else None
 
     def copy(self) -> "Room":
         """A room of its own with the same battle, number, log and choices."""
         made = Room.__new__(Room)
-        made._held = RoomStruct.from_buffer_copy(self._held)
+        made._held, made._lock = RoomStruct.from_buffer_copy(self._held), RLock()
         return made
 
     __copy__ = copy
@@ -99,7 +104,8 @@ class Room:
 
     def _parts(self) -> tuple[bytes, int, bytes, bytes]:
         """All that it holds: battle, number, choices and log."""
-        return bytes(self._held.battle), self.number, bytes(self._held.chosen), self.log
+        with self._lock:
+            return bytes(self._held.battle), self.number, bytes(self._held.chosen), self.log
 
     def _refused(self, code: RoomRefusal, side: int, number: int, byte: int) -> RoomRefused:
         offered = self.choices(side)
@@ -115,6 +121,7 @@ class Room:
 def _restored(battle: bytes, number: int, chosen: bytes, log: bytes) -> Room:
     """The room that was pickled."""
     made = Room.__new__(Room)
+    made._lock = RLock()
     made._held = RoomStruct(number=within(number, "number", 0, NUMBERS), log_length=within(len(log), "log", 0, LOG_ROOM))
     made._held.battle[:] = Battle.load(battle).bytes
     made._held.chosen[:], made._held.log[: len(log)] = chosen, log

@@ -55,7 +55,8 @@ class ShownState:
 class Spectator:
     """A watcher of a battle, who has both teams and is fed the log of each update.
 
-    Two watchers are equal where they know the same and hold the same bytes of an event that has come in part; a watcher has no hash.
+    Two watchers are equal where they know the same and hold the same bytes of an event that has come in part; a watcher has no hash. One
+    watcher is for one thread at a time.
     """
 
     __slots__ = ("_held",)
