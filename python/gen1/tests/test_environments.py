@@ -8,6 +8,7 @@ import pytest
 np = pytest.importorskip("numpy")
 
 from gen1 import BadArgument, BadType, Battle, BattleEnv, Member, Refused, Side, TwoPlayerEnv  # noqa: E402
+from gen1.arrays import CHOICES  # noqa: E402
 from gen1.environments import DEFAULT_TEAM, random_policy  # noqa: E402
 from gen1.observations import COLUMNS  # noqa: E402
 from gen1.spaces import Box, Discrete  # noqa: E402
@@ -113,15 +114,69 @@ def test_other_arguments():
         (lambda: BattleEnv(limit=0), BadArgument),
         (lambda: BattleEnv().reset(seed=-1), BadArgument),
         (lambda: BattleEnv().reset(seed="1"), BadType),
-        (lambda: BattleEnv().reset(options={"three": DEFAULT_TEAM}), BadArgument),
+        (lambda: BattleEnv().reset(options=5), BadType),
+        (lambda: BattleEnv().reset(options=[]), BadType),
+        (lambda: BattleEnv().reset(options={"two": None}), BadType),
+        (lambda: TwoPlayerEnv().reset(options=5), BadType),
+        (lambda: TwoPlayerEnv().step(None), BadType),
+        (lambda: TwoPlayerEnv().action_masks("three"), BadArgument),
+        (lambda: TwoPlayerEnv().action_space("three"), BadArgument),
+        (lambda: TwoPlayerEnv().observation_space(None), BadArgument),
     ):
         with pytest.raises(kind):
             wrong()
+    for two in ([], [5], 5):
+        for made in (BattleEnv, TwoPlayerEnv):
+            with pytest.raises((BadArgument, BadType), match="^side 2"):
+                made(DEFAULT_TEAM, two)
+            with pytest.raises((BadArgument, BadType), match="^side 2"):
+                made().reset(options={"two": two})
     tauros = Member("Tauros", ["Body Slam"])
     env = BattleEnv(render_mode="ansi")
     env.reset(seed=1, options={"one": [tauros]})
     assert len(env.battle.choices(1)) == 1 and env.render().startswith("turn 1: Tauros 353/353 - ")
     assert BattleEnv().render() is None
+    # What wrappers and checkers put in for others is left alone.
+    assert same(env.reset(seed=1, options={"options": 1}), BattleEnv().reset(seed=1))
+
+
+def test_a_reset_that_is_refused_changes_nothing():
+    """What follows, and the battle after that, are those of an environment that was asked nothing in between."""
+    for wrong in ({"seed": -1}, {"seed": "1"}, {"seed": 3, "options": 5}, {"seed": 3, "options": {"two": []}}):
+        env, other, dice = BattleEnv(), BattleEnv(), np.random.default_rng(6)
+        assert same(env.reset(seed=8), other.reset(seed=8))
+        with pytest.raises((BadArgument, BadType)):
+            env.reset(**wrong)
+        for _ in range(3):
+            action = int(dice.choice(np.flatnonzero(env.action_masks())))
+            assert same(env.step(action), other.step(action))
+        assert same(env.reset(), other.reset())
+
+
+def test_a_refused_action_is_refused_before_the_policy_is_asked():
+    """So it draws nothing: what follows is as if it had not been."""
+    asked = []
+
+    def policy(battle, side, dice):
+        asked.append(side)
+        return random_policy(battle, side, dice)
+
+    env, other = BattleEnv(policy=policy), BattleEnv()
+    env.reset(seed=9), other.reset(seed=9)
+    for action in (0, 1, 6):
+        with pytest.raises(Refused) as fault:
+            env.step(action)
+        assert (fault.value.side, fault.value.choice) == (1, CHOICES[action])
+    assert asked == [] and same(env.step(2), other.step(2)) and asked == [Side.TWO]
+
+
+def test_a_policy_whose_answer_is_refused():
+    env = BattleEnv(policy=lambda battle, side, dice: 0x25)
+    env.reset(seed=1)
+    before = env.battle
+    with pytest.raises(Refused, match="^side 2's choice is not offered"):
+        env.step(2)
+    assert env.battle == before
 
 
 def test_a_policy_is_given_a_copy():
@@ -179,7 +234,7 @@ def test_actions_of_two_players_that_are_wrong():
     env = TwoPlayerEnv(render_mode="ansi")
     env.reset(seed=1)
     before = env.battle
-    for actions in ({}, {"one": 1}, {"one": 1, "two": 1, "three": 1}, {"one": 12, "two": 1}, {"one": 1, "two": -1}):
+    for actions in ({}, {"one": 1}, {"one": 1, "two": 1, "three": 1}, {1: 1, "two": 1}, {"one": 12, "two": 1}, {"one": 1, "two": -1}):
         with pytest.raises(BadArgument):
             env.step(actions)
         assert env.battle == before
@@ -198,6 +253,8 @@ def test_our_spaces():
     assert np.zeros(2, np.float32) in box and np.full(2, 2, np.float32) not in box and np.zeros(3, np.float32) not in box
     assert [0, 0] not in box and np.full(2, np.nan, np.float32) not in box
     assert discrete == Discrete(3) != Discrete(4) and box == Box(-1, 1, (2,)) and "Box" in repr(box) and "3" in repr(discrete)
+    for other in (Box(-2, 1, (2,)), Box(-1, 2, (2,)), Box(-1, 1, (3,)), Box(-1, 1, (2,), np.float64), discrete):
+        assert box != other
 
 
 def test_with_gymnasium_its_spaces_are_taken(monkeypatch):
@@ -215,3 +272,32 @@ def test_with_gymnasium_its_spaces_are_taken(monkeypatch):
     fake.spaces, fake.Env = types.SimpleNamespace(Discrete=Discrete, Box=Box), Env
     monkeypatch.setitem(sys.modules, "gymnasium", fake)
     assert spaces.made() == (Discrete, Box, Env)
+
+
+# The published checkers themselves, where they are installed. They take actions that no mask has let through, which is refused here; so
+# each such action is put to one that is offered.
+
+
+def offered(mask, action):
+    return int(np.flatnonzero(mask)[action % mask.sum()])
+
+
+def test_gymnasiums_own_checker():
+    checker = pytest.importorskip("gymnasium.utils.env_checker")
+
+    class Lenient(BattleEnv):
+        def step(self, action):
+            return super().step(offered(self.action_masks(), action))
+
+    checker.check_env(Lenient(), skip_render_check=True)
+
+
+def test_pettingzoos_own_checker():
+    pytest.importorskip("pettingzoo")
+    from pettingzoo.test import parallel_api_test
+
+    class Lenient(TwoPlayerEnv):
+        def step(self, actions):
+            return super().step({agent: offered(self.action_masks(agent), it) for agent, it in actions.items()})
+
+    parallel_api_test(Lenient(), num_cycles=300)

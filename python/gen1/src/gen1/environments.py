@@ -13,12 +13,12 @@ from numpy.typing import NDArray
 from gen1 import spaces
 from gen1._check import shown, within
 from gen1.arrays import ACTIONS, CHOICES, BattleArray, bits
-from gen1.battle import Battle, TeamLike
+from gen1.battle import Battle, TeamLike, sides_of
 from gen1.choices import Choice, Side
 from gen1.errors import BadArgument, BadType
 from gen1.names import Outcome, Species
 from gen1.observations import COLUMNS
-from gen1.teams import Member, as_team
+from gen1.teams import Member
 
 Row: TypeAlias = NDArray[np.float32]
 Truths: TypeAlias = NDArray[np.bool_]
@@ -44,20 +44,19 @@ class _Table:
     """A battle that is played: the array of one that is observed, and the teams and terms that it is begun with."""
 
     def __init__(self, one: TeamLike, two: TeamLike, rules: int, limit: int) -> None:
-        self.teams, self.terms = [as_team(one), as_team(two)], (rules, limit)
+        self.teams, self.terms = sides_of(one, two), (rules, limit)
         self.dice = np.random.default_rng()
         self.begin(None, None)
 
     def begin(self, seed: int | None, options: Mapping[str, Any] | None) -> None:
-        """A new battle, after its start. With a seed the numbers that are drawn begin anew too."""
-        teams = list(self.teams)
-        for name, team in (options or {}).items():
-            if name not in ("one", "two"):
-                raise BadArgument(f"options may have 'one' and 'two', not {shown(name)}")
-            teams[name == "two"] = as_team(team)
+        """A new battle, after its start. With a seed the numbers that are drawn begin anew too. What is wrong is refused before."""
+        if options is not None and not isinstance(options, Mapping):
+            raise BadType(f"options must be a dict, not {shown(options)}")
+        given = {} if options is None else options
+        teams = sides_of(given.get("one", self.teams[0]), given.get("two", self.teams[1]))
         if seed is not None:
             self.dice = np.random.default_rng(within(seed, "seed", 0, (1 << 128) - 1))
-        battle = Battle(teams[0], teams[1], self.dice.bytes(10), *self.terms)
+        battle = Battle(*teams, self.dice.bytes(10), *self.terms)
         battle.play(Choice.PASS, Choice.PASS)
         self.array = BattleArray(1, battle)
 
@@ -91,7 +90,9 @@ class BattleEnv(_Base):  # type: ignore[misc, valid-type]
     """One player, side 1, against a policy on side 2, by Gymnasium's API.
 
     The reward is 1 for a win, -1 for a loss, and 0 otherwise; a tie at the turn limit ends the battle, as the rules have it, so no
-    episode is truncated. An action that is not offered raises `Refused`, and changes nothing: take `action_masks()` into account.
+    episode is truncated. An action that is not offered raises `Refused`, before the policy is asked, and changes nothing: take
+    `action_masks()` into account; `action_space.sample()` does not without its mask. What the policy answers is refused likewise, as side
+    2's; then the battle has not changed, and the numbers that the policy drew are drawn.
     """
 
     metadata: dict[str, Any] = {"render_modes": ["ansi"], "name": "gen1_v0"}
@@ -122,18 +123,23 @@ class BattleEnv(_Base):  # type: ignore[misc, valid-type]
         return self._table.battle
 
     def reset(self, *, seed: int | None = None, options: Mapping[str, Any] | None = None) -> tuple[Row, dict[str, Any]]:
-        """A new battle: the observation of side 1, and what `step` tells too. `options` may have teams "one" and "two"."""
+        """A new battle: the observation of side 1, and what `step` tells too.
+
+        `options` may have teams "one" and "two"; what else it has is left alone, as wrappers put in what is theirs. Raises `BadTeam`,
+        `BadArgument`, `BadType`, and then the battle goes on as it was.
+        """
+        self._table.begin(seed, options)
         if _Base is not object:
             super().reset(seed=seed)
-        self._table.begin(seed, options)
         return self._table.seen(1), self._info()
 
     def step(self, action: int) -> tuple[Row, float, bool, bool, dict[str, Any]]:
         """Side 1's choice, and side 2's by the policy: observation, reward, whether it is over, False, and the mask."""
         battle, table = self._table.battle, self._table
-        mine = _choice(action, "action")
-        theirs = self.policy(battle.copy(), Side.TWO, table.dice) if battle.choices(2) else Choice.PASS
-        table.update([mine, theirs])
+        mine, foes = _choice(action, "action"), battle.choices(Side.TWO)
+        if mine not in battle.choices(Side.ONE):
+            battle.play(mine, foes[0] if foes else Choice.PASS)  # says in a copy why it is refused
+        table.update([mine, self.policy(battle, Side.TWO, table.dice)])
         return table.seen(1), table.reward(1), table.battle.result.is_over, False, self._info()
 
     def action_masks(self) -> Truths:
@@ -183,26 +189,28 @@ class TwoPlayerEnv:
 
     def observation_space(self, agent: str) -> Any:
         """The space of an agent's observations, the same object each time."""
-        return self.observation_spaces[agent]
+        return self.observation_spaces[self.possible_agents[self._side(agent) - 1]]
 
     def action_space(self, agent: str) -> Any:
         """The space of an agent's actions, the same object each time."""
-        return self.action_spaces[agent]
+        return self.action_spaces[self.possible_agents[self._side(agent) - 1]]
 
     def reset(
         self, seed: int | None = None, options: Mapping[str, Any] | None = None
     ) -> tuple[dict[str, Row], dict[str, dict[str, Any]]]:
-        """A new battle: the observation of each agent, and its mask."""
+        """A new battle: the observation of each agent, and its mask. `options` are those of `BattleEnv.reset`."""
         self._table.begin(seed, options)
         self.agents = list(self.possible_agents)
         return self._each(self._table.seen), self._each(self._info)
 
     def step(self, actions: Mapping[str, int]) -> tuple[dict[str, Any], ...]:
         """Both choices: observations, rewards, terminations, truncations and infos of the agents that were there."""
+        if not isinstance(actions, Mapping):
+            raise BadType(f"actions must be a dict, not {shown(actions)}")
         if not self.agents:
             return {}, {}, {}, {}, {}
         if set(actions) != set(self.agents):
-            raise BadArgument(f"actions must be those of {' and '.join(self.agents)}, not of {sorted(map(str, actions))}")
+            raise BadArgument(f"actions must be those of {' and '.join(self.agents)}, not of {shown(list(actions))}")
         self._table.update([_choice(actions[it], f"the action of {it}") for it in self.agents])
         over = self._table.battle.result.is_over
         told = (
@@ -217,7 +225,7 @@ class TwoPlayerEnv:
 
     def action_masks(self, agent: str) -> Truths:
         """Which actions an agent is offered, (12)."""
-        return self._table.mask(1 + self.possible_agents.index(agent))
+        return self._table.mask(self._side(agent))
 
     def state(self) -> NDArray[np.uint8]:
         """The 384 bytes, which are all there is of the battle."""
@@ -235,8 +243,13 @@ class TwoPlayerEnv:
         """This environment, which wraps no other."""
         return self
 
+    def _side(self, agent: str) -> int:
+        if agent not in self.possible_agents:
+            raise BadArgument(f"agent must be 'one' or 'two', not {shown(agent)}")
+        return 1 + self.possible_agents.index(agent)
+
     def _each(self, what: Callable[[int], Any]) -> dict[str, Any]:
-        return {it: what(1 + self.possible_agents.index(it)) for it in self.agents}
+        return {it: what(self._side(it)) for it in self.agents}
 
     def _info(self, side: int) -> dict[str, Any]:
         return {"action_mask": self._table.mask(side)}

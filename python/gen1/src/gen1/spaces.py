@@ -65,7 +65,9 @@ class Box:
     __contains__ = contains
 
     def __eq__(self, other: object) -> bool:
-        return isinstance(other, Box) and self.shape == other.shape and np.array_equal(self.low, other.low)
+        if not isinstance(other, Box) or (self.shape, self.dtype) != (other.shape, other.dtype):
+            return False
+        return np.array_equal(self.low, other.low) and np.array_equal(self.high, other.high)
 
     def __repr__(self) -> str:
         return f"Box({self.low.min()}, {self.high.max()}, {self.shape}, {self.dtype})"
