@@ -168,7 +168,15 @@ def names():
         rows = [(number, it, re.sub(r"(?<=[a-z])(?=[A-Z])", " ", it)) for number, it in sorted(kind_rows(rules, heading))]
         parts.append(enum_class(name, doc, rows))
     parts += [flags((ROOT / "docs" / "LAYOUT.md").read_text()), *code_classes((ROOT / "include" / "gen1.h").read_text())]
+    parts.append(header_version())
     return "".join(parts)
+
+
+def header_version():
+    """The version of the header, as three numbers."""
+    number = int(re.search(r"(?m)^#define GEN1_VERSION_NUMBER (0x[0-9a-f]+)$", (ROOT / "include" / "gen1.h").read_text())[1], 16)
+    numbers = number >> 16, number >> 8 & 0xFF, number & 0xFF
+    return f"\n\n# The version of include/gen1.h that these are made of: its major, its minor and its third number.\nHEADER_VERSION = {numbers}\n"
 
 
 def made():

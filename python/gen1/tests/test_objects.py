@@ -1,14 +1,18 @@
 """What the objects do: how they compare, hash, are copied, pickled and shown, and what their parts hold."""
 
 import dataclasses
+import os
 import pickle
 import random
+import shutil
+import subprocess
+import sys
 from collections.abc import Iterable
 from functools import cached_property
 
 import gen1
 import pytest
-from conftest import random_team
+from conftest import ROOT, random_team
 from gen1 import Battle, Choice, EventKind, Member, Move, Outcome, Request, Result, Rules, Side, Species, Team, Update
 
 
@@ -92,6 +96,53 @@ def test_random_teams_to_dicts_and_back():
     for _ in range(300):
         team = random_team(dice)
         assert Team.from_dicts(team.to_dicts()) == team == eval(repr(team), vars(gen1) | vars(gen1.names))
+
+
+def without_numpy(script):
+    """What a script prints, by a Python that finds no numpy."""
+    words = [sys.executable, "-c", f"import sys; sys.modules['numpy'] = None\n{script}"]
+    return subprocess.run(words, capture_output=True, text=True, check=True).stdout
+
+
+def test_without_numpy():
+    """All can be named and imported; what needs numpy says so when it is used, and what needs none works."""
+    told = without_numpy(
+        "import gen1\n"
+        "from gen1 import *\n"
+        "print([hasattr(gen1, name) for name in gen1.__all__].count(False), hasattr(gen1, 'BatleArray'), 'BattleEnv' in dir(gen1))\n"
+        "tauros = Member('Tauros', ['Pound'])\n"
+        "battle = Battle([tauros], [tauros], range(10))\n"
+        "class Mine(BattleEnv): pass\n"
+        "for call in (lambda: BattleArray(5, battle), lambda: BattleArray.of([battle]), BattleEnv, TwoPlayerEnv, Mine):\n"
+        "    try:\n"
+        "        call()\n"
+        "    except ImportError as fault:\n"
+        "        print(isinstance(fault, Error), fault.name, fault)\n"
+    ).splitlines()
+    assert told[0] == "0 False True" and len(told) == 6
+    for name, line in zip(("BattleArray", "BattleArray", "BattleEnv", "TwoPlayerEnv", "Mine"), told[1:]):
+        assert line == f"True numpy {name} needs numpy: install numpy, or gen1 with its extra, as gen1[arrays]"
+
+
+def test_the_classes_of_events_are_exported():
+    from gen1.events import DamageEvent, Who
+
+    assert gen1.DamageEvent is DamageEvent and gen1.Who is Who and callable(gen1.events)
+    kinds = {it for it in vars(sys.modules["gen1.events"]).values() if isinstance(it, type) and it.__module__ == "gen1.events"}
+    assert len(kinds) == 32 and all(getattr(gen1, it.__name__) is it and it.__name__ in gen1.__all__ for it in kinds)
+
+
+def test_the_version_of_the_library(tmp_path):
+    """It is told; and a library of another major version, or one that tells none, is not taken."""
+    assert gen1.library_version == (ROOT / "VERSION").read_text().strip()
+    if not shutil.which("cc"):
+        pytest.skip("there is no cc")
+    for number, said in ((0x020000, "is of version 2.0.0, and this package needs one of version 1"), (None, "has no gen1_version")):
+        library = tmp_path / f"{number}.so"
+        source = "int other;" if number is None else f"unsigned gen1_version(void) {{ return {number}; }}"
+        subprocess.run(["cc", "-shared", "-fPIC", "-x", "c", "-", "-o", library], input=source, text=True, check=True)
+        done = subprocess.run([sys.executable, "-c", "import gen1"], capture_output=True, text=True, env={**os.environ, "GEN1_LIBRARY": library})
+        assert done.returncode == 1 and "LibraryMissing" in done.stderr and said in done.stderr
 
 
 def test_everything_that_is_exported_is_there():

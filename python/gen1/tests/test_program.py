@@ -5,6 +5,7 @@ import json
 import subprocess
 import sys
 
+import gen1
 import pytest
 from conftest import RECORDED, ROOT, random_team, recorded_only
 from gen1 import Battle, Choice
@@ -191,6 +192,8 @@ def test_choices_that_are_refused(monkeypatch, capsys):
 def test_as_a_module():
     done = subprocess.run([sys.executable, "-m", "gen1", "--help"], capture_output=True, text=True)
     assert done.returncode == 0 and "explain" in done.stdout
+    done = subprocess.run([sys.executable, "-m", "gen1", "--version"], capture_output=True, text=True)
+    assert done.stdout == f"gen1 {gen1.__version__}, library {gen1.library_version}\n"
 
 
 def test_progress_without_a_terminal():

@@ -6,12 +6,16 @@
 >>> print(battle.update(Choice.PASS, Choice.PASS).lines[0])
 |switch|p1a: Tauros|Tauros|353/353
 
-The rules are docs/MECHANICS.md of the repository; no rule of battle stands in Python.
+The rules are docs/MECHANICS.md of the repository. None of them stands in Python, but for one: `gen1.draws`, which tells the draws of an
+update, steps the generator of link numbers itself.
 """
 
+from importlib import import_module
 from importlib.metadata import PackageNotFoundError, version
-from typing import TYPE_CHECKING, Any
+from importlib.util import find_spec
+from typing import TYPE_CHECKING
 
+from gen1._library import LIBRARY_VERSION as library_version
 from gen1.battle import Battle, Playouts, Result, Update
 from gen1.choices import Choice, Rules, Side
 from gen1.errors import (
@@ -25,10 +29,46 @@ from gen1.errors import (
     Error,
     LibraryMissing,
     NoDamage,
+    NumpyMissing,
     Refused,
     RoomRefused,
 )
-from gen1.events import Event, events, lines
+from gen1.events import (
+    ActivateEvent,
+    BoostEvent,
+    CantEvent,
+    ClearAllEvent,
+    CritEvent,
+    CureEvent,
+    DamageEvent,
+    EndEvent,
+    Event,
+    FailEvent,
+    FaintEvent,
+    FaultEvent,
+    HealEvent,
+    Health,
+    HitCountEvent,
+    ImmuneEvent,
+    MissEvent,
+    MoveEvent,
+    MustRechargeEvent,
+    OfOne,
+    OneHitEvent,
+    PrepareEvent,
+    ResistedEvent,
+    StartEvent,
+    StatusEvent,
+    SuperEffectiveEvent,
+    SwitchEvent,
+    TieEvent,
+    TurnEvent,
+    UnboostEvent,
+    Who,
+    WinEvent,
+    events,
+    lines,
+)
 from gen1.hits import Damages, Hit, damage, hit
 from gen1.names import (
     Conditions,
@@ -57,10 +97,6 @@ from gen1.states import ActiveState, MemberState, SideState, State
 from gen1.tables import Base, MoveData, base, move_data
 from gen1.teams import Member, Team
 
-if TYPE_CHECKING:
-    from gen1.arrays import BattleArray
-    from gen1.environments import BattleEnv, TwoPlayerEnv
-
 try:
     __version__ = version("gen1")
 except PackageNotFoundError:
@@ -68,16 +104,27 @@ except PackageNotFoundError:
 # What needs numpy is imported where it is asked for.
 _WITH_NUMPY = {"BattleArray": "gen1.arrays", "BattleEnv": "gen1.environments", "TwoPlayerEnv": "gen1.environments"}
 
+if TYPE_CHECKING:
+    from gen1.arrays import BattleArray
+    from gen1.environments import BattleEnv, TwoPlayerEnv
+else:
 
-def __getattr__(name: str) -> Any:
-    if name not in _WITH_NUMPY:
-        raise AttributeError(f"module 'gen1' has no {name!r}")
-    from importlib import import_module
+    def __getattr__(name: str) -> object:
+        if name not in _WITH_NUMPY:
+            raise AttributeError(f"module 'gen1' has no {name!r}")
+        if find_spec("numpy") is None:
+            from gen1._missing import missing
 
-    return getattr(import_module(_WITH_NUMPY[name]), name)
+            return missing(name)
+        return getattr(import_module(_WITH_NUMPY[name]), name)
+
+
+def __dir__() -> list[str]:
+    return sorted({*globals(), *__all__})
 
 
 __all__ = [
+    "ActivateEvent",
     "ActiveState",
     "BadArgument",
     "BadBytes",
@@ -90,29 +137,51 @@ __all__ = [
     "Battle",
     "BattleArray",
     "BattleEnv",
+    "BoostEvent",
+    "CantEvent",
     "Choice",
+    "ClearAllEvent",
     "Conditions",
+    "CritEvent",
+    "CureEvent",
+    "DamageEvent",
     "DamageFault",
     "Damages",
+    "EndEvent",
     "Error",
     "Event",
     "EventKind",
+    "FailEvent",
+    "FaintEvent",
+    "FaultEvent",
+    "HealEvent",
+    "Health",
     "Hit",
+    "HitCountEvent",
+    "ImmuneEvent",
     "LibraryMissing",
     "LoadFault",
     "LogFault",
     "Member",
     "MemberState",
+    "MissEvent",
     "Move",
     "MoveData",
+    "MoveEvent",
+    "MustRechargeEvent",
     "NewFault",
     "NoDamage",
+    "NumpyMissing",
+    "OfOne",
+    "OneHitEvent",
     "Outcome",
     "Playouts",
+    "PrepareEvent",
     "Reason",
     "Refusal",
     "Refused",
     "Request",
+    "ResistedEvent",
     "Result",
     "Room",
     "RoomRefusal",
@@ -126,19 +195,29 @@ __all__ = [
     "Source",
     "Species",
     "Spectator",
+    "StartEvent",
     "Stat",
     "State",
     "Status",
+    "StatusEvent",
+    "SuperEffectiveEvent",
+    "SwitchEvent",
     "Team",
     "TextFault",
+    "TieEvent",
+    "TurnEvent",
     "TwoPlayerEnv",
     "Type",
+    "UnboostEvent",
     "Update",
     "Volatile",
+    "Who",
+    "WinEvent",
     "base",
     "damage",
     "events",
     "hit",
+    "library_version",
     "lines",
     "move_data",
 ]

@@ -13,6 +13,7 @@ from typing import Any
 
 from gen1._structs import DAMAGES, BattleBytes, HitStruct, PlayoutsStruct, RoomStruct, SpectatorStruct, StateStruct
 from gen1.errors import LibraryMissing
+from gen1.names import HEADER_VERSION
 
 BATTLE_BYTES = 384
 LINE_ROOM = 96
@@ -98,6 +99,16 @@ def bind(name: str, answer: Any, *takes: Any, of: ctypes.CDLL = SHORT) -> Any:
     return call
 
 
+def _version() -> str:
+    """The version that the library tells. One of another major number has other calls or structs than this package knows."""
+    number = bind("gen1_version", c_uint32)()
+    told = f"{number >> 16}.{number >> 8 & 0xFF}.{number & 0xFF}"
+    if number >> 16 != HEADER_VERSION[0]:
+        raise LibraryMissing(f"{PATH} is of version {told}, and this package needs one of version {HEADER_VERSION[0]}")
+    return told
+
+
+LIBRARY_VERSION = _version()
 _BATTLE, _TEAM, _ROOM, _SPECTATOR = POINTER(BattleBytes), POINTER(TeamStruct), POINTER(RoomStruct), POINTER(SpectatorStruct)
 _SIZES, _BYTES, _TEXT, _MEMBER = POINTER(c_size_t), ctypes.c_char_p, POINTER(c_char), POINTER(MemberStruct)
 new = bind("gen1_new", c_uint32, _BATTLE, _TEAM, _TEAM, SeedBytes, c_uint8, c_uint16)

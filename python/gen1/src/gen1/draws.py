@@ -1,7 +1,9 @@
 """Which numbers an update drew (docs/MECHANICS.md, "Link numbers"), and what each of them decided.
 
 What a draw decided is found by trying, and by no rule of battle: a copy of the battle with each other byte in its place is
-updated by the same choices, and what comes out otherwise is told.
+updated by the same choices, and what comes out otherwise is told. Which bytes were drawn the library does not tell; so the generator of
+link numbers is stepped here, from the numbers before an update to those after it. It is the one rule that stands in Python, and the tests
+hold it against the recorded draws.
 """
 
 from collections import defaultdict

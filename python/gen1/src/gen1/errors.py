@@ -13,7 +13,14 @@ class Error(Exception):
 
 
 class LibraryMissing(Error, ImportError):
-    """There is no shared library libgen1.so, or it lacks a call."""
+    """There is no shared library libgen1.so, or it is of another version, or lacks a call."""
+
+
+class NumpyMissing(Error, ModuleNotFoundError):
+    """What needs numpy was used where numpy is not installed."""
+
+    def __init__(self, what: str) -> None:
+        super().__init__(f"{what} needs numpy: install numpy, or gen1 with its extra, as gen1[arrays]", name="numpy")
 
 
 class BadType(Error, TypeError):

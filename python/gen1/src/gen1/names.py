@@ -594,3 +594,7 @@ class DamageFault(Named):
     UNUSUAL = 3, "it does not have the usual damage: no power, or a damage rule of its own"
     NOBODY = 4, "nobody is out: the battle is before its first update"
     DIVISOR = 5, "the defense that counts in this hit is 0, and the damage would be divided by it"
+
+
+# The version of include/gen1.h that these are made of: its major, its minor and its third number.
+HEADER_VERSION = (1, 0, 0)

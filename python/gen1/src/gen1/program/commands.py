@@ -7,6 +7,7 @@ import sys
 from collections.abc import Callable, Sequence
 from dataclasses import asdict
 
+from gen1 import __version__, library_version
 from gen1.battle import Battle
 from gen1.choices import Rules, choice_text
 from gen1.draws import Draw, explained
@@ -114,6 +115,7 @@ def parser() -> argparse.ArgumentParser:
         epilog=EPILOG,
         formatter_class=argparse.RawDescriptionHelpFormatter,
     )
+    made.add_argument("--version", action="version", version=f"gen1 {__version__}, library {library_version}")
     subcommands = made.add_subparsers(required=True, metavar="SUBCOMMAND")
     for command, said in COMMANDS:
         words = subcommands.add_parser(command.__name__, help=said, description=command.__doc__)
