@@ -1,5 +1,8 @@
 """What the objects do: how they compare, hash, are copied, pickled and shown, and what their parts hold."""
 
+import array
+import copy
+import ctypes
 import dataclasses
 import os
 import pickle
@@ -66,6 +69,26 @@ def test_battles_as_keys(battle):
 
 def test_a_battle_shows_itself(battle):
     assert repr(battle) == "<Battle, ongoing, asked move and move>"
+
+
+class Noted(Battle):
+    """A battle of a class of the caller's."""
+
+
+def test_a_copy_is_of_the_same_class(team):
+    one = Noted(team, team, range(10))
+    for it in (one.copy(), copy.copy(one), copy.deepcopy(one), pickle.loads(pickle.dumps(one)), Noted.load(one.bytes)):
+        assert type(it) is Noted and it == one and it is not one
+
+
+def test_bytes_out_of_whatever_holds_them(battle):
+    held = battle.bytes
+    for it in (bytearray(held), memoryview(held), array.array("B", held), (ctypes.c_uint8 * 384)(*held)):
+        assert Battle.load(it) == battle
+    assert gen1.lines(array.array("B", [0x1A, 1])) == gen1.lines(b"\x1a\x01")
+    with pytest.raises(gen1.BadType) as fault:
+        Battle.load(array.array("H", held))
+    assert "items of 2 bytes" in str(fault.value)
 
 
 def test_members_and_teams(tauros, team):

@@ -4,7 +4,7 @@ from collections.abc import Iterable, Mapping
 from ctypes import byref, c_char, c_size_t, c_uint8, c_uint16, create_string_buffer
 from dataclasses import dataclass
 from functools import cached_property
-from typing import Any, TypeAlias
+from typing import TYPE_CHECKING, Any, TypeAlias, TypeVar
 
 from gen1 import _library
 from gen1._check import byte as a_byte
@@ -19,6 +19,10 @@ from gen1.names import DamageFault, LoadFault, Move, NewFault, Outcome, Refusal,
 from gen1.states import State, state_of, view_of
 from gen1.teams import Member, Team, as_team
 
+if TYPE_CHECKING:
+    from _typeshed import ReadableBuffer
+
+B = TypeVar("B", bound="Battle")
 TeamLike: TypeAlias = Team | Iterable[Member | Mapping[str, Any]]
 SeedLike: TypeAlias = bytes | Iterable[int]
 
@@ -100,8 +104,8 @@ class Battle:
         return cls(one, two, seed, rules, limit)
 
     @classmethod
-    def load(cls, given: bytes) -> "Battle":
-        """The battle of these bytes, of any of the three versions. Raises `BadBytes`."""
+    def load(cls: type[B], given: "ReadableBuffer") -> B:
+        """The battle of these bytes, of any of the three versions, out of whatever holds bytes. Raises `BadBytes`, `BadType`."""
         whole_bytes = octets(given, "a battle")
         made = cls.__new__(cls)
         made._held = BattleBytes()
@@ -115,17 +119,19 @@ class Battle:
         """The 384 bytes."""
         return bytes(self._held)
 
-    def copy(self) -> "Battle":
-        """A battle of its own with the same bytes. It will draw the same numbers, unless it is reseeded."""
-        return battle_of(self._held)
+    def copy(self: B) -> B:
+        """A battle of its own, of the same class, with the same bytes. It will draw the same numbers, unless it is reseeded."""
+        made = type(self).__new__(type(self))
+        made._held = BattleBytes.from_buffer_copy(self._held)
+        return made
 
     __copy__ = copy
 
-    def __deepcopy__(self, _: object) -> "Battle":
+    def __deepcopy__(self: B, _: object) -> B:
         return self.copy()
 
     def __reduce__(self) -> tuple[Any, ...]:
-        return Battle.load, (self.bytes,)
+        return type(self).load, (self.bytes,)
 
     def __eq__(self, other: object) -> bool:
         if not isinstance(other, Battle):

@@ -2,13 +2,16 @@
 
 from ctypes import byref, c_size_t, create_string_buffer
 from dataclasses import dataclass
-from typing import ClassVar
+from typing import TYPE_CHECKING, ClassVar
 
 from gen1 import _library
 from gen1._check import octets
 from gen1.choices import Side
 from gen1.errors import BadLog
 from gen1.names import EventKind, LogFault, Move, Reason, Source, Species, Stat, Status, Volatile
+
+if TYPE_CHECKING:
+    from _typeshed import ReadableBuffer
 
 
 @dataclass(frozen=True)
@@ -320,7 +323,7 @@ _STAGES = {it.kind: it for it in (BoostEvent, UnboostEvent)}
 _STATUS = {it.kind: it for it in (StatusEvent, CureEvent)}
 
 
-def events(log: bytes) -> tuple[Event, ...]:
+def events(log: "ReadableBuffer") -> tuple[Event, ...]:
     """The events of a log, be it of one update or of several, one after the other. Raises `BadLog`."""
     given, at, of = octets(log, "log"), c_size_t(0), _library.EventStruct()
     found: list[Event] = []
@@ -331,7 +334,7 @@ def events(log: bytes) -> tuple[Event, ...]:
     return tuple(found)
 
 
-def lines(log: bytes) -> list[str]:
+def lines(log: "ReadableBuffer") -> list[str]:
     """The line of each event of a log (docs/MECHANICS.md, "Lines"), without line feeds. Raises `BadLog`."""
     given, at, length = octets(log, "log"), c_size_t(0), c_size_t(0)
     text, found = create_string_buffer(_library.LINE_ROOM), []

@@ -2,7 +2,7 @@
 
 from ctypes import byref, c_size_t
 from dataclasses import dataclass
-from typing import Any
+from typing import TYPE_CHECKING, Any
 
 from gen1 import _library
 from gen1._check import octets
@@ -11,6 +11,9 @@ from gen1.battle import TeamLike, sides_of
 from gen1.errors import BadLog, BadTeam
 from gen1.names import LogFault, NewFault, Outcome, Stat, Status
 from gen1.states import stages_of
+
+if TYPE_CHECKING:
+    from _typeshed import ReadableBuffer
 
 
 @dataclass(frozen=True)
@@ -70,7 +73,7 @@ class Spectator:
             code = NewFault(answer & 0xFF)
             raise BadTeam(code.label, side=answer >> 16, member=answer >> 8 & 0xFF, code=code)
 
-    def feed(self, log: bytes) -> None:
+    def feed(self, log: "ReadableBuffer") -> None:
         """Takes in the next bytes of the battle's log, which may be cut anywhere: an event counts as soon as its last byte is there.
 
         Raises `BadLog` where these bytes, behind those that are held, are no log, and `BadType`; then none of them is taken in.
