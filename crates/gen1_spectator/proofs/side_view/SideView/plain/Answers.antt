@@ -21,11 +21,17 @@ pub returns-clause-exact : goal.returns-clause-exact
 returns-clause-exact c =
     let is = c.self.view_is in
     rw (
-      c.plain.ensures.exact ∙ ap plain_member c.member.ensures, c.plain-2.ensures.exact ∙ ap plain_member c.member-2.ensures,
-      c.plain-3.ensures.exact ∙ ap plain_member c.member-3.ensures, c.plain-4.ensures.exact ∙ ap plain_member c.member-4.ensures,
-      c.plain-5.ensures.exact ∙ ap plain_member c.member-5.ensures, c.plain-6.ensures.exact ∙ ap plain_member c.member-6.ensures,
-      c.len.ensures.value ∙ ap (λ (v : SideView). length v.members) is, ap (λ (v : SideView). v.place) is,
+      c.plain.ensures.exact ∙ ap plain_member c.member.ensures,
+      c.plain-2.ensures.exact ∙ ap plain_member c.member-2.ensures,
+      c.plain-3.ensures.exact ∙ ap plain_member c.member-3.ensures,
+      c.plain-4.ensures.exact ∙ ap plain_member c.member-4.ensures,
+      c.plain-5.ensures.exact ∙ ap plain_member c.member-5.ensures,
+      c.plain-6.ensures.exact ∙ ap plain_member c.member-6.ensures,
+      c.len.ensures.value ∙ ap (λ (v : SideView). length v.members) is,
+      ap (λ (v : SideView). v.place) is,
       c.plain-7.ensures.exact ∙ ap (λ (v : SideView). plain_stages v.stages) is,
-      c.bit.ensures.exact ∙ ap (λ (v : SideView). bit_of v.substitute) is, c.bit-2.ensures.exact ∙ ap (λ (v : SideView). bit_of v.confused) is,
-      c.bit-3.ensures.exact ∙ ap (λ (v : SideView). bit_of v.light_screen) is, c.bit-4.ensures.exact ∙ ap (λ (v : SideView). bit_of v.reflect) is,
+      c.bit.ensures.exact ∙ ap (λ (v : SideView). bit_of v.substitute) is,
+      c.bit-2.ensures.exact ∙ ap (λ (v : SideView). bit_of v.confused) is,
+      c.bit-3.ensures.exact ∙ ap (λ (v : SideView). bit_of v.light_screen) is,
+      c.bit-4.ensures.exact ∙ ap (λ (v : SideView). bit_of v.reflect) is,
     ) refl
