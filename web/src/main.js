@@ -68,7 +68,7 @@ function listenKeys(press, changed) {
     changed();
   });
   document.addEventListener("keydown", (event) => {
-    // A key of one character may be a word of who speaks to the machine: it can be switched off.
+    // A shortcut of one character may be a word of who speaks to the machine: it can be switched off.
     if (event.key.length === 1 && !keys.checked) return;
     if (!takesKeys(event.target, event.key)) press(event);
   });
