@@ -227,7 +227,7 @@ enum {
     GEN1_REPEATED_MOVE = 8,  /* a move is there twice */
     GEN1_PP_UPS = 9,         /* a move has more than three PP ups */
     GEN1_NO_SUCH_SPECIES = 10, /* the species is not 1 to 151 */
-    GEN1_NO_SUCH_MOVE = 11,  /* a move is above 165 */
+    GEN1_NO_SUCH_MOVE = 11,  /* a move is not 1 to 165 */
     GEN1_RULES = 12,         /* the rules are above 3 */
     GEN1_TURN_LIMIT = 13     /* the limit is not 1 to 9,999 */
 };
@@ -411,7 +411,7 @@ typedef struct gen1_hit {
     gen1_damages usual;      /* the damage if the hit is not critical */
     gen1_damages critical;   /* the damage if it is */
     uint16_t critical_draws; /* 0 to 255: how many of 256 draws make it critical; 0 for a move without usual damage */
-    uint16_t hit_draws;      /* 0 to 256: how many of 256 draws pass the hit test, for a move that takes one */
+    uint16_t hit_draws;      /* 0 to 256: how many of 256 draws pass the hit test, where gen1_takes_hit_test answers 1 */
 } gen1_hit;
 
 /*
@@ -426,6 +426,14 @@ uint8_t gen1_hit_now(const gen1_battle *battle, uint8_t side, uint8_t move, gen1
  * 165; or as gen1_new answers of a team of `user` alone (as team one) and of a team of `foe` alone. Then nothing has changed.
  */
 uint32_t gen1_hit_between(const gen1_member *user, const gen1_member *foe, uint8_t move, gen1_hit *hit);
+
+/*
+ * Whether a move takes the hit test when it is used (docs/MECHANICS.md, "Hit test"): 1, or 0 where it fails, or works on its user
+ * alone, without one. Answers GEN1_NOT_A_MOVE if the move is not 1 to 165.
+ */
+uint8_t gen1_takes_hit_test(uint8_t move);
+
+#define GEN1_NOT_A_MOVE 255 /* what gen1_takes_hit_test answers for a number that is not 1 to 165 */
 
 /* ---- many battles ---- */
 
@@ -576,7 +584,8 @@ uint8_t gen1_move_data(uint8_t move, gen1_move *row);
 /*
  * A code in words: one sentence with the ranges that would have been right, such as "a DV is above 15". `about` says whose code
  * it is. Of an answer of gen1_new, and of the calls that answer as it does, give GEN1_CODE(answer). The code 0 is "nothing is at
- * fault". GEN1_NO_SIDE, GEN1_NO_MASK, GEN1_LENGTHS and what a text of a team was expected to have (GEN1_TEXT_..) have no sentence.
+ * fault". GEN1_NO_SIDE, GEN1_NO_MASK, GEN1_NOT_A_MOVE, GEN1_LENGTHS and what a text of a team was expected to have (GEN1_TEXT_..)
+ * have no sentence.
  * Answers 0 or one of the codes above.
  */
 uint8_t gen1_text(uint8_t about, uint8_t code, char *text, size_t room, size_t *length);

@@ -184,12 +184,16 @@ def damage_row(recorded_line, hp, is_critical):
 
 
 OFTEN_CRITICAL = ("Karate Chop", "Razor Leaf", "Crabhammer", "Slash")
+# Effects of docs/TABLES.md whose moves take no hit test (docs/MECHANICS.md, "Hit test").
+UNTESTED = ("AlwaysFails", "Bide", "Conversion", "FocusEnergy", "Haze", "Heal", "Mist", "Screen", "Splash", "StatUp", "Substitute")
 
 
 def chances_of(species, move, has_damage):
     """How many of 256 draws hit and are critical, of members that have just been sent out, by docs/TABLES.md and docs/MECHANICS.md."""
     document = (ROOT / "docs" / "TABLES.md").read_text()
     row = next(it for it in table(document, "Moves") if it[1] == move)
+    if row[6].split("(")[0] in UNTESTED:
+        return "; no hit test"
     hits = 256 if row[6] == "NeverMisses" else 0 if row[6] == "DreamEater" else max(1, int(row[4]) * 255 // 100)
     speed = int(next(it for it in table(document, "Species") if it[1] == species)[7])
     doubled = min(255, speed // 2 * 2)

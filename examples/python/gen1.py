@@ -122,6 +122,7 @@ class Library:
             ("gen1_update_offered", c_uint8, [battle, c_uint8, c_uint8, POINTER(c_uint8), size, sizes]),
             ("gen1_hit_now", c_uint8, [battle, c_uint8, c_uint8, POINTER(Hit)]),
             ("gen1_hit_between", c_uint32, [POINTER(Member), POINTER(Member), c_uint8, POINTER(Hit)]),
+            ("gen1_takes_hit_test", c_uint8, [c_uint8]),
             ("gen1_room_begin", None, [POINTER(RoomBytes)]),
             ("gen1_room_choices", c_uint8, [POINTER(RoomBytes), c_uint8, c_uint8 * 9]),
             ("gen1_room_submit", c_uint8, [POINTER(RoomBytes), c_uint8, c_uint32, c_uint8]),

@@ -109,6 +109,7 @@ unsafe extern "C" {
     ) -> u8;
     safe fn gen1_hit_now(battle: &Battle, side: u8, id: u8, hit: &mut Hit) -> u8;
     safe fn gen1_hit_between(user: &Member, foe: &Member, id: u8, hit: &mut Hit) -> u32;
+    safe fn gen1_takes_hit_test(id: u8) -> u8;
     safe fn gen1_room_begin(room: &mut Room);
     safe fn gen1_room_choices(room: &Room, side: u8, choices: &mut [u8; 9]) -> u8;
     safe fn gen1_room_submit(room: &mut Room, side: u8, number: u32, choice: u8) -> u8;

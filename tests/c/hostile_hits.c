@@ -90,4 +90,30 @@ static void try_hit_between(void)
     tell("gen1_hit_between", got == want && is_right, got, want);
 }
 
-try_call *const tries_of_hits[] = {try_hit_now, try_hit_between, NULL};
+/* What is due of some moves by docs/MECHANICS.md, "Hit test"; of the others either answer. */
+static uint8_t due_test(uint8_t move, uint8_t got)
+{
+    switch (move) {
+    case GEN1_MOVE_BIDE:
+    case GEN1_MOVE_REST:
+    case GEN1_MOVE_ROAR:
+    case GEN1_MOVE_SPLASH:
+        return 0;
+    case GEN1_MOVE_STRENGTH:
+    case GEN1_MOVE_SWIFT:
+    case GEN1_MOVE_TOXIC:
+        return 1;
+    default:
+        return move < 1 || move > 165 ? GEN1_NOT_A_MOVE : got & 1;
+    }
+}
+
+static void try_takes_hit_test(void)
+{
+    uint8_t move = any_byte();
+    note();
+    uint8_t got = gen1_takes_hit_test(move), want = due_test(move, got);
+    tell("gen1_takes_hit_test", got == want && unchanged(), got, want);
+}
+
+try_call *const tries_of_hits[] = {try_hit_now, try_hit_between, try_takes_hit_test, NULL};

@@ -12,10 +12,14 @@ pub mod Offers
 pub mod Accepting
 -- Many battles, one after the other.
 pub mod OneByOne
+-- A battle that is played by choices at random, update by update.
+pub mod Playing
 -- Playouts, one after the other.
 pub mod Counting
 -- What the bytes of a battle stand for.
 pub mod Viewed
+-- No line of an event has more than 95 bytes.
+pub mod ShortLines
 -- Texts that are due, and so are written.
 pub mod Writing
 -- Sides by their numbers, and a room's replies.

@@ -14,7 +14,7 @@ use Rattle.gen1_machine.specs.declared.terms.Outcome.TheVariants as outcomes
 use Rattle.gen1_machine.specs.declared.terms.Request.TheVariants as requests
 use Rattle.gen1_machine.specs.OfferedChoices.{has_no_slot_in, is_committed, moves_offered, offered, offered_for, or_struggle, others_living_from, switches_offered, usable_from}
 use Rattle.gen1_machine.specs.State.{Field, State, Terms, active_in, conditions_in, has_fallen_in, is_over, member_in, party, request_of, underway_in}
-use Rattle.gen1_machine.specs.Step.{is_among, offers, same_choice}
+use Rattle.gen1_machine.specs.Step.{is_among, same_choice}
 use Rattle.gen1_machine.specs.Valid.{IsAsked, IsStarted, IsState, IsUnstarted, StandsAs, lives_in}
 
 -- lists that are not empty
@@ -158,9 +158,3 @@ among-at (x ∷ xs) (suc k) d inside = or-yes (same_choice (get_or xs k d) x) (a
     or-yes : (b : Bool) {c : Bool} → c ≡ true → (b || c) ≡ true
     or-yes true h = refl
     or-yes false h = h
-
--- so what is picked among what is offered is offered
-pub picked : (side : Side) (s : State) (items : List Choice) (c : Choice) → IsState s → is_over s.field.outcome ≡ false → items ≡ offered side s.field
-    → (1 ≤ length items → is_among c items ≡ true) → offers s side c ≡ true
-picked side s items c valid going e among =
-    ap (is_among c) (sym e) ∙ among (subst (λ (l : List Choice). 1 ≤ length l) (sym e) (offers-some side s valid going))

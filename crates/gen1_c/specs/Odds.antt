@@ -8,6 +8,7 @@ use Rattle.gen1_machine.specs.declared.choice.Choice.TheVariants.{Pass}
 use Rattle.gen1_machine.specs.State.{Field, first_state, State, usual_terms}
 use Rattle.gen1_machine.specs.Step.{step}
 use Rattle.gen1_odds.specs.declared.odds.Odds.{Odds}
+use Rattle.gen1_odds.specs.HitTests.{takes_hit_test}
 use Rattle.gen1_odds.specs.Odds.{odds_in}
 use Rattle.gen1_c.specs.Battle.{teams_fault}
 use Rattle.gen1_c.specs.Teams.{fault_of_any, member_fault, sheet_of}
@@ -21,6 +22,11 @@ odds_due side id f =
 abbrev pub TellsOdds : Result Odds ℕ → Odds → Odds → ℕ → Type 0
 TellsOdds (Ok odds) old new code = (code ≡ 0) × (new ≡ odds)
 TellsOdds (Err why) old new code = (code ≡ why) × (new ≡ old)
+
+-- whether a move takes the hit test; or the code of no move
+unfoldable pub hit_test_due : ℕ → ℕ
+hit_test_due id =
+    if nat_le 1 id && nat_le id 165 then (if takes_hit_test (move_at id) then 1 else 0) else 255
 
 -- a battle whose first members have just been sent out
 abbrev pub facing : List Member → List Member → State

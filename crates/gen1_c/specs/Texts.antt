@@ -17,7 +17,7 @@ new_sentences =
     codes "a move is there twice" ∷
     codes "a move has more than 3 PP ups" ∷
     codes "the species is not 1 to 151" ∷
-    codes "a move is above 165" ∷
+    codes "a move is not 1 to 165" ∷
     codes "the rules are not 0 to 3" ∷
     codes "the turn limit is not 1 to 9,999" ∷
     []

@@ -1,5 +1,5 @@
-//! What a use of a move would come to (include/gen1.h, "calculating"; docs/MECHANICS.md, "Damage numbers" to "Hit test").
-ghost use Rattle.std.specs.Prelude.{[], ◌∷◌, ◌≡◌, ◌≢◌};
+//! What a use of a move would come to (include/gen1.h, "calculating"; docs/MECHANICS.md, "Critical hits" to "Hit test").
+ghost use Rattle.std.specs.Prelude.{[], if◌then◌else◌, ◌∷◌, ◌≡◌, ◌≢◌};
 ghost use Rattle.gen1_stats.specs.Teams.{team_of};
 ghost use Rattle.gen1_machine.specs.Moves.{move_at};
 ghost use Rattle.gen1_machine.specs.Numbers.{side_number};
@@ -8,7 +8,7 @@ ghost use Rattle.gen1_machine.specs.declared.side.Side.{Side};
 ghost use Rattle.gen1_machine.specs.declared.side.Side.TheVariants.{One};
 ghost use Rattle.gen1_layout.specs.Within.{Stands};
 ghost use Rattle.gen1_odds.specs.Odds.{odds_in};
-ghost use Rattle.gen1_c.specs.Odds.{TellsOdds, between_fault, facing, odds_due};
+ghost use Rattle.gen1_c.specs.Odds.{TellsOdds, between_fault, facing, hit_test_due, odds_due};
 ghost use Rattle.gen1_c.specs.Teams.{sheet_of};
 ghost use Rattle.gen1_c.specs.Update.{IsNoSide};
 
@@ -16,7 +16,7 @@ use crate::teams::{MemberForm, team_of_one};
 use gen1_engine::packed::update_events;
 use gen1_layout::Packed;
 use gen1_machine::{Choice, EventList, Side};
-use gen1_odds::{Odds, odds_of};
+use gen1_odds::{Odds, odds_of, takes_hit_test};
 use gen1_stats::Team;
 use gen1_tables::MoveId;
 
@@ -27,6 +27,8 @@ const NO_MOVE: u8 = 2;
 const NOBODY: u8 = 4;
 
 const NO_SUCH_MOVE: u32 = 11;
+
+const NOT_A_MOVE: u8 = 255;
 
 /// What a use of a move by a side would come to, as both members that are out now stand. The answer is 0, or the first thing that is
 /// wrong, as `gen1_damage` answers it; then nothing has changed.
@@ -78,6 +80,23 @@ pub extern "C" fn gen1_hit_between(
     };
     *hit = odds_of(&sent_out(&user, &foe), Side::One, id);
     0
+}
+
+/// Whether a move takes the hit test (docs/MECHANICS.md, "Hit test"): 1, or 0 where it takes none; 255 where the number is no move's.
+#[unsafe(no_mangle)]
+pub extern "C" fn gen1_takes_hit_test(number: u8) -> u8
+    ensures { result ≡ hit_test_due number }
+{
+    match MoveId::new(number) {
+        Some(id) => flag_of(takes_hit_test(id)),
+        None => NOT_A_MOVE,
+    }
+}
+
+fn flag_of(holds: bool) -> u8
+    ensures { result ≡ (if holds then 1 else 0) }
+{
+    if holds { 1 } else { 0 }
 }
 
 // A battle of two teams after its first update. Nothing of it is drawn, so the seed may be any.

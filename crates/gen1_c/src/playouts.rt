@@ -1,10 +1,9 @@
 //! Battles played to their end by choices at random (include/gen1.h, "many battles").
-ghost use Rattle.std.specs.Prelude.{IfOk, IsOk, length, true, ◌+◌, ◌<◌, ◌≡◌, ◌≢◌, ◌≤◌};
+ghost use Rattle.std.specs.Prelude.{IfOk, IsOk, length, ◌+◌, ◌<◌, ◌≡◌, ◌≢◌, ◌≤◌};
 ghost use Rattle.gen1_machine.specs.State.{State};
-ghost use Rattle.gen1_machine.specs.Step.{is_among};
 ghost use Rattle.gen1_layout.specs.Within.{Stands};
 ghost use Rattle.gen1_requests.specs.OfferedMask.{choices_in};
-ghost use Rattle.gen1_c.specs.Playouts.{EndsAs, Plays, PlaysOut, counting, total};
+ghost use Rattle.gen1_c.specs.Playouts.{EndsAs, IsDrawn, IsPlayedOut, Plays, PlaysOut, counting, total};
 ghost use Rattle.gen1_layout.specs.Parts.{joined};
 
 use crate::choice_generator::ChoiceGenerator;
@@ -39,7 +38,7 @@ pub extern "C" fn gen1_playout(
     rounds: u32,
     counts: &mut PlayoutCounts,
 ) -> u8
-    ensures plays { Plays (joined battle.now) rounds counts.old counts.new result }
+    ensures plays { Plays (joined battle.now) seed rounds counts.old counts.new result }
     ensures total { result ≡ 0 → total counts.new ≡ rounds }
     ensures kept { result ≢ 0 → counts.new ≡ counts.old }
 {
@@ -54,7 +53,7 @@ pub extern "C" fn gen1_playout(
 
 // How so many playouts end.
 fn counted(start: &Battle, seed: u64, rounds: u32) -> PlayoutCounts
-    ensures plays { (s : State) → Stands start.now s → PlaysOut s rounds result }
+    ensures plays { (s : State) → Stands start.now s → PlaysOut s seed rounds result }
     ensures total { total result ≡ rounds }
 {
     let mut random = ChoiceGenerator::new(seed);
@@ -87,7 +86,9 @@ fn count(end: Outcome, counts: &mut PlayoutCounts)
 
 // How a copy of a battle ends.
 fn end_of(start: &Battle, random: &mut ChoiceGenerator) -> Outcome
-    ensures { (s : State) → Stands start.now s → EndsAs s result }
+    ensures ends { (s : State) → Stands start.now s → EndsAs s result }
+    ensures played { (s : State) → Stands start.now s
+        → IsPlayedOut s random.old.state result random.new.state }
 {
     match copy_of(start) {
         Ok(copy) => {
@@ -108,7 +109,9 @@ fn copy_of(battle: &Battle) -> Result<Battle, AllocError>
 
 // Plays a battle to its end by choices at random, and says how it ended.
 fn play_out(battle: &mut Battle, random: &mut ChoiceGenerator) -> Outcome
-    ensures { (s : State) → Stands battle.old s → EndsAs s result }
+    ensures ends { (s : State) → Stands battle.old s → EndsAs s result }
+    ensures played { (s : State) → Stands battle.old s
+        → IsPlayedOut s random.old.state result random.new.state }
 {
     // No battle takes more updates (docs/MECHANICS.md, "Turn limit").
     'updates: for _ in 0..u32::from(battle.limit()) + 11 {
@@ -123,10 +126,11 @@ fn play_out(battle: &mut Battle, random: &mut ChoiceGenerator) -> Outcome
     battle.result().outcome
 }
 
-// One of the choices of a mask.
+// One of the choices of a mask; nothing is drawn where it has none.
 fn pick(mask: u16, random: &mut ChoiceGenerator) -> Choice
     requires { mask < 4096 }
-    ensures { 1 ≤ length (choices_in mask) → is_among result (choices_in mask) ≡ true }
+    ensures { 1 ≤ length (choices_in mask)
+        → IsDrawn random.old.state (choices_in mask) result random.new.state }
 {
     let count = count_of(mask);
     if count == 0 {

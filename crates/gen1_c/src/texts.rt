@@ -18,7 +18,7 @@ static NEW_TEXTS: [&str; 14] = [
     "a move is there twice",
     "a move has more than 3 PP ups",
     "the species is not 1 to 151",
-    "a move is above 165",
+    "a move is not 1 to 165",
     "the rules are not 0 to 3",
     "the turn limit is not 1 to 9,999",
 ];

@@ -1,7 +1,8 @@
--- What a use of a move would come to, as two members stand (docs/MECHANICS.md, "Damage numbers" to "Hit test").
-use Rattle.std.specs.Prelude.{Bool, List, None, Option, Some, false, if◌then◌else◌, replicate, true, ℕ}
+-- What a use of a move would come to, as two members stand (docs/MECHANICS.md, "Critical hits" to "Hit test").
+use Rattle.std.specs.Prelude.{Bool, List, None, Option, Some, count_by, false, if◌then◌else◌, nat_lt, replicate, true, ℕ}
+use Rattle.std.specs.List.{range_with_len}
 use Rattle.gen1_machine.specs.declared.side.Side.{Side}
-use Rattle.gen1_machine.specs.CriticalHits.{critical_bound_in}
+use Rattle.gen1_machine.specs.CriticalHits.{critical_bound_in, rotated_left_3}
 use Rattle.gen1_machine.specs.Damage.{numbers_in}
 use Rattle.gen1_machine.specs.HitTest.{scaled_in, settled_hit_in}
 use Rattle.gen1_machine.specs.Moves.{accuracy_byte, Move}
@@ -22,18 +23,22 @@ damages_or None = no_damages 5
 abbrev pub damages_in : Side → Move → Bool → Field → Damages
 damages_in side move critical f = if has_usual_damage move then damages_or (damages (numbers_in side move critical f)) else no_damages 3
 
--- a rotated draw below the bound is critical, and so many of 256 are
-abbrev pub critical_draws : Side → Move → Field → ℕ
-critical_draws side move f = if has_usual_damage move then critical_bound_in side move f else 0
+-- of the 256 numbers that may be drawn, how many meet a test
+unfoldable pub how_many : (ℕ → Bool) → ℕ
+how_many test = count_by test (range_with_len 0 256)
 
--- a draw below the byte hits, where that is not settled without one
-abbrev pub draws_by : Option Bool → ℕ → ℕ
-draws_by (Some true) byte = 256
-draws_by (Some false) byte = 0
-draws_by None byte = byte
+-- a draw is critical where, rotated, it is below the bound
+abbrev pub critical_draws : Side → Move → Field → ℕ
+critical_draws side move f =
+    if has_usual_damage move then how_many (λ draw. nat_lt (rotated_left_3 draw) (critical_bound_in side move f)) else 0
+
+-- a draw hits where it is below the byte, or whatever it is, where that is settled without one
+abbrev pub hits_by : Option Bool → ℕ → ℕ → Bool
+hits_by (Some hits) byte draw = hits
+hits_by None byte draw = nat_lt draw byte
 
 abbrev pub hit_draws : Side → Move → Field → ℕ
-hit_draws side move f = draws_by (settled_hit_in side move f) (scaled_in side (accuracy_byte move) f)
+hit_draws side move f = how_many (λ draw. hits_by (settled_hit_in side move f) (scaled_in side (accuracy_byte move) f) draw)
 
 abbrev pub odds_in : Side → Move → Field → Odds
 odds_in side move f = record {

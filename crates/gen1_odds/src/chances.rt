@@ -1,15 +1,45 @@
-//! How many of the 256 numbers that may be drawn make a hit critical, and let it hit (docs/MECHANICS.md, "Critical hits", "Hit
-//! test").
+//! Whether a move takes the hit test, and how many of the 256 numbers that may be drawn let it hit and make a hit critical
+//! (docs/MECHANICS.md, "Critical hits", "Hit test").
+ghost use Rattle.std.specs.Prelude.{◌≡◌};
 ghost use Rattle.gen1_layout.specs.Words.{Reads, move_at};
+ghost use Rattle.gen1_odds.specs.HitTests.{acts_untested, takes_hit_test};
 ghost use Rattle.gen1_odds.specs.Odds.{critical_draws, hit_draws};
 
 use gen1_hits::{critical_bound, has_usual_damage, scaled_accuracy, settled_hit};
 use gen1_layout::{Conditions, Packed};
 use gen1_machine::Side;
-use gen1_tables::MoveId;
+use gen1_tables::{Effect, MoveId};
 
-/// How many draws make a hit critical: a rotation of the bits takes each byte to another one, so as many as there are bytes
-/// below the bound.
+/// Whether a move takes the hit test when it is used (docs/MECHANICS.md, "Hit test"), if nothing makes it fail before: moves that
+/// fail, or that work on their user alone, take none.
+pub fn takes_hit_test(id: MoveId) -> bool
+    ensures { result ≡ takes_hit_test (move_at id) }
+{
+    !acts_untested(id.effect())
+}
+
+fn acts_untested(effect: Effect) -> bool
+    ensures { result ≡ acts_untested effect }
+{
+    matches!(
+        effect,
+        Effect::AlwaysFails
+            | Effect::Bide
+            | Effect::Conversion
+            | Effect::FocusEnergy
+            | Effect::Haze
+            | Effect::Heal
+            | Effect::LeftOut
+            | Effect::Mist
+            | Effect::Screen
+            | Effect::Splash
+            | Effect::StatUp(..)
+            | Effect::Substitute
+    )
+}
+
+/// How many draws make a hit critical. A rotation of the bits takes each byte to another one, so these are as many as there are
+/// bytes below the bound.
 pub(crate) fn critical_draws(battle: &Packed, side: Side, id: MoveId) -> u16
     ensures stands { Reads battle.now result (critical_draws side (move_at id)) }
 {

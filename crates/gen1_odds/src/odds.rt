@@ -36,7 +36,7 @@ pub struct Odds {
     pub critical: Damages,
     /// How many of 256 draws make it critical, 0 to 255; 0 for a move without usual damage.
     pub critical_draws: u16,
-    /// How many of 256 draws pass the hit test, 0 to 256.
+    /// How many of 256 draws pass the hit test, 0 to 256, for a move that takes one (`takes_hit_test`).
     pub hit_draws: u16,
 }
 

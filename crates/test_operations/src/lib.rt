@@ -1,7 +1,7 @@
-//! Tests of `gen1_hits`, `gen1_status` and `gen1_action`, through their public functions. A crate with tests is proved twice,
+//! Tests of `gen1_hits`, `gen1_odds`, `gen1_status` and `gen1_action`, through their public functions. A crate with tests is proved twice,
 //! so they stand in a crate of their own.
 //!
-//! - `hits`: hits and their damage
+//! - `hits`: hits, their damage and their chances
 //! - `status`: picks, the gate, statuses and stages
 //! - `action`: what an action knows, and its hit test
 //! - `example`: the lines that README.md shows

@@ -8,7 +8,7 @@
  * The words are files with the teams as Pokemon Showdown's team builder exports them. Without words the input is a battle as decimal
  * numbers, as ../play.c says; its choices are not looked at. Both members are at full HP, just sent out. A row has the move, the least
  * and most damage of a usual hit with its percent of the foe's HP, the same of a critical hit, how many usual hits are enough at the
- * worst, and of 256 draws how many hit and how many are critical.
+ * worst, and of 256 draws how many hit and how many are critical; of a move without damage, how many hit where it takes the hit test.
  */
 #include "battle_file.h"
 
@@ -23,7 +23,8 @@ static void print_row(const gen1_hit *hit, uint8_t move, uint16_t hp)
 {
     printf("  move %3d: ", move);
     if (hit->usual.count == 0 || hit->critical.count == 0) {
-        printf("no usual damage (code %d); %d of 256 hit\n", hit->usual.count == 0 ? hit->usual.code : hit->critical.code, hit->hit_draws);
+        printf("no usual damage (code %d)", hit->usual.count == 0 ? hit->usual.code : hit->critical.code);
+        printf(gen1_takes_hit_test(move) == 1 ? "; %d of 256 hit\n" : "; no hit test\n", hit->hit_draws);
         return;
     }
     uint16_t least = hit->usual.numbers[0];

@@ -40,6 +40,8 @@ pub struct Hit {
     pub critical_draws: u16,
     /// How many of 256 draws pass the hit test, from 0 to 256, for a move that takes one.
     pub hit_draws: u16,
+    /// Whether the move takes the hit test when it is used. Moves that fail, or that work on their user alone, take none.
+    pub takes_hit_test: bool,
 }
 
 impl Battle {
@@ -110,6 +112,7 @@ impl Battle {
             critical: damages(odds.critical),
             critical_draws: odds.critical_draws,
             hit_draws: odds.hit_draws,
+            takes_hit_test: gen1_odds::takes_hit_test(id),
         })
     }
 

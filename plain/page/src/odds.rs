@@ -2,33 +2,14 @@
 //! many of the 256 bytes that may be drawn bring them about.
 use crate::battles::BATTLE;
 use crate::json::Out;
-use gen1::{Effect, MoveId, Side};
+use gen1::{MoveId, Side};
 use gen1_hits::{has_usual_damage, settled_hit};
 use gen1_layout::Packed;
-use gen1_odds::{Damages, Odds, odds_of};
-
-/// Whether a move takes the hit test at all (docs/MECHANICS.md, "Early effects", "Late effects").
-pub fn is_tested(effect: Effect) -> bool {
-    !matches!(
-        effect,
-        Effect::AlwaysFails
-            | Effect::Bide
-            | Effect::Conversion
-            | Effect::FocusEnergy
-            | Effect::Haze
-            | Effect::Heal
-            | Effect::LeftOut
-            | Effect::Mist
-            | Effect::Screen
-            | Effect::Splash
-            | Effect::StatUp(..)
-            | Effect::Substitute
-    )
-}
+use gen1_odds::{Damages, Odds, odds_of, takes_hit_test};
 
 /// How many of the 256 draws let a move hit, and whether it is drawn at all; `None` where there is no hit test.
 pub fn hitting_bytes(packed: &Packed, side: Side, id: MoveId) -> Option<(u16, bool)> {
-    is_tested(id.effect()).then(|| hits_of(&odds_of(packed, side, id), packed, side, id))
+    takes_hit_test(id).then(|| hits_of(&odds_of(packed, side, id), packed, side, id))
 }
 
 fn hits_of(odds: &Odds, packed: &Packed, side: Side, id: MoveId) -> (u16, bool) {
@@ -66,7 +47,7 @@ pub fn write_move(packed: &Packed, side: Side, slot: u8, id: MoveId, out: &mut O
     } else {
         null("bound", out);
     }
-    if is_tested(id.effect()) {
+    if takes_hit_test(id) {
         let (count, is_drawn) = hits_of(&odds, packed, side, id);
         out.numbers("hit", [count, is_drawn.into()]);
     } else {

@@ -75,6 +75,17 @@ def test_chances_of_the_rules():
         assert hit(persian, gengar, move).hit_chance == Fraction(move_data(move).accuracy * 255 // 100, 256)
 
 
+def test_moves_that_take_no_hit_test():
+    """docs/MECHANICS.md, "Hit test": moves that fail, or that work on their user alone; and the four that the engine leaves out."""
+    without = {
+        "Whirlwind", "Roar", "Teleport", "Conversion", "Mist", "Focus Energy", "Light Screen", "Reflect", "Haze", "Recover", "Soft-Boiled",
+        "Rest", "Substitute", "Splash", "Bide", "Swords Dance", "Meditate", "Sharpen", "Harden", "Withdraw", "Defense Curl", "Barrier",
+        "Acid Armor", "Agility", "Growth", "Amnesia", "Minimize", "Double Team", "Metronome", "Mirror Move", "Mimic", "Transform",
+    }  # fmt: skip
+    tauros = Member("Tauros", ["Strength"])
+    assert {it.label for it in Move if not hit(tauros, tauros, it).takes_hit_test} == without
+
+
 def test_chances_by_every_draw():
     """A move is used with each byte as the draw that decides: as many are critical, and as many hit, as it is told."""
     strong, splash = Member("Tauros", ["Thunder", "Strength"]), Member("Snorlax", ["Splash"])

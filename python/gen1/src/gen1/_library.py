@@ -121,6 +121,7 @@ next_line = bind("gen1_next_line", c_uint8, _BYTES, c_size_t, _SIZES, _TEXT, c_s
 damage = bind("gen1_damage", c_uint8, _BATTLE, c_uint8, c_uint8, c_bool, c_uint16 * DAMAGES)
 hit_now = bind("gen1_hit_now", c_uint8, _BATTLE, c_uint8, c_uint8, POINTER(HitStruct))
 hit_between = bind("gen1_hit_between", c_uint32, _MEMBER, _MEMBER, c_uint8, POINTER(HitStruct))
+takes_hit_test = bind("gen1_takes_hit_test", c_uint8, c_uint8)
 playout = bind("gen1_playout", c_uint8, _BATTLE, c_uint64, c_uint32, POINTER(PlayoutsStruct), of=LONG)
 view = bind("gen1_view", None, _BATTLE, POINTER(StateStruct))
 choice_words = bind("gen1_choice_words", c_uint8, _BATTLE, c_uint8, c_uint8, _TEXT, c_size_t, _SIZES)

@@ -232,7 +232,7 @@ class Battle:
         code = _library.hit_now(byref(self._held), a_side(side), known, byref(of))
         if code:
             raise no_damage(DamageFault(code), known)
-        return hit_of(of)
+        return hit_of(of, known)
 
     def damage(self, side: Side | int, move: Move | str | int, critical: bool = False) -> tuple[int, ...]:
         """The damage of a hit by a move of a side on the foe that is out, as both are now: 39 numbers.

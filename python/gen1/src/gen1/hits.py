@@ -29,13 +29,15 @@ class Hit:
     """What a use of a move would come to: the damage of a usual hit and of a critical one.
 
     `critical_chance`, 0 to 255/256, is that of a critical hit, 0 for a move without the usual damage; `hit_chance`, 0 to 1, that of the
-    hit test, for a move that takes one. Both are exact: so many of 256 numbers that may be drawn bring it about.
+    hit test. Both are exact: so many of 256 numbers that may be drawn bring it about. Where `takes_hit_test` is false the move takes no
+    such test: it fails, or works on its user alone.
     """
 
     usual: Damages
     critical: Damages
     critical_chance: Fraction
     hit_chance: Fraction
+    takes_hit_test: bool
 
 
 def hit(attacker: Member, defender: Member, move: Move | str | int) -> Hit:
@@ -48,7 +50,7 @@ def hit(attacker: Member, defender: Member, move: Move | str | int) -> Hit:
     answer = _library.hit_between(*pair, known, byref(of))
     if answer:
         raise BadArgument(NewFault(answer & 0xFF).label)
-    return hit_of(of)
+    return hit_of(of, known)
 
 
 def damage(attacker: Member, defender: Member, move: Move | str | int, critical: bool = False) -> tuple[int, ...]:
@@ -61,10 +63,10 @@ def damage(attacker: Member, defender: Member, move: Move | str | int, critical:
     return damages.numbers
 
 
-def hit_of(of: HitStruct) -> Hit:
-    """The hit that a struct holds."""
+def hit_of(of: HitStruct, move: Move) -> Hit:
+    """The hit by a move that a struct holds."""
     chances = Fraction(of.critical_draws, 256), Fraction(of.hit_draws, 256)
-    return Hit(_damages(of.usual), _damages(of.critical), *chances)
+    return Hit(_damages(of.usual), _damages(of.critical), *chances, _library.takes_hit_test(move) == 1)
 
 
 def no_damage(code: DamageFault, move: Move) -> NoDamage:

@@ -492,7 +492,7 @@ class NewFault(Named):
     REPEATED_MOVE = 8, "a move is there twice"
     PP_UPS = 9, "a move has more than three PP ups"
     NO_SUCH_SPECIES = 10, "the species is not 1 to 151"
-    NO_SUCH_MOVE = 11, "a move is above 165"
+    NO_SUCH_MOVE = 11, "a move is not 1 to 165"
     RULES = 12, "the rules are above 3"
     TURN_LIMIT = 13, "the limit is not 1 to 9,999"
 

@@ -3,10 +3,12 @@ use Rattle.gen1_c.proofs.Counting.{plays-more, plays-none}
 use Rattle.gen1_c.proofs.playouts.counted.Goals as goal
 
 pub rounds-init : goal.rounds-init
-rounds-init c = (refl, λ s h. plays-none s _ refl)
+rounds-init c = (refl, λ s h. (plays-none s _ _ refl, c.new-random.ensures))
 
 pub rounds-preserved : goal.rounds-preserved
 rounds-preserved c = (
   omega (arith, c.count.ensures.total, c.rounds.invariant.0),
-  λ s h. plays-more s _ _ _ c.end_of-end.result (c.rounds.invariant.1 s h) (c.end_of-end.ensures s h) c.count.ensures.counts,
+  λ s h.
+      let before = c.rounds.invariant.1 s h in
+      plays-more before.0 before.1 (c.end_of-end.ensures.ends s h) (c.end_of-end.ensures.played s h) c.count.ensures.counts,
 )

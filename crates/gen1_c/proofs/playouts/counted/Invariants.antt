@@ -2,8 +2,10 @@
 use Rattle.std.proofs.Common.{◌≡◌}
 use Rattle.gen1_machine.specs.State.{State}
 use Rattle.gen1_layout.specs.Within.{Stands}
-use Rattle.gen1_c.specs.Playouts.{PlaysOut, total}
+use Rattle.gen1_c.specs.Playouts.{PlaysOut, tally, total}
 use Rattle.gen1_c.proofs.playouts.counted.Given as goal
 
 abbrev pub invariant-rounds : goal.invariant-rounds
-invariant-rounds l = (total l.counts ≡ l.counter) × ((s : State) → Stands l.start s → PlaysOut s l.counter l.counts)
+invariant-rounds l =
+    (total l.counts ≡ l.counter)
+    × ((s : State) → Stands l.start s → PlaysOut s l.seed l.counter l.counts × (l.random.state ≡ (tally s l.seed l.counter).random))

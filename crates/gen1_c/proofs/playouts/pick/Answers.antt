@@ -1,9 +1,4 @@
-use Rattle.std.proofs.Common.{ap, arith, ◌∙◌}
-use Rattle.gen1_machine.specs.declared.choice.Choice.{Choice}
-use Rattle.gen1_machine.specs.declared.choice.Choice.TheVariants.{Pass}
-use Rattle.gen1_machine.specs.Step.{is_among}
-use Rattle.gen1_requests.specs.OfferedMask.{choices_in}
-use Rattle.gen1_c.proofs.Offers.{among-at}
+use Rattle.std.proofs.Common.{arith, refl}
 use Rattle.gen1_c.proofs.playouts.pick.Goals as goal
 
 pub returns-then-count-eq0 : goal.returns-then-count-eq0
@@ -13,6 +8,4 @@ pub choice_at-requires-clause-inside : goal.choice_at-requires-clause-inside
 choice_at-requires-clause-inside c = omega (arith, c.below-place.ensures.bound, c.count_of-count.ensures.value)
 
 pub returns : goal.returns
-returns c some =
-    ap (λ (x : Choice). is_among x (choices_in c.args.mask)) c.choice_at.ensures.value
-    ∙ among-at (choices_in c.args.mask) c.below-place.result Pass (omega (arith, c.below-place.ensures.bound, c.count_of-count.ensures.value))
+returns c some = (rw (c.choice_at.ensures.value, c.below-place.ensures.value, c.count_of-count.ensures.value) refl, c.below-place.ensures.state)

@@ -1,8 +1,9 @@
--- So many pairs were accepted.
+-- So many pairs were accepted, which were drawn at random.
 use Rattle.gen1_machine.specs.State.{State}
 use Rattle.gen1_layout.specs.Within.{Stands}
 use Rattle.gen1_c.proofs.Accepting.{Accepts}
+use Rattle.gen1_c.proofs.Playing.{PlaysOn}
 use Rattle.gen1_c.proofs.playouts.play_out.Given as goal
 
 abbrev pub invariant-updates : goal.invariant-updates
-invariant-updates l = (s : State) → Stands l.initial.battle s → Accepts s l.counter l.battle
+invariant-updates l = (s : State) → Stands l.initial.battle s → Accepts s l.counter l.battle × PlaysOn s l.initial.random.state l.counter l.battle l.random.state

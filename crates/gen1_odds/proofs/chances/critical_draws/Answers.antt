@@ -1,6 +1,7 @@
-use Rattle.std.proofs.Common.{refl, sym, ◌≡◌, ◌∙◌}
+use Rattle.std.proofs.Common.{arith, refl, sym, ◌<◌, ◌≡◌, ◌∙◌}
 use Rattle.gen1_layout.specs.Words.{move_at}
 use Rattle.gen1_machine.specs.CriticalHits.{critical_bound_in}
+use Rattle.gen1_odds.proofs.Counts.{rotated-many}
 use Rattle.gen1_odds.proofs.chances.critical_draws.Goals as goal
 
 pub returns : goal.returns
@@ -8,5 +9,6 @@ returns c = record {
   stands = λ g f h.
       let bound : c.critical_bound.result ≡ critical_bound_in c.args.side (move_at c.args.id) f =
       rw (c.species.ensures.stands _ _ h, c.is_on-focused.ensures.stands 8 refl _ _ h) at c.critical_bound.ensures in
-      rw (sym c.has_usual_damage.ensures ∙ c.if-not-has_usual_damage.false) (c.from.ensures ∙ bound);
+      let fits : critical_bound_in c.args.side (move_at c.args.id) f < 256 = omega (arith, bound, c.critical_bound.type_inv) in
+      rw (sym c.has_usual_damage.ensures ∙ c.if-not-has_usual_damage.false) (c.from.ensures ∙ bound ∙ sym (rotated-many _ fits));
 }
