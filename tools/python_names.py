@@ -15,7 +15,7 @@ import sys
 
 sys.dont_write_bytecode = True
 from repository import ROOT
-from tables import element_names, table
+from tables import element_names, move_rows, species_rows, table
 
 OUT = ROOT / "python" / "gen1" / "src" / "gen1"
 ROWS = '"""The rows of species and moves. Made by tools/python_names.py; change docs/TABLES.md, not this."""\n'
@@ -123,12 +123,9 @@ def flags(layout):
 
 def row_lists(text):
     """The rows of species and moves, by their numbers from 1 on."""
-    elements = element_names(text)
-    species = [(elements.index(one), elements.index(two), *map(int, stats)) for _, _, one, two, *stats in table(text, "Species")]
-    moves = [(elements.index(kind), *map(int, more)) for _, _, kind, *more, _ in table(text, "Moves")]
     for name, doc, rows in (
-        ("SPECIES_ROWS", "Of each species both types, and base HP, Attack, Defense, Speed, Special.", species),
-        ("MOVE_ROWS", "Of each move its type, power, accuracy in percent, and PP.", moves),
+        ("SPECIES_ROWS", "Of each species both types, and base HP, Attack, Defense, Speed, Special.", species_rows(text)),
+        ("MOVE_ROWS", "Of each move its type, power, accuracy in percent, and PP.", move_rows(text)),
     ):
         yield f"\n# {doc}\n{name} = (\n" + "".join(f"    {row},\n" for row in rows) + ")\n"
 

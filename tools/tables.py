@@ -44,6 +44,18 @@ def element_names(document):
     return [numbers[str(number)] for number in range(len(numbers))]
 
 
+def species_rows(document):
+    """Of each species both types as numbers, and base HP, Attack, Defense, Speed, Special."""
+    elements = element_names(document)
+    return [(elements.index(one), elements.index(two), *map(int, stats)) for one, two, *stats in (row[1:] for row in numbered(table(document, "Species")))]
+
+
+def move_rows(document):
+    """Of each move its type as a number, power, accuracy in percent, and PP."""
+    elements = element_names(document)
+    return [(elements.index(kind), *map(int, more)) for kind, *more, _ in (row[1:] for row in numbered(table(document, "Moves")))]
+
+
 def row_places(elements, types):
     """For each type of a move the places of its rows against each type, with the number of all rows where there is none."""
     places = {(attacker, defender): place for place, (attacker, defender, _) in enumerate(types)}

@@ -144,7 +144,7 @@ export class Battle {
     const [battle, hit] = [this.#put(), this.#library.roomOf("gen1_hit")];
     const code = this.#library.calls.gen1_hit_now(battle, sideOf(side), number, hit);
     if (code) throw damageError(this.#library, code, move);
-    return hitOf(this.#library.readStruct("gen1_hit", hit));
+    return hitOf(this.#library, number, hit);
   }
 
   /** The damage of a hit by a move, as both members that are out now stand, at each factor from 217 to 255. */

@@ -34,7 +34,7 @@ const MEMBERS = [
   [{ moves: [["Pound"]] }, ArgumentError, "moves[0]", /is \["Pound"\], not a pair/],
   [{ moves: [["Pond", 3]] }, ArgumentError, "moves[0][0]", /is "Pond", which is none of docs\/TABLES.md$/],
   [{ moves: [["body slam", 3]] }, ArgumentError, "moves[0][0]", /did you mean "Body Slam"\?$/],
-  ...[0, 166, 255, ...BIG].map((move) => [{ moves: [["Pound", 3], [move, 3]] }, TeamError, 11, /a move is above 165: moves is \[\["Pound",3\],/]),
+  ...[0, 166, 255, ...BIG].map((move) => [{ moves: [["Pound", 3], [move, 3]] }, TeamError, 11, /a move is not 1 to 165: moves is \[\["Pound",3\],/]),
   ...NO_NUMBERS.filter((it) => typeof it !== "string").map((move) => [{ moves: [[move, 3]] }, ArgumentTypeError, "moves[0][0]", /, not a/]),
   ...[4, 255, ...BIG].map((ups) => [{ moves: [["Pound", ups]] }, TeamError, 9, /a move has more than 3 PP ups: moves is /]),
   ...NO_NUMBERS.map((ups) => [{ moves: [["Pound", ups]] }, ArgumentTypeError, "moves[0][1]", /, not a whole number$/]),
@@ -183,6 +183,15 @@ function moves(gen1, battle, check) {
   });
 }
 
+function rows(gen1, check) {
+  check("species and moves of the tables", () => {
+    for (const it of [0, 152, 255, ...BIG]) outside(() => gen1.base(it), /^species is -?\d.*, not 1 to 151$/);
+    for (const it of [0, 166, 255, ...BIG]) outside(() => gen1.moveData(it), /^move is -?\d.*, not 1 to 165$/);
+    outside(() => gen1.base("tauros"), /^species is "tauros", which is none of docs\/TABLES.md; did you mean "Tauros"\?$/);
+    for (const call of [gen1.base, gen1.moveData]) for (const it of [undefined, null, [1]]) wrong(() => call.call(gen1, it), /not a name or a number$/);
+  });
+}
+
 function seeds(battle, check) {
   check("seeds and indexes to reseed", () => {
     for (const index of [9, 255, ...BIG]) outside(() => battle.reseed(SEED, index), /^the index is not 0 to 8: index is -?\d/);
@@ -269,5 +278,5 @@ export async function badSources(check) {
 
 /** Runs all of them. */
 export function badInput(gen1, check) {
-  for (const part of [members, terms, bytes, calls, rooms]) part(gen1, check);
+  for (const part of [members, terms, bytes, calls, rows, rooms]) part(gen1, check);
 }

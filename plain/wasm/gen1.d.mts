@@ -169,6 +169,26 @@ export interface Hit {
   critical: Damages;
   criticalChance: number;
   hitChance: number;
+  /** Whether the move takes the hit test. Moves that fail, or that work on their user alone, take none. */
+  takesHitTest: boolean;
+}
+
+/** A species (docs/TABLES.md): base stats from 5 to 250, and two types; one with a single type has it twice. */
+export interface Base {
+  hp: number;
+  attack: number;
+  defense: number;
+  speed: number;
+  special: number;
+  types: [string, string];
+}
+
+/** A move (docs/TABLES.md): power 0 to 170, 0 where it has no damage of its power; accuracy in percent; PP without PP ups. */
+export interface MoveData {
+  type: string;
+  power: number;
+  accuracy: number;
+  pp: number;
 }
 
 /** How playouts ended. */
@@ -323,6 +343,10 @@ export class Gen1 {
   hit(attacker: Member, defender: Member, move: string | number): Hit;
   /** The same as 39 numbers. */
   damage(attacker: Member, defender: Member, move: string | number, critical?: boolean): number[];
+  /** Throws ArgumentError for what is no species. */
+  base(species: string | number): Base;
+  /** Throws ArgumentError for what is no move. */
+  moveData(move: string | number): MoveData;
   /** Throws LogError. */
   events(log: Uint8Array | ArrayBuffer): GameEvent[];
   /** Throws LogError. */

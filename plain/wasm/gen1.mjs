@@ -15,7 +15,7 @@ import { Library } from "./memory.mjs";
 import { Room, roomOf } from "./room.mjs";
 import { Spectator, spectatorOf } from "./spectator.mjs";
 import { MOVES, SPECIES, TYPES } from "./tables.mjs";
-import { memberBytes, membersFrom, moveOf, teamBytes, teamError } from "./teams.mjs";
+import { baseOf, memberBytes, membersFrom, moveDataOf, moveOf, teamBytes, teamError } from "./teams.mjs";
 import { CONDITIONS, hitOf, OUTCOMES, REQUESTS, STATUSES } from "./views.mjs";
 
 export const LOG_ROOM = CODES.LOG_ROOM;
@@ -99,7 +99,7 @@ export class Gen1 {
     const answer = library.calls.gen1_hit_between(...pair, number, hit);
     if (answer === CODES.NO_SUCH_MOVE) throw damageError(library, CODES.DAMAGE_MOVE, move);
     if (answer) throw teamError(library, answer, [[attacker], [defender]], {}, (side) => HIT_SIDES[side]);
-    return hitOf(library.readStruct("gen1_hit", hit));
+    return hitOf(library, number, hit);
   }
 
   /** The damage of a hit by one member on another, each just sent out alone: 39 numbers, as of `Battle.damage`. */
@@ -109,6 +109,16 @@ export class Gen1 {
     const { numbers, code } = isCritical ? hit.critical : hit.usual;
     if (code) throw damageError(this.#library, code, move);
     return numbers;
+  }
+
+  /** The base stats and types of a species. */
+  base(species) {
+    return baseOf(this.#library, species);
+  }
+
+  /** The type, power, accuracy and PP of a move. */
+  moveData(move) {
+    return moveDataOf(this.#library, move);
   }
 
   /** The events of log bytes, as plain objects. */

@@ -3,14 +3,14 @@ import { ArgumentError, TeamError, TextError } from "./errors.mjs";
 import { byteOr255, list, numbers, object, shown, text, within, wrongType } from "./arguments.mjs";
 import { CODES, TEXT_FAULTS } from "./header.mjs";
 import { layoutOf, writeStruct } from "./structs.mjs";
-import { MOVES, SPECIES } from "./tables.mjs";
+import { MOVE_ROWS, MOVES, SPECIES, SPECIES_ROWS, TYPES } from "./tables.mjs";
 
 const MOST_MEMBERS = 6;
 const MOST_MOVES = 4;
 const FULL_DVS = Object.freeze([15, 15, 15, 15]);
 const FULL_EXP = Object.freeze([65535, 65535, 65535, 65535, 65535]);
-const SPECIES_KIND = { names: SPECIES, find: "gen1_species_from_name" };
-const MOVE_KIND = { names: MOVES, find: "gen1_move_from_name" };
+const SPECIES_KIND = { names: SPECIES, rows: SPECIES_ROWS, find: "gen1_species_from_name" };
+const MOVE_KIND = { names: MOVES, rows: MOVE_ROWS, find: "gen1_move_from_name" };
 // The field that a code of gen1_new is about; where it is not here, it is the moves.
 const FIELDS = {
   [CODES.EMPTY]: "members", [CODES.TOO_MANY]: "members", [CODES.LEVEL]: "level", [CODES.DV]: "dvs", [CODES.NO_SUCH_SPECIES]: "species",
@@ -33,6 +33,25 @@ function numberOf(library, value, kind, what) {
 /** A move as the library takes it. */
 export function moveOf(library, value) {
   return numberOf(library, value, MOVE_KIND, "move");
+}
+
+// The row of a name or number.
+function rowOf(library, value, kind, what) {
+  const row = kind.rows[numberOf(library, value, kind, what) - 1];
+  if (!row) throw new ArgumentError(`${what} is ${shown(value)}, not 1 to ${kind.rows.length}`, what);
+  return row;
+}
+
+/** What docs/TABLES.md has of a species. */
+export function baseOf(library, value) {
+  const [one, two, hp, attack, defense, speed, special] = rowOf(library, value, SPECIES_KIND, "species");
+  return { hp, attack, defense, speed, special, types: [TYPES[one], TYPES[two]] };
+}
+
+/** What docs/TABLES.md has of a move. */
+export function moveDataOf(library, value) {
+  const [type, power, accuracy, pp] = rowOf(library, value, MOVE_KIND, "move");
+  return { type: TYPES[type], power, accuracy, pp };
 }
 
 function pairOf(library, value, what) {

@@ -16,7 +16,7 @@ const EXPORTS = {
 /** @type {Record<keyof Gen1, true>} */
 const OF_GEN1 = {
   is64: true, build: true, version: true, battle: true, load: true, room: true, spectator: true, teamFromText: true, teamFromPacked: true, hit: true,
-  damage: true, events: true, lines: true,
+  damage: true, base: true, moveData: true, events: true, lines: true,
 };
 /** @type {Record<keyof import("./gen1.mjs").Battle, true>} */
 const OF_BATTLE = {
@@ -43,7 +43,11 @@ const OF_SHOWN = { one: true, two: true, turn: true, outcome: true };
 /** @type {Record<keyof import("./gen1.mjs").ShownSide, true>} */
 const OF_SHOWN_SIDE = { members: true, place: true, stages: true, substitute: true, confused: true, lightScreen: true, reflect: true };
 /** @type {Record<keyof import("./gen1.mjs").Hit, true>} */
-const OF_HIT = { usual: true, critical: true, criticalChance: true, hitChance: true };
+const OF_HIT = { usual: true, critical: true, criticalChance: true, hitChance: true, takesHitTest: true };
+/** @type {Record<keyof import("./gen1.mjs").Base, true>} */
+const OF_BASE = { hp: true, attack: true, defense: true, speed: true, special: true, types: true };
+/** @type {Record<keyof import("./gen1.mjs").MoveData, true>} */
+const OF_MOVE_DATA = { type: true, power: true, accuracy: true, pp: true };
 /** @type {Record<keyof import("./gen1.mjs").Playouts, true>} */
 const OF_PLAYOUTS = { winsOne: true, winsTwo: true, ties: true, faults: true };
 /** @type {Record<keyof import("./gen1.mjs").WholeMember, true>} */
@@ -111,6 +115,8 @@ function battles(gen1) {
   hasKeys(one.active ?? {}, OF_ACTIVE);
   hasKeys(update.events[0], OF_EVENT);
   hasKeys(battle.hit(1, "Strength"), OF_HIT);
+  hasKeys(gen1.base("Tauros"), OF_BASE);
+  hasKeys(gen1.moveData("Strength"), OF_MOVE_DATA);
   hasKeys(battle.playout(1n, 1), OF_PLAYOUTS);
   hasKeys(gen1.teamFromText("Tauros\n- Strength\n")[0], OF_WHOLE_MEMBER);
   hasKeys(battle.play(battle.choices(1)[0], battle.choices(2)[0]), { outcome: true, requests: true });

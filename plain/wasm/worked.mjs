@@ -66,6 +66,10 @@ function hits(gen1, check) {
     // The accuracies of docs/TABLES.md in 255ths: 100 % is 255, 80 % 204, 70 % 178, 55 % 140; each draw below that hits.
     equal(["Swift", "Dream Eater", "Strength", "Hydro Pump", "Thunder", "Sing"].map((move) => 256 * chances(move).hitChance), [256, 0, 255, 204, 178, 140]);
   });
+  check("moves that take no hit test", () => {
+    const tested = ["Swift", "Toxic", "Growl", "Counter", "Roar", "Rest", "Bide", "Amnesia"].map((move) => chances(move).takesHitTest);
+    equal(tested, [true, true, true, true, false, false, false, false]);
+  });
   check("moves without the usual damage", () => {
     for (const move of ["Splash", "Seismic Toss", "Super Fang"]) {
       const none = { numbers: [], code: CODES.DAMAGE_UNUSUAL };
@@ -209,6 +213,16 @@ function playedOut(battle, seed, rounds) {
   return counts;
 }
 
+// docs/TABLES.md, "Species" and "Moves".
+function rows(gen1, check) {
+  check("rows of the tables", () => {
+    equal(gen1.base("Starmie"), { hp: 60, attack: 75, defense: 85, speed: 115, special: 100, types: ["Water", "Psychic"] });
+    equal(gen1.base(128).types, ["Normal", "Normal"]);
+    equal(gen1.moveData("Blizzard"), { type: "Ice", power: 120, accuracy: 90, pp: 5 });
+    equal(gen1.moveData(165), gen1.moveData("Struggle"));
+  });
+}
+
 function searching(gen1, check) {
   const team = [{ species: "Tauros", moves: [["Body Slam", 3], ["Hyper Beam", 3], ["Earthquake", 3], ["Blizzard", 3]] },
     { species: "Gengar", level: 73, moves: [["Hypnosis", 3], ["Night Shade", 3]] }];
@@ -245,6 +259,6 @@ function layouts(check) {
 
 /** Runs all of them. */
 export function worked(gen1, check) {
-  for (const part of [logs, hits, rooms, watchers, texts, searching]) part(gen1, check);
+  for (const part of [logs, hits, rooms, watchers, texts, rows, searching]) part(gen1, check);
   layouts(check);
 }
