@@ -24,7 +24,10 @@ static void print_row(const gen1_hit *hit, uint8_t move, uint16_t hp)
     printf("  move %3d: ", move);
     if (hit->usual.count == 0 || hit->critical.count == 0) {
         printf("no usual damage (code %d)", hit->usual.count == 0 ? hit->usual.code : hit->critical.code);
-        printf(gen1_takes_hit_test(move) == 1 ? "; %d of 256 hit\n" : "; no hit test\n", hit->hit_draws);
+        if (gen1_takes_hit_test(move) == 1)
+            printf("; %d of 256 hit\n", hit->hit_draws);
+        else
+            puts("; no hit test");
         return;
     }
     uint16_t least = hit->usual.numbers[0];
