@@ -141,12 +141,16 @@ def cited(text):
             yield None if there else f'{path} has no heading "{heading}"'
 
 
+# Folders that a build leaves, or that are git's.
+LEFT = ("out", ".git", "__pycache__", "target")
+
+
 @cache
 def names_of_files():
     """The names of all files of the repository, without those that a build leaves."""
     found = set()
     for _, folders, files in os.walk(ROOT):
-        folders[:] = [name for name in folders if name not in ("out", ".git", "__pycache__", "target")]
+        folders[:] = [name for name in folders if name not in LEFT]
         found.update(files)
     return found
 
@@ -161,7 +165,8 @@ def names_of_the_engine():
 
 def is_there(path, beside):
     """Whether a path from the top, or from a folder, leads to something; true of what begins with no folder of the repository."""
-    if OPEN.search(path) or not (ROOT / path.split("/")[0]).is_dir():
+    first = path.split("/")[0]
+    if OPEN.search(path) or first in LEFT or not (ROOT / first).is_dir():
         return True
     return any(ROOT.glob(path.rstrip("/"))) or any(beside.glob(path.rstrip("/")))
 
