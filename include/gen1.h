@@ -407,25 +407,25 @@ typedef struct gen1_damages {
 } gen1_damages;
 
 /* What a use of a move would come to. Chances are exact: of the 256 numbers that may be drawn, how many bring it about. */
-typedef struct gen1_hit {
+typedef struct gen1_odds {
     gen1_damages usual;      /* the damage if the hit is not critical */
     gen1_damages critical;   /* the damage if it is */
     uint16_t critical_draws; /* 0 to 255: how many of 256 draws make it critical; 0 for a move without usual damage */
     uint16_t hit_draws;      /* 0 to 256: how many of 256 draws pass the hit test, where gen1_takes_hit_test answers 1 */
-} gen1_hit;
+} gen1_odds;
 
 /*
  * What a use of a move by `side` would come to, in the present state of both members that are out (docs/MECHANICS.md, "Critical
  * hits", "Hit test"). The member need not know the move. The accuracy is that of a new use: the one that Thrash and Rage keep is
  * not looked at. Answers 0, or GEN1_DAMAGE_SIDE, GEN1_DAMAGE_MOVE or GEN1_DAMAGE_NOBODY, and then nothing has changed.
  */
-uint8_t gen1_hit_now(const gen1_battle *battle, uint8_t side, uint8_t move, gen1_hit *hit);
+uint8_t gen1_odds_now(const gen1_battle *battle, uint8_t side, uint8_t move, gen1_odds *hit);
 
 /*
  * The same of two members that have just been sent out, without a battle. Answers 0; or GEN1_NO_SUCH_MOVE if the move is not 1 to
  * 165; or as gen1_new answers of a team of `user` alone (as team one) and of a team of `foe` alone. Then nothing has changed.
  */
-uint32_t gen1_hit_between(const gen1_member *user, const gen1_member *foe, uint8_t move, gen1_hit *hit);
+uint32_t gen1_odds_between(const gen1_member *user, const gen1_member *foe, uint8_t move, gen1_odds *hit);
 
 /*
  * Whether a move takes the hit test when it is used (docs/MECHANICS.md, "Hit test"): 1, or 0 where it fails, or works on its user
@@ -591,11 +591,11 @@ uint8_t gen1_move_data(uint8_t move, gen1_move *row);
 uint8_t gen1_text(uint8_t about, uint8_t code, char *text, size_t room, size_t *length);
 
 enum {
-    GEN1_ABOUT_NEW = 1,    /* gen1_new, gen1_spectator_begin, gen1_hit_between, and `rule` of gen1_text_fault: 1 to 13 */
+    GEN1_ABOUT_NEW = 1,    /* gen1_new, gen1_spectator_begin, gen1_odds_between, and `rule` of gen1_text_fault: 1 to 13 */
     GEN1_ABOUT_LOAD = 2,   /* gen1_load and gen1_playout: 1 to 7 */
     GEN1_ABOUT_UPDATE = 3, /* gen1_update, gen1_update_offered, and each of `codes` of gen1_update_many: 1 to 4 */
     GEN1_ABOUT_LOG = 4,    /* gen1_next_event, gen1_next_line and gen1_spectator_feed: 1 to 5 */
-    GEN1_ABOUT_DAMAGE = 5, /* gen1_damage, gen1_hit_now, and `code` of gen1_damages: 1 to 5 */
+    GEN1_ABOUT_DAMAGE = 5, /* gen1_damage, gen1_odds_now, and `code` of gen1_damages: 1 to 5 */
     GEN1_ABOUT_NAME = 6,   /* the calls of this section that answer one of the codes above: 1 and 2 */
     GEN1_ABOUT_CHOICE = 7, /* gen1_choice_words: 1 to 4 */
     GEN1_ABOUT_RESEED = 8, /* gen1_reseed: 1 */
@@ -657,7 +657,7 @@ typedef struct gen1_state {
 } gen1_state;
 
 /* Writes what the battle stands for to `*state`, all of it. */
-void gen1_view(const gen1_battle *battle, gen1_state *state);
+void gen1_get_state(const gen1_battle *battle, gen1_state *state);
 
 /* What a byte chooses: GEN1_CHOICE_PASS, GEN1_CHOICE_MOVE or GEN1_CHOICE_SWITCH; GEN1_CHOICE_NONE if it is no choice. */
 uint8_t gen1_choice_kind(uint8_t choice);

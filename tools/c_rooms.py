@@ -192,7 +192,7 @@ def compare_hits_between(library, member, folder, count):
         user, foe = member(asked["attacker"]), member(asked["defender"])
         for move in (1, 34, 89, 129, 163):
             hit = gen1.Hit()
-            fault = library.calls.gen1_hit_between(byref(user), byref(foe), move, byref(hit))
+            fault = library.calls.gen1_odds_between(byref(user), byref(foe), move, byref(hit))
             try:
                 battle = library.battle(gen1.team([user]), gen1.team([foe]), [0] * 10)
                 battle.update(0, 0)
@@ -201,7 +201,7 @@ def compare_hits_between(library, member, folder, count):
                 side, place, code = why.args
                 want = (65536 * side + 256 * place + code, bytes(gen1.Hit()))
             count.tell(f"calc, {case['name']}, between, move {move}", (fault, bytes(hit)), want)
-    codes = {library.calls.gen1_hit_between(byref(user), byref(foe), move, byref(hit)) for move in (0, 166, 255)}
+    codes = {library.calls.gen1_odds_between(byref(user), byref(foe), move, byref(hit)) for move in (0, 166, 255)}
     count.tell("between, no move", codes, {11})
 
 

@@ -116,7 +116,7 @@ def words_due(state, side, choice, names):
 def compare_battle(calls, name, given, names, count):
     """A recorded battle: its view, each byte of a choice in words, and other numbers to draw."""
     held, state = (c_uint8 * 384)(*given), State()
-    calls.gen1_view(held, byref(state))
+    calls.gen1_get_state(held, byref(state))
     due = state_read(given)
     count.tell(f"{name}, view", plain(state), due)
     got = [text_of(calls.gen1_choice_words, held, side, choice) for side in (1, 2) for choice in range(64)]
@@ -192,7 +192,7 @@ def compare(calls, battles, count):
     for name in ("species_name", "move_name", "type_name", "species_from_name", "move_from_name", "species_stats", "move_data",
                  "text", "choice_kind", "choice_slot", "choice_words", "reseed"):
         getattr(calls, f"gen1_{name}").restype = c_uint8
-    calls.gen1_version.restype, calls.gen1_view.restype = U32, None
+    calls.gen1_version.restype, calls.gen1_get_state.restype = U32, None
     names = compare_tables(calls, count)
     compare_choices(calls, count)
     compare_sentences(calls, count)

@@ -38,8 +38,8 @@ static void show_damage(const gen1_battle *battle, uint8_t move)
 /* Prints how likely a move of side 1 hits, and is critical: as the battle stands, and of two Tauros that were just sent out. */
 static bool show_odds(const gen1_battle *battle, uint8_t move)
 {
-    gen1_hit now, fresh;
-    if (gen1_hit_now(battle, GEN1_ONE, move, &now) != 0 || gen1_hit_between(&tauros, &tauros, move, &fresh) != 0)
+    gen1_odds now, fresh;
+    if (gen1_odds_now(battle, GEN1_ONE, move, &now) != 0 || gen1_odds_between(&tauros, &tauros, move, &fresh) != 0)
         return false;
     printf("%d of 256 hit, %d of 256 are critical; at first %d and %d\n", now.hit_draws, now.critical_draws, fresh.hit_draws, fresh.critical_draws);
     return now.critical.count == 0 || now.critical.numbers[0] > now.usual.numbers[0];
@@ -93,7 +93,7 @@ static bool show_tables(const char *species, const char *move)
 static void show_state(const gen1_battle *battle)
 {
     gen1_state state;
-    gen1_view(battle, &state);
+    gen1_get_state(battle, &state);
     for (int side = 0; side < 2; side++) {
         const gen1_member_state *it = &state.sides[side].members[state.sides[side].active.place - 1];
         printf("side %d has %d of %d HP and %d PP of its first move\n", side + 1, it->hp, it->max_hp, it->pp[0]);

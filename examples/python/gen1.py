@@ -120,8 +120,8 @@ class Library:
             ("gen1_next_line", c_uint8, [ctypes.c_char_p, size, sizes, POINTER(c_char), size, sizes]),
             ("gen1_damage", c_uint8, [battle, c_uint8, c_uint8, c_bool, c_uint16 * 39]),
             ("gen1_update_offered", c_uint8, [battle, c_uint8, c_uint8, POINTER(c_uint8), size, sizes]),
-            ("gen1_hit_now", c_uint8, [battle, c_uint8, c_uint8, POINTER(Hit)]),
-            ("gen1_hit_between", c_uint32, [POINTER(Member), POINTER(Member), c_uint8, POINTER(Hit)]),
+            ("gen1_odds_now", c_uint8, [battle, c_uint8, c_uint8, POINTER(Hit)]),
+            ("gen1_odds_between", c_uint32, [POINTER(Member), POINTER(Member), c_uint8, POINTER(Hit)]),
             ("gen1_takes_hit_test", c_uint8, [c_uint8]),
             ("gen1_room_begin", None, [POINTER(RoomBytes)]),
             ("gen1_room_choices", c_uint8, [POINTER(RoomBytes), c_uint8, c_uint8 * 9]),
@@ -223,7 +223,7 @@ class Battle:
     def hit(self, side, number):
         """What a use of a move by a side would come to."""
         hit = Hit()
-        code = self.calls.gen1_hit_now(byref(self.held), within(side, 255), within(number, 255), byref(hit))
+        code = self.calls.gen1_odds_now(byref(self.held), within(side, 255), within(number, 255), byref(hit))
         if code:
             raise DamageFault(code)
         return hit

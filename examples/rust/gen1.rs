@@ -107,8 +107,8 @@ unsafe extern "C" {
         room: usize,
         length: &mut usize,
     ) -> u8;
-    safe fn gen1_hit_now(battle: &Battle, side: u8, id: u8, hit: &mut Hit) -> u8;
-    safe fn gen1_hit_between(user: &Member, foe: &Member, id: u8, hit: &mut Hit) -> u32;
+    safe fn gen1_odds_now(battle: &Battle, side: u8, id: u8, hit: &mut Hit) -> u8;
+    safe fn gen1_odds_between(user: &Member, foe: &Member, id: u8, hit: &mut Hit) -> u32;
     safe fn gen1_takes_hit_test(id: u8) -> u8;
     safe fn gen1_room_begin(room: &mut Room);
     safe fn gen1_room_choices(room: &Room, side: u8, choices: &mut [u8; 9]) -> u8;
@@ -151,9 +151,9 @@ const NO_HIT: Hit = {
 };
 
 /// What a use of a move would come to by a member against another that have both just been sent out.
-pub fn hit_between(user: &Member, foe: &Member, id: u8) -> Result<Hit, TeamFault> {
+pub fn odds_between(user: &Member, foe: &Member, id: u8) -> Result<Hit, TeamFault> {
     let mut hit = NO_HIT;
-    match gen1_hit_between(user, foe, id, &mut hit) {
+    match gen1_odds_between(user, foe, id, &mut hit) {
         0 => Ok(hit),
         answer => Err(TeamFault::of(answer)),
     }
@@ -225,7 +225,7 @@ impl Battle {
     /// What a use of a move by a side would come to, as both members that are out stand, or the code that says why it is not told.
     pub fn hit(&self, side: u8, id: u8) -> Result<Hit, u8> {
         let mut hit = NO_HIT;
-        match gen1_hit_now(self, side, id, &mut hit) {
+        match gen1_odds_now(self, side, id, &mut hit) {
             0 => Ok(hit),
             code => Err(code),
         }

@@ -34,7 +34,7 @@ fn tell(log: &Log, watcher: &mut Spectator, out: &mut impl Write) -> Result<(), 
 /// The odds of each move between both first members, who have just been sent out.
 fn compare_odds(battle: &Battle, one: &Team, two: &Team) -> Result<(), String> {
     for id in 1..=165 {
-        let between = gen1::hit_between(&one.members[0], &two.members[0], id);
+        let between = gen1::odds_between(&one.members[0], &two.members[0], id);
         if battle.hit(1, id).ok() != between.ok() {
             return Err(format!("other odds of move {id}"));
         }

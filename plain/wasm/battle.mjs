@@ -66,7 +66,7 @@ export class Battle {
   /** All that the bytes stand for. */
   get state() {
     const [battle, state] = [this.#put(), this.#library.roomOf("gen1_state")];
-    this.#library.calls.gen1_view(battle, state);
+    this.#library.calls.gen1_get_state(battle, state);
     return stateOf(this.#library.readStruct("gen1_state", state));
   }
 
@@ -141,8 +141,8 @@ export class Battle {
   /** What a use of a move by a side would come to, as both members that are out now stand. */
   hit(side, move) {
     const number = moveOf(this.#library, move);
-    const [battle, hit] = [this.#put(), this.#library.roomOf("gen1_hit")];
-    const code = this.#library.calls.gen1_hit_now(battle, sideOf(side), number, hit);
+    const [battle, hit] = [this.#put(), this.#library.roomOf("gen1_odds")];
+    const code = this.#library.calls.gen1_odds_now(battle, sideOf(side), number, hit);
     if (code) throw damageError(this.#library, code, move);
     return hitOf(this.#library, number, hit);
   }

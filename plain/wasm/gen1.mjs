@@ -95,8 +95,8 @@ export class Gen1 {
     const members = [memberBytes(library, attacker, "attacker"), memberBytes(library, defender, "defender")];
     const number = moveOf(library, move);
     library.begin();
-    const [hit, ...pair] = [library.roomOf("gen1_hit"), ...members.map((member) => library.put(member))];
-    const answer = library.calls.gen1_hit_between(...pair, number, hit);
+    const [hit, ...pair] = [library.roomOf("gen1_odds"), ...members.map((member) => library.put(member))];
+    const answer = library.calls.gen1_odds_between(...pair, number, hit);
     if (answer === CODES.NO_SUCH_MOVE) throw damageError(library, CODES.DAMAGE_MOVE, move);
     if (answer) throw teamError(library, answer, [[attacker], [defender]], {}, (side) => HIT_SIDES[side]);
     return hitOf(library, number, hit);

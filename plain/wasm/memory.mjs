@@ -7,8 +7,8 @@ const DECODER = new TextDecoder();
 const PAGE = 65536;
 // All that is called, and the memory. A module of an older version may lack some.
 const NEEDED = [
-  "memory", "__heap_base", ...["version", "new", "load", "choices", "offered", "update", "result", "next_event", "next_line", "damage", "hit_now",
-    "hit_between", "takes_hit_test", "playout", "team_from_text", "team_from_packed", "species_from_name", "move_from_name", "text", "view",
+  "memory", "__heap_base", ...["version", "new", "load", "choices", "offered", "update", "result", "next_event", "next_line", "damage", "odds_now",
+    "odds_between", "takes_hit_test", "playout", "team_from_text", "team_from_packed", "species_from_name", "move_from_name", "text", "get_state",
     "choice_words", "reseed", "room_begin", "room_choices", "room_submit", "spectator_begin", "spectator_feed"].map((call) => `gen1_${call}`),
 ];
 

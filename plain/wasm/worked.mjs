@@ -250,7 +250,7 @@ function searching(gen1, check) {
 // The sizes that include/gen1.h names, and where C puts the rest of a struct with a size_t.
 function layouts(check) {
   check("structs", () => {
-    const sizes = (isLong) => ["gen1_battle", "gen1_team", "gen1_event", "gen1_room", "gen1_spectator", "gen1_hit"].map((it) => layoutOf(it, isLong).size);
+    const sizes = (isLong) => ["gen1_battle", "gen1_team", "gen1_event", "gen1_room", "gen1_spectator", "gen1_odds"].map((it) => layoutOf(it, isLong).size);
     for (const isLong of [false, true]) equal(sizes(isLong), [384, 146, 18, CODES.ROOM_SIZE, CODES.SPECTATOR_SIZE, 164]);
     const places = (isLong) => layoutOf("gen1_text_fault", isLong).fields.map((field) => field.at);
     equal([places(false), places(true)], [[0, 4, 8, 12, 13], [0, 8, 16, 24, 25]]);

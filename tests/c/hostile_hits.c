@@ -12,12 +12,12 @@ static bool is_as_damage(const gen1_damages *got, const gen1_battle *battle, uin
 }
 
 /* Chances that can be seen from the battle alone: without stages a move has its own accuracy, where nothing settles the test. */
-static bool is_likely(const gen1_hit *hit, const gen1_battle *battle, uint8_t side, uint8_t move)
+static bool is_likely(const gen1_odds *hit, const gen1_battle *battle, uint8_t side, uint8_t move)
 {
     gen1_state state;
     gen1_move row;
     gen1_base base;
-    gen1_view(battle, &state);
+    gen1_get_state(battle, &state);
     const gen1_active_state *user = &state.sides[side - 1].active, *foe = &state.sides[2 - side].active;
     uint8_t species = state.sides[side - 1].members[user->place - 1].species;
     gen1_move_data(move, &row);
@@ -32,17 +32,17 @@ static bool is_likely(const gen1_hit *hit, const gen1_battle *battle, uint8_t si
         && (move != GEN1_MOVE_SWIFT || hit->hit_draws == 256);
 }
 
-static void try_hit_now(void)
+static void try_odds_now(void)
 {
     bool is_valid;
     gen1_battle from = some_battle(&is_valid);
     uint8_t side = one_in(4) ? any_byte() : (uint8_t)(1 + draw(2)), move = one_in(4) ? any_byte() : (uint8_t)(1 + draw(165));
     const gen1_battle *battle = block_of(0, &from, sizeof from);
-    gen1_hit *hit = block(1, sizeof *hit);
+    gen1_odds *hit = block(1, sizeof *hit);
     gen1_state state;
-    gen1_view(&from, &state);
+    gen1_get_state(&from, &state);
     note();
-    uint8_t got = gen1_hit_now(battle, side, move, hit);
+    uint8_t got = gen1_odds_now(battle, side, move, hit);
     uint8_t want = side != GEN1_ONE && side != GEN1_TWO ? GEN1_DAMAGE_SIDE
         : move < 1 || move > 165                         ? GEN1_DAMAGE_MOVE
         : state.turn == 0                                ? GEN1_DAMAGE_NOBODY
@@ -51,7 +51,7 @@ static void try_hit_now(void)
     if (got == 0 && want == 0 && is_valid)
         is_right &= is_as_damage(&hit->usual, &from, side, move, false) && is_as_damage(&hit->critical, &from, side, move, true)
             && is_likely(hit, &from, side, move);
-    tell("gen1_hit_now", got == want && is_right, got, want);
+    tell("gen1_odds_now", got == want && is_right, got, want);
 }
 
 /* A member alone as a team. */
@@ -64,7 +64,7 @@ static gen1_team alone(const gen1_member *member)
     return team;
 }
 
-static void try_hit_between(void)
+static void try_odds_between(void)
 {
     gen1_team one = lawful_team(), two = lawful_team();
     for (uint32_t times = draw(4); times > 0; times--)
@@ -73,21 +73,21 @@ static void try_hit_between(void)
     uint8_t move = one_in(4) ? any_byte() : (uint8_t)(1 + draw(165));
     uint32_t want = move < 1 || move > 165 ? GEN1_NO_SUCH_MOVE : fault_of_new(&first, &second, 0, GEN1_LIMIT);
     const gen1_member *user = block_of(0, &first.members[0], sizeof *user), *foe = block_of(1, &second.members[0], sizeof *foe);
-    gen1_hit *hit = block(2, sizeof *hit);
+    gen1_odds *hit = block(2, sizeof *hit);
     note();
-    uint32_t got = gen1_hit_between(user, foe, move, hit);
+    uint32_t got = gen1_odds_between(user, foe, move, hit);
     bool is_right = got != 0 ? unchanged() : changed_only(2, sizeof *hit);
     if (got == 0 && want == 0) {
         gen1_battle battle;
         uint8_t seed[10];
         size_t length;
-        gen1_hit due;
+        gen1_odds due;
         memcpy(seed, "any seed..", sizeof seed);
         gen1_new(&battle, &first, &second, seed, 0, GEN1_LIMIT);
         gen1_update(&battle, GEN1_PASS, GEN1_PASS, NULL, 0, &length);
-        is_right &= gen1_hit_now(&battle, GEN1_ONE, move, &due) == 0 && memcmp(hit, &due, sizeof due) == 0;
+        is_right &= gen1_odds_now(&battle, GEN1_ONE, move, &due) == 0 && memcmp(hit, &due, sizeof due) == 0;
     }
-    tell("gen1_hit_between", got == want && is_right, got, want);
+    tell("gen1_odds_between", got == want && is_right, got, want);
 }
 
 /* What is due of some moves by docs/MECHANICS.md, "Hit test"; of the others either answer. */
@@ -116,4 +116,4 @@ static void try_takes_hit_test(void)
     tell("gen1_takes_hit_test", got == want && unchanged(), got, want);
 }
 
-try_call *const tries_of_hits[] = {try_hit_now, try_hit_between, try_takes_hit_test, NULL};
+try_call *const tries_of_hits[] = {try_odds_now, try_odds_between, try_takes_hit_test, NULL};

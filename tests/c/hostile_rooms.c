@@ -46,7 +46,7 @@ static void try_room_begin(void)
     bool is_right = changed_only(0, sizeof *room);
     if (is_valid) {
         gen1_state state;
-        gen1_view(&from, &state);
+        gen1_get_state(&from, &state);
         is_right &= is_fresh(room, 0);
         is_right &= state.turn == 0 ? is_updated(room, from, GEN1_PASS, GEN1_PASS)
                                     : room->log_length == 0 && memcmp(&room->battle, &from, sizeof from) == 0;
@@ -143,7 +143,7 @@ static void try_spectator_begin(void)
     tell("gen1_spectator_begin", got == want && is_kept, got, want);
 }
 
-/* Whether a watcher knows of a side what shows of it, as gen1_view has it. */
+/* Whether a watcher knows of a side what shows of it, as gen1_get_state has it. */
 static bool is_shown(const gen1_shown_side *shown, const gen1_side_state *side)
 {
     const gen1_active_state *out = &side->active;
@@ -206,7 +206,7 @@ static void try_spectator_feed(void)
     bool is_right = got != 0 ? unchanged() && (got == GEN1_LOG_TAG || got == GEN1_LOG_FIELD) && !is_lawful : changed_only(0, sizeof *spectator);
     if (is_lawful && got == 0) {
         gen1_state state;
-        gen1_view(&battle, &state);
+        gen1_get_state(&battle, &state);
         is_right &= spectator->turn == state.turn && spectator->outcome == state.outcome && spectator->held_count == 0
             && is_shown(&spectator->sides[0], &state.sides[0]) && is_shown(&spectator->sides[1], &state.sides[1]);
     }

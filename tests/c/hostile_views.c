@@ -51,13 +51,13 @@ static void try_view(void)
     const gen1_battle *battle = block_of(0, &from, sizeof from);
     gen1_state *state = block(1, sizeof *state);
     note();
-    gen1_view(battle, state);
+    gen1_get_state(battle, state);
     bool is_right = changed_only(1, sizeof *state);
     uint32_t result = gen1_result(&from);
     if (is_valid)
         is_right = is_right && state->outcome == GEN1_OUTCOME(result) && state->requests[0] == GEN1_REQUEST_ONE(result) &&
                    state->requests[1] == GEN1_REQUEST_TWO(result) && state->index <= 8;
-    tell("gen1_view", is_right, state->outcome, GEN1_OUTCOME(result));
+    tell("gen1_get_state", is_right, state->outcome, GEN1_OUTCOME(result));
 }
 
 static bool is_choice(uint8_t byte)

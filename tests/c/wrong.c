@@ -15,8 +15,8 @@ uint8_t __real_gen1_next_line(const uint8_t *, size_t, size_t *, char *, size_t,
 uint8_t __real_gen1_damage(const gen1_battle *, uint8_t, uint8_t, bool, uint16_t[39]);
 uint8_t __real_gen1_room_submit(gen1_room *, uint8_t, uint32_t, uint8_t);
 uint8_t __real_gen1_spectator_feed(gen1_spectator *, const uint8_t *, size_t);
-uint8_t __real_gen1_hit_now(const gen1_battle *, uint8_t, uint8_t, gen1_hit *);
-uint32_t __real_gen1_hit_between(const gen1_member *, const gen1_member *, uint8_t, gen1_hit *);
+uint8_t __real_gen1_odds_now(const gen1_battle *, uint8_t, uint8_t, gen1_odds *);
+uint32_t __real_gen1_odds_between(const gen1_member *, const gen1_member *, uint8_t, gen1_odds *);
 
 /* 1: a DV of 16 is taken as 15, so that its team is no longer refused. 2: a refused battle is emptied. */
 uint32_t __wrap_gen1_new(gen1_battle *battle, const gen1_team *one, const gen1_team *two, const uint8_t seed[10], uint8_t rules,
@@ -111,9 +111,9 @@ uint8_t __wrap_gen1_spectator_feed(gen1_spectator *spectator, const uint8_t *log
 }
 
 /* 17: one draw more hits. 18: one draw less is critical. */
-uint8_t __wrap_gen1_hit_now(const gen1_battle *battle, uint8_t side, uint8_t move, gen1_hit *hit)
+uint8_t __wrap_gen1_odds_now(const gen1_battle *battle, uint8_t side, uint8_t move, gen1_odds *hit)
 {
-    uint8_t answer = __real_gen1_hit_now(battle, side, move, hit);
+    uint8_t answer = __real_gen1_odds_now(battle, side, move, hit);
     if (WRONG == 17 && answer == 0 && hit->hit_draws > 0 && hit->hit_draws < 256)
         hit->hit_draws++;
     if (WRONG == 18 && answer == 0 && hit->critical_draws > 0)
@@ -122,8 +122,8 @@ uint8_t __wrap_gen1_hit_now(const gen1_battle *battle, uint8_t side, uint8_t mov
 }
 
 /* 19: the user's member is its own foe. */
-uint32_t __wrap_gen1_hit_between(const gen1_member *user, const gen1_member *foe, uint8_t move, gen1_hit *hit)
+uint32_t __wrap_gen1_odds_between(const gen1_member *user, const gen1_member *foe, uint8_t move, gen1_odds *hit)
 {
-    uint32_t answer = __real_gen1_hit_between(user, foe, move, hit);
-    return WRONG == 19 && answer == 0 ? __real_gen1_hit_between(user, user, move, hit) : answer;
+    uint32_t answer = __real_gen1_odds_between(user, foe, move, hit);
+    return WRONG == 19 && answer == 0 ? __real_gen1_odds_between(user, user, move, hit) : answer;
 }

@@ -33,7 +33,7 @@ const NOT_A_MOVE: u8 = 255;
 /// What a use of a move by a side would come to, as both members that are out now stand. The answer is 0, or the first thing that is
 /// wrong, as `gen1_damage` answers it; then nothing has changed.
 #[unsafe(no_mangle)]
-pub extern "C" fn gen1_hit_now(battle: &Packed, side: u8, number: u8, hit: &mut Odds) -> u8
+pub extern "C" fn gen1_odds_now(battle: &Packed, side: u8, number: u8, hit: &mut Odds) -> u8
     ensures tells { (s : State) (which : Side) → Stands battle.now s → side ≡ side_number which
         → TellsOdds (odds_due which number s.field) hit.old hit.new result }
     ensures no_side { IsNoSide side → (result ≡ 1) × (hit.new ≡ hit.old) }
@@ -56,7 +56,7 @@ pub extern "C" fn gen1_hit_now(battle: &Packed, side: u8, number: u8, hit: &mut 
 /// What a use of a move by a member would come to against another, both at full HP and just sent out. The answer is 0, or a fault
 /// as `gen1_new` answers it of teams of one; of the move its code alone.
 #[unsafe(no_mangle)]
-pub extern "C" fn gen1_hit_between(
+pub extern "C" fn gen1_odds_between(
     user: &MemberForm,
     foe: &MemberForm,
     number: u8,

@@ -87,7 +87,7 @@ pub struct BattleState {
 
 /// What a battle stands for, all of it.
 #[unsafe(no_mangle)]
-pub extern "C" fn gen1_view(battle: &Packed, state: &mut BattleState)
+pub extern "C" fn gen1_get_state(battle: &Packed, state: &mut BattleState)
     ensures { (s : State) → Stands battle.now s → state.new ≡ state_of s }
 {
     let header = battle.header();

@@ -19,7 +19,7 @@ static void print_range(const char *before, const gen1_damages *it, uint16_t hp)
     printf("%s%3d to %3d, %3d to %3d%%", before, least, most, least * 100 / hp, most * 100 / hp);
 }
 
-static void print_row(const gen1_hit *hit, uint8_t move, uint16_t hp)
+static void print_row(const gen1_odds *hit, uint8_t move, uint16_t hp)
 {
     printf("  move %3d: ", move);
     if (hit->usual.count == 0 || hit->critical.count == 0) {
@@ -43,10 +43,10 @@ static void print_row(const gen1_hit *hit, uint8_t move, uint16_t hp)
 /* The table of a member against another, who has so many HP. */
 static void print_table(const gen1_member *user, const gen1_member *foe, uint16_t hp)
 {
-    gen1_hit hit;
+    gen1_odds hit;
     printf("species %d at level %d on species %d at level %d, %d HP\n", user->species, user->level, foe->species, foe->level, hp);
     for (int at = 0; at < 4; at++)
-        if (gen1_hit_between(user, foe, user->moves[at], &hit) == 0)
+        if (gen1_odds_between(user, foe, user->moves[at], &hit) == 0)
             print_row(&hit, user->moves[at], hp);
 }
 

@@ -123,7 +123,7 @@ def test_random_hits():
         while not battle.result.is_over:
             side, move, raw = dice.randint(1, 2), dice.choice(list(Move)), HitStruct()
             before, found = battle.bytes, battle.hit(side, move)
-            assert LIB.gen1_hit_now(battle.bytes, side, int(move), ctypes.byref(raw)) & 0xFF == 0 and battle.bytes == before
+            assert LIB.gen1_odds_now(battle.bytes, side, int(move), ctypes.byref(raw)) & 0xFF == 0 and battle.bytes == before
             assert (found.critical_chance, found.hit_chance) == (Fraction(raw.critical_draws, 256), Fraction(raw.hit_draws, 256))
             for critical, told in ((False, found.usual), (True, found.critical)):
                 try:

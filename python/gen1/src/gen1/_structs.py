@@ -76,7 +76,7 @@ class DamagesStruct(Structure):
 
 
 class HitStruct(Structure):
-    """gen1_hit."""
+    """gen1_odds."""
 
     _fields_ = [("usual", DamagesStruct), ("critical", DamagesStruct), ("critical_draws", c_uint16), ("hit_draws", c_uint16)]
 

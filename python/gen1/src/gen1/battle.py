@@ -229,7 +229,7 @@ class Battle:
         `NoDamage` where nobody is out, `BadTeam` for what is no move.
         """
         of, known = HitStruct(), a_move(move)
-        code = _library.hit_now(byref(self._held), a_side(side), known, byref(of))
+        code = _library.odds_now(byref(self._held), a_side(side), known, byref(of))
         if code:
             raise no_damage(DamageFault(code), known)
         return hit_of(of, known)

@@ -47,7 +47,7 @@ def hit(attacker: Member, defender: Member, move: Move | str | int) -> Hit:
     """
     known, of = a_move(move), HitStruct()
     pair = [byref(struct_of([_a_member(it, name)]).members[0]) for it, name in ((attacker, "attacker"), (defender, "defender"))]
-    answer = _library.hit_between(*pair, known, byref(of))
+    answer = _library.odds_between(*pair, known, byref(of))
     if answer:
         raise BadArgument(NewFault(answer & 0xFF).label)
     return hit_of(of, known)

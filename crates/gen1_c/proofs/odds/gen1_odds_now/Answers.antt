@@ -7,7 +7,7 @@ use Rattle.gen1_odds.specs.Odds.{odds_in}
 use Rattle.gen1_c.proofs.Begun.{kept_out, let_through}
 use Rattle.gen1_c.proofs.Hits.{same_side, within_out}
 use Rattle.gen1_c.proofs.OddsDue.{due_no_odds, due_none_out, due_odds, told_odds}
-use Rattle.gen1_c.proofs.odds.gen1_hit_now.Goals as goal
+use Rattle.gen1_c.proofs.odds.gen1_odds_now.Goals as goal
 
 pub returns-in_default-new-clause-tells : goal.returns-in_default-new-clause-tells
 returns-in_default-new-clause-tells c s which h e =

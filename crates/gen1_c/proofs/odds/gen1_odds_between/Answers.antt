@@ -9,7 +9,7 @@ use Rattle.gen1_c.specs.Odds.{facing}
 use Rattle.gen1_c.specs.Teams.{sheet_of}
 use Rattle.gen1_c.proofs.Begun.{let_through}
 use Rattle.gen1_c.proofs.Hits.{within_out}
-use Rattle.gen1_c.proofs.odds.gen1_hit_between.Goals as goal
+use Rattle.gen1_c.proofs.odds.gen1_odds_between.Goals as goal
 
 pub returns-clause-told : goal.returns-clause-told
 returns-clause-told c zero =

@@ -2,7 +2,7 @@ use Rattle.std.proofs.Common.{refl, ◌∙◌}
 use Rattle.gen1_layout.specs.Within.{setting_of}
 use Rattle.gen1_requests.proofs.BetweenUpdates.{packs_of}
 use Rattle.gen1_c.proofs.Viewed.{viewed}
-use Rattle.gen1_c.proofs.view.gen1_view.Goals as goal
+use Rattle.gen1_c.proofs.view.gen1_get_state.Goals as goal
 
 pub returns : goal.returns
 returns c s h =
