@@ -139,9 +139,9 @@ class Map:
         for folder in ("must-fail", "planted"):
             for edit in edits(name, folder):
                 if edited(ROOT / "crates" / name, edit) is None:
-                    sys.exit(f"{edit.relative_to(ROOT)} cannot be applied: its file is not there, or a text not once in it")
-                file = re.search(r"(?m)^file: (.*)$", edit.read_text())[1]
-                text = re.search(r"(?m)^old: (.*)$", edit.read_text())[1]
+                    sys.exit(f"{edit} cannot be applied: its file is not there, or a text not once in it")
+                file = re.search(r"(?m)^file: (.*)$", edit.text)[1]
+                text = re.search(r"(?m)^old: (.*)$", edit.text)[1]
                 source = Source(ROOT / "crates" / name / file)
                 at = source.place_of(text)
                 names = source.block(at) if file.endswith(".antt") else source.own(source.item_around(at))
@@ -219,9 +219,9 @@ def named(file):
 
 
 def crate_of(folder):
-    """A folder of edits by its crate, and by `planted` where every gate does not try them."""
+    """A folder or file of edits by its crate, and by `planted` where every gate does not try them."""
     parts = folder.relative_to(ROOT).parts
-    return parts[1] if parts[0] == "crates" else f"{parts[1]}, planted"
+    return parts[1] if parts[0] == "crates" else f"{folder.stem}, planted"
 
 
 def shown(kind, files):
@@ -231,7 +231,7 @@ def shown(kind, files):
     if kind == "Edits":
         folders = {}
         for edit in files:
-            folders.setdefault(edit.parent, []).append(edit.stem)
+            folders.setdefault(edit.place.parent if edit.place.suffix == ".edit" else edit.place, []).append(edit.name)
         return "; ".join(f"{link(folder, crate_of(folder))}: {', '.join(names)}" for folder, names in folders.items())
     listed = {file: ", ".join(f"`{name}`" for name in dict.fromkeys(names)) for file, names in files.items()}
     return "; ".join(f"{names} ({link(file, named(file))})" for file, names in listed.items())
@@ -242,7 +242,7 @@ def beside(made):
     mapped = {edit for kinds in made.found.values() for edit in kinds["Edits"]}
     for name in crates():
         counts = [sum(edit not in mapped for edit in edits(name, folder)) for folder in ("must-fail", "planted")]
-        folders = (f"[must-fail](../crates/{name}/must-fail)", f"[planted](../planted/{name})")
+        folders = (f"[must-fail](../crates/{name}/must-fail)", f"[planted](../planted/{name}.edits)")
         if listed := [f"{count} of {folder}" for count, folder in zip(counts, folders) if count]:
             yield f"- `{name}`: {', '.join(listed)}"
 

@@ -4,9 +4,11 @@ import os
 import re
 import shutil
 import subprocess
+import sys
 import tempfile
 from argparse import ArgumentTypeError
 from pathlib import Path
+from typing import NamedTuple
 
 ROOT = Path(__file__).resolve().parent.parent
 
@@ -61,10 +63,30 @@ def has_tests(name):
     return any(re.search(r"#\[test\]", file.read_text()) for file in files)
 
 
+class Edit(NamedTuple):
+    """A change of a crate that the check must refuse: its name, the file that has it, and its lines file, old and new."""
+
+    name: str
+    place: Path
+    text: str
+
+    def __str__(self):
+        return f"{self.place.relative_to(ROOT)}: {self.name}"
+
+
 def edits(name, folder="must-fail"):
-    """The edits of a crate that every gate tries, or with `planted` those that are tried now and then."""
-    place = ROOT / "crates" / name / "must-fail" if folder == "must-fail" else ROOT / folder / name
-    return sorted(place.glob("*.edit"))
+    """The edits of a crate by name: those that every gate tries, or with `planted` those of planted/CRATE.edits."""
+    if folder == "must-fail":
+        files = sorted((ROOT / "crates" / name / "must-fail").glob("*.edit"))
+        return [Edit(file.stem, file, file.read_text()) for file in files]
+    file = ROOT / folder / f"{name}.edits"
+    if not file.is_file():
+        return []
+    before, *parts = re.split(r"(?m)^\[([\w-]+)\]\n", file.read_text())
+    names, texts = parts[::2], parts[1::2]
+    if before or len(set(names)) < len(names):
+        sys.exit(f"{file.relative_to(ROOT)}: its first line is not a [name], or a name is there twice")
+    return [Edit(name, file, text.rstrip("\n") + "\n") for name, text in zip(names, texts)]
 
 
 def processors():
@@ -99,9 +121,10 @@ def copied(room, names):
 
 def edited(crate, edit):
     """The texts of the files that an edit changes in a crate's folder, before and after it; none where it cannot be applied."""
-    before, after, file = {}, {}, None
-    for line in edit.read_text().splitlines():
-        key, _, text = line.partition(": ") if ": " in line else line.partition(":")
+    before, after, file, old = {}, {}, None, ""
+    for line in edit.text.split("\n"):
+        key, _, text = line.partition(":")
+        text = text.removeprefix(" ")
         if key == "file":
             file = crate / text.strip()
             if not file.is_file():
@@ -111,10 +134,10 @@ def edited(crate, edit):
         elif key == "old":
             old = text
         elif key == "new":
-            if after[file].count(old) != 1:
+            if not old or file is None or after[file].count(old) != 1:
                 return None
             after[file] = after[file].replace(old, text)
-    return before, after
+    return (before, after) if before != after else None
 
 
 def clock(seconds):
