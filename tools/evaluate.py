@@ -6,15 +6,14 @@
     tools/evaluate.py battles TRACES [LINES]      writes lemmas of recorded battles, for the prover to compute
     tools/evaluate.py unfold [--check]            writes the list of all definitions that such a lemma unfolds
 
-A PLACE is a file of recorded battles, .jsonl or .jsonl.xz, or a folder of such files. Of a trace all is compared: refusal,
-result, offered choices, draws, log, all 384 bytes, and that a watcher's view is right. Of a run of the program its lines are,
-and which pair was refused and how. Lines that are no battle are passed over. The definitions are read from crates/*/specs,
-beginning with `step`, and made into Python; no code of the repository is run.
+A PLACE is a file of recorded battles, .jsonl or .jsonl.xz, or a folder of such files. Where a battle has its updates, `play` compares
+all of them: refusal, result, offered choices, draws, log, all 384 bytes, and the view of a spectator. Of a run of the program it
+compares the printed lines, and which pair was refused and how. Lines that are not a battle are passed over. The definitions are read
+from crates/*/specs, beginning with `step`, and turned into Python; no code of the repository is run.
 
 `battles` writes a lemma for each of LINES (as 0-9,12,40-; default all) into modules of the crate whose proofs have
-`reports_of`. Modules that an earlier run made are replaced; those of other hands in its proofs/Lib.antt are kept. Run `rt check`
-in that crate then. Run `unfold` after a definition was added or renamed; with --check it writes nothing, and fails where the
-list differs.
+`reports_of`. It replaces the modules of an earlier run and keeps the other entries of proofs/Lib.antt. Run `rt check` in that crate
+then. Run `unfold` after a definition was added or renamed; with --check it writes nothing, and fails where the list differs.
 
 The last line of `play` and `lemmas` is 'N passed, M failed'. Exit status: 0 where all are as recorded, 1 where one is not,
 2 where a file or a definition could not be read.
@@ -27,34 +26,29 @@ import os
 import sys
 import time
 
-from battles import Unreadable as UnreadableFile
-from definitions.compiling import Unknown
 from definitions.lemmas import fault_of, worked_lemmas
 from definitions.machine import Machine, play
-from definitions.reading import Unreadable
-from definitions.recorded import battles_in
+from definitions.recorded import FAULTS, battles_in
 from definitions.written import write_battles, write_computing
 
 SHOWN = 10
-# What can't be read: a file, or a definition.
-FAULTS = (OSError, UnreadableFile, Unreadable, Unknown, LookupError)
 
 machine, battles = None, []
 
 
 def played(number):
-    """The number of a battle, and what it differs in."""
+    """The number of a battle, and its first difference."""
     return number, play(machine, battles[number])
 
 
 def play_all(places, jobs):
-    """Plays all battles of some places, the longest first, in so many processes; gives the status."""
+    """Plays all battles of some places, the longest first, in so many processes; returns the status."""
     global machine
     begun = time.monotonic()
     battles.extend(battles_in(places))
     machine = Machine()
     order = sorted(range(len(battles)), key=lambda number: -len(battles[number].pairs))
-    gc.freeze()  # what is there already is shared by all processes
+    gc.freeze()  # all processes share what exists already
     with multiprocessing.get_context("fork").Pool(jobs) as pool:
         faults = {number: fault for number, fault in pool.imap_unordered(played, order) if fault}
     for number in sorted(faults)[:SHOWN]:
@@ -68,7 +62,7 @@ def play_all(places, jobs):
 
 
 def compute_lemmas():
-    """Computes all worked examples; gives the status."""
+    """Computes all worked examples; returns the status."""
     here, failed = Machine(), 0
     lemmas = worked_lemmas(here.library)
     for lemma in lemmas:
@@ -84,7 +78,7 @@ def parsed():
     parts = parser.add_subparsers(dest="part", required=True)
     playing = parts.add_parser("play")
     playing.add_argument("places", nargs="+", metavar="PLACE")
-    playing.add_argument("--jobs", type=int, default=os.cpu_count(), help="how many processes play (default: one a processor)")
+    playing.add_argument("--jobs", type=int, default=os.cpu_count(), help="how many processes play (default: one for each processor)")
     parts.add_parser("lemmas")
     writing = parts.add_parser("battles")
     writing.add_argument("traces")
@@ -107,7 +101,7 @@ def main():
             case "unfold":
                 return write_computing(given.check)
     except FAULTS as fault:
-        print(f"evaluate.py: {fault}", file=sys.stderr)
+        print(f"tools/evaluate.py: {fault}", file=sys.stderr)
         return 2
 
 

@@ -12,7 +12,7 @@ from pathlib import Path
 
 from c_install import LINES, plays
 from c_library import Missing, Unbuilt, calls
-from links import lost_links
+from documents.links import lost_links
 from repository import ROOT, version
 
 REGISTRY = Path("/usr/share/cargo/registry")

@@ -140,6 +140,20 @@ def edited(crate, edit):
     return (before, after) if before != after else None
 
 
+def indented(file):
+    """The entries of a text: a line at the edge, and the words of the lines indented below it. Lines with # are comments."""
+    found, name = {}, None
+    for line in file.read_text(encoding="utf-8").splitlines():
+        if not line.strip() or line.startswith("#"):
+            continue
+        if line[0] != " ":
+            name = line.strip()
+            found[name] = ""
+        else:
+            found[name] = f"{found[name]} {line.strip()}".strip()
+    return found
+
+
 def clock(seconds):
     """Seconds as minutes and seconds."""
     return f"{int(seconds) // 60}:{int(seconds) % 60:02d}"

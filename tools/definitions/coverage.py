@@ -51,15 +51,15 @@ class Coverage:
         self.machine = Machine(branches=self.branches)
         self.battles, self.lemmas = battles, worked_lemmas(self.machine.library)
         self.by_lemma, self.by_update = defaultdict(list), defaultdict(list)
-        self.definitions = self.stands_on("step")
-        reported = {(each.module.path, each.name) for each in self.stands_on("report")}
+        self.definitions = self.used_by("step")
+        reported = {(each.module.path, each.name) for each in self.used_by("report")}
         self.unreported = {(each.module.path, each.name) for each in self.definitions} - reported
         for number, lemma in enumerate(self.lemmas):
             for branch in self.entered_by_lemma(lemma):
                 self.by_lemma[branch].append(number)
 
-    def stands_on(self, name):
-        """The definitions that one stands on, from the top down, itself being the first."""
+    def used_by(self, name):
+        """A definition and those that it uses, from the top down."""
         compiler = Compiler(self.machine.library)
         compiler.value(self.machine.definition(name))
         return compiler.reached
@@ -104,6 +104,13 @@ class Coverage:
         own = {(each.module.path, each.name) for each in self.definitions}
         numbers = [number for number, branch in enumerate(self.branches.all) if branch.key()[:2] in own]
         return sorted(numbers, key=lambda number: (self.branches.all[number].key()[0], self.branches.all[number].start, number))
+
+    def unentered(self):
+        """A line for each branch of the step's definitions that nothing enters."""
+        for number in self.own_branches():
+            if not self.enters(number):
+                branch = self.branches.all[number]
+                yield f"nothing enters {branch.definition.name}, {branch.what}: {branch.text()}"
 
     def enters(self, branch):
         """The first worked example and the first recorded update that enter a branch, by their names."""

@@ -9,13 +9,18 @@ import json
 import re
 from pathlib import Path
 
+from battles import Unreadable as UnreadableFile
 from battles import objects
+from definitions.compiling import Unknown
+from definitions.reading import Unreadable
 
+# What is raised where a file or a definition can't be read, or a battle is not as recorded.
+FAULTS = (OSError, UnreadableFile, Unreadable, Unknown, LookupError, ValueError)
 ENDINGS = (".jsonl", ".jsonl.xz")
 
 
 class Battle:
-    """A recorded battle: where it stands, what it begins with, its pairs of choice bytes, and what was recorded."""
+    """A recorded battle: its place, what it begins with, its pairs of choice bytes, and what was recorded."""
 
     def __init__(self, file, number, line):
         self.name = f"{file} {number}"
@@ -42,7 +47,7 @@ def is_battle(line):
 
 
 def battles_in(places):
-    """All recorded battles of some files and folders; lines that are no battle are passed over."""
+    """All recorded battles of some files and folders; other lines are passed over."""
     for file in files_in(places):
         short = file.name.removesuffix(".xz").removesuffix(".jsonl")
         for number, line in enumerate(objects(file)):

@@ -1,15 +1,12 @@
-"""Reads the blocks of code and commands out of a document, each with what the comment above it says.
+"""Reads the blocks of code and commands of a document, each with the comment above it.
 
 A block is fenced (```sh), or indented by four spaces between empty lines. Blocks of commands are those in `sh`, and all indented
-ones: any other text stands in a fence that says what it is (```text, ```json). The comment above a block, on a line of its own
-right above it, tells what is done with it, and readers do not see it.
+ones. Any other text is in a fence with its language (```text, ```json). The comment on the line right above a block says what
+is done with it; readers do not see it.
 """
 
 import re
-import sys
 from typing import NamedTuple
-
-sys.dont_write_bytecode = True
 
 FENCE = re.compile(r" {0,3}(```|~~~)(\w*) *")
 COMMENT = re.compile(r"<!-- (.*?) *-->")
@@ -22,8 +19,8 @@ class Block(NamedTuple):
     line: int  # of its first line, from 1
     language: str  # of its fence; `sh` where it is indented
     text: str
-    said: str  # what the comment above it says; nothing where there is none
-    heading: str  # under which it stands
+    said: str  # the comment above it; empty where there is none
+    heading: str  # the heading above it
 
     @property
     def is_commands(self):
@@ -55,13 +52,13 @@ def joined(lines):
 
 
 def begins_indented(lines, at):
-    """Whether an indented block begins here: behind an empty line or a comment, and not within a list."""
+    """Whether an indented block begins here: after an empty line or a comment, and not within a list."""
     above = lines[at - 1] if at else ""
     return lines[at].startswith("    ") and bool(lines[at].strip()) and (not above.strip() or bool(COMMENT.fullmatch(above)))
 
 
 def end_of_indented(lines, at):
-    """The line behind an indented block, which may have empty lines within it."""
+    """The line after an indented block, which may have empty lines within it."""
     end = at
     while at < len(lines) and (lines[at].startswith("    ") or not lines[at].strip()):
         at += 1

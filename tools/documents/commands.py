@@ -1,34 +1,26 @@
-#!/usr/bin/env python3
-"""Checks that each block of commands in a document is run by the gate, or says why it is not.
+"""Checks that each block of commands in a document is run by the gate, or says why it isn't.
 
-    tools/commands.py [--list]
+A block of commands is a fence of `sh` or an indented block (documents/blocks.py). The line right above it is one of
 
-A block of commands is a fence of `sh` or an indented block (tools/blocks.py); right above it, on a line of its own, stands one of
-
-    <!-- run: doors -->              tools/doors runs it as it stands
-    <!-- run: PART. HOW -->          another part of .ci/run runs it, and how, where it does not as it stands
+    <!-- run: doors -->              tools/doors runs it as it is
+    <!-- run: PART. HOW -->          another part of .ci/run runs it, and how, where it doesn't run it as it is
     <!-- not run: WHY -->
 
-In docs/START.md the blocks of a door need none: tools/doors runs them all. Commands in any other fence are a fault, since no tool
-would see them. The documents are those that tools/links.py checks; --list shows each block with what is said of it.
-
-Each fault is printed with its file and line. The last line is 'N passed, M failed', of blocks; the status is 1 where one failed.
+In docs/START.md the blocks of a door need none: tools/doors runs them all. Commands in any other fence are an error, since no
+tool would see them.
 """
 
-import argparse
 import re
-import sys
 
-sys.dont_write_bytecode = True
-from blocks import blocks
-from links import documents
+from documents.blocks import blocks
+from documents.links import documents
 from repository import ROOT
 
 START = ROOT / "docs" / "START.md"
 RUN = re.compile(r"run: (\w+)(?:\. (.+))?")
 NOT_RUN = re.compile(r"not run: (.+)")
 PART = re.compile(r"(?m)^    (?:proved_)?part (\w+) ")
-# What a line of commands begins with, in a fence that says that it is something else.
+# How a line of commands begins, in a fence of another language.
 COMMAND = re.compile(
     r"(?m)^\$ |^(?:sudo |\()?(?:cargo|rt|cc|git|pip3?|python3?|cmake|make|npm|node|apt-get|cd|"
     r"(?:\w+/)?(?:tools|web|bench|fuzz|\.ci)/\w+)(?: |$)")
@@ -45,21 +37,19 @@ def fault_of(document, block, known):
     if not block.is_commands:
         return f"commands in a fence of `{block.language}`: write ```sh"
     if document == START:
-        return None if block.heading else "it stands in no door"
+        return None if block.heading else "it is in no door"
     if NOT_RUN.fullmatch(block.said):
         return None
     found = RUN.fullmatch(block.said)
     if not found:
-        return "no comment above it says `run: PART` or `not run: WHY` (tools/commands.py)"
+        return "no comment above it says `run: PART` or `not run: WHY` (tools/docs commands --help)"
     if found[1] not in known:
         return f".ci/run has no part {found[1]}"
     return None if found[2] or found[1] == "doors" else f"it does not say how the part {found[1]} runs it"
 
 
-def main():
-    parser = argparse.ArgumentParser(description=__doc__, formatter_class=argparse.RawDescriptionHelpFormatter)
-    parser.add_argument("--list", action="store_true", help="show each block and what is said of it")
-    asked = parser.parse_args()
+def check(every=False):
+    """Prints each fault, or every block with its comment, and returns how many blocks passed and failed."""
     known, passed, failed = parts(), 0, 0
     for document in documents():
         for block in blocks(document.read_text()):
@@ -67,11 +57,6 @@ def main():
                 continue
             fault, where = fault_of(document, block, known), f"{document.relative_to(ROOT)}:{block.line}"
             passed, failed = passed + (fault is None), failed + (fault is not None)
-            if fault or asked.list:
+            if fault or every:
                 print(f"{where}: {fault or block.said or 'run: doors'}\n    {block.text.splitlines()[0]}")
-    print(f"{passed} passed, {failed} failed")
-    return int(failed > 0)
-
-
-if __name__ == "__main__":
-    sys.exit(main())
+    return passed, failed

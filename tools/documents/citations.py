@@ -89,6 +89,15 @@ class Source:
             at -= 1
         return [COMMENT.fullmatch(line)[1] for line in self.lines[at:end]] if at else []
 
+    def documented(self, at):
+        """The comment of an item, with the item's own line."""
+        return "\n".join([*self.comment_above(at), *self.lines[at:at + 2]])
+
+    def paragraph(self, at):
+        """The lines of antt from a line up to the next empty one, with the comment right above."""
+        end = next((below for below in range(at, len(self.lines)) if not self.lines[below].strip()), len(self.lines))
+        return "\n".join([*self.comment_above(at), *self.lines[at:end]])
+
     def own(self, at):
         """The sections of an item."""
         return self.cited_at(at) or self.callers_of(at) or self.head

@@ -1,30 +1,22 @@
-#!/usr/bin/env python3
-"""Checks the links of the documents (*.md, docs/*.md, CALLING.md, README.md), the names in them, and what comments of code cite of them.
+"""Checks the links and names of the documents, and the headings that comments of code cite.
 
-    tools/links.py
+A link has to lead to a file or folder of this repository, and one with `#anchor` to a heading of that document. A reference
+such as [LAYOUT.md](LAYOUT.md), "Loading", or LAYOUT, "Loading", has to name a heading. So has one in a comment of code, such as
+docs/LAYOUT.md, "Loading". Blocks of code in documents and links to the web are passed over.
 
-A link to a file or folder has to lead to one of this repository, and one with `#anchor` to a heading of that document. A
-reference such as [LAYOUT.md](LAYOUT.md), "Loading", or LAYOUT, "Loading", has to name a heading, and so has one in a comment of
-code, such as docs/LAYOUT.md, "Loading". Blocks of code in documents are passed over, and so are links to the web.
-
-Names are those that stand as code, between backquotes. A path from the top, or from the document's folder, such as `tools/links.py` or
-`crates/*/specs`, has to be there, and so have the options behind a tool's, and a file of code that is named without its folder, such as `Words.antt`. A name
-that begins with gen1_ has to be a crate, or a word of include/gen1.h, of plain/ or of a file's name. What stands for many (CRATE,
-NAME), what is built (out/), and the files that the document tells its reader to write (a comment `file: NAME`) are passed over.
-
-It prints each fault with its file and line. The last line is 'N passed, M failed', of the references and names; the status is 1
-where one failed.
+Names are those between backquotes. A path from the top, or from the document's folder, such as `tools/docs` or
+`crates/*/specs`, has to exist, and so have the options of a tool. A file of code that is named without its folder, such as
+`Words.antt`, has to be a file of the repository. A name that begins with gen1_ has to be a crate, or a word of include/gen1.h,
+of plain/ or of a file's name. Names that represent any name (CRATE, NAME), what is built (out/), and files that the document
+tells its reader to write (a comment `file: NAME`) are passed over.
 """
 
-import argparse
 import os
 import re
-import sys
 from functools import cache
 from pathlib import Path
 from urllib.parse import unquote
 
-sys.dont_write_bytecode = True
 from repository import ROOT
 
 DOCUMENTS = ("*.md", "docs/*.md", "crates/*/CALLING.md", "*/README.md", "*/*/README.md", "*/*/*/README.md")
@@ -205,8 +197,8 @@ def references():
             yield source.relative_to(ROOT), fault
 
 
-def main():
-    argparse.ArgumentParser(description=__doc__, formatter_class=argparse.RawDescriptionHelpFormatter).parse_args()
+def check():
+    """Prints each fault with its file and line, and returns how many references passed and failed."""
     passed = failed = 0
     for where, fault in references():
         if fault:
@@ -214,9 +206,4 @@ def main():
             print(f"{where}: {fault}")
         else:
             passed += 1
-    print(f"{passed} passed, {failed} failed")
-    return failed > 0
-
-
-if __name__ == "__main__":
-    sys.exit(main())
+    return passed, failed

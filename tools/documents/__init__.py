@@ -1,0 +1,1 @@
+"""What the tools read of documents and of the comments that cite them."""
