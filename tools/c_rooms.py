@@ -1,6 +1,6 @@
-"""What tools/examples compares of rooms, watchers, odds and updates that are not tested (include/gen1.h, "rooms", "watching",
+"""The comparisons of tools/examples for rooms, spectators, odds and updates that test no choice (include/gen1.h, "rooms", "watching",
 "calculating", "playing"): rooms with the recorded ones, line by line; the others with each recorded update, and with the rules of
-docs/MECHANICS.md, worked out here."""
+docs/MECHANICS.md, computed here."""
 
 import json
 import sys
@@ -14,36 +14,36 @@ from c_views import state_read
 from repository import ROOT
 from tables import numbered, table
 
-# The conditions that a watcher sees, and those that count in a hit (docs/LAYOUT.md, "Condition bits").
+# The conditions that a spectator sees, and those that matter to a hit (docs/LAYOUT.md, "Condition bits").
 INVULNERABLE, CONFUSED, MIST, FOCUS_ENERGY, SUBSTITUTE, LIGHT_SCREEN, REFLECT = 32, 64, 128, 256, 512, 16384, 32768
 OFTEN_CRITICAL = ("Karate Chop", "Razor Leaf", "Crabhammer", "Slash")
 PERCENTS = (25, 28, 33, 40, 50, 66, 100, 150, 200, 250, 300, 350, 400)
-# Of the moves of each use so many are asked for.
+# The odds of each 83rd move are compared for one side of one update, from another move on each time.
 STEP = 83
 
 
 def shown(side):
-    """What a watcher knows of a side, of the state that was read."""
+    """What a spectator knows of a side, from a state as state_read returns it."""
     out, members = side["active"], [it for it in side["members"] if it["species"]]
     conditions = [int(bit & out["conditions"] != 0) for bit in (SUBSTITUTE, CONFUSED, LIGHT_SCREEN, REFLECT)]
     return [(it["hp"], it["status"]) for it in members], out["place"], out["stages"], conditions
 
 
 def known(side):
-    """The same, of a watcher."""
+    """The same, from a spectator."""
     members = [(it.hp, it.status) for it in side.members[:side.count]]
     return members, side.place, list(side.stages), [side.substitute, side.confused, side.light_screen, side.reflect]
 
 
 def fed_in_parts(spectator, log, at):
-    """A log comes in two parts."""
+    """Feeds a log in two parts."""
     cut = at % (len(log) + 1)
     spectator.feed(log[:cut])
     spectator.feed(log[cut:])
 
 
 def compare_spectators(library, team, folder, count):
-    """After each recorded update a watcher who has its log knows what shows."""
+    """Compares what a spectator knows after the log of each recorded update."""
     for name in TRACES:
         for number, trace in enumerate(traces(recorded(f"{name}.jsonl", folder)), 1):
             spectator = gen1.Spectator(library, *(team(trace["object"], side) for side in ("one", "two")))
@@ -58,7 +58,7 @@ def compare_spectators(library, team, folder, count):
 
 
 def compare_wrong_logs(library, one, count):
-    """Bytes that are no log are refused, and leave the watcher as it was."""
+    """Checks that bytes that are not a log are refused and leave the spectator unchanged."""
     spectator = gen1.Spectator(library, one, one)
     spectator.feed(b"\x01")
     before = bytes(spectator.held)
@@ -74,7 +74,7 @@ def compare_wrong_logs(library, one, count):
 
 
 def replied(room, library, submission):
-    """What a room prints of a submission (docs/MECHANICS.md, "Lines")."""
+    """The lines that a room prints for a submission (docs/MECHANICS.md, "Lines")."""
     number = room.held.number
     try:
         room.submit(*submission)
@@ -85,7 +85,7 @@ def replied(room, library, submission):
 
 
 def compare_rooms(library, battle_of, folder, count):
-    """Each recorded room."""
+    """Compares each recorded room."""
     for case in cases(recorded("room.jsonl", folder)):
         asked = json.loads(case["input"])
         room = gen1.Room(battle_of(library, asked))
@@ -99,7 +99,7 @@ def compare_rooms(library, battle_of, folder, count):
 
 
 def compare_room_choices(library, battle_of, folder, count):
-    """Battles played in a room: each side is offered what is recorded, until its choice is there."""
+    """Plays battles in a room: each side is offered the recorded choices until it has submitted one."""
     for name in TRACES:
         for number, trace in enumerate(traces(recorded(f"{name}.jsonl", folder)), 1):
             room = gen1.Room(battle_of(library, trace["object"]))
@@ -118,8 +118,8 @@ def compare_room_choices(library, battle_of, folder, count):
                 count.tell(f"{name}, line {number}, pair {at}, after it", after, (update["bytes"], update["log"], at + 1))
 
 
-class Odds:
-    """The odds that docs/MECHANICS.md, "Critical hits" and "Hit test", and docs/TABLES.md give."""
+class Rules:
+    """The odds by docs/MECHANICS.md, "Critical hits" and "Hit test", and docs/TABLES.md."""
 
     def __init__(self):
         document = (ROOT / "docs" / "TABLES.md").read_text()
@@ -144,7 +144,7 @@ class Odds:
 
 
 def damages_by(battle, side, move, critical):
-    """What gen1_damage answers, as an odds' damages have it."""
+    """The result of gen1_damage in the form of the damages of odds."""
     try:
         return battle.damage(side, move, critical), 39, 0
     except gen1.DamageFault as fault:
@@ -155,21 +155,21 @@ def as_tuple(damages):
     return list(damages.numbers), damages.count, damages.code
 
 
-def compare_odds_of(odds, battle, side, move, name, count):
-    """The odds of a move by a side, as a battle stands."""
-    state, hit = state_read(battle.bytes), battle.hit(side, move)
+def compare_odds_of(rules, battle, side, move, name, count):
+    """Compares the odds of a move by a side in the current state of a battle."""
+    state, odds = state_read(battle.bytes), battle.odds(side, move)
     user, foe = state["sides"][side - 1], state["sides"][2 - side]
     mine, other = (it["members"][it["active"]["place"] - 1] for it in (user, foe))
     usual, critical = (damages_by(battle, side, move, is_critical) for is_critical in (False, True))
-    draws = 0 if usual[2] == 3 else odds.critical(user["active"], mine["species"], move)
-    hits = odds.hits(user["active"], foe["active"], other["status"] == 1, move)
-    got = (as_tuple(hit.usual), as_tuple(hit.critical), hit.critical_draws, hit.hit_draws)
+    draws = 0 if usual[2] == 3 else rules.critical(user["active"], mine["species"], move)
+    hits = rules.hits(user["active"], foe["active"], other["status"] == 1, move)
+    got = (as_tuple(odds.usual), as_tuple(odds.critical), odds.critical_draws, odds.hit_draws)
     count.tell(f"{name}, the odds of move {move}", got, (usual, critical, draws, hits))
 
 
 def compare_odds(library, folder, count):
-    """The odds of some moves after each recorded update; over all updates each move comes about."""
-    odds, first = Odds(), 0
+    """Compares the odds of some moves after each recorded update; over all updates each move is taken."""
+    rules, first = Rules(), 0
     for name in TRACES:
         for number, trace in enumerate(traces(recorded(f"{name}.jsonl", folder)), 1):
             for at, update in enumerate(trace["updates"]):
@@ -179,34 +179,34 @@ def compare_odds(library, folder, count):
                 battle = library.load(given)
                 for side in (1, 2):
                     for move in range(1 + first % STEP, 166, STEP):
-                        compare_odds_of(odds, battle, side, move, f"{name}, line {number}, pair {at}", count)
+                        compare_odds_of(rules, battle, side, move, f"{name}, line {number}, pair {at}", count)
                     first += 1
 
 
-def compare_hits_between(library, member, folder, count):
-    """Each hit of `calc`, of two members without a battle: as it is in a battle of both; and the moves that are none."""
+def compare_odds_between(library, member, folder, count):
+    """Compares the odds of two members of `calc` without a battle with those in a battle of both; and numbers that are not a move."""
     for case in cases(recorded("calc.jsonl", folder)):
         if "error: json" in case.get("stderr", ""):
             continue
         asked = json.loads(case["input"])
         user, foe = member(asked["attacker"]), member(asked["defender"])
         for move in (1, 34, 89, 129, 163):
-            hit = gen1.Hit()
-            fault = library.calls.gen1_odds_between(byref(user), byref(foe), move, byref(hit))
+            odds = gen1.Odds()
+            fault = library.calls.gen1_odds_between(byref(user), byref(foe), move, byref(odds))
             try:
                 battle = library.battle(gen1.team([user]), gen1.team([foe]), [0] * 10)
                 battle.update(0, 0)
-                want = (0, bytes(battle.hit(1, move)))
+                want = (0, bytes(battle.odds(1, move)))
             except gen1.TeamFault as why:
                 side, place, code = why.args
-                want = (65536 * side + 256 * place + code, bytes(gen1.Hit()))
-            count.tell(f"calc, {case['name']}, between, move {move}", (fault, bytes(hit)), want)
-    codes = {library.calls.gen1_odds_between(byref(user), byref(foe), move, byref(hit)) for move in (0, 166, 255)}
+                want = (65536 * side + 256 * place + code, bytes(gen1.Odds()))
+            count.tell(f"calc, {case['name']}, between, move {move}", (fault, bytes(odds)), want)
+    codes = {library.calls.gen1_odds_between(byref(user), byref(foe), move, byref(odds)) for move in (0, 166, 255)}
     count.tell("between, no move", codes, {11})
 
 
 def compare_offered(library, folder, battle_of, count):
-    """Each recorded update that is accepted, without the test of its choices."""
+    """Compares each recorded update that is accepted, without the test of its choices."""
     for name in TRACES:
         for number, trace in enumerate(traces(recorded(f"{name}.jsonl", folder)), 1):
             battle = battle_of(library, trace["object"])
@@ -224,7 +224,7 @@ def compare_offered(library, folder, battle_of, count):
 
 
 def compare(library, battle_of, member, folder, count):
-    """All of it."""
+    """Compares everything above."""
 
     def team(asked, side):
         return gen1.team([member(it) for it in asked[side]])
@@ -234,5 +234,5 @@ def compare(library, battle_of, member, folder, count):
     compare_spectators(library, team, folder, count)
     compare_wrong_logs(library, gen1.team([gen1.member(128, 100, [15] * 4, [65535] * 5, [(70, 3)])]), count)
     compare_odds(library, folder, count)
-    compare_hits_between(library, member, folder, count)
+    compare_odds_between(library, member, folder, count)
     compare_offered(library, folder, battle_of, count)

@@ -1,46 +1,21 @@
-"""What tools/examples compares of names, views, choices in words and new numbers to draw (include/gen1.h, "naming", "looking",
-"searching"): names and rows with docs/TABLES.md, views with the recorded bytes as docs/LAYOUT.md reads them."""
+"""The comparisons of tools/examples for names, states, choices in words and new numbers to draw (include/gen1.h, "naming",
+"looking", "searching"): names and rows with docs/TABLES.md, states with the recorded bytes as docs/LAYOUT.md reads them."""
 
 import ctypes
 import re
 import sys
-from ctypes import Structure, byref, c_uint8, c_uint16, c_uint32
+from ctypes import Structure, byref, c_uint8, c_uint32
 
 sys.dont_write_bytecode = True
+from c_structs import StateStruct
 from repository import ROOT
 from tables import element_names, numbered, table
 
-U16, U32 = c_uint16, c_uint32
 ROOM, KEPT = 128, b"\x07" * 128
 
 
-def bytes_named(*names):
-    return [(name, c_uint8) for name in names]
-
-
-class MemberState(Structure):
-    _fields_ = bytes_named("species", "level", "status", "sleep", "marked") + [
-        ("moves", c_uint8 * 4), ("pp", c_uint8 * 4), ("hp", U16), ("max_hp", U16), ("stats", U16 * 4)]
-
-
-class ActiveState(Structure):
-    _fields_ = [("conditions", U32), ("stats", U16 * 4), ("energy", U16), ("place", c_uint8), ("types", c_uint8 * 2),
-                ("stages", c_uint8 * 6)] + bytes_named(
-        "current_move", "picked_move", "kept_accuracy", "substitute", "confusion", "disabled_slot", "disabled_turns", "bad_poison",
-        "turns")
-
-
-class SideState(Structure):
-    _fields_ = [("members", MemberState * 6), ("active", ActiveState)]
-
-
-class State(Structure):
-    _fields_ = [("sides", SideState * 2), ("turn", U16), ("limit", U16), ("last_damage", U16), ("rules", c_uint8),
-                ("outcome", c_uint8), ("requests", c_uint8 * 2), ("index", c_uint8), ("numbers", c_uint8 * 10)]
-
-
 def plain(value):
-    """A struct or array as tuples of numbers."""
+    """A struct as a dictionary, an array as a list."""
     if isinstance(value, Structure):
         return {name: plain(getattr(value, name)) for name, _ in value._fields_}
     return [plain(each) for each in value] if hasattr(value, "__len__") else value
@@ -86,7 +61,7 @@ def state_read(given):
 
 
 def text_of(call, *arguments, room=ROOM):
-    """What a call that writes a text answers: its code, and the text; and that it wrote no more."""
+    """The code and the text of a call that writes a text; no text where it wrote further."""
     text, length = ctypes.create_string_buffer(KEPT, ROOM), ctypes.c_size_t(999)
     code = call(*arguments, text, ctypes.c_size_t(room), byref(length))
     written = 0 if code else length.value
@@ -95,7 +70,7 @@ def text_of(call, *arguments, room=ROOM):
 
 
 def words_due(state, side, choice, names):
-    """A choice in words, of a state that was read."""
+    """The code and the words of a choice, in a state as state_read returns it."""
     species, moves = names
     it = state["sides"][side - 1]
     kind, number = choice >> 4, choice & 15
@@ -114,11 +89,11 @@ def words_due(state, side, choice, names):
 
 
 def compare_battle(calls, name, given, names, count):
-    """A recorded battle: its view, each byte of a choice in words, and other numbers to draw."""
-    held, state = (c_uint8 * 384)(*given), State()
+    """Compares a recorded battle: its state, each byte of a choice in words, and new numbers to draw."""
+    held, state = (c_uint8 * 384)(*given), StateStruct()
     calls.gen1_get_state(held, byref(state))
     due = state_read(given)
-    count.tell(f"{name}, view", plain(state), due)
+    count.tell(f"{name}, state", plain(state), due)
     got = [text_of(calls.gen1_choice_words, held, side, choice) for side in (1, 2) for choice in range(64)]
     count.tell(f"{name}, words", got, [words_due(due, side, choice, names) for side in (1, 2) for choice in range(64)])
     seed = [given[30], *range(240, 249)]
@@ -129,7 +104,7 @@ def compare_battle(calls, name, given, names, count):
 
 
 def rows_of(call, last, length):
-    """The rows that a call of a number and a struct of bytes writes, and the numbers that it refuses."""
+    """The rows that a call writes for each number, and whether it refuses exactly the numbers past the last row."""
     rows, refused = [], []
     for number in range(256):
         row = (c_uint8 * length)(*[7] * length)
@@ -141,7 +116,7 @@ def rows_of(call, last, length):
 
 
 def compare_tables(calls, count):
-    """Names and rows of docs/TABLES.md, and names that are found again."""
+    """Compares names and rows with docs/TABLES.md, and looks the names up again."""
     document = (ROOT / "docs" / "TABLES.md").read_text()
     elements = element_names(document)
     species, moves = (numbered(table(document, heading)) for heading in ("Species", "Moves"))
@@ -176,7 +151,7 @@ def compare_choices(calls, count):
 
 
 def compare_sentences(calls, count):
-    """Each code of gen1.h has a sentence, and no other number has one."""
+    """Compares the sentences: each code of gen1.h has one, and no other number."""
     last = {1: 13, 2: 7, 3: 4, 4: 5, 5: 5, 6: 2, 7: 4, 8: 1, 9: 4}
     got = {about: [code for code in range(256) if text_of(calls.gen1_text, about, code)[0] == 0] for about in range(256)}
     count.tell("sentences", got, {about: list(range(last[about] + 1)) if about in last else [] for about in range(256)})
@@ -188,11 +163,11 @@ def compare_sentences(calls, count):
 
 
 def compare(calls, battles, count):
-    """All of it. `battles` gives names and the 384 bytes of each."""
+    """Compares everything above. `battles` yields a name and the 384 bytes of each."""
     for name in ("species_name", "move_name", "type_name", "species_from_name", "move_from_name", "species_stats", "move_data",
                  "text", "choice_kind", "choice_slot", "choice_words", "reseed"):
         getattr(calls, f"gen1_{name}").restype = c_uint8
-    calls.gen1_version.restype, calls.gen1_get_state.restype = U32, None
+    calls.gen1_version.restype, calls.gen1_get_state.restype = c_uint32, None
     names = compare_tables(calls, count)
     compare_choices(calls, count)
     compare_sentences(calls, count)

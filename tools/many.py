@@ -1,4 +1,4 @@
-"""Masks, many battles in one call, playouts and teams out of text of the C library, held against recorded battles."""
+"""The comparisons of tools/examples for masks, batches, playouts and teams as text, with recorded battles."""
 
 import ctypes
 import json
@@ -6,12 +6,9 @@ from ctypes import POINTER, Structure, byref, c_size_t, c_uint8, c_uint16, c_uin
 
 import gen1
 from battles import TRACES, cases, loads, recorded, traces
+from c_structs import PlayoutsStruct
 
-KEPT = 7  # what an array or struct holds that a call must leave alone
-
-
-class Playouts(Structure):
-    _fields_ = [(name, c_uint32) for name in ("wins_one", "wins_two", "ties", "faults")]
+KEPT = 7  # fills arrays and structs that a call must not change
 
 
 class TextFault(Structure):
@@ -19,13 +16,13 @@ class TextFault(Structure):
 
 
 def declare(calls):
-    """The types of the calls of this file."""
+    """Declares the types of the calls of this file."""
     battle, size, byte = POINTER(gen1.BattleBytes), c_size_t, POINTER(c_uint8)
     for name, answer, takes in (
         ("gen1_offered", c_uint16, [battle, c_uint8]),
         ("gen1_offered_many", c_uint8, [battle, size, c_uint8, POINTER(c_uint16), size]),
         ("gen1_update_many", c_uint8, [battle, size, byte, size, byte, size, byte, size, byte, size]),
-        ("gen1_playout", c_uint8, [battle, c_uint64, c_uint32, POINTER(Playouts)]),
+        ("gen1_playout", c_uint8, [battle, c_uint64, c_uint32, POINTER(PlayoutsStruct)]),
         ("gen1_team_from_text", c_uint8, [ctypes.c_char_p, size, POINTER(gen1.Team), POINTER(TextFault)]),
         ("gen1_team_from_packed", c_uint8, [ctypes.c_char_p, size, POINTER(gen1.Team), POINTER(TextFault)]),
     ):
@@ -34,12 +31,12 @@ def declare(calls):
 
 
 def bit_of(choice):
-    """The bit of a choice's byte: Pass, Move 0 to 4, Switch 1 to 6."""
+    """The bit of a choice byte in a mask: Pass, Move 0 to 4, Switch 1 to 6."""
     return 0 if choice == 0 else choice - 0x10 + 1 if choice < 0x20 else choice - 0x21 + 6
 
 
 def steps_of(library, battle_of, folder):
-    """Each recorded update, with the bytes before it."""
+    """Yields the bytes before each recorded update, and the update."""
     for name in TRACES:
         for trace in traces(recorded(f"{name}.jsonl", folder)):
             before = battle_of(library, trace["object"]).bytes
@@ -53,7 +50,7 @@ def array_of(strings):
 
 
 def compare_masks(library, steps, count):
-    """The masks after each recorded update, one by one and all at once."""
+    """Compares the masks after each recorded update, one by one and in one call."""
     battles = array_of([bytes.fromhex(update["bytes"]) for _, update in steps])
     for side in (1, 2):
         want = [sum(1 << bit_of(choice) for choice in update["offered"][side - 1]) for _, update in steps]
@@ -70,7 +67,7 @@ def compare_masks(library, steps, count):
 
 
 def compare_batches(library, steps, count):
-    """All recorded updates in one call."""
+    """Compares all recorded updates in one call."""
     size = len(steps)
     battles = array_of([before for before, _ in steps])
     ones, twos = ((c_uint8 * size)(*[update["pair"][side] for _, update in steps]) for side in (0, 1))
@@ -91,7 +88,7 @@ def compare_batches(library, steps, count):
 
 
 def played_out(library, given, seed, rounds):
-    """How playouts end by the generator that gen1.h describes, played update by update."""
+    """The ends of playouts, played update by update with the generator that gen1.h describes."""
     ends, state = [0] * 4, seed
     for _ in range(rounds):
         battle = library.load(given)
@@ -107,16 +104,16 @@ def played_out(library, given, seed, rounds):
 
 
 def compare_playouts(library, steps, folder, count):
-    """Playouts of recorded states add up, and leave the battle; those of a battle that is over end as it did."""
+    """Checks that playouts of recorded states add up and leave the battle, and that those of a finished battle end as it did."""
     for at, (_, update) in enumerate(steps[::97]):
-        battle, counts = array_of([bytes.fromhex(update["bytes"])])[0], Playouts()
+        battle, counts = array_of([bytes.fromhex(update["bytes"])])[0], PlayoutsStruct()
         code = library.calls.gen1_playout(byref(battle), at, 20, byref(counts))
         got = [counts.wins_one, counts.wins_two, counts.ties, counts.faults]
         count.tell(f"playouts {at}", (code, sum(got), bytes(battle).hex()), (0, 20, update["bytes"]))
         if at % 20 == 0:
             want = played_out(library, bytes(battle), at, 20)
             count.tell(f"playouts {at}, update by update", got, want)
-        again = Playouts()
+        again = PlayoutsStruct()
         library.calls.gen1_playout(byref(battle), at, 20, byref(again))
         count.tell(f"playouts {at}, again", bytes(again), bytes(counts))
         outcome = (update["result"] or [0])[0]
@@ -124,13 +121,13 @@ def compare_playouts(library, steps, folder, count):
             count.tell(f"playouts {at}, over", got[min(outcome, 4) - 1], 20)
     for number, (test, given) in enumerate(loads(recorded("loads.txt", folder)), 1):
         if test and len(given) == 384:
-            counts = Playouts(KEPT, KEPT, KEPT, KEPT)
+            counts = PlayoutsStruct(KEPT, KEPT, KEPT, KEPT)
             code = library.calls.gen1_playout(byref(array_of([given])[0]), 1, 3, byref(counts))
             count.tell(f"playouts of byte string {number}", (code, counts.wins_one, counts.faults), (test, KEPT, KEPT))
 
 
 def export_text(members):
-    """Members of a recorded team as a team builder exports them."""
+    """The members of a recorded team as a team builder exports them."""
     lines = []
     for it in members:
         dvs = it["dvs"]
@@ -150,7 +147,7 @@ def packed_line(members):
 
 
 def compare_texts(library, member, folder, count):
-    """The recorded teams out of text, with the experience and the PP ups that a team builder gives."""
+    """Compares the recorded teams, read from text, with the experience and the PP ups that a team builder gives."""
     for case in cases(recorded("battles.jsonl", folder)):
         members = json.loads(case["input"])["one"]
         want = gen1.team([member({**it, "exp": [252 * 252] * 5, "moves": [(name, 3) for name, _ in it["moves"]]}) for it in members])
@@ -164,7 +161,7 @@ def compare_texts(library, member, folder, count):
 
 
 def compare_text_faults(library, count):
-    """Texts that are no team, with where they are at fault (docs/TEAM_TEXT.md, "Faults")."""
+    """Compares the errors of texts that are not a team, and their places (docs/TEAM_TEXT.md, "Faults")."""
     text, packed = library.calls.gen1_team_from_text, library.calls.gen1_team_from_packed
     for call, given, want in (
         (text, b"Tauros\n- Body Slam\n\nMissingno\n", (1, 4, 0, 0, 0)),
