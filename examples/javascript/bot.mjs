@@ -45,7 +45,7 @@ function wins(battle, choice) {
   for (let fork = 0; fork < FORKS; fork++) {
     const copy = battle.clone();
     copy.reseed(seed());
-    copy.play(choice, any(copy.choices(2)));
+    copy.updateSilent(choice, any(copy.choices(2)));
     won += copy.playout(random(2 ** 32), 1).winsOne;
   }
   return won;
@@ -60,7 +60,7 @@ function best(battle) {
 let won = 0;
 for (let number = 1; number <= BATTLES; number++) {
   const battle = gen1.battle({ one: team, two: team, seed: seed(), rules: 3 });
-  while (!battle.isOver) battle.play(best(battle), any(battle.choices(2)));
+  while (!battle.isOver) battle.updateSilent(best(battle), any(battle.choices(2)));
   console.log(`battle ${number}: ${battle.result.outcome} in turn ${battle.state.turn}`);
   won += battle.result.outcome === "win one" ? 1 : 0;
 }

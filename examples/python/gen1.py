@@ -38,7 +38,7 @@ class Damages(Structure):
     _fields_ = [("numbers", c_uint16 * 39), ("count", c_uint8), ("code", c_uint8)]
 
 
-class Hit(Structure):
+class Odds(Structure):
     _fields_ = [("usual", Damages), ("critical", Damages), ("critical_draws", c_uint16), ("hit_draws", c_uint16)]
 
 
@@ -120,8 +120,8 @@ class Library:
             ("gen1_next_line", c_uint8, [ctypes.c_char_p, size, sizes, POINTER(c_char), size, sizes]),
             ("gen1_damage", c_uint8, [battle, c_uint8, c_uint8, c_bool, c_uint16 * 39]),
             ("gen1_update_offered", c_uint8, [battle, c_uint8, c_uint8, POINTER(c_uint8), size, sizes]),
-            ("gen1_odds_now", c_uint8, [battle, c_uint8, c_uint8, POINTER(Hit)]),
-            ("gen1_odds_between", c_uint32, [POINTER(Member), POINTER(Member), c_uint8, POINTER(Hit)]),
+            ("gen1_odds_now", c_uint8, [battle, c_uint8, c_uint8, POINTER(Odds)]),
+            ("gen1_odds_between", c_uint32, [POINTER(Member), POINTER(Member), c_uint8, POINTER(Odds)]),
             ("gen1_takes_hit_test", c_uint8, [c_uint8]),
             ("gen1_room_begin", None, [POINTER(RoomBytes)]),
             ("gen1_room_choices", c_uint8, [POINTER(RoomBytes), c_uint8, c_uint8 * 9]),
@@ -220,13 +220,13 @@ class Battle:
             raise DamageFault(code)
         return list(damages)
 
-    def hit(self, side, number):
+    def odds(self, side, number):
         """What a use of a move by a side would come to."""
-        hit = Hit()
-        code = self.calls.gen1_odds_now(byref(self.held), within(side, 255), within(number, 255), byref(hit))
+        odds = Odds()
+        code = self.calls.gen1_odds_now(byref(self.held), within(side, 255), within(number, 255), byref(odds))
         if code:
             raise DamageFault(code)
-        return hit
+        return odds
 
 
 class Room:

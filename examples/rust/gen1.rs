@@ -41,7 +41,7 @@ pub struct Damages {
 /// What a use of a move would come to. Chances are so many of 256 draws.
 #[repr(C)]
 #[derive(Clone, Copy, Debug, PartialEq, Eq)]
-pub struct Hit {
+pub struct Odds {
     pub usual: Damages,
     pub critical: Damages,
     pub critical_draws: u16,
@@ -107,8 +107,8 @@ unsafe extern "C" {
         room: usize,
         length: &mut usize,
     ) -> u8;
-    safe fn gen1_odds_now(battle: &Battle, side: u8, id: u8, hit: &mut Hit) -> u8;
-    safe fn gen1_odds_between(user: &Member, foe: &Member, id: u8, hit: &mut Hit) -> u32;
+    safe fn gen1_odds_now(battle: &Battle, side: u8, id: u8, odds: &mut Odds) -> u8;
+    safe fn gen1_odds_between(user: &Member, foe: &Member, id: u8, odds: &mut Odds) -> u32;
     safe fn gen1_takes_hit_test(id: u8) -> u8;
     safe fn gen1_room_begin(room: &mut Room);
     safe fn gen1_room_choices(room: &Room, side: u8, choices: &mut [u8; 9]) -> u8;
@@ -136,13 +136,13 @@ impl TeamFault {
 }
 
 /// What is overwritten.
-const NO_HIT: Hit = {
+const NO_ODDS: Odds = {
     let none = Damages {
         numbers: [0; 39],
         count: 0,
         code: 0,
     };
-    Hit {
+    Odds {
         usual: none,
         critical: none,
         critical_draws: 0,
@@ -151,10 +151,10 @@ const NO_HIT: Hit = {
 };
 
 /// What a use of a move would come to by a member against another that have both just been sent out.
-pub fn odds_between(user: &Member, foe: &Member, id: u8) -> Result<Hit, TeamFault> {
-    let mut hit = NO_HIT;
-    match gen1_odds_between(user, foe, id, &mut hit) {
-        0 => Ok(hit),
+pub fn odds_between(user: &Member, foe: &Member, id: u8) -> Result<Odds, TeamFault> {
+    let mut odds = NO_ODDS;
+    match gen1_odds_between(user, foe, id, &mut odds) {
+        0 => Ok(odds),
         answer => Err(TeamFault::of(answer)),
     }
 }
@@ -223,10 +223,10 @@ impl Battle {
     }
 
     /// What a use of a move by a side would come to, as both members that are out stand, or the code that says why it is not told.
-    pub fn hit(&self, side: u8, id: u8) -> Result<Hit, u8> {
-        let mut hit = NO_HIT;
-        match gen1_odds_now(self, side, id, &mut hit) {
-            0 => Ok(hit),
+    pub fn odds(&self, side: u8, id: u8) -> Result<Odds, u8> {
+        let mut odds = NO_ODDS;
+        match gen1_odds_now(self, side, id, &mut odds) {
+            0 => Ok(odds),
             code => Err(code),
         }
     }

@@ -12,7 +12,7 @@ use std::io::{self, Write};
 use std::process::ExitCode;
 
 /// The line of the first fault, if there is one.
-fn play(input: &str, out: &mut impl Write) -> Result<(), String> {
+fn run_battle(input: &str, out: &mut impl Write) -> Result<(), String> {
     let mut numbers = Numbers::of(input);
     let (mut battle, _) = numbers.battle()?;
     let mut pair = 0;
@@ -29,7 +29,7 @@ fn play(input: &str, out: &mut impl Write) -> Result<(), String> {
 
 fn main() -> ExitCode {
     let input = io::read_to_string(io::stdin()).expect("standard input");
-    match play(&input, &mut io::stdout().lock()) {
+    match run_battle(&input, &mut io::stdout().lock()) {
         Ok(()) => ExitCode::SUCCESS,
         Err(fault) => {
             eprintln!("error: {fault}");

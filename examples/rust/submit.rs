@@ -35,7 +35,7 @@ fn tell(log: &Log, watcher: &mut Spectator, out: &mut impl Write) -> Result<(), 
 fn compare_odds(battle: &Battle, one: &Team, two: &Team) -> Result<(), String> {
     for id in 1..=165 {
         let between = gen1::odds_between(&one.members[0], &two.members[0], id);
-        if battle.hit(1, id).ok() != between.ok() {
+        if battle.odds(1, id).ok() != between.ok() {
             return Err(format!("other odds of move {id}"));
         }
     }
@@ -43,7 +43,7 @@ fn compare_odds(battle: &Battle, one: &Team, two: &Team) -> Result<(), String> {
 }
 
 /// The line of the first fault, if there is one.
-fn play(input: &str, out: &mut impl Write) -> Result<(), String> {
+fn run_room(input: &str, out: &mut impl Write) -> Result<(), String> {
     let mut numbers = Numbers::of(input);
     let (battle, [one, two]) = numbers.battle()?;
     let mut watcher = Spectator::new(&one, &two).map_err(|_| "team")?;
@@ -77,7 +77,7 @@ fn play(input: &str, out: &mut impl Write) -> Result<(), String> {
 
 fn main() -> ExitCode {
     let input = io::read_to_string(io::stdin()).expect("standard input");
-    match play(&input, &mut io::stdout().lock()) {
+    match run_room(&input, &mut io::stdout().lock()) {
         Ok(()) => ExitCode::SUCCESS,
         Err(fault) => {
             eprintln!("error: {fault}");

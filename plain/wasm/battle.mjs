@@ -4,7 +4,7 @@ import { ArgumentError, ArgumentTypeError, DamageError, LoadError, LogError, Ref
 import { CODES } from "./header.mjs";
 import { Library } from "./memory.mjs";
 import { moveOf } from "./teams.mjs";
-import { hitOf, resultOf, stateOf } from "./views.mjs";
+import { oddsOf, resultOf, stateOf } from "./views.mjs";
 
 export const BATTLE_SIZE = 384;
 const FACTORS = 39;
@@ -91,17 +91,17 @@ export class Battle {
 
   /** Updates the battle by a choice of each side. */
   update(one, two) {
-    const log = this.#play(one, two, CODES.LOG_ROOM);
+    const log = this.#updated(one, two, CODES.LOG_ROOM);
     return new Update(this.#library, this.result, log);
   }
 
   /** The same without a log, which is quicker: the result after it. */
-  play(one, two) {
-    this.#play(one, two, 0);
+  updateSilent(one, two) {
+    this.#updated(one, two, 0);
     return this.result;
   }
 
-  #play(one, two, room) {
+  #updated(one, two, room) {
     const pair = [choiceByte(one, 1), choiceByte(two, 2)];
     const library = this.#library;
     const [battle, log, length] = [this.#put(), library.room(room), library.room(8)];
@@ -139,12 +139,12 @@ export class Battle {
   }
 
   /** What a use of a move by a side would come to, as both members that are out now stand. */
-  hit(side, move) {
+  odds(side, move) {
     const number = moveOf(this.#library, move);
-    const [battle, hit] = [this.#put(), this.#library.roomOf("gen1_odds")];
-    const code = this.#library.calls.gen1_odds_now(battle, sideOf(side), number, hit);
+    const [battle, odds] = [this.#put(), this.#library.roomOf("gen1_odds")];
+    const code = this.#library.calls.gen1_odds_now(battle, sideOf(side), number, odds);
     if (code) throw damageError(this.#library, code, move);
-    return hitOf(this.#library, number, hit);
+    return oddsOf(this.#library, number, odds);
   }
 
   /** The damage of a hit by a move, as both members that are out now stand, at each factor from 217 to 255. */

@@ -166,7 +166,7 @@ function damageCase(gen1, one) {
     battle.update("pass", "pass");
     text = `${battle.damage(1, asked.move, asked.critical).join(" ")}\n`;
     equal(gen1.damage(asked.attacker, asked.defender, asked.move, asked.critical), battle.damage(1, asked.move, asked.critical));
-    equal(gen1.hit(asked.attacker, asked.defender, asked.move), battle.hit(1, asked.move));
+    equal(gen1.odds(asked.attacker, asked.defender, asked.move), battle.odds(1, asked.move));
   } catch (fault) {
     holds(fault instanceof library.Gen1Error || fault instanceof RangeError, fault.message);
   }

@@ -51,7 +51,7 @@ function members(gen1, check) {
       const fault = thrown(() => gen1.battle({ ...TERMS, two: [TAUROS, given] }), type, text);
       if (type === TeamError) equal([fault.code, fault.side, fault.place, fault.message.startsWith("team 2: member 2: ")], [which, 2, 2, true]);
       else equal([fault.argument, fault.message.startsWith(`two[1].${which} `)], [`two[1].${which}`, true]);
-      const alone = thrown(() => gen1.hit(TAUROS, given, "Pound"), type, text);
+      const alone = thrown(() => gen1.odds(TAUROS, given, "Pound"), type, text);
       holds(alone.message.startsWith("defender"), alone.message);
     }
   });
@@ -133,14 +133,14 @@ function bytes(gen1, check) {
 function choices(battle, check) {
   check("sides", () => {
     const asked = [(side) => battle.choices(side), (side) => battle.offeredMask(side), (side) => battle.damage(side, "Pound"),
-      (side) => battle.hit(side, "Pound"), (side) => battle.words(side, "pass")];
+      (side) => battle.odds(side, "Pound"), (side) => battle.words(side, "pass")];
     for (const call of asked) {
       for (const side of [0, 3, ...BIG]) outside(() => call(side), /^side is -?\d.*, not 1 or 2$/);
       for (const side of [undefined, ...NO_NUMBERS]) wrong(() => call(side), /^side is .*, not a whole number$/);
     }
   });
   check("choices that are none", () => {
-    for (const call of [(one) => battle.update(one, 17), (one) => battle.play(one, 17)]) {
+    for (const call of [(one) => battle.update(one, 17), (one) => battle.updateSilent(one, 17)]) {
       for (const it of BIG) outside(() => call(it), /^side 1's choice is -?\d.*, not 0 to 255$/);
       for (const it of [1.5, NaN, Infinity]) wrong(() => call(it), /^side 1's choice is .*, not a whole number$/);
       for (const it of [undefined, null, true, [17], {}, 17n])
@@ -169,9 +169,9 @@ function choices(battle, check) {
 function moves(gen1, battle, check) {
   check("moves", () => {
     for (const move of [0, 166, ...BIG])
-      for (const call of [() => battle.damage(1, move), () => battle.hit(1, move), () => gen1.hit(TAUROS, TAUROS, move)])
+      for (const call of [() => battle.damage(1, move), () => battle.odds(1, move), () => gen1.odds(TAUROS, TAUROS, move)])
         thrown(call, DamageError, /^no damage of -?\d.*: the move is not 1 to 165$/);
-    for (const call of [(move) => battle.damage(1, move), (move) => battle.hit(1, move), (move) => gen1.damage(TAUROS, TAUROS, move)]) {
+    for (const call of [(move) => battle.damage(1, move), (move) => battle.odds(1, move), (move) => gen1.damage(TAUROS, TAUROS, move)]) {
       outside(() => call("Pond"), /^move is "Pond", which is none of docs\/TABLES.md$/);
       outside(() => call("body slam"), /did you mean "Body Slam"\?$/);
       for (const it of [undefined, null, true, [1], {}, 1n]) wrong(() => call(it), /^move is .*, not a name or a number$/);
@@ -179,7 +179,7 @@ function moves(gen1, battle, check) {
     for (const it of [null, 1, 0, "yes"]) wrong(() => battle.damage(1, "Pound", it), /^critical is .*, not true or false$/);
     thrown(() => battle.damage(1, "Splash"), DamageError, /^no damage of "Splash": the move does not have the usual damage/);
     thrown(() => gen1.battle(TERMS).damage(1, "Pound"), DamageError, /nobody is out/);
-    thrown(() => gen1.battle(TERMS).hit(1, "Pound"), DamageError, /nobody is out/);
+    thrown(() => gen1.battle(TERMS).odds(1, "Pound"), DamageError, /nobody is out/);
   });
 }
 

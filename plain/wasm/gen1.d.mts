@@ -164,7 +164,7 @@ export interface Damages {
 }
 
 /** What a use of a move would come to. Chances are exact: so many of 256 draws. */
-export interface Hit {
+export interface Odds {
   usual: Damages;
   critical: Damages;
   criticalChance: number;
@@ -280,13 +280,13 @@ export class Battle {
   /** Throws RefusedError, and then nothing has changed. */
   update(one: Choice, two: Choice): Update;
   /** The same without a log. Throws RefusedError. */
-  play(one: Choice, two: Choice): Result;
+  updateSilent(one: Choice, two: Choice): Result;
   /** Other numbers to draw: ten from 0 to 255, and the place, 0 to 8, of the next. A search reseeds each copy that it plays out. */
   reseed(seed: Numbers, index?: number): void;
   /** Plays copies to their end by random choices; the same seed gives the same counts. The copies draw what the battle will draw. */
   playout(seed: number | bigint, rounds: number): Playouts;
   /** Throws DamageError where nobody is out. */
-  hit(side: Side, move: string | number): Hit;
+  odds(side: Side, move: string | number): Odds;
   /** 39 numbers, at the factors from 217 to 255. Throws DamageError. */
   damage(side: Side, move: string | number, critical?: boolean): number[];
 }
@@ -340,7 +340,7 @@ export class Gen1 {
   /** The same of a packed line. Throws TextError. */
   teamFromPacked(line: string): WholeMember[];
   /** Of two members that have just been sent out alone. Throws TeamError, DamageError. */
-  hit(attacker: Member, defender: Member, move: string | number): Hit;
+  odds(attacker: Member, defender: Member, move: string | number): Odds;
   /** The same as 39 numbers. */
   damage(attacker: Member, defender: Member, move: string | number, critical?: boolean): number[];
   /** Throws ArgumentError for what is no species. */

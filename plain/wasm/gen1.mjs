@@ -16,7 +16,7 @@ import { Room, roomOf } from "./room.mjs";
 import { Spectator, spectatorOf } from "./spectator.mjs";
 import { MOVES, SPECIES, TYPES } from "./tables.mjs";
 import { baseOf, memberBytes, membersFrom, moveDataOf, moveOf, teamBytes, teamError } from "./teams.mjs";
-import { CONDITIONS, hitOf, OUTCOMES, REQUESTS, STATUSES } from "./views.mjs";
+import { CONDITIONS, oddsOf, OUTCOMES, REQUESTS, STATUSES } from "./views.mjs";
 
 export const LOG_ROOM = CODES.LOG_ROOM;
 const HIT_SIDES = ["", "attacker: ", "defender: "];
@@ -90,23 +90,23 @@ export class Gen1 {
   }
 
   /** What a use of a move by one member on another would come to, each just sent out alone. */
-  hit(attacker, defender, move) {
+  odds(attacker, defender, move) {
     const library = this.#library;
     const members = [memberBytes(library, attacker, "attacker"), memberBytes(library, defender, "defender")];
     const number = moveOf(library, move);
     library.begin();
-    const [hit, ...pair] = [library.roomOf("gen1_odds"), ...members.map((member) => library.put(member))];
-    const answer = library.calls.gen1_odds_between(...pair, number, hit);
+    const [odds, ...pair] = [library.roomOf("gen1_odds"), ...members.map((member) => library.put(member))];
+    const answer = library.calls.gen1_odds_between(...pair, number, odds);
     if (answer === CODES.NO_SUCH_MOVE) throw damageError(library, CODES.DAMAGE_MOVE, move);
     if (answer) throw teamError(library, answer, [[attacker], [defender]], {}, (side) => HIT_SIDES[side]);
-    return hitOf(library, number, hit);
+    return oddsOf(library, number, odds);
   }
 
   /** The damage of a hit by one member on another, each just sent out alone: 39 numbers, as of `Battle.damage`. */
   damage(attacker, defender, move, critical = false) {
     const isCritical = truth(critical, "critical");
-    const hit = this.hit(attacker, defender, move);
-    const { numbers, code } = isCritical ? hit.critical : hit.usual;
+    const odds = this.odds(attacker, defender, move);
+    const { numbers, code } = isCritical ? odds.critical : odds.usual;
     if (code) throw damageError(this.#library, code, move);
     return numbers;
   }

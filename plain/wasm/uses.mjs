@@ -15,13 +15,13 @@ const EXPORTS = {
 };
 /** @type {Record<keyof Gen1, true>} */
 const OF_GEN1 = {
-  is64: true, build: true, version: true, battle: true, load: true, room: true, spectator: true, teamFromText: true, teamFromPacked: true, hit: true,
+  is64: true, build: true, version: true, battle: true, load: true, room: true, spectator: true, teamFromText: true, teamFromPacked: true, odds: true,
   damage: true, base: true, moveData: true, events: true, lines: true,
 };
 /** @type {Record<keyof import("./gen1.mjs").Battle, true>} */
 const OF_BATTLE = {
-  bytes: true, result: true, isOver: true, state: true, clone: true, choices: true, offeredMask: true, words: true, update: true, play: true,
-  reseed: true, playout: true, hit: true, damage: true,
+  bytes: true, result: true, isOver: true, state: true, clone: true, choices: true, offeredMask: true, words: true, update: true, updateSilent: true,
+  reseed: true, playout: true, odds: true, damage: true,
 };
 /** @type {Record<keyof import("./gen1.mjs").Room, true>} */
 const OF_ROOM = { battle: true, result: true, number: true, log: true, clone: true, choices: true, submit: true };
@@ -42,8 +42,8 @@ const OF_ACTIVE = {
 const OF_SHOWN = { one: true, two: true, turn: true, outcome: true };
 /** @type {Record<keyof import("./gen1.mjs").ShownSide, true>} */
 const OF_SHOWN_SIDE = { members: true, place: true, stages: true, substitute: true, confused: true, lightScreen: true, reflect: true };
-/** @type {Record<keyof import("./gen1.mjs").Hit, true>} */
-const OF_HIT = { usual: true, critical: true, criticalChance: true, hitChance: true, takesHitTest: true };
+/** @type {Record<keyof import("./gen1.mjs").Odds, true>} */
+const OF_ODDS = { usual: true, critical: true, criticalChance: true, hitChance: true, takesHitTest: true };
 /** @type {Record<keyof import("./gen1.mjs").Base, true>} */
 const OF_BASE = { hp: true, attack: true, defense: true, speed: true, special: true, types: true };
 /** @type {Record<keyof import("./gen1.mjs").MoveData, true>} */
@@ -114,12 +114,12 @@ function battles(gen1) {
   hasKeys(one.members[0], OF_MEMBER);
   hasKeys(one.active ?? {}, OF_ACTIVE);
   hasKeys(update.events[0], OF_EVENT);
-  hasKeys(battle.hit(1, "Strength"), OF_HIT);
+  hasKeys(battle.odds(1, "Strength"), OF_ODDS);
   hasKeys(gen1.base("Tauros"), OF_BASE);
   hasKeys(gen1.moveData("Strength"), OF_MOVE_DATA);
   hasKeys(battle.playout(1n, 1), OF_PLAYOUTS);
   hasKeys(gen1.teamFromText("Tauros\n- Strength\n")[0], OF_WHOLE_MEMBER);
-  hasKeys(battle.play(battle.choices(1)[0], battle.choices(2)[0]), { outcome: true, requests: true });
+  hasKeys(battle.updateSilent(battle.choices(1)[0], battle.choices(2)[0]), { outcome: true, requests: true });
   /** @type {Uint8Array} */
   const bytes = gen1.load(battle.bytes.buffer).bytes;
   holds(bytes.length === 384 && battle.clone() instanceof Battle && update instanceof Update, "another battle");

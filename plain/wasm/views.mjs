@@ -65,8 +65,8 @@ export function shownOf({ sides, turn, outcome }) {
 const damagesOf = ({ numbers, count, code }) => ({ numbers: numbers.slice(0, count), code });
 
 /** A gen1_odds by the move of a number. Draws are of 256, so each chance is exact. */
-export function hitOf(library, move, hit) {
-  const { usual, critical, criticalDraws, hitDraws } = library.readStruct("gen1_odds", hit);
+export function oddsOf(library, move, odds) {
+  const { usual, critical, criticalDraws, hitDraws } = library.readStruct("gen1_odds", odds);
   return {
     usual: damagesOf(usual), critical: damagesOf(critical), criticalChance: criticalDraws / 256, hitChance: hitDraws / 256,
     takesHitTest: library.calls.gen1_takes_hit_test(move) === 1,

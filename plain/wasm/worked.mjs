@@ -54,13 +54,13 @@ function logs(gen1, check) {
 // docs/MECHANICS.md, "Critical hits" and "Hit test".
 function hits(gen1, check) {
   const [persian, gengar] = [{ species: "Persian", moves: [["Focus Energy", 3]] }, { species: "Gengar", moves: [["Splash", 3]] }];
-  const chances = (move) => gen1.hit(persian, gengar, move);
+  const chances = (move) => gen1.odds(persian, gengar, move);
   check("chances of a critical hit", () => {
     equal(["Slash", "Strength"].map((move) => chances(move).criticalChance), [255 / 256, 57 / 256]);
     const focused = gen1.battle({ one: [persian], two: [gengar], seed: SEED });
-    focused.play("pass", "pass");
-    focused.play("move 1", "move 1");
-    equal(["Slash", "Strength"].map((move) => focused.hit(1, move).criticalChance), [112 / 256, 14 / 256]);
+    focused.updateSilent("pass", "pass");
+    focused.updateSilent("move 1", "move 1");
+    equal(["Slash", "Strength"].map((move) => focused.odds(1, move).criticalChance), [112 / 256, 14 / 256]);
   });
   check("chances of a hit", () => {
     // The accuracies of docs/TABLES.md in 255ths: 100 % is 255, 80 % 204, 70 % 178, 55 % 140; each draw below that hits.
@@ -86,7 +86,7 @@ function everyDraw(gen1) {
   const [user, foe] = [{ species: "Tauros", moves: [["Thunder", 3]] }, { species: "Snorlax", moves: [["Splash", 3]] }];
   let [critical, missed] = [0, 0];
   const begun = gen1.battle({ one: [user], two: [foe], seed: SEED });
-  begun.play("pass", "pass");
+  begun.updateSilent("pass", "pass");
   for (let byte = 0; byte < 256; byte++)
     for (const draws of [[byte, 255, 0], [255, 255, byte]]) {
       const battle = begun.clone();
@@ -96,7 +96,7 @@ function everyDraw(gen1) {
       missed += tags.includes(CODES.MISS) ? 1 : 0;
     }
   // Tauros' base Speed is 110, and half of it is drawn against.
-  const { criticalChance, hitChance } = gen1.hit(user, foe, "Thunder");
+  const { criticalChance, hitChance } = gen1.odds(user, foe, "Thunder");
   equal([critical, 256 - missed], [55, 256 * hitChance]);
   equal(criticalChance, 55 / 256);
 }
@@ -207,7 +207,7 @@ function playedOut(battle, seed, rounds) {
   };
   for (let round = 0; round < rounds; round++) {
     const copy = battle.clone();
-    while (!copy.isOver) copy.play(pick(copy.choices(1)), pick(copy.choices(2)));
+    while (!copy.isOver) copy.updateSilent(pick(copy.choices(1)), pick(copy.choices(2)));
     counts[names[copy.result.outcome]]++;
   }
   return counts;
@@ -228,7 +228,7 @@ function searching(gen1, check) {
     { species: "Gengar", level: 73, moves: [["Hypnosis", 3], ["Night Shade", 3]] }];
   const battle = gen1.battle({ one: team, two: team, seed: [0, 1, 2, 3, 4, 5, 6, 7, 8, 9], limit: 60 });
   check("choices in words", () => {
-    battle.play("pass", "pass");
+    battle.updateSilent("pass", "pass");
     const words = battle.choices(1).map((choice) => battle.words(1, choice));
     equal(words, ["move 1 Body Slam", "move 2 Hyper Beam", "move 3 Earthquake", "move 4 Blizzard", "switch 2 Gengar"]);
     equal([battle.words(2, "pass"), battle.words(2, "move 0"), battle.words(2, 0x21)], ["pass", "move 0", "switch 1 Tauros"]);

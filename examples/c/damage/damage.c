@@ -19,35 +19,35 @@ static void print_range(const char *before, const gen1_damages *it, uint16_t hp)
     printf("%s%3d to %3d, %3d to %3d%%", before, least, most, least * 100 / hp, most * 100 / hp);
 }
 
-static void print_row(const gen1_odds *hit, uint8_t move, uint16_t hp)
+static void print_row(const gen1_odds *odds, uint8_t move, uint16_t hp)
 {
     printf("  move %3d: ", move);
-    if (hit->usual.count == 0 || hit->critical.count == 0) {
-        printf("no usual damage (code %d)", hit->usual.count == 0 ? hit->usual.code : hit->critical.code);
+    if (odds->usual.count == 0 || odds->critical.count == 0) {
+        printf("no usual damage (code %d)", odds->usual.count == 0 ? odds->usual.code : odds->critical.code);
         if (gen1_takes_hit_test(move) == 1)
-            printf("; %d of 256 hit\n", hit->hit_draws);
+            printf("; %d of 256 hit\n", odds->hit_draws);
         else
             puts("; no hit test");
         return;
     }
-    uint16_t least = hit->usual.numbers[0];
-    print_range("", &hit->usual, hp);
-    print_range("; critical ", &hit->critical, hp);
+    uint16_t least = odds->usual.numbers[0];
+    print_range("", &odds->usual, hp);
+    print_range("; critical ", &odds->critical, hp);
     if (least == 0)
         printf("; no number of hits is enough");
     else
         printf("; %d hits", (hp + least - 1) / least);
-    printf("; %d of 256 hit, %d of 256 critical\n", hit->hit_draws, hit->critical_draws);
+    printf("; %d of 256 hit, %d of 256 critical\n", odds->hit_draws, odds->critical_draws);
 }
 
 /* The table of a member against another, who has so many HP. */
 static void print_table(const gen1_member *user, const gen1_member *foe, uint16_t hp)
 {
-    gen1_odds hit;
+    gen1_odds odds;
     printf("species %d at level %d on species %d at level %d, %d HP\n", user->species, user->level, foe->species, foe->level, hp);
     for (int at = 0; at < 4; at++)
-        if (gen1_odds_between(user, foe, user->moves[at], &hit) == 0)
-            print_row(&hit, user->moves[at], hp);
+        if (gen1_odds_between(user, foe, user->moves[at], &odds) == 0)
+            print_row(&odds, user->moves[at], hp);
 }
 
 /* Both teams, from two files of text or from standard input; what is wrong is printed. */

@@ -179,7 +179,7 @@ static void listen_to_both(player players[2], gen1_room *at, time_t until)
                 listen_to(players, &players[k], at);
 }
 
-static void play(player players[2], gen1_room *at, int patience)
+static void run_room(player players[2], gen1_room *at, int patience)
 {
     time_t until = now() + patience;
     tell_both(players, at);
@@ -281,7 +281,7 @@ int main(int count, char **words)
     gen1_room_begin(&at);
     signal(SIGPIPE, SIG_IGN);
     player players[2] = {begin(GEN1_ONE, words[2]), begin(GEN1_TWO, words[3])};
-    play(players, &at, patience);
+    run_room(players, &at, patience);
     fflush(stdout);
     end(&players[0]);
     end(&players[1]);

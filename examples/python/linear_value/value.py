@@ -51,7 +51,7 @@ def values(weights, seen):
 def start():
     """A battle after its start, with the sleep clause and the freeze clause."""
     battle = Battle(TEAM, TEAM, seed=range(10), rules=3, limit=LIMIT)
-    battle.play(Choice.PASS, Choice.PASS)
+    battle.update_silent(Choice.PASS, Choice.PASS)
     return battle
 
 

@@ -26,7 +26,7 @@ def ends_well(battle, choice):
     """
     copy = battle.copy()
     copy.reseed(dice.randbytes(10))
-    copy.play(choice, dice.choice(copy.choices(Side.TWO)))
+    copy.update_silent(choice, dice.choice(copy.choices(Side.TWO)))
     return copy.playout(dice.getrandbits(64), 1).wins_one
 
 
@@ -39,9 +39,9 @@ def bot(battle, rounds=8):
 wins = 0
 for _ in range(20):
     battle = Battle(team, team, dice.randbytes(10))
-    result = battle.play(Choice.PASS, Choice.PASS)
+    result = battle.update_silent(Choice.PASS, Choice.PASS)
     while not result.is_over:
-        result = battle.play(bot(battle), dice.choice(battle.choices(Side.TWO)))
+        result = battle.update_silent(bot(battle), dice.choice(battle.choices(Side.TWO)))
     wins += result.outcome is Outcome.WIN_ONE
 print(f"the bot won {wins} of 20")
 assert wins >= 15

@@ -12,13 +12,13 @@ import matplotlib
 
 matplotlib.use("Agg" if len(sys.argv) > 1 else matplotlib.get_backend())
 import matplotlib.pyplot as plt
-from gen1 import Battle, Choice, Member, hit
+from gen1 import Battle, Choice, Member, odds
 
 attacker = Member("Tauros", ["Body Slam", "Hyper Beam", "Blizzard", "Earthquake"])
 defender = Member("Starmie", ["Surf"])
 
 # %% The numbers: of each move without and with a critical hit, and the defender's HP
-told = {move.label: hit(attacker, defender, move) for move in attacker.moves}
+told = {move.label: odds(attacker, defender, move) for move in attacker.moves}
 rows = {(name, critical): (it.critical if critical else it.usual).numbers for name, it in told.items() for critical in (False, True)}
 battle = Battle([attacker], [defender], bytes(10))
 hp = battle.update(Choice.PASS, Choice.PASS).events[1].health.max_hp

@@ -183,7 +183,7 @@ impl Battle {
 
     /// [`Battle::update_silent`] by two choices that were taken from what is offered, which are not tested again.
     ///
-    /// By others the battle may be none afterwards, and then [`Battle::state`], [`Battle::damage`] and [`Battle::hit`] may panic; that
+    /// By others the battle may be none afterwards, and then [`Battle::state`], [`Battle::damage`] and [`Battle::odds`] may panic; that
     /// harms no memory. A debug build tests them.
     ///
     /// ```

@@ -32,7 +32,7 @@
 //! | teams | [`member`], [`MemberSpec`], [`Team`], [`Species`], [`MoveId`] |
 //! | battles | [`Battle`], [`Choice`], [`Update`], [`Event`], [`Line`] |
 //! | all that a battle stands for | [`Battle::state`], [`State`] |
-//! | damage and exact chances | [`Battle::damage`], [`Battle::hit`] |
+//! | damage and exact chances | [`Battle::damage`], [`Battle::odds`] |
 //! | searches | [`Battle::offered_mask`], [`Battle::update_silent`], [`Battle::update_offered`], [`Battle::reseed`] |
 //! | logs | [`Update::log`], [`events_of`], [`Line::of`] |
 //! | what a watcher knows | [`Spectator`] |
@@ -59,9 +59,9 @@
 #![warn(missing_docs, missing_debug_implementations)]
 
 mod battle;
-mod damage;
 mod lines;
 mod mask;
+mod odds;
 mod room;
 #[cfg(feature = "serde")]
 mod serde_impls;
@@ -72,7 +72,6 @@ mod teams;
 #[doc(no_inline)]
 pub use arrayvec::ArrayVec;
 pub use battle::{Battle, Update};
-pub use damage::{DamageRefusal, Hit};
 #[doc(inline)]
 pub use gen1_engine::{BattleResult, Choices, LoadFault, Refusal, write_log};
 #[doc(inline)]
@@ -118,6 +117,7 @@ pub use gen1_stats::{KnownMove, Member, MemberSpec, Status, Team, TeamRefusal};
 pub use gen1_tables::{Effect, Element, MoveId, Species, Stat, UnknownName};
 pub use lines::{Events, Line, Lines, events_of};
 pub use mask::OfferedMask;
+pub use odds::{DamageRefusal, Odds};
 pub use room::Room;
 pub use state::{ActiveState, MemberState, SideState, State};
 pub use teams::{NameFault, member};

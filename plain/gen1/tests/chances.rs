@@ -16,19 +16,19 @@ fn id(name: &str) -> MoveId {
 #[test]
 fn chances_are_those_of_the_rules() {
     let mut battle = facing(("Persian", &["Focus Energy"]), "Gengar", [0; 10]);
-    let critical = |battle: &Battle, name| battle.hit(Side::One, id(name)).unwrap().critical_draws;
+    let critical = |battle: &Battle, name| battle.odds(Side::One, id(name)).unwrap().critical_draws;
     assert_eq!(
         (critical(&battle, "Slash"), critical(&battle, "Strength")),
         (255, 57)
     );
-    let hits = |name| battle.hit(Side::One, id(name)).unwrap().hit_draws;
+    let hits = |name| battle.odds(Side::One, id(name)).unwrap().hit_draws;
     assert_eq!((hits("Swift"), hits("Dream Eater")), (256, 0));
     // 80, 70 and 55 % in 255ths, rounded down.
     assert_eq!(
         (hits("Hydro Pump"), hits("Thunder"), hits("Sing")),
         (204, 178, 140)
     );
-    let is_tested = |name| battle.hit(Side::One, id(name)).unwrap().takes_hit_test;
+    let is_tested = |name| battle.odds(Side::One, id(name)).unwrap().takes_hit_test;
     assert!(["Swift", "Toxic", "Growl", "Counter"].into_iter().all(is_tested));
     assert!(!["Roar", "Rest", "Bide", "Amnesia"].into_iter().any(is_tested));
     let first = "move 1".parse().unwrap();
@@ -60,31 +60,31 @@ fn each_draw_does_what_is_told() {
                 .count();
         }
     }
-    let hit = facing(("Tauros", &["Thunder"]), "Snorlax", [0; 10])
-        .hit(Side::One, id("Thunder"))
+    let odds = facing(("Tauros", &["Thunder"]), "Snorlax", [0; 10])
+        .odds(Side::One, id("Thunder"))
         .unwrap();
-    assert_eq!(usize::from(hit.critical_draws), critical);
-    assert_eq!(256 - usize::from(hit.hit_draws), missed);
+    assert_eq!(usize::from(odds.critical_draws), critical);
+    assert_eq!(256 - usize::from(odds.hit_draws), missed);
 }
 
 #[test]
 fn what_has_no_damage_says_why() {
     let battle = facing(("Tauros", &["Splash"]), "Gengar", [0; 10]);
-    let toss = battle.hit(Side::One, id("Seismic Toss")).unwrap();
+    let toss = battle.odds(Side::One, id("Seismic Toss")).unwrap();
     assert_eq!(
         toss.usual,
         Err(DamageRefusal::NoUsualDamage(id("Seismic Toss")))
     );
     assert_eq!((&toss.critical, toss.critical_draws), (&toss.usual, 0));
     for critical in [false, true] {
-        let hit = battle.hit(Side::One, id("Earthquake")).unwrap();
+        let odds = battle.odds(Side::One, id("Earthquake")).unwrap();
         let damage = battle.damage(Side::One, id("Earthquake"), critical);
-        assert_eq!(if critical { hit.critical } else { hit.usual }, damage);
+        assert_eq!(if critical { odds.critical } else { odds.usual }, damage);
     }
     let team = Team::new(&[member("Mew", &["Pound"]).unwrap()]).unwrap();
     let before = Battle::new(&team, &team, [0; 10]);
     assert_eq!(
-        before.hit(Side::Two, id("Pound")),
+        before.odds(Side::Two, id("Pound")),
         Err(DamageRefusal::NobodyOut)
     );
 }

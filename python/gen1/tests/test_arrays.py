@@ -247,7 +247,7 @@ def observed(seed):
         for _ in range(dice.randint(1, 30)):
             if battle.result.is_over:
                 break
-            battle.play(*(dice.choice(battle.choices(side)) for side in (1, 2)))
+            battle.update_silent(*(dice.choice(battle.choices(side)) for side in (1, 2)))
         yield battle
 
 

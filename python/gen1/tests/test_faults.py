@@ -79,7 +79,7 @@ def test_no_numbers(battle, team, it):
     calls = (
         lambda: battle.choices(it),
         lambda: battle.update(it, Choice.MOVE_1),
-        lambda: battle.play(Choice.MOVE_1, it),
+        lambda: battle.update_silent(Choice.MOVE_1, it),
         lambda: Battle(team, team, range(10), rules=it),
         lambda: Battle(team, team, range(10), limit=it),
         lambda: Battle(team, team, [it] * 10),

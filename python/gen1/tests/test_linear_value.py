@@ -85,7 +85,7 @@ def test_features_show_what_a_side_knows_alone(parts):
     seen = []
     for team in (value.TEAM, others):
         battle = Battle(value.TEAM, team, seed=range(10))
-        battle.play(Choice.PASS, Choice.PASS)
+        battle.update_silent(Choice.PASS, Choice.PASS)
         seen.append(value.features(BattleArray(1, battle).observe(1)))
     assert (seen[0] == seen[1]).all()
     held = BattleArray(1, value.start()).bytes.copy()

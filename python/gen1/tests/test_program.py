@@ -73,7 +73,7 @@ def test_the_number_of_draws(name):
         for update in trace["updates"]:
             if update["refused"] is None:
                 before = battle.copy()
-                battle.play(*update["pair"])
+                battle.update_silent(*update["pair"])
                 assert len(drawn(before, battle)) == update["draws"] % 2304
 
 
@@ -229,7 +229,7 @@ def test_random_battles_explained():
         while not battle.result.is_over:
             pair = [dice.choice(battle.choices(side)) for side in (1, 2)]
             after, told, draws = explained(battle, *pair)
-            battle.play(*pair)
+            battle.update_silent(*pair)
             assert battle == after and all(map(sentence, told)) and all(said for it in draws for _, said in it.others)
 
 

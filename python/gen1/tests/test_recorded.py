@@ -50,7 +50,7 @@ def test_updates(name):
                 assert answer.result == battle.result
                 assert b"".join(map(code_of, answer.events)) == log
                 assert [answer.result.outcome, *answer.result.requests] == update["result"]
-                assert before.play(*update["pair"]) == battle.result and before == battle
+                assert before.update_silent(*update["pair"]) == battle.result and before == battle
             except Refused as why:
                 refused = why.code
                 assert battle == before and why.offered == (battle.choices(why.side) if why.side else ())

@@ -72,7 +72,7 @@ impl Host {
     }
 
     /// Plays the battle to its end; what came of each player, in lines.
-    pub fn play(mut self) -> String {
+    pub fn run(mut self) -> String {
         while !self.room.battle().is_over() {
             if self.choose_for_missing() {
                 continue;

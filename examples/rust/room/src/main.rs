@@ -90,7 +90,7 @@ fn host(opening: &Opening) -> Result<(), (u8, String)> {
         patience: Duration::from_secs(opening.patience),
         refusals: opening.refusals,
     };
-    let report = Host::new(battle, [one, two], watcher, mailbox, terms).play();
+    let report = Host::new(battle, [one, two], watcher, mailbox, terms).run();
     io::stderr()
         .write_all(report.as_bytes())
         .map_err(|why| (3, why.to_string()))
@@ -114,7 +114,7 @@ fn main() -> ExitCode {
                 seed,
                 is_rude: rude,
             }
-            .play(io::stdin().lock(), io::stdout().lock()),
+            .run(io::stdin().lock(), io::stdout().lock()),
         ),
         Role::Watcher { board } => of_pipes(watcher::watch(
             io::stdin().lock(),

@@ -17,7 +17,7 @@ const FLOOD: usize = 500;
 
 impl Player {
     /// Plays until the room has nothing more to say.
-    pub fn play(self, from: impl BufRead, mut to: impl Write) -> io::Result<()> {
+    pub fn run(self, from: impl BufRead, mut to: impl Write) -> io::Result<()> {
         let (mut given, mut state, mut flood) = (self.choices.iter().copied(), self.seed, FLOOD);
         for line in from.lines() {
             // The lines `team` and `log` are for a player that thinks.

@@ -16,6 +16,7 @@ from importlib.util import find_spec
 from typing import TYPE_CHECKING
 
 from gen1._library import LIBRARY_VERSION as library_version
+from gen1._odds import Damages, Odds, damage, odds
 from gen1.battle import Battle, Playouts, Result, Update
 from gen1.choices import Choice, Rules, Side
 from gen1.errors import (
@@ -69,7 +70,6 @@ from gen1.events import (
     events,
     lines,
 )
-from gen1.hits import Damages, Hit, damage, hit
 from gen1.names import (
     Conditions,
     DamageFault,
@@ -156,7 +156,6 @@ __all__ = [
     "FaultEvent",
     "HealEvent",
     "Health",
-    "Hit",
     "HitCountEvent",
     "ImmuneEvent",
     "LibraryMissing",
@@ -172,6 +171,7 @@ __all__ = [
     "NewFault",
     "NoDamage",
     "NumpyMissing",
+    "Odds",
     "OfOne",
     "OneHitEvent",
     "Outcome",
@@ -216,8 +216,8 @@ __all__ = [
     "base",
     "damage",
     "events",
-    "hit",
     "library_version",
     "lines",
     "move_data",
+    "odds",
 ]

@@ -11,7 +11,7 @@ from ctypes.util import find_library
 from pathlib import Path
 from typing import Any
 
-from gen1._structs import DAMAGES, BattleBytes, HitStruct, PlayoutsStruct, RoomStruct, SpectatorStruct, StateStruct
+from gen1._structs import DAMAGES, BattleBytes, OddsStruct, PlayoutsStruct, RoomStruct, SpectatorStruct, StateStruct
 from gen1.errors import LibraryMissing
 from gen1.names import HEADER_VERSION
 
@@ -119,11 +119,11 @@ result = bind("gen1_result", c_uint8, _BATTLE)
 next_event = bind("gen1_next_event", c_uint8, _BYTES, c_size_t, _SIZES, POINTER(EventStruct))
 next_line = bind("gen1_next_line", c_uint8, _BYTES, c_size_t, _SIZES, _TEXT, c_size_t, _SIZES)
 damage = bind("gen1_damage", c_uint8, _BATTLE, c_uint8, c_uint8, c_bool, c_uint16 * DAMAGES)
-odds_now = bind("gen1_odds_now", c_uint8, _BATTLE, c_uint8, c_uint8, POINTER(HitStruct))
-odds_between = bind("gen1_odds_between", c_uint32, _MEMBER, _MEMBER, c_uint8, POINTER(HitStruct))
+odds_now = bind("gen1_odds_now", c_uint8, _BATTLE, c_uint8, c_uint8, POINTER(OddsStruct))
+odds_between = bind("gen1_odds_between", c_uint32, _MEMBER, _MEMBER, c_uint8, POINTER(OddsStruct))
 takes_hit_test = bind("gen1_takes_hit_test", c_uint8, c_uint8)
 playout = bind("gen1_playout", c_uint8, _BATTLE, c_uint64, c_uint32, POINTER(PlayoutsStruct), of=LONG)
-view = bind("gen1_get_state", None, _BATTLE, POINTER(StateStruct))
+get_state = bind("gen1_get_state", None, _BATTLE, POINTER(StateStruct))
 choice_words = bind("gen1_choice_words", c_uint8, _BATTLE, c_uint8, c_uint8, _TEXT, c_size_t, _SIZES)
 reseed = bind("gen1_reseed", c_uint8, _BATTLE, SeedBytes, c_uint8)
 room_begin = bind("gen1_room_begin", None, _ROOM)

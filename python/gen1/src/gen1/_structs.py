@@ -75,7 +75,7 @@ class DamagesStruct(Structure):
     _fields_ = [("numbers", c_uint16 * DAMAGES), ("count", c_uint8), ("code", c_uint8)]
 
 
-class HitStruct(Structure):
+class OddsStruct(Structure):
     """gen1_odds."""
 
     _fields_ = [("usual", DamagesStruct), ("critical", DamagesStruct), ("critical_draws", c_uint16), ("hit_draws", c_uint16)]

@@ -10,13 +10,13 @@ from gen1 import _library
 from gen1._check import byte as a_byte
 from gen1._check import move as a_move
 from gen1._check import digits, octets, seed_bytes, truth, whole, within
-from gen1._structs import DAMAGES, LOG_ROOM, BattleBytes, HitStruct, PlayoutsStruct
+from gen1._odds import Odds, no_damage, odds_of
+from gen1._structs import DAMAGES, LOG_ROOM, BattleBytes, OddsStruct, PlayoutsStruct
 from gen1.choices import Choice, Rules, Side, a_choice, a_side, choice_text, not_offered
 from gen1.errors import BadArgument, BadBytes, BadTeam, BadType, NoDamage, Refused
 from gen1.events import Event, events, lines
-from gen1.hits import Hit, hit_of, no_damage
 from gen1.names import DamageFault, LoadFault, Move, NewFault, Outcome, Refusal, Request
-from gen1.states import State, state_of, view_of
+from gen1.states import State, state_of, struct_of_state
 from gen1.teams import Member, Team, as_team
 
 if TYPE_CHECKING:
@@ -151,7 +151,7 @@ class Battle:
 
     def place(self, side: Side | int) -> int:
         """The place of the member of a side that is out, 1 to 6; 0 before the first update."""
-        return int(view_of(self._held).sides[a_side(side) - 1].active.place)
+        return int(struct_of_state(self._held).sides[a_side(side) - 1].active.place)
 
     def choices(self, side: Side | int) -> tuple[Choice, ...]:
         """What a side may choose, in rising order: none where the battle is over, and at most nine."""
@@ -171,7 +171,7 @@ class Battle:
             raise self._refused(Refusal(code), pair)
         return Update(self.result, log.raw[: length.value])
 
-    def play(self, one: Choice | int, two: Choice | int) -> Result:
+    def update_silent(self, one: Choice | int, two: Choice | int) -> Result:
         """The same as `update` without a log, which is quicker."""
         pair = a_choice(one, 1), a_choice(two, 2)
         length = c_size_t(0)
@@ -222,17 +222,17 @@ class Battle:
             raise BadBytes(LoadFault(test), _load_text(LoadFault(test), self.bytes))
         return Playouts(of.wins_one, of.wins_two, of.ties, of.faults)
 
-    def hit(self, side: Side | int, move: Move | str | int) -> Hit:
+    def odds(self, side: Side | int, move: Move | str | int) -> Odds:
         """What a use of a move by a side on the foe that is out would come to, as both are now: damage, and chances of critical and hit.
 
         The member need not know the move. The accuracy is that of a new use: the one that Thrash and Rage keep is not looked at. Raises
         `NoDamage` where nobody is out, `BadTeam` for what is no move.
         """
-        of, known = HitStruct(), a_move(move)
+        of, known = OddsStruct(), a_move(move)
         code = _library.odds_now(byref(self._held), a_side(side), known, byref(of))
         if code:
             raise no_damage(DamageFault(code), known)
-        return hit_of(of, known)
+        return odds_of(of, known)
 
     def damage(self, side: Side | int, move: Move | str | int, critical: bool = False) -> tuple[int, ...]:
         """The damage of a hit by a move of a side on the foe that is out, as both are now: 39 numbers.

@@ -57,7 +57,7 @@ class _Table:
         if seed is not None:
             self.dice = np.random.default_rng(within(seed, "seed", 0, (1 << 128) - 1))
         battle = Battle(*teams, self.dice.bytes(10), *self.terms)
-        battle.play(Choice.PASS, Choice.PASS)
+        battle.update_silent(Choice.PASS, Choice.PASS)
         self.array = BattleArray(1, battle)
 
     @property
@@ -72,7 +72,7 @@ class _Table:
 
     def update(self, pair: list[Choice]) -> None:
         battle = self.battle
-        battle.play(*pair)
+        battle.update_silent(*pair)
         self.array[0] = battle
 
     def reward(self, side: int) -> float:
@@ -138,7 +138,7 @@ class BattleEnv(_Base):  # type: ignore[misc, valid-type]
         battle, table = self._table.battle, self._table
         mine, foes = _choice(action, "action"), battle.choices(Side.TWO)
         if mine not in battle.choices(Side.ONE):
-            battle.play(mine, foes[0] if foes else Choice.PASS)  # says in a copy why it is refused
+            battle.update_silent(mine, foes[0] if foes else Choice.PASS)  # says in a copy why it is refused
         table.update([mine, self.policy(battle, Side.TWO, table.dice)])
         return table.seen(1), table.reward(1), table.battle.result.is_over, False, self._info()
 

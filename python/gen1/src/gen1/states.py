@@ -88,16 +88,16 @@ class State:
     numbers: tuple[int, ...]
 
 
-def view_of(held: Any) -> StateStruct:
+def struct_of_state(held: Any) -> StateStruct:
     """The library's view of the 384 bytes of a battle."""
     of = StateStruct()
-    _library.view(byref(held), byref(of))
+    _library.get_state(byref(held), byref(of))
     return of
 
 
 def state_of(held: Any) -> State:
     """What the 384 bytes of a battle stand for."""
-    of = view_of(held)
+    of = struct_of_state(held)
     return State(
         one=_side(of.sides[0]),
         two=_side(of.sides[1]),

@@ -8,11 +8,11 @@ from collections.abc import Callable, Sequence
 from dataclasses import asdict
 
 from gen1 import __version__, library_version
+from gen1._odds import damage
 from gen1.battle import Battle
 from gen1.choices import Rules, choice_text
 from gen1.draws import Draw, explained
 from gen1.errors import Error, Refused
-from gen1.hits import damage
 from gen1.names import Conditions, Named
 from gen1.program.inputs import Fault, a_battle, a_member, an_object, pairs, read, write
 from gen1.program.pages import page_with

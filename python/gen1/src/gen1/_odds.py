@@ -7,7 +7,7 @@ from fractions import Fraction
 from gen1 import _library
 from gen1._check import move as a_move
 from gen1._check import shown, truth
-from gen1._structs import DamagesStruct, HitStruct
+from gen1._structs import DamagesStruct, OddsStruct
 from gen1.errors import BadArgument, BadType, NoDamage
 from gen1.names import DamageFault, Move, NewFault
 from gen1.teams import Member, struct_of
@@ -25,7 +25,7 @@ class Damages:
 
 
 @dataclass(frozen=True)
-class Hit:
+class Odds:
     """What a use of a move would come to: the damage of a usual hit and of a critical one.
 
     `critical_chance`, 0 to 255/256, is that of a critical hit, 0 for a move without the usual damage; `hit_chance`, 0 to 1, that of the
@@ -40,33 +40,33 @@ class Hit:
     takes_hit_test: bool
 
 
-def hit(attacker: Member, defender: Member, move: Move | str | int) -> Hit:
-    """What a use of a move by one member on another would come to, each just sent out alone; `Battle.hit` is that of a battle.
+def odds(attacker: Member, defender: Member, move: Move | str | int) -> Odds:
+    """What a use of a move by one member on another would come to, each just sent out alone; `Battle.odds` is that of a battle.
 
     The attacker need not know the move. Raises `BadTeam` for what is no move, `BadType` for what is no member.
     """
-    known, of = a_move(move), HitStruct()
+    known, of = a_move(move), OddsStruct()
     pair = [byref(struct_of([_a_member(it, name)]).members[0]) for it, name in ((attacker, "attacker"), (defender, "defender"))]
     answer = _library.odds_between(*pair, known, byref(of))
     if answer:
         raise BadArgument(NewFault(answer & 0xFF).label)
-    return hit_of(of, known)
+    return odds_of(of, known)
 
 
 def damage(attacker: Member, defender: Member, move: Move | str | int, critical: bool = False) -> tuple[int, ...]:
     """The damage of a hit by one member on another, each just sent out alone: 39 numbers, as `Battle.damage`."""
     is_critical, known = truth(critical, "critical"), a_move(move)
-    found = hit(attacker, defender, known)
+    found = odds(attacker, defender, known)
     damages = found.critical if is_critical else found.usual
     if damages.code is not None:
         raise no_damage(damages.code, known)
     return damages.numbers
 
 
-def hit_of(of: HitStruct, move: Move) -> Hit:
+def odds_of(of: OddsStruct, move: Move) -> Odds:
     """The hit by a move that a struct holds."""
     chances = Fraction(of.critical_draws, 256), Fraction(of.hit_draws, 256)
-    return Hit(_damages(of.usual), _damages(of.critical), *chances, _library.takes_hit_test(move) == 1)
+    return Odds(_damages(of.usual), _damages(of.critical), *chances, _library.takes_hit_test(move) == 1)
 
 
 def no_damage(code: DamageFault, move: Move) -> NoDamage:

@@ -31,7 +31,7 @@ impl core::error::Error for DamageRefusal {}
 /// What a use of a move would come to. Chances are exact: of the 256 numbers that may be drawn, how many bring it about.
 #[derive(Clone, Debug, PartialEq, Eq)]
 #[non_exhaustive]
-pub struct Hit {
+pub struct Odds {
     /// The damage where the hit is not critical, at each factor from 217 to 255, each as likely as another; or why there is none.
     pub usual: Result<[u16; 39], DamageRefusal>,
     /// The damage where it is critical, likewise.
@@ -89,17 +89,17 @@ impl Battle {
     /// let team = Team::new(&[member("Persian", &["Slash"])?])?;
     /// let mut battle = Battle::new(&team, &team, [0; 10]);
     /// battle.update(Choice::Pass, Choice::Pass)?;
-    /// let hit = battle.hit(Side::One, "Strength".parse()?)?;
-    /// assert_eq!((hit.critical_draws, hit.hit_draws), (57, 255));
-    /// assert_eq!(hit.usual, battle.damage(Side::One, "Strength".parse()?, false));
+    /// let odds = battle.odds(Side::One, "Strength".parse()?)?;
+    /// assert_eq!((odds.critical_draws, odds.hit_draws), (57, 255));
+    /// assert_eq!(odds.usual, battle.damage(Side::One, "Strength".parse()?, false));
     /// # Ok(())
     /// # }
     /// ```
     ///
     /// # Errors
     ///
-    /// [`DamageRefusal::NobodyOut`] alone. Why a move has no damage is told by [`Hit::usual`] and [`Hit::critical`].
-    pub fn hit(&self, side: Side, id: MoveId) -> Result<Hit, DamageRefusal> {
+    /// [`DamageRefusal::NobodyOut`] alone. Why a move has no damage is told by [`Odds::usual`] and [`Odds::critical`].
+    pub fn odds(&self, side: Side, id: MoveId) -> Result<Odds, DamageRefusal> {
         let packed = self.out()?;
         let odds = gen1_odds::odds_of(&packed, side, id);
         let damages = |of: Damages| match of.code {
@@ -107,7 +107,7 @@ impl Battle {
             3 => Err(DamageRefusal::NoUsualDamage(id)),
             _ => Err(DamageRefusal::DividedByZero),
         };
-        Ok(Hit {
+        Ok(Odds {
             usual: damages(odds.usual),
             critical: damages(odds.critical),
             critical_draws: odds.critical_draws,

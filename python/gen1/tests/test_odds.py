@@ -16,7 +16,6 @@ from gen1 import (
     Damages,
     DamageFault,
     Error,
-    Hit,
     Member,
     Move,
     NoDamage,
@@ -25,11 +24,11 @@ from gen1 import (
     Team,
     base,
     damage,
-    hit,
     move_data,
+    odds,
 )
 from gen1._library import PATH
-from gen1._structs import HitStruct, PlayoutsStruct
+from gen1._structs import OddsStruct, PlayoutsStruct
 
 if RECORDED.is_dir():
     from battles import cases, recorded
@@ -42,7 +41,7 @@ BIG = (-1, 256, 257, 300, 65536, 1 << 33, -(1 << 70))
 def facing(one, two):
     """A battle of two members, both just sent out."""
     battle = Battle([one], [two], bytes(10))
-    battle.play(Choice.PASS, Choice.PASS)
+    battle.update_silent(Choice.PASS, Choice.PASS)
     return battle
 
 
@@ -55,9 +54,9 @@ def test_recorded_damages():
             continue
         asked = json.loads(case["input"])
         pair = [Team([asked[side]])[0] for side in ("attacker", "defender")]
-        told, numbers = hit(*pair, asked["move"]), tuple(map(int, case["stdout"].split()))
+        told, numbers = odds(*pair, asked["move"]), tuple(map(int, case["stdout"].split()))
         assert (told.critical if asked["critical"] else told.usual) == Damages(numbers, None), case["name"]
-        assert facing(*pair).hit(1, asked["move"]) == told
+        assert facing(*pair).odds(1, asked["move"]) == told
         count += 1
     assert count > 100
 
@@ -65,14 +64,14 @@ def test_recorded_damages():
 def test_chances_of_the_rules():
     """docs/MECHANICS.md, "Critical hits" and "Hit test": Persian's b, accuracies in 255ths, and what is settled without a draw."""
     persian, gengar = Member("Persian", ["Slash", "Strength"]), Member("Gengar", ["Splash"])
-    assert hit(persian, gengar, "Slash").critical_chance == Fraction(255, 256)
-    assert hit(persian, gengar, "Strength").critical_chance == Fraction(57, 256)
+    assert odds(persian, gengar, "Slash").critical_chance == Fraction(255, 256)
+    assert odds(persian, gengar, "Strength").critical_chance == Fraction(57, 256)
     focused = facing(Member("Persian", ["Focus Energy"]), gengar)
-    focused.play(Choice.MOVE_1, Choice.MOVE_1)
-    assert [focused.hit(1, it).critical_chance for it in ("Slash", "Strength")] == [Fraction(112, 256), Fraction(14, 256)]
-    assert hit(persian, gengar, "Swift").hit_chance == 1 and hit(persian, gengar, "Dream Eater").hit_chance == 0
+    focused.update_silent(Choice.MOVE_1, Choice.MOVE_1)
+    assert [focused.odds(1, it).critical_chance for it in ("Slash", "Strength")] == [Fraction(112, 256), Fraction(14, 256)]
+    assert odds(persian, gengar, "Swift").hit_chance == 1 and odds(persian, gengar, "Dream Eater").hit_chance == 0
     for move in ("Strength", "Hydro Pump", "Thunder", "Sing"):
-        assert hit(persian, gengar, move).hit_chance == Fraction(move_data(move).accuracy * 255 // 100, 256)
+        assert odds(persian, gengar, move).hit_chance == Fraction(move_data(move).accuracy * 255 // 100, 256)
 
 
 def test_moves_that_take_no_hit_test():
@@ -83,7 +82,7 @@ def test_moves_that_take_no_hit_test():
         "Acid Armor", "Agility", "Growth", "Amnesia", "Minimize", "Double Team", "Metronome", "Mirror Move", "Mimic", "Transform",
     }  # fmt: skip
     tauros = Member("Tauros", ["Strength"])
-    assert {it.label for it in Move if not hit(tauros, tauros, it).takes_hit_test} == without
+    assert {it.label for it in Move if not odds(tauros, tauros, it).takes_hit_test} == without
 
 
 def test_chances_by_every_draw():
@@ -98,7 +97,7 @@ def test_chances_by_every_draw():
                 battle.reseed([*numbers, *[0] * 7])
                 told = [type(it).__name__ for it in battle.update(Choice.move(slot), Choice.MOVE_1).events]
                 missed, critical = missed + ("MissEvent" in told), critical + ("CritEvent" in told)
-        found = hit(strong, splash, move)
+        found = odds(strong, splash, move)
         assert found.critical_chance == Fraction(critical, 256) == Fraction(base("Tauros").speed // 2, 256)
         assert found.hit_chance == 1 - Fraction(missed, 256)
 
@@ -106,23 +105,23 @@ def test_chances_by_every_draw():
 def test_moves_without_usual_damage():
     one, two = Member("Tauros", ["Splash"]), Member("Gengar", ["Splash"])
     for move in ("Splash", "Seismic Toss", "Super Fang"):
-        it = hit(one, two, move)
+        it = odds(one, two, move)
         assert it.usual == it.critical == Damages((), DamageFault.UNUSUAL) and it.critical_chance == 0
         with pytest.raises(NoDamage) as fault:
             damage(one, two, move)
         assert fault.value.code is DamageFault.UNUSUAL and move in str(fault.value)
-    assert hit(one, two, "Strength").usual == Damages((0,) * 39, None)
+    assert odds(one, two, "Strength").usual == Damages((0,) * 39, None)
 
 
-def test_random_hits():
+def test_odds_of_random_battles():
     """Hits of random battles against `damage`, and against the library called apart."""
     dice = random.Random(4)
     for _ in range(100):
         battle = Battle(random_team(dice), random_team(dice), dice.randbytes(10), limit=40)
-        battle.play(0, 0)
+        battle.update_silent(0, 0)
         while not battle.result.is_over:
-            side, move, raw = dice.randint(1, 2), dice.choice(list(Move)), HitStruct()
-            before, found = battle.bytes, battle.hit(side, move)
+            side, move, raw = dice.randint(1, 2), dice.choice(list(Move)), OddsStruct()
+            before, found = battle.bytes, battle.odds(side, move)
             assert LIB.gen1_odds_now(battle.bytes, side, int(move), ctypes.byref(raw)) & 0xFF == 0 and battle.bytes == before
             assert (found.critical_chance, found.hit_chance) == (Fraction(raw.critical_draws, 256), Fraction(raw.hit_draws, 256))
             for critical, told in ((False, found.usual), (True, found.critical)):
@@ -130,28 +129,28 @@ def test_random_hits():
                     assert told == Damages(battle.damage(side, move, critical), None)
                 except NoDamage as fault:
                     assert told == Damages((), fault.code)
-            battle.play(*(dice.choice(battle.choices(it)) for it in (1, 2)))
+            battle.update_silent(*(dice.choice(battle.choices(it)) for it in (1, 2)))
     for _ in range(300):
         one, two, move = random_member(dice), random_member(dice), dice.choice(list(Move))
-        found = hit(one, two, move)
-        assert found == facing(one, two).hit(1, move) == facing(two, one).hit(2, move) and isinstance(found, Hit)
+        found = odds(one, two, move)
+        assert found == facing(one, two).odds(1, move) == facing(two, one).odds(2, move) and isinstance(found, Odds)
 
 
-def test_hits_with_wrong_arguments(battle, team, tauros):
+def test_odds_with_wrong_arguments(battle, team, tauros):
     before = battle.bytes
-    calls = [(lambda it=it: battle.hit(it, "Pound"), BadArgument) for it in (0, 3, *BIG)]
-    calls += [(lambda it=it: battle.hit(it, "Pound"), BadType) for it in (*NO_NUMBERS, "1")]
-    for call in (lambda it: battle.hit(1, it), lambda it: hit(tauros, tauros, it)):
+    calls = [(lambda it=it: battle.odds(it, "Pound"), BadArgument) for it in (0, 3, *BIG)]
+    calls += [(lambda it=it: battle.odds(it, "Pound"), BadType) for it in (*NO_NUMBERS, "1")]
+    for call in (lambda it: battle.odds(1, it), lambda it: odds(tauros, tauros, it)):
         calls += [(lambda call=call, it=it: call(it), BadTeam) for it in (0, 166, *BIG, "Pond", "1")]
         calls += [(lambda call=call, it=it: call(it), BadType) for it in NO_NUMBERS]
     for it in (None, 5, "Tauros", tauros.to_dict(), team):
-        calls += [(lambda it=it: hit(it, tauros, "Pound"), BadType), (lambda it=it: hit(tauros, it, "Pound"), BadType)]
+        calls += [(lambda it=it: odds(it, tauros, "Pound"), BadType), (lambda it=it: odds(tauros, it, "Pound"), BadType)]
     for at, (call, kind) in enumerate(calls):
         with pytest.raises(kind) as fault:
             call()
         assert isinstance(fault.value, Error) and len(str(fault.value)) > 10 and battle.bytes == before, at
     with pytest.raises(NoDamage) as fault:
-        Battle(team, team, range(10)).hit(1, "Pound")
+        Battle(team, team, range(10)).odds(1, "Pound")
     assert fault.value.code is DamageFault.NOBODY and "before its first update" in str(fault.value)
 
 
@@ -169,7 +168,7 @@ def played_out(battle, seed, rounds):
                 offered = it.choices(side)
                 state = (state * 6364136223846793005 + 1442695040888963407) % 2**64
                 pair.append(offered[(state >> 32) % len(offered)])
-            it.play(*pair)
+            it.update_silent(*pair)
         ends[min(it.result.outcome, Outcome.FAULT_ONE) - 1] += 1
     return Playouts(*ends)
 
@@ -188,7 +187,7 @@ def test_playouts_update_by_update():
 def test_playouts_of_a_battle_that_is_over(team):
     battle = Battle(team, team, range(10), limit=1)
     while not battle.result.is_over:
-        battle.play(battle.choices(1)[0], battle.choices(2)[0])
+        battle.update_silent(battle.choices(1)[0], battle.choices(2)[0])
     assert battle.result.outcome is Outcome.TIE and battle.playout(1, 1000) == Playouts(0, 0, 1000, 0)
     assert battle.playout(0, 0) == battle.playout((1 << 64) - 1, 0) == Playouts(0, 0, 0, 0)
 
