@@ -1,5 +1,5 @@
-//! What plain Rust has beside the sources (docs/PLAIN.md, "What is added"): what a panic does in a library with no std below it.
-//! The sources are proved to have none; rustc does not know that, and asks.
+//! Added to the sources (docs/PLAIN.md, "What is added"): the panic handler of a library without std. The sources are proved not
+//! to panic, but rustc doesn't know that and requires a handler.
 
 #[cfg(all(feature = "panic_handler", not(target_family = "wasm")))]
 unsafe extern "C" {
@@ -11,7 +11,7 @@ unsafe extern "C" {
 fn panic(_: &core::panic::PanicInfo<'_>) -> ! {
     #[cfg(target_arch = "wasm32")]
     core::arch::wasm32::unreachable();
-    // What stops a module with a 64-bit memory is not stable.
+    // The instruction that stops a module with a 64-bit memory is not stable.
     #[cfg(target_arch = "wasm64")]
     #[allow(clippy::empty_loop)]
     loop {}

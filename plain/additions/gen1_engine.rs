@@ -1,4 +1,4 @@
-//! What plain Rust has beside the sources (docs/PLAIN.md, "What is added").
+//! Added to the sources (docs/PLAIN.md, "What is added"): comparison, hashing and text of battles, and text of refusals.
 use crate::{Battle, BattleResult, Refusal};
 use core::fmt;
 use core::hash::{Hash, Hasher};

@@ -1,8 +1,8 @@
-//! What plain Rust has beside the sources (docs/PLAIN.md, "What is added").
+//! Added to the sources (docs/PLAIN.md, "What is added"): text for log readers.
 use crate::LogReader;
 use core::fmt;
 
-/// Nothing of what it holds: bytes of an event that is not yet whole.
+/// Does not show the held bytes, which are of an incomplete event.
 impl fmt::Debug for LogReader {
     fn fmt(&self, f: &mut fmt::Formatter<'_>) -> fmt::Result {
         f.debug_struct("LogReader").finish_non_exhaustive()

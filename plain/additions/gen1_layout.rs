@@ -1,4 +1,4 @@
-//! What plain Rust has beside the sources (docs/PLAIN.md, "What is added"): conditions as names and bits.
+//! Added to the sources (docs/PLAIN.md, "What is added"): conditions as names and bits.
 use crate::Conditions;
 use core::fmt;
 use gen1_adapter::bitflags::Flags;
@@ -10,13 +10,13 @@ impl Conditions {
         Flags::bits(&self)
     }
 
-    /// Whether none is on.
+    /// Whether no condition is on.
     #[must_use]
     pub fn is_empty(self) -> bool {
         self.bits() == 0
     }
 
-    /// The names of those that are on, as `FOCUS_ENERGY`, by rising bits.
+    /// The names of the conditions that are on, such as `FOCUS_ENERGY`, in the order of their bits.
     pub fn names(self) -> impl Iterator<Item = &'static str> {
         let all = Conditions::flags().iter();
         all.filter(move |flag| self.has(*flag.value()))
@@ -24,7 +24,7 @@ impl Conditions {
     }
 }
 
-/// The names with blanks between them; nothing where none is on.
+/// The names, separated by spaces; empty if no condition is on.
 impl fmt::Display for Conditions {
     fn fmt(&self, f: &mut fmt::Formatter<'_>) -> fmt::Result {
         for (place, name) in self.names().enumerate() {

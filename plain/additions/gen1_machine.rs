@@ -1,12 +1,12 @@
-//! What plain Rust has beside the sources (docs/PLAIN.md, "What is added"): choices, sides and outcomes as text, and
-//! types that maps and sorted lists take.
+//! Added to the sources (docs/PLAIN.md, "What is added"): choices, sides and outcomes as text, and types that can be keys of
+//! maps and be sorted.
 use crate::{
     Choice, Kind, MoveSlot, Outcome, Place, Ranged, Request, Rules, Side, TurnLimit, TurnNumber,
 };
 use core::fmt;
 use core::str::FromStr;
 
-/// A text that is no choice, or no side.
+/// A text that is not a choice, or not a side.
 #[derive(Clone, Copy, Debug, PartialEq, Eq)]
 pub struct UnknownText(&'static str);
 
@@ -18,7 +18,7 @@ impl fmt::Display for UnknownText {
 
 impl core::error::Error for UnknownText {}
 
-/// `pass`, `move 1` (`move 0` where no slot can be chosen) or `switch 2`.
+/// `pass`, `move 1` (`move 0` if no slot can be chosen) or `switch 2`.
 impl fmt::Display for Choice {
     fn fmt(&self, f: &mut fmt::Formatter<'_>) -> fmt::Result {
         match self {
@@ -135,7 +135,7 @@ impl Side {
 }
 
 impl Outcome {
-    /// The side that has won; `None` while the battle goes on, and where neither has.
+    /// The side that has won; `None` while the battle goes on, and if neither side won.
     #[must_use]
     pub fn winner(self) -> Option<Side> {
         match self {
@@ -145,7 +145,7 @@ impl Outcome {
         }
     }
 
-    /// The place among the variants, and the code of a fault.
+    /// The index of the variant, and the code of a fault.
     fn key(self) -> (u8, u8) {
         match self {
             Outcome::Ongoing => (0, 0),

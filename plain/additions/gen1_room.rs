@@ -1,4 +1,4 @@
-//! What plain Rust has beside the sources (docs/PLAIN.md, "What is added"): rooms as values.
+//! Added to the sources (docs/PLAIN.md, "What is added"): rooms as values.
 use crate::Room;
 use crate::plain::PlainRoom;
 use core::fmt;
@@ -33,7 +33,7 @@ impl Clone for PlainRoom {
     }
 }
 
-/// What is behind the log's end does not count.
+/// Bytes past the end of the log are not compared.
 impl PartialEq for PlainRoom {
     fn eq(&self, other: &PlainRoom) -> bool {
         let parts = |room: &PlainRoom| (room.number, room.one, room.two, room.log_length);

@@ -1,4 +1,4 @@
-//! What plain Rust has beside the sources (docs/PLAIN.md, "What is added"): members as serde's data.
+//! Added to the sources (docs/PLAIN.md, "What is added"): serde for members.
 #[cfg(feature = "serde")]
 mod serde_impls {
     use crate::MemberSpec;
@@ -6,7 +6,7 @@ mod serde_impls {
     use gen1_tables::{MoveId, Species};
     use serde::{Deserialize, Deserializer, Serialize, Serializer};
 
-    /// The object of docs/PROGRAM.md, "Input". Each key has to be there; others are not looked at, as the program has it.
+    /// The object of docs/PROGRAM.md, "Input". Each key is required; other keys are ignored, as in the program.
     #[derive(Serialize, Deserialize)]
     #[serde(remote = "MemberSpec")]
     struct MemberObject {

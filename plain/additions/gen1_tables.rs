@@ -1,9 +1,9 @@
-//! What plain Rust has beside the sources (docs/PLAIN.md, "What is added"): names as text, and types that maps and sorted lists take.
+//! Added to the sources (docs/PLAIN.md, "What is added"): names as text, and types that can be keys of maps and be sorted.
 use crate::{Element, MoveId, Species, Stat};
 use core::fmt;
 use core::str::FromStr;
 
-/// A text that names no species, or no move. Names are compared to the letter (docs/TABLES.md).
+/// A text that names no species, or no move. Names are compared exactly (docs/TABLES.md).
 #[derive(Clone, Copy, Debug, PartialEq, Eq)]
 pub struct UnknownName;
 
@@ -81,7 +81,7 @@ impl fmt::Display for Stat {
 #[cfg(feature = "serde")]
 gen1_adapter::serde_as_text!(Species, MoveId);
 
-/// Orders and hashes values as their keys are.
+/// Orders and hashes values by their keys.
 #[doc(hidden)]
 #[macro_export]
 macro_rules! ordered_by_key {

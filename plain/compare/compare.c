@@ -1,13 +1,13 @@
 /*
- * Plays fuzzed battles with two builds of the C library, and compares all that they answer and leave.
+ * Plays fuzzed battles with two builds of the C library, and compares everything that they return and write.
  *
  *     cc -O2 -I include plain/compare/compare.c -ldl -o compare
  *     ./compare FIRST.so SECOND.so BATTLES STRINGS SEED
  *
- * Of each battle: what gen1_new answers, and of each update its answer, log, 384 bytes, result, choices, events, lines and a damage.
- * Of each string, which is a battle's bytes with some of them changed, or any bytes: what loading answers and leaves; the same calls on
- * the bytes as they are, whatever they stand for; and what the log reader makes of them. It prints the first differences, and then one
- * line of counts. Status 0 where there is no difference, 1 where there is one, 2 where a library could not be used.
+ * For each battle it compares the return value of gen1_new and, after each update, the return value, log, 384 bytes, result, choices,
+ * events, lines and a damage. A string is a battle's bytes with some of them changed, or random bytes. For each string it compares
+ * loading it, the same calls on the bytes whether or not they load, and what the log reader makes of them. It prints the first
+ * differences, and then one line of counts. Status: 0 no difference, 1 a difference, 2 a library could not be used.
  */
 #include <dlfcn.h>
 #include <stdio.h>
@@ -31,7 +31,7 @@ static library both[2];
 static uint64_t state;
 static long differences, updates;
 
-/* Battles that were met, for strings to begin from. */
+/* Battles that were played, for strings to begin from. */
 static gen1_battle met[256];
 static uint8_t met_log[256][512];
 
@@ -125,7 +125,7 @@ static void compare_log(const uint8_t *log, size_t size)
     }
 }
 
-/* What both libraries answer of one battle; the choices of each side are left. */
+/* Compares what both libraries return for one battle; the choices of each side are left in place. */
 static uint8_t looked(gen1_battle battles[2], uint8_t choices[2][9], uint8_t counts[2])
 {
     uint8_t results[2], side = (uint8_t)(draw(50) ? 1 + draw(2) : draw(256)), move = (uint8_t)draw(170);
@@ -151,7 +151,7 @@ static uint8_t looked(gen1_battle battles[2], uint8_t choices[2][9], uint8_t cou
     return results[0];
 }
 
-/* An update by both; whether it was accepted. */
+/* Updates with both libraries; returns whether the update was accepted. */
 static bool updated(gen1_battle battles[2], uint8_t one, uint8_t two)
 {
     uint8_t logs[2][GEN1_LOG_ROOM], answers[2];
@@ -201,7 +201,7 @@ static bool battle_played(void)
     return true;
 }
 
-/* Some bytes of a battle that was met changed; or any bytes. */
+/* A string: a played battle with some bytes changed, or random bytes. */
 static size_t a_string(uint8_t bytes[400])
 {
     size_t size = draw(100) ? 384 : draw(401);

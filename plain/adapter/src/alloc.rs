@@ -1,7 +1,7 @@
-//! Memory: in the kit each list is passed its allocator, and each growth answers whether there was memory.
+//! Memory: in the kit each list is passed its allocator, and each growth returns whether there was enough memory.
 use core::fmt;
 
-/// There was not enough memory. Rust's own is not stable.
+/// There was not enough memory. Rust's own `AllocError` is not stable.
 #[derive(Clone, Copy, Debug, PartialEq, Eq)]
 pub struct AllocError;
 

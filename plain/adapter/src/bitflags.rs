@@ -1,5 +1,5 @@
-//! Sets of bits. The kit's crate has the form of bitflags 2 that adds to a struct; Debian 12 has bitflags 1, which has no such
-//! form. So the calls that the sources make stand here.
+//! Sets of bits. The kit's crate has the form of bitflags 2 that adds to a struct. Debian 12 has bitflags 1, which lacks that
+//! form, so the calls that the sources make are defined here.
 use core::ops::{BitAnd, BitOr, Not};
 
 pub use crate::bitflag_items;
@@ -28,7 +28,7 @@ impl<B> Flag<B> {
     }
 }
 
-/// A set of bits, with bits that have no name among them.
+/// A set of bits, which may include bits that have no name.
 pub trait Flags: Copy + 'static {
     /// The number that holds the bits.
     type Bits: Copy
@@ -57,12 +57,12 @@ pub trait Flags: Copy + 'static {
         self.bits() & other.bits() != Self::Bits::default()
     }
 
-    /// Puts the bits of another set in.
+    /// Adds the bits of another set.
     fn insert(&mut self, other: Self) {
         *self = self.union(other);
     }
 
-    /// Takes the bits of another set out.
+    /// Removes the bits of another set.
     fn remove(&mut self, other: Self) {
         *self = Self::from_bits_retain(self.bits() & !other.bits());
     }

@@ -1,12 +1,12 @@
-//! Slices as C passes them: the sources take a slice, for which C passes a pointer and a length. Rust's own way to pass a slice to
-//! a C function is not C's.
+//! Slices as C passes them: a pointer and a length. The sources take a slice, and Rust has no stable layout for a slice in a call
+//! from C.
 #![allow(unsafe_code)]
 
-/// A slice of C's. No bytes need no memory, and so no pointer.
+/// A slice from C. With a length of 0 the pointer is not used and may be null.
 ///
 /// # Safety
 ///
-/// The pointer points to `len` items that nothing writes while the slice is used, unless `len` is 0.
+/// Unless `len` is 0, the pointer points to `len` items that nothing writes while the slice is used.
 pub unsafe fn slice<'a, T>(begin: *const T, len: usize) -> &'a [T] {
     if len == 0 {
         &[]
@@ -15,11 +15,11 @@ pub unsafe fn slice<'a, T>(begin: *const T, len: usize) -> &'a [T] {
     }
 }
 
-/// A slice of C's that may be written.
+/// A mutable slice from C. With a length of 0 the pointer is not used and may be null.
 ///
 /// # Safety
 ///
-/// The pointer points to `len` items that nothing else uses while the slice is used, unless `len` is 0.
+/// Unless `len` is 0, the pointer points to `len` items that nothing else uses while the slice is used.
 pub unsafe fn slice_mut<'a, T>(begin: *mut T, len: usize) -> &'a mut [T] {
     if len == 0 {
         &mut []

@@ -1,5 +1,5 @@
-//! Reads and writes of bytes. Rust's std has these traits, core has not: with the feature `std` each of std's readers and writers
-//! is one of these.
+//! Traits for reading and writing bytes, which Rust's std has and core lacks. With the feature `std` each of std's readers and
+//! writers implements them.
 use crate::alloc::{AllocError, Allocator};
 use crate::prelude::Vec;
 
@@ -7,23 +7,23 @@ use crate::prelude::Vec;
 #[derive(Clone, Copy, Debug, PartialEq, Eq)]
 pub struct Error;
 
-/// What bytes are read from.
+/// A source of bytes.
 pub trait Read {
-    /// Reads into the front of the bytes, and answers how many: 0 at the end.
+    /// Reads into a prefix of `bytes`, and returns its length: 0 at the end.
     ///
     /// # Errors
     ///
-    /// Where the reader failed.
+    /// If the reader failed.
     fn read(&mut self, bytes: &mut [u8]) -> Result<usize, Error>;
 }
 
-/// What bytes are written to.
+/// A destination for bytes.
 pub trait Write {
-    /// Writes a front of the bytes, and answers how many.
+    /// Writes a prefix of `bytes`, and returns its length.
     ///
     /// # Errors
     ///
-    /// Where the writer failed.
+    /// If the writer failed.
     fn write(&mut self, bytes: &[u8]) -> Result<usize, Error>;
 }
 

@@ -1,7 +1,7 @@
-//! What the sources of the engine call and Rust does not have, or has in another form (docs/PLAIN.md, "The adapter").
+//! Items that the engine's sources use and Rust lacks, or has in another form (docs/PLAIN.md, "The adapter").
 //!
-//! The sources are written against the std and the crates of the kit that proves them. Nearly all of that has the names and the
-//! meaning of Rust's. What has not stands here, each item with why.
+//! The sources are written against the std and the crates of the kit that proves them. Nearly all items there have the same names
+//! and meaning as Rust's. The others are defined here, each with the reason.
 #![cfg_attr(not(feature = "std"), no_std)]
 #![deny(unsafe_code)]
 

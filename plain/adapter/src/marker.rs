@@ -1,5 +1,5 @@
-//! Names that proofs alone need.
+//! Names that only proofs need.
 
-/// Stands for whatever name a proof picks where a function is called that is generic in one. No value of it is made.
+/// The type argument at calls of functions that are generic in a name that only proofs use. It is never constructed.
 #[derive(Clone, Copy, Debug)]
 pub struct Brand;

@@ -1,5 +1,5 @@
-//! Lists and texts that are passed an allocator and answer where there is no memory. Rust's have neither without unstable
-//! features; without the feature `alloc` each growth is refused, and no allocator is needed.
+//! Lists and strings that are passed an allocator and return an error when memory runs out. Rust's own do neither without
+//! unstable features. Without the feature `alloc` each growth is refused, and no allocator is needed.
 use crate::alloc::{AllocError, Allocator, Global};
 use core::fmt;
 use core::ops::Deref;
@@ -24,7 +24,7 @@ impl<T, A: Allocator> Vec<T, A> {
         Vec { items, allocator }
     }
 
-    /// Room for so many items more.
+    /// Reserves room for `more` items.
     #[cfg(feature = "alloc")]
     fn reserve(&mut self, more: usize) -> Result<(), AllocError> {
         self.items.try_reserve(more).map_err(|_| AllocError)
@@ -34,7 +34,7 @@ impl<T, A: Allocator> Vec<T, A> {
     ///
     /// # Errors
     ///
-    /// `AllocError` where there is no memory; the list is as it was.
+    /// `AllocError` if memory runs out; the list is unchanged.
     #[cfg(feature = "alloc")]
     pub fn push(&mut self, item: T) -> Result<(), AllocError> {
         self.reserve(1)?;
@@ -46,7 +46,7 @@ impl<T, A: Allocator> Vec<T, A> {
     ///
     /// # Errors
     ///
-    /// `AllocError` where there is no memory; the list is as it was.
+    /// `AllocError` if memory runs out; the list is unchanged.
     #[cfg(feature = "alloc")]
     pub fn extend_from_slice(&mut self, items: &[T]) -> Result<(), AllocError>
     where
@@ -57,11 +57,11 @@ impl<T, A: Allocator> Vec<T, A> {
         Ok(())
     }
 
-    /// Without an allocator there is room for no item.
+    /// Appends items. Without an allocator there is no room for any.
     ///
     /// # Errors
     ///
-    /// `AllocError` where there are any.
+    /// `AllocError` unless `items` is empty.
     #[cfg(not(feature = "alloc"))]
     pub fn extend_from_slice(&mut self, items: &[T]) -> Result<(), AllocError> {
         if items.is_empty() {
@@ -71,7 +71,7 @@ impl<T, A: Allocator> Vec<T, A> {
         }
     }
 
-    /// The items, all of them.
+    /// All items.
     pub fn as_slice(&self) -> &[T] {
         &self.items
     }
@@ -85,18 +85,18 @@ impl<T, A: Allocator> Deref for Vec<T, A> {
     }
 }
 
-/// A text that was made by growing.
+/// A string that grows.
 #[derive(Clone, Debug, Default, PartialEq, Eq)]
 pub struct String<A = Global> {
     bytes: Vec<u8, A>,
 }
 
 impl<A: Allocator> String<A> {
-    /// The text of these bytes.
+    /// The string with these bytes.
     ///
     /// # Errors
     ///
-    /// Where they are no UTF-8.
+    /// If they aren't UTF-8.
     pub fn from_utf8(bytes: Vec<u8, A>) -> Result<Self, core::str::Utf8Error> {
         match core::str::from_utf8(&bytes) {
             Ok(_) => Ok(String { bytes }),

@@ -1,6 +1,6 @@
 //! Types that serde writes as their text, and reads from it.
 
-/// Writes `Serialize` by `Display` and `Deserialize` by `FromStr`.
+/// Implements `Serialize` through `Display`, and `Deserialize` through `FromStr`.
 #[macro_export]
 macro_rules! serde_as_text {
     ($($name:ident),*) => {$(

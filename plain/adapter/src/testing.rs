@@ -1,12 +1,12 @@
-//! What the kit passes to a test, where Rust passes nothing.
+//! The arguments that the kit passes to a test. Rust passes none.
 use crate::alloc::{AllocError, Allocator, Global};
 use crate::prelude::{String, Vec};
 use std::fmt;
 
-/// What may end the process: in Rust everything may.
+/// Permission to end the process. In Rust any function may.
 pub trait Abort {}
 
-/// What a test of the kit's is passed.
+/// The argument that the kit passes to a test.
 #[derive(Clone, Copy, Debug)]
 pub struct HostRuntime;
 
@@ -19,7 +19,7 @@ impl HostRuntime {
     }
 }
 
-/// Why a test failed: whatever can be shown.
+/// Why a test failed: any value that can be displayed.
 pub struct Fail(std::string::String);
 
 impl fmt::Debug for Fail {
@@ -34,7 +34,7 @@ impl<T: fmt::Display> From<T> for Fail {
     }
 }
 
-/// A text in memory of an allocator, or that there is none. Rust's `format!` ends the process then.
+/// A formatted string, or an error if memory runs out, where Rust's `format!` ends the process.
 ///
 /// # Errors
 ///

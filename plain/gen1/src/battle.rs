@@ -1,4 +1,4 @@
-//! Battles, and what an update of one tells.
+//! Battles, and the result of an update.
 use crate::lines::Lines;
 use crate::{
     BattleResult, Choice, Choices, Event, EventList, LoadFault, LogBuf, OfferedMask, Outcome,
@@ -10,8 +10,8 @@ use gen1_rolls::LinkRandom;
 
 /// A battle of two teams: 384 bytes, changed in place.
 ///
-/// Two battles that were made alike and updated alike are equal, byte for byte; a clone goes on by itself. It is aligned to 64
-/// bytes, so that it lies in six lines of a cache, in an array too.
+/// Two battles that were created and updated in the same way are equal, byte for byte. A clone is independent. A battle is aligned
+/// to 64 bytes, so it occupies exactly six cache lines, also in an array.
 #[derive(Clone, PartialEq, Eq, Hash)]
 #[repr(align(64))]
 pub struct Battle {
@@ -19,9 +19,9 @@ pub struct Battle {
 }
 
 impl Battle {
-    /// A battle before its first update, with the ten numbers of a link battle's seed, no rules and a turn limit of 1,000.
+    /// Creates a battle before its first update, with the ten seed bytes of a link battle, no rules and a turn limit of 1,000.
     ///
-    /// In the first update both sides pass, and it sends out both first members.
+    /// In the first update both sides pass; it sends out the first member of each team.
     #[must_use]
     pub fn new(one: &Team, two: &Team, seed: [u8; 10]) -> Self {
         Battle {
@@ -29,7 +29,7 @@ impl Battle {
         }
     }
 
-    /// The same under rules (sleep clause, freeze clause) and a turn limit of one's own.
+    /// As [`Battle::new`], with the given rules (sleep clause, freeze clause) and turn limit.
     #[must_use]
     pub fn with_limit(
         one: &Team,
@@ -43,55 +43,55 @@ impl Battle {
         }
     }
 
-    /// The battle that some bytes stand for, as [`Battle::bytes`] gives them.
+    /// Loads a battle from bytes, as [`Battle::bytes`] returns them.
     ///
     /// # Errors
     ///
-    /// The first of seven tests that the bytes fail (docs/LAYOUT.md, "Loading"). Bytes that pass stand for a valid battle.
+    /// The first of seven tests that the bytes fail (docs/LAYOUT.md, "Loading"). Bytes that pass all of them are a valid battle.
     pub fn load(bytes: &[u8]) -> Result<Self, LoadFault> {
         Ok(Battle {
             inner: gen1_engine::Battle::load(bytes)?,
         })
     }
 
-    /// The 384 bytes of the battle (docs/LAYOUT.md): all there is of it.
+    /// The 384 bytes of the battle (docs/LAYOUT.md), which are its whole state.
     #[must_use]
     pub fn bytes(&self) -> &[u8] {
         self.inner.bytes()
     }
 
-    /// What a side may choose now, by rising bytes: at least one choice while the battle goes on, at most nine, and none once it
-    /// is over.
+    /// The choices that a side is offered now, in the order of their bytes: one to nine while the battle goes on, none once it is
+    /// over.
     #[must_use]
     pub fn choices(&self, side: Side) -> Choices {
         self.inner.choices(side)
     }
 
-    /// The same as twelve bits, which takes a fraction of the time.
+    /// The offered choices as twelve bits, which takes a fraction of the time of [`Battle::choices`].
     #[must_use]
     pub fn offered_mask(&self, side: Side) -> OfferedMask {
         OfferedMask(self.inner.offered_mask(side))
     }
 
-    /// How the battle stands, and what is asked of each side.
+    /// The outcome so far, and what is asked of each side.
     #[must_use]
     pub fn result(&self) -> BattleResult {
         self.inner.result()
     }
 
-    /// How the battle stands.
+    /// The outcome so far.
     #[must_use]
     pub fn outcome(&self) -> Outcome {
         self.result().outcome
     }
 
-    /// Whether no update is taken any more.
+    /// Whether the battle is over, so that no further update is accepted.
     #[must_use]
     pub fn is_over(&self) -> bool {
         self.outcome() != Outcome::Ongoing
     }
 
-    /// The rules that the battle is fought under.
+    /// The rules of the battle.
     #[must_use]
     pub fn rules(&self) -> Rules {
         self.inner.rules()
@@ -103,9 +103,9 @@ impl Battle {
         self.inner.limit()
     }
 
-    /// Gives the battle ten other numbers to draw, from the first of them on, and changes nothing else.
+    /// Replaces the ten random numbers, of which the first is drawn next, and changes nothing else.
     ///
-    /// A clone draws what the battle will draw: a search that is not to know that reseeds each clone before it plays it out.
+    /// A clone draws the same numbers as the battle. A search that must not know them reseeds each clone before it plays it out.
     ///
     /// ```
     /// # use gen1::{Battle, Team, member};
@@ -119,7 +119,7 @@ impl Battle {
         self.inner.reseed(&LinkRandom::new(seed));
     }
 
-    /// Updates the battle by a choice of each side, and answers what happened.
+    /// Updates the battle with a choice of each side, and returns what happened.
     ///
     /// ```
     /// # use gen1::{Battle, Choice, Refusal, Side, Team, member};
@@ -135,19 +135,20 @@ impl Battle {
     ///
     /// # Errors
     ///
-    /// The first reason that applies: the battle is over, or a side's choice is not one of [`Battle::choices`]. The battle is as
-    /// it was then.
+    /// The first reason that applies: the battle is over, or a side's choice is not one of [`Battle::choices`]. The battle is
+    /// unchanged.
     pub fn update(&mut self, one: Choice, two: Choice) -> Result<Update, Refusal> {
         let mut events = EventList::new();
         let result = self.inner.update_events(one, two, &mut events)?;
         Ok(Update { result, events })
     }
 
-    /// The same with a list of one's own for the events, which is used again and again: it holds those of this update alone.
+    /// As [`Battle::update`], with the caller's list for the events, which can be reused. Its contents are replaced by the events of
+    /// this update.
     ///
     /// # Errors
     ///
-    /// As [`Battle::update`] has them; battle and list are as they were.
+    /// As for [`Battle::update`]; the battle and the list are unchanged.
     pub fn update_events(
         &mut self,
         one: Choice,
@@ -157,12 +158,12 @@ impl Battle {
         self.inner.update_events(one, two, events)
     }
 
-    /// The same by the bytes of choices (docs/MECHANICS.md, "Offered choices"), of which one that stands for no choice was not
-    /// offered.
+    /// As [`Battle::update_events`], with choices as bytes (docs/MECHANICS.md, "Offered choices"). A byte that is not a choice is
+    /// refused as not offered.
     ///
     /// # Errors
     ///
-    /// As [`Battle::update`] has them; battle and list are as they were.
+    /// As for [`Battle::update`]; the battle and the list are unchanged.
     pub fn update_events_by_bytes(
         &mut self,
         one: u8,
@@ -172,19 +173,19 @@ impl Battle {
         self.inner.update_events_by_bytes(one, two, events)
     }
 
-    /// An update of which nothing is told but how the battle then stands: for searches, which read no events.
+    /// Updates the battle without reporting events, and returns the result after it: for searches, which don't read events.
     ///
     /// # Errors
     ///
-    /// As [`Battle::update`] has them; the battle is as it was.
+    /// As for [`Battle::update`]; the battle is unchanged.
     pub fn update_silent(&mut self, one: Choice, two: Choice) -> Result<BattleResult, Refusal> {
         self.inner.update_silent(one, two)
     }
 
-    /// [`Battle::update_silent`] by two choices that were taken from what is offered, which are not tested again.
+    /// As [`Battle::update_silent`], for two choices that are known to be offered, which are not checked again.
     ///
-    /// By others the battle may be none afterwards, and then [`Battle::state`], [`Battle::damage`] and [`Battle::odds`] may panic; that
-    /// harms no memory. A debug build tests them.
+    /// With any other choice the battle may be invalid afterwards. [`Battle::state`], [`Battle::damage`] and [`Battle::odds`] may
+    /// then panic, but memory stays safe. A debug build checks both choices.
     ///
     /// ```
     /// # use gen1::{Battle, Side, Team, member};
@@ -198,7 +199,7 @@ impl Battle {
     ///
     /// # Panics
     ///
-    /// In a debug build, where a choice is not offered.
+    /// In a debug build, if a choice is not offered.
     pub fn update_offered(&mut self, one: Choice, two: Choice) -> BattleResult {
         debug_assert!(
             self.choices(Side::One).contains(&one) && self.choices(Side::Two).contains(&two),
@@ -234,7 +235,7 @@ impl TryFrom<&[u8]> for Battle {
     }
 }
 
-/// What an update of a battle told.
+/// The result of an update, and its events.
 #[derive(Clone, Debug, PartialEq, Eq)]
 pub struct Update {
     result: BattleResult,
@@ -242,24 +243,24 @@ pub struct Update {
 }
 
 impl Update {
-    /// How the battle stands after the update, and what is asked of each side for the next.
+    /// The outcome after the update, and what is asked of each side for the next one.
     #[must_use]
     pub fn result(&self) -> BattleResult {
         self.result
     }
 
-    /// What happened, in its order: at most 64 events.
+    /// The events in their order, at most 64.
     pub fn events(&self) -> impl ExactSizeIterator<Item = Event> + Clone + '_ {
         self.events.iter().copied()
     }
 
-    /// The same as lines of text, one for each event.
+    /// The events as lines of text, one for each.
     #[must_use]
     pub fn lines(&self) -> Lines<'_> {
         Lines::new(&self.events)
     }
 
-    /// The same as log bytes, at most 512, which [`events_of`](crate::events_of) reads again.
+    /// The events as log bytes, at most 512, which [`events_of`](crate::events_of) reads back.
     #[must_use]
     pub fn log(&self) -> LogBuf {
         let mut log = LogBuf::new();

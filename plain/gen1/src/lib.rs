@@ -1,8 +1,8 @@
-//! First-generation Pokémon link battles: two teams, ten seed bytes and a list of choices give a battle that is exact to the last
-//! draw. A battle is 384 bytes that are changed in place; an update takes no memory.
+//! First-generation Pokémon link battles: two teams, ten seed bytes and a list of choices determine a battle, down to the last
+//! random number drawn. A battle is 384 bytes that are updated in place; an update allocates no memory.
 //!
-//! The sources are those of a proved engine with their contracts taken off, built by your own compiler (docs/PLAIN.md of the
-//! repository says what was proved and how the two builds are compared).
+//! The sources are those of a proved engine without their contracts, built by your own compiler. docs/PLAIN.md in the repository
+//! says what was proved and how the two builds are compared.
 //!
 //! # A battle in ten lines
 //!
@@ -31,17 +31,17 @@
 //! |---|---|
 //! | teams | [`member`], [`MemberSpec`], [`Team`], [`Species`], [`MoveId`] |
 //! | battles | [`Battle`], [`Choice`], [`Update`], [`Event`], [`Line`] |
-//! | all that a battle stands for | [`Battle::state`], [`State`] |
+//! | the whole state of a battle | [`Battle::state`], [`State`] |
 //! | damage and exact chances | [`Battle::damage`], [`Battle::odds`] |
 //! | searches | [`Battle::offered_mask`], [`Battle::update_silent`], [`Battle::update_offered`], [`Battle::reseed`] |
 //! | logs | [`Update::log`], [`events_of`], [`Line::of`] |
-//! | what a watcher knows | [`Spectator`] |
-//! | two players who choose apart from each other | [`Room`] |
+//! | what a spectator knows | [`Spectator`] |
+//! | two players who choose independently | [`Room`] |
 //!
 //! # Features
 //!
 //! The crate is `no_std` and needs no allocator. `serde` adds `Serialize` and `Deserialize` for members of teams, names, choices,
-//! sides and battles. A member is the object of docs/PROGRAM.md, a battle its 384 bytes, and all else its text:
+//! sides and battles. A member is the object of docs/PROGRAM.md, a battle its 384 bytes, and everything else its text:
 //!
 #![cfg_attr(feature = "serde", doc = "```")]
 #![cfg_attr(not(feature = "serde"), doc = "```ignore")]
@@ -53,7 +53,7 @@
 //!
 //! # Errors
 //!
-//! Bad input gets a named error that says what was wrong, and nothing has changed then.
+//! Bad input returns a named error that says what was wrong, and changes nothing.
 #![no_std]
 #![forbid(unsafe_code)]
 #![warn(missing_docs, missing_debug_implementations)]
@@ -68,7 +68,7 @@ mod serde_impls;
 mod state;
 mod teams;
 
-/// A list that lies in place: what [`MemberSpec::moves`], [`State`] and [`Choices`] hold.
+/// A list with a fixed capacity, stored inline: the type of lists in [`MemberSpec::moves`], [`State`] and [`Choices`].
 #[doc(no_inline)]
 pub use arrayvec::ArrayVec;
 pub use battle::{Battle, Update};
@@ -88,7 +88,7 @@ pub use gen1_machine::{
 pub use gen1_room::{Reply, RoomRefusal, Submitted};
 /// # Example
 ///
-/// The log of a battle comes in pieces, cut anywhere:
+/// The log of a battle may come in pieces of any size:
 ///
 /// ```
 /// use gen1::{Battle, Choice, LogReader, Side, Spectator, Team, member};
@@ -122,7 +122,7 @@ pub use room::Room;
 pub use state::{ActiveState, MemberState, SideState, State};
 pub use teams::{NameFault, member};
 
-/// Teams out of the text of a team builder: its export text, and packed lines (docs/TEAM_TEXT.md).
+/// Teams from the text of a team builder: its export text, and packed lines (docs/TEAM_TEXT.md).
 ///
 /// ```
 /// use gen1::{Battle, text::team_in_text};
@@ -140,7 +140,7 @@ pub mod text {
     };
 }
 
-/// The example of the README is run too.
+/// Runs the example of the README as a test.
 #[cfg(doctest)]
 #[doc = include_str!("../README.md")]
 struct Readme;

@@ -1,11 +1,11 @@
-//! Events as lines of text, and events out of log bytes.
+//! Events as lines of text, and events from log bytes.
 use crate::{Event, LogFault, LogReader};
 use arrayvec::ArrayString;
 use core::fmt;
 use core::ops::Deref;
 use gen1_machine::{DeviceFault, Sink};
 
-/// No line is longer, its line feed left out.
+/// The length of the longest line in bytes, without its line feed.
 const LENGTH: usize = 96;
 
 /// The line of an event (docs/MECHANICS.md, "Lines"), without a line feed: `|move|p1a: Tauros|Strength|p2a: Tauros`.
@@ -19,7 +19,7 @@ impl Line {
     #[must_use]
     pub fn of(event: &Event) -> Self {
         let mut text = Text(ArrayString::new());
-        // No line is longer than its room, so no write fails.
+        // No line is longer than the buffer, so no write fails.
         let _ = gen1_printer::print_line(event, &mut text);
         if text.0.ends_with('\n') {
             text.0.pop();
@@ -60,7 +60,7 @@ impl fmt::Debug for Line {
     }
 }
 
-/// The text of a line on its way.
+/// The text of a line while it is written.
 struct Text(ArrayString<LENGTH>);
 
 impl Sink for Text {
@@ -75,7 +75,7 @@ impl Sink for Text {
     }
 }
 
-/// The lines of some events, in their order. [`Update::lines`](crate::Update::lines) gives it.
+/// An iterator over the lines of events, in their order. [`Update::lines`](crate::Update::lines) returns it.
 #[derive(Clone, Debug)]
 pub struct Lines<'a> {
     events: core::slice::Iter<'a, Event>,
@@ -111,9 +111,9 @@ impl DoubleEndedIterator for Lines<'_> {
     }
 }
 
-/// The events of log bytes, those of any number of updates one after the other (docs/MECHANICS.md, "Log bytes").
+/// Iterates over the events of log bytes, of any number of updates one after the other (docs/MECHANICS.md, "Log bytes").
 ///
-/// The first fault is the last item: bytes that are no log, or that end within an event.
+/// An error is the last item: the bytes from there on are not a log, or end within an event.
 ///
 /// ```
 /// use gen1::{Event, LogFault, Side, events_of};
@@ -129,7 +129,7 @@ pub fn events_of(log: &[u8]) -> Events<'_> {
     }
 }
 
-/// The events of log bytes. [`events_of`] makes it.
+/// An iterator over the events of log bytes. [`events_of`] returns it.
 pub struct Events<'a> {
     reader: Option<LogReader>,
     rest: &'a [u8],

@@ -1,8 +1,8 @@
-//! What a side may choose, in one number.
+//! The choices that a side is offered, as one number.
 use crate::Choice;
 use gen1_requests::{choice_at, count_of};
 
-/// What a side may choose, in twelve bits: for who draws a choice, or looks whether one is there, and needs no list.
+/// The choices that a side is offered, as twelve bits: for callers that draw a choice, or test for one, and need no list.
 ///
 /// ```
 /// # use gen1::{Battle, Choice, Side, Team, member};
@@ -19,7 +19,7 @@ use gen1_requests::{choice_at, count_of};
 pub struct OfferedMask(pub(crate) u16);
 
 impl OfferedMask {
-    /// A bit for each choice, from the lowest: Pass, Move with slot 0 to 4, Switch to place 1 to 6. All are 0 once the battle is
+    /// A bit for each choice, from the lowest: pass, move with slot 0 to 4, switch to place 1 to 6. All are 0 once the battle is
     /// over.
     #[must_use]
     pub const fn bits(self) -> u16 {
@@ -32,20 +32,19 @@ impl OfferedMask {
         usize::from(count_of(self.0))
     }
 
-    /// Whether there is none: the battle is over.
+    /// Whether there is no choice, which means that the battle is over.
     #[must_use]
     pub const fn is_empty(self) -> bool {
         self.0 == 0
     }
 
-    /// The choice at a place, counted from 0 by rising bytes, as [`Battle::choices`](crate::Battle::choices) has them; None where
-    /// there are not so many.
+    /// The choice at an index from 0, in the order of [`Battle::choices`](crate::Battle::choices); `None` past the last one.
     #[must_use]
     pub fn get(self, place: usize) -> Option<Choice> {
         (place < self.len()).then(|| choice_at(self.0, place as u8))
     }
 
-    /// The choices by rising bytes.
+    /// The choices in the order of their bytes.
     pub fn iter(self) -> impl Iterator<Item = Choice> {
         (0..self.len()).filter_map(move |place| self.get(place))
     }

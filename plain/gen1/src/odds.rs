@@ -1,4 +1,4 @@
-//! The damage of a hit, and how likely it is, as a battle stands.
+//! The damage of a move and its odds, in the current state of a battle.
 use crate::{Battle, MoveId, Side};
 use core::fmt;
 use gen1_layout::Packed;
@@ -8,9 +8,9 @@ use gen1_odds::Damages;
 #[derive(Clone, Copy, Debug, PartialEq, Eq)]
 #[non_exhaustive]
 pub enum DamageRefusal {
-    /// The move has not the usual damage: it has no power, a fixed damage, or rules of its own.
+    /// The move doesn't use the usual damage formula: it has no power, a fixed damage, or rules of its own.
     NoUsualDamage(MoveId),
-    /// Nobody is out yet: the battle has had no update.
+    /// No member is out yet: the battle has had no update.
     NobodyOut,
     /// The damage would be divided by 0.
     DividedByZero,
@@ -19,8 +19,8 @@ pub enum DamageRefusal {
 impl fmt::Display for DamageRefusal {
     fn fmt(&self, f: &mut fmt::Formatter<'_>) -> fmt::Result {
         match self {
-            DamageRefusal::NoUsualDamage(id) => write!(f, "{id} has not the usual damage"),
-            DamageRefusal::NobodyOut => f.write_str("nobody is out before the first update"),
+            DamageRefusal::NoUsualDamage(id) => write!(f, "{id} does not have the usual damage"),
+            DamageRefusal::NobodyOut => f.write_str("no member is out before the first update"),
             DamageRefusal::DividedByZero => f.write_str("the damage would be divided by 0"),
         }
     }
@@ -28,24 +28,26 @@ impl fmt::Display for DamageRefusal {
 
 impl core::error::Error for DamageRefusal {}
 
-/// What a use of a move would come to. Chances are exact: of the 256 numbers that may be drawn, how many bring it about.
+/// The odds of a move: its damage, and its chances of a critical hit and of a hit.
+///
+/// Chances are exact. They are given as how many of the 256 numbers that may be drawn have that result.
 #[derive(Clone, Debug, PartialEq, Eq)]
 #[non_exhaustive]
 pub struct Odds {
-    /// The damage where the hit is not critical, at each factor from 217 to 255, each as likely as another; or why there is none.
+    /// The damage of a hit that is not critical, at each factor from 217 to 255, which are equally likely; or why there is none.
     pub usual: Result<[u16; 39], DamageRefusal>,
-    /// The damage where it is critical, likewise.
+    /// The damage of a critical hit, in the same form.
     pub critical: Result<[u16; 39], DamageRefusal>,
-    /// How many of 256 draws make it critical, from 0 to 255; 0 for a move without the usual damage.
+    /// How many of 256 draws make the hit critical, from 0 to 255; 0 for a move without the usual damage.
     pub critical_draws: u16,
-    /// How many of 256 draws pass the hit test, from 0 to 256, for a move that takes one.
+    /// How many of 256 draws pass the hit test, from 0 to 256. It has no meaning for a move that takes no hit test.
     pub hit_draws: u16,
-    /// Whether the move takes the hit test when it is used. Moves that fail, or that work on their user alone, take none.
+    /// Whether the move takes the hit test when it is used. Moves that fail, or that affect only their user, take none.
     pub takes_hit_test: bool,
 }
 
 impl Battle {
-    /// The damage of a hit by a move that a side's member uses on the other's, as both stand now, at each factor from 217 to 255
+    /// The damage of a side's move at each factor from 217 to 255, in the current state of both members that are out
     /// (docs/MECHANICS.md, "Damage numbers" to "Factors"). The member need not know the move.
     ///
     /// ```
@@ -63,7 +65,7 @@ impl Battle {
     ///
     /// # Errors
     ///
-    /// The first that applies of those of [`DamageRefusal`], in their order.
+    /// The first variant of [`DamageRefusal`] that applies, in their order.
     pub fn damage(
         &self,
         side: Side,
@@ -78,9 +80,9 @@ impl Battle {
         gen1_hits::damage_list(&numbers).ok_or(DamageRefusal::DividedByZero)
     }
 
-    /// What a use of a move by a side would come to, as both members that are out now stand: its damage, and how many of 256 draws
-    /// make it critical or let it hit. The member need not know the move. The accuracy is that of a new use: the one that Thrash and
-    /// Rage keep is not looked at.
+    /// The odds of a side's move, in the current state of both members that are out (docs/MECHANICS.md, "Critical hits", "Hit test").
+    ///
+    /// The member need not know the move. The accuracy is that of a new use; the one that Thrash and Rage keep is ignored.
     ///
     /// ```
     /// use gen1::{Battle, Choice, Side, Team, member};
@@ -98,7 +100,7 @@ impl Battle {
     ///
     /// # Errors
     ///
-    /// [`DamageRefusal::NobodyOut`] alone. Why a move has no damage is told by [`Odds::usual`] and [`Odds::critical`].
+    /// [`DamageRefusal::NobodyOut`] only. If a move has no damage, [`Odds::usual`] and [`Odds::critical`] say why.
     pub fn odds(&self, side: Side, id: MoveId) -> Result<Odds, DamageRefusal> {
         let packed = self.out()?;
         let odds = gen1_odds::odds_of(&packed, side, id);
@@ -116,12 +118,12 @@ impl Battle {
         })
     }
 
-    /// The battle for the functions over its bytes.
+    /// The battle in the form that functions on its bytes take.
     pub(crate) fn packed(&self) -> Packed {
         Packed::load(self.bytes()).expect("only choices that are offered have updated the battle")
     }
 
-    /// The same, once members are out.
+    /// As [`Battle::packed`], but an error before members are out.
     fn out(&self) -> Result<Packed, DamageRefusal> {
         let packed = self.packed();
         if packed.turn() == 0 {

@@ -1,11 +1,11 @@
-//! Two players who choose apart from each other.
+//! Two players who choose independently.
 use crate::{Battle, Choice, Choices, Reply, Side};
 use gen1_room::plain::{self, PlainRoom};
 
-/// A battle of two players who submit their choices apart from each other, and do not see each other's.
+/// A battle of two players who submit their choices independently, and do not see each other's (docs/MECHANICS.md, "Rooms").
 ///
-/// Pairs of choices are numbered from 0, the first after the battle's start. A pair ends, and the battle is updated, as soon as
-/// both choices are there; a side of which nothing is asked passes by itself.
+/// Pairs of choices are numbered from 0, which is the first pair after the start of the battle. A pair ends, and the battle is
+/// updated, as soon as both choices are submitted. A side that is asked for nothing passes automatically.
 ///
 /// ```
 /// use gen1::{Battle, Room, RoomRefusal, Side, Submitted, Team, member};
@@ -23,14 +23,14 @@ use gen1_room::plain::{self, PlainRoom};
 /// # }
 /// ```
 ///
-/// A clone goes on by itself, as the battle's does: for who keeps a room while another one is tried.
+/// A clone is independent, as a battle's is, so that a room can be kept while a copy is tried.
 #[derive(Clone, Debug, PartialEq, Eq)]
 pub struct Room {
     inner: PlainRoom,
 }
 
 impl Room {
-    /// A room for a battle. One that has not begun is started at once.
+    /// Creates a room for a battle. A battle that has not begun is started at once.
     #[must_use]
     pub fn new(battle: Battle) -> Self {
         let mut inner = PlainRoom {
@@ -45,49 +45,48 @@ impl Room {
         Room { inner }
     }
 
-    /// The number of the current pair: how many have ended since the room was made.
+    /// The number of the current pair: how many have ended since the room was created.
     #[must_use]
     pub fn number(&self) -> u32 {
         self.inner.number
     }
 
-    /// A copy of the battle as it stands. It has everything in it, both teams and the numbers still to be drawn: it is not for
-    /// the players.
+    /// A copy of the battle. It includes both teams and the numbers still to be drawn, so it must not be shown to the players.
     #[must_use]
     pub fn battle(&self) -> Battle {
         Battle::load(self.inner.battle.as_bytes()).expect("a room keeps a battle")
     }
 
-    /// What a side may submit for the current pair, by rising bytes.
+    /// The choices that a side may submit for the current pair, in the order of their bytes.
     #[must_use]
     pub fn choices(&self, side: Side) -> Choices {
         gen1_requests::offered(&self.inner.battle, side)
     }
 
-    /// The log bytes of the last pair that ended; before there is one those of the battle's start, or none where it had begun
-    /// already. They are for both players.
+    /// The log bytes of the last pair that ended. Before the first, they are those of the battle's start, or empty if the battle had
+    /// already begun. Both players may see them.
     #[must_use]
     pub fn log(&self) -> &[u8] {
         &self.inner.log[..usize::from(self.inner.log_length)]
     }
 
-    /// A side submits a choice for the pair of a number. Once both choices are there the battle is updated, and the log is that of
-    /// the update.
+    /// Submits a side's choice for the pair with the given number. Once both choices are submitted the battle is updated, and
+    /// [`Room::log`] is the log of that update.
     ///
     /// # Errors
     ///
-    /// The first that applies: the battle is over; the number is not that of the current pair; the side has chosen already; the
-    /// choice is none of [`Room::choices`]. Nothing has changed then.
+    /// The first that applies: the battle is over; the number is not that of the current pair; the side has already chosen; the
+    /// choice is not one of [`Room::choices`]. The room is unchanged.
     pub fn submit(&mut self, side: Side, number: u32, choice: Choice) -> Reply {
         self.submit_byte(side, number, choice.byte())
     }
 
-    /// The same by the byte of a choice, as players send it (docs/MECHANICS.md, "Offered choices"): one that stands for no choice
-    /// was not offered.
+    /// As [`Room::submit`], with the choice as a byte, as players send it (docs/MECHANICS.md, "Offered choices"). A byte that is not
+    /// a choice is refused as not offered.
     ///
     /// # Errors
     ///
-    /// As [`Room::submit`] has them.
+    /// As for [`Room::submit`].
     pub fn submit_byte(&mut self, side: Side, number: u32, byte: u8) -> Reply {
         plain::submit(&mut self.inner, side, number, byte)
     }

@@ -1,4 +1,4 @@
-//! Battles as serde's data: their 384 bytes, which are loaded, and so tested, when they are read.
+//! Serde for battles: their 384 bytes, which are loaded, and so validated, when they are deserialized.
 use crate::{Battle, Line};
 use core::fmt;
 use serde::de::{Error, SeqAccess, Visitor};

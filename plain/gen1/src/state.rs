@@ -1,4 +1,4 @@
-//! A battle as a value that one can look at.
+//! The state of a battle as a value with named fields.
 use crate::{
     Battle, Conditions, DisabledSlot, Element, Kind, KnownMove, MoveId, Outcome, Place, Request,
     Rules, Side, Species, Stat, UsedMove,
@@ -7,20 +7,22 @@ use arrayvec::ArrayVec;
 use gen1_layout::Packed;
 use gen1_stats::Status;
 
-/// What a battle's bytes stand for, all of it (docs/LAYOUT.md). It has both teams and the numbers still to be drawn, so it is not for
-/// the players: what they may know is a [`Spectator`](crate::Spectator)'s.
+/// The whole state of a battle (docs/LAYOUT.md).
+///
+/// It includes both teams and the numbers still to be drawn, so it must not be shown to the players. What a spectator may know is in
+/// [`Spectator`](crate::Spectator).
 #[derive(Clone, Debug, PartialEq, Eq)]
 #[non_exhaustive]
 pub struct State {
-    /// The turn, from 0 (nobody is out yet) to the turn limit.
+    /// The turn, from 0 (no member is out yet) to the turn limit.
     pub turn: u16,
     /// The last turn, from 1 to 9,999.
     pub limit: u16,
-    /// The last damage of either side, from 0 to 65,535.
+    /// The last damage dealt by either side, from 0 to 65,535.
     pub last_damage: u16,
-    /// The rules that the battle is fought under.
+    /// The rules of the battle.
     pub rules: Rules,
-    /// How the battle stands.
+    /// The outcome so far.
     pub outcome: Outcome,
     /// What is asked of side 1, and of side 2.
     pub requests: [Request; 2],
@@ -28,7 +30,7 @@ pub struct State {
     pub index: u8,
     /// The nine link numbers in use, and the tenth byte of the seed, which is never drawn.
     pub numbers: [u8; 10],
-    /// Side 1, and side 2; [`State::side`] has them by name.
+    /// Side 1 and side 2; [`State::side`] selects one by name.
     pub sides: [SideState; 2],
 }
 
@@ -47,7 +49,7 @@ impl State {
 #[derive(Clone, Debug, PartialEq, Eq)]
 #[non_exhaustive]
 pub struct SideState {
-    /// What lasts only while the member is out that is out now; `None` before the first update, when nobody is.
+    /// The member that is out, with the state that lasts only while it is; `None` before the first update.
     pub active: Option<ActiveState>,
     /// The members, in the order of their places.
     pub members: ArrayVec<MemberState, 6>,
@@ -62,19 +64,19 @@ impl SideState {
     }
 }
 
-/// The member of a side that is out, and what lasts only while it is.
+/// The member of a side that is out, and the state that lasts only while it is.
 #[derive(Clone, Debug, PartialEq, Eq)]
 #[non_exhaustive]
 pub struct ActiveState {
     /// Which member it is.
     pub place: Place,
-    /// Its types, which need not be its species'; one that has a single type has it twice.
+    /// Its types, which need not be those of its species. A single type is listed twice.
     pub types: [Element; 2],
-    /// Attack, Defense, Speed and Special at their stages and after their penalties, from 1 to 999.
+    /// Attack, Defense, Speed and Special after stages and penalties, from 1 to 999.
     pub stats: [u16; 4],
-    /// The stages of Attack, Defense, Speed, Special, accuracy and evasion, from -6 to 6; [`ActiveState::stage`] has them by name.
+    /// The stages of Attack, Defense, Speed, Special, accuracy and evasion, from -6 to 6; [`ActiveState::stage`] selects one by name.
     pub stages: [i8; 6],
-    /// What is on: confusion, screens, Substitute and the others.
+    /// The conditions that are on: confusion, screens, Substitute and the others.
     pub conditions: Conditions,
     /// The move that was used last.
     pub current_move: UsedMove,
@@ -84,15 +86,15 @@ pub struct ActiveState {
     pub kept_accuracy: Option<u8>,
     /// The HP of the Substitute, from 0 to 249.
     pub substitute: Option<u8>,
-    /// For how many turns more it is confused, from 1 to 5.
+    /// How many more turns it is confused, from 1 to 5.
     pub confusion: Option<u8>,
-    /// The slot that Disable bars, and for how many turns more.
+    /// The slot that Disable blocks, and for how many more turns.
     pub disabled: Option<DisabledSlot>,
-    /// The counter that Toxic begins, from 0 to 64.
+    /// The counter that Toxic starts, from 0 to 64.
     pub bad_poison: Option<u8>,
-    /// For how many turns more Bide or Thrash (1 to 3) or trapping (0 to 4) goes on, of which one at most is on.
+    /// How many more turns Bide or Thrash (1 to 3) or trapping (0 to 4) goes on. At most one of them is on.
     pub turns: Option<u8>,
-    /// What Bide has stored, from 0 to 65,535; 0 without Bide.
+    /// The damage that Bide has stored, from 0 to 65,535; 0 without Bide.
     pub energy: u16,
 }
 
@@ -122,22 +124,22 @@ pub struct MemberState {
     pub level: u8,
     /// The HP that are left.
     pub hp: u16,
-    /// The HP that it began with, from 11 to 999.
+    /// Its maximum HP, from 11 to 999.
     pub max_hp: u16,
-    /// Its own Attack, Defense, Speed and Special, without stages and penalties, from 5 to 999.
+    /// Its Attack, Defense, Speed and Special before stages and penalties, from 5 to 999.
     pub stats: [u16; 4],
-    /// The kind of its status; a member with no HP has none.
+    /// The kind of its status; `None` without one. A member at 0 HP has none.
     pub status: Option<Kind>,
-    /// For how many turns more it sleeps, from 1 to 7; `None` where it is awake.
+    /// How many more turns it sleeps, from 1 to 7; `None` if it is awake.
     pub sleep: Option<u8>,
-    /// Whether it sleeps by the foe's move, and the sleep clause counts it.
+    /// Whether the sleep clause counts its sleep, because the foe's move caused it.
     pub marked: bool,
-    /// The moves that it knows, with the PP that are left, by rising slots.
+    /// The moves that it knows with their remaining PP, in the order of their slots.
     pub moves: ArrayVec<KnownMove, 4>,
 }
 
 impl Battle {
-    /// The battle as a value: members, HP, statuses, moves and PP of both sides, and of who is out stages, conditions and all else.
+    /// The whole state of the battle as a value with named fields.
     ///
     /// ```
     /// # use gen1::{Battle, Choice, Conditions, Refusal, Side, Stat, Team, member};

@@ -1,15 +1,15 @@
-//! Members of teams, by their names.
+//! Members of teams, from names.
 use crate::{MemberSpec, MoveId, Species};
 use arrayvec::ArrayVec;
 use core::fmt;
 
-/// Why there is no member of some names.
+/// Why [`member`] refuses its names.
 #[derive(Clone, Copy, Debug, PartialEq, Eq)]
 #[non_exhaustive]
 pub enum NameFault {
-    /// The species' name is not in docs/TABLES.md, to the letter.
+    /// No species in docs/TABLES.md has exactly this name.
     NoSuchSpecies,
-    /// The name of the move at this place, from 1, is not there.
+    /// No move has the name at this place, counted from 1.
     NoSuchMove(usize),
     /// There are more than four moves.
     TooManyMoves,
@@ -27,8 +27,9 @@ impl fmt::Display for NameFault {
 
 impl core::error::Error for NameFault {}
 
-/// A member at level 100 with full DVs, experience and PP, as most competitive rules have it. Its fields may be changed before it
-/// goes into a [`Team`](crate::Team), which tests them all.
+/// A member at level 100 with maximum DVs, experience and PP, as in most competitive rules.
+///
+/// Its fields may be changed before it goes into a [`Team`](crate::Team), which checks all of them.
 ///
 /// ```
 /// use gen1::{NameFault, member};
@@ -40,7 +41,7 @@ impl core::error::Error for NameFault {}
 ///
 /// # Errors
 ///
-/// A name that is unknown, or more than four moves.
+/// An unknown name, or more than four moves.
 pub fn member(species: &str, moves: &[&str]) -> Result<MemberSpec, NameFault> {
     let species = Species::from_name(species).ok_or(NameFault::NoSuchSpecies)?;
     let mut chosen = ArrayVec::new();

@@ -1,4 +1,4 @@
-//! Bad input: each gets a named error that says what was wrong, and nothing has changed.
+//! Bad input: each gets a named error that says what was wrong, and nothing changes.
 use gen1::{
     Battle, Choice, DamageRefusal, LogFault, MoveSlot, NameFault, Place, Refusal, Side, Team,
     TeamRefusal, TurnLimit, events_of, member,

@@ -1,4 +1,4 @@
-//! What searches call: masks, updates that tell nothing, and battles side by side in memory.
+//! Calls for searches: masks, updates without events, and battles side by side in memory.
 use gen1::{Battle, Choice, Refusal, Side, Team, member};
 
 fn battle() -> Battle {

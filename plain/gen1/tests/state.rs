@@ -1,4 +1,4 @@
-//! A battle as a value: against recorded bytes, each read here by docs/LAYOUT.md, and against numbers of docs/MECHANICS.md.
+//! The state of a battle: compared with recorded bytes, which are read here by docs/LAYOUT.md, and with numbers of docs/MECHANICS.md.
 use gen1::{
     ActiveState, Battle, Conditions, Element, Kind, MemberState, Outcome, Request, Rules, Side,
     Stat, State, Team, UsedMove, member,
@@ -74,7 +74,7 @@ fn compare_active(it: &ActiveState, bytes: &[u8]) {
     assert_eq!(it.stats, words(bytes, 9));
     let bits = u32::from_le_bytes(bytes[17..21].try_into().unwrap());
     assert_eq!(it.conditions.bits(), bits);
-    // A number counts while its condition is on.
+    // A number is valid while its condition is on.
     let counted = |mask: u32, at: usize| (bits & mask != 0).then_some(bytes[at]);
     assert_eq!(
         (it.substitute, it.confusion),
@@ -118,7 +118,7 @@ fn bytes_of(hex: &str) -> Vec<u8> {
     (0..hex.len()).step_by(2).map(digits).collect()
 }
 
-/// All updates of the recorded battles, where these are there (docs/PLAIN.md, "What is compared"). Among them each condition is on.
+/// All updates of the recorded battles, if the workspace has them (docs/PLAIN.md, "What is compared"). In them each condition is on.
 #[test]
 fn a_state_is_what_recorded_bytes_say() {
     let folder = Path::new(env!("CARGO_MANIFEST_DIR")).join("../battles");

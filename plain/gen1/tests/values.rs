@@ -1,4 +1,4 @@
-//! What a user of Rust expects of values: keys of maps, order, text, and members as data.
+//! Traits that Rust users expect of values: keys of maps, order, text, and serde.
 use gen1::{
     ArrayVec, Battle, Choice, Element, Event, Kind, MoveId, Outcome, Place, Request, Room,
     RoomRefusal, Side, Species, Stat, Submitted, Team, TurnNumber, member,
@@ -170,6 +170,6 @@ fn a_member_is_the_object_of_the_document() {
         let fault = read(&text.replace(old, new)).unwrap_err().to_string();
         assert!(fault.contains(why), "{fault}");
     }
-    // Other keys are not looked at, as the program has it.
+    // Other keys are ignored, as in the program.
     assert_eq!(read(&text.replace('{', r#"{"name":"Joe","#)).unwrap(), spec);
 }

@@ -3,11 +3,11 @@ use crate::json::Out;
 use crate::teams::{Fault, TEAM, team_of, write_fault};
 use gen1::{Battle, Event, EventList, Line, LogFault, LogReader, Rules, TurnLimit, write_log};
 
-/// How long a battle is, and how many events are told at once.
+/// The length of a battle in bytes, and the maximum number of events in one answer.
 pub const BATTLE: usize = 384;
 const EVENTS: usize = 256;
 
-/// The battle that the input begins with.
+/// The battle at the start of the input.
 pub fn battle_of(input: &[u8]) -> Option<Battle> {
     Battle::load(input.get(..BATTLE)?).ok()
 }
@@ -67,7 +67,8 @@ pub fn update(input: &[u8], one: u8, two: u8, out: &mut Out<'_>) -> usize {
     }
 }
 
-/// `{"events":[[tag,side,place,length,line]..],"next":offset}` (side and place of a switch, else 0; the length of its code), and `"fault":{..}` where the bytes from `next` on are no event.
+/// `{"events":[[tag,side,place,length,line]..],"next":offset}`: side and place are of a switch, else 0; the length is in bytes. If
+/// the bytes from `next` on are not an event, `"fault":{..}` follows.
 pub fn events(log: &[u8], start: usize, out: &mut Out<'_>) -> usize {
     let mut reader = LogReader::new();
     let mut at = 0;
@@ -102,7 +103,7 @@ pub fn events(log: &[u8], start: usize, out: &mut Out<'_>) -> usize {
     out.length()
 }
 
-/// The first event of some bytes, and how many it takes.
+/// The first event of the bytes, and its length in bytes.
 fn next_event(reader: &mut LogReader, bytes: &[u8]) -> Result<(Event, usize), LogFault> {
     let length = reader.feed(bytes)?;
     match reader.next() {

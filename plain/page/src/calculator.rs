@@ -1,4 +1,4 @@
-//! Two members as they are made to stand, and their moves upon each other.
+//! Two members in a given state, and the damage of their moves to each other.
 use crate::json::Out;
 use crate::odds::{known, write_move};
 use crate::teams::{Fault, MEMBER, member_of, write_fault};
@@ -7,8 +7,8 @@ use gen1_layout::{Conditions, Packed};
 use gen1_machine::now;
 use gen1_status::take_penalty;
 
-/// How a member stands: 24 bytes of the member, six stages from 0 to 12, the status (docs/LAYOUT.md, "Member"), conditions, and the
-/// HP in two bytes, 0 for all of them.
+/// The state of a member: 24 bytes of the member, six stages from 0 to 12, the status (docs/LAYOUT.md, "Member"), conditions, and
+/// the HP in two bytes, where 0 is the maximum.
 const STANDING: usize = MEMBER + 10;
 const CONDITIONS: [Conditions; 5] = [
     Conditions::REFLECT,
@@ -18,7 +18,7 @@ const CONDITIONS: [Conditions; 5] = [
     Conditions::INVULNERABLE,
 ];
 
-/// What is wrong with what is asked for.
+/// What is wrong with the input.
 enum Wrong {
     Team(u8, Fault),
     Text(&'static str),
@@ -44,7 +44,7 @@ fn status_of(byte: u8) -> Option<Status> {
     })
 }
 
-/// Makes the member of a side stand as ten bytes say: its stats at their stages, and once the penalty of its status.
+/// Puts the member of a side into the state of ten bytes: its stats at their stages, with the penalty of its status applied once.
 fn put_standing(packed: &mut Packed, side: Side, bytes: &[u8]) -> Result<(), Wrong> {
     if bytes[..6].iter().any(|stage| *stage > 12) {
         return Err(Wrong::Text("a stage is not -6 to 6"));
@@ -82,7 +82,7 @@ fn put_standing(packed: &mut Packed, side: Side, bytes: &[u8]) -> Result<(), Wro
     Ok(())
 }
 
-/// The bytes of a battle of the two members, as they stand.
+/// A battle of the two members in their states.
 fn standing(input: &[u8]) -> Result<Packed, Wrong> {
     let (one, two) = (&input[..STANDING], &input[STANDING..2 * STANDING]);
     let teams = (
@@ -91,13 +91,13 @@ fn standing(input: &[u8]) -> Result<Packed, Wrong> {
     );
     let mut battle = Battle::new(&teams.0, &teams.1, [0; 10]);
     let _ = battle.update(Choice::Pass, Choice::Pass);
-    let lost = Wrong::Text("the members cannot stand so");
+    let lost = Wrong::Text("the members cannot be in this state");
     let Ok(mut packed) = Packed::load(battle.bytes()) else {
         return Err(lost);
     };
     put_standing(&mut packed, Side::One, &one[MEMBER..])?;
     put_standing(&mut packed, Side::Two, &two[MEMBER..])?;
-    // What was put has to be a battle's: it is loaded once more.
+    // Loading once more checks that the changed bytes are a battle.
     Packed::load(packed.as_bytes()).map_err(|_| lost)
 }
 

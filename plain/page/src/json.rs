@@ -1,7 +1,7 @@
-//! Text and bytes that go to the output, with the commas and quotation marks of JSON.
+//! Writing text, bytes and JSON to the output.
 use core::fmt::{self, Write};
 
-/// What is written of the output so far. What has no room is left out; nothing that is written is longer than its room.
+/// The output written so far. A write that doesn't fit is dropped; the callers write nothing that is too long.
 pub struct Out<'a> {
     room: &'a mut [u8],
     length: usize,
@@ -38,7 +38,7 @@ impl<'a> Out<'a> {
         self.raw("\":");
     }
 
-    /// A text in quotation marks.
+    /// A quoted string.
     pub fn text(&mut self, value: impl fmt::Display) {
         self.raw("\"");
         let _ = write!(Quoted(self), "{value}");
@@ -50,7 +50,7 @@ impl<'a> Out<'a> {
         self.between("[", "]", items, write);
     }
 
-    /// Items between two marks, with commas.
+    /// Items separated by commas, between two marks.
     pub fn between<T>(
         &mut self,
         begin: &str,

@@ -1,5 +1,5 @@
-//! Damage, hit and critical hit of moves, as two members stand: all of it by the libraries' own functions. Chances are told as how
-//! many of the 256 bytes that may be drawn bring them about.
+//! Damage, hit chance and critical hit chance of moves in the current state, from the libraries' functions. Chances are given as
+//! how many of the 256 bytes that may be drawn have the result.
 use crate::battles::BATTLE;
 use crate::json::Out;
 use gen1::{MoveId, Side};
@@ -7,7 +7,7 @@ use gen1_hits::{has_usual_damage, settled_hit};
 use gen1_layout::Packed;
 use gen1_odds::{Damages, Odds, odds_of, takes_hit_test};
 
-/// How many of the 256 draws let a move hit, and whether it is drawn at all; `None` where there is no hit test.
+/// How many of 256 draws let a move hit, and whether a draw decides it; `None` if the move takes no hit test.
 pub fn hitting_bytes(packed: &Packed, side: Side, id: MoveId) -> Option<(u16, bool)> {
     takes_hit_test(id).then(|| hits_of(&odds_of(packed, side, id), packed, side, id))
 }
@@ -16,7 +16,7 @@ fn hits_of(odds: &Odds, packed: &Packed, side: Side, id: MoveId) -> (u16, bool) 
     (odds.hit_draws, settled_hit(packed, side, id).is_none())
 }
 
-/// The damage of a hit at each of the 39 factors; `None` where the move has no such damage.
+/// The damage of a hit at each of the 39 factors; `None` if the move doesn't have the usual damage.
 pub fn damages(packed: &Packed, side: Side, id: MoveId, critical: bool) -> Option<[u16; 39]> {
     let odds = odds_of(packed, side, id);
     list_of(if critical {
@@ -67,7 +67,7 @@ pub fn known(packed: &Packed, side: Side) -> impl Iterator<Item = (u8, MoveId)> 
     (1..=4).filter_map(move |slot| Some((slot, MoveId::new(packed.move_in(side, slot))?)))
 }
 
-/// The battle of the input, once members are out.
+/// The battle of the input, if members are out.
 pub fn started(input: &[u8]) -> Option<Packed> {
     Packed::load(input.get(..BATTLE)?)
         .ok()

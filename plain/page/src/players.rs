@@ -1,10 +1,10 @@
-//! Choices of the computer: by random battles to their end, and by the damage that is expected.
+//! Choices of the computer: by random battles played to their end, and by expected damage.
 use crate::battles::battle_of;
 use crate::json::Out;
 use crate::odds::{damages, hitting_bytes, started};
 use gen1::{Battle, Choice, Choices, EventList, MoveId, Outcome, Side};
 
-/// Random numbers (xorshift) for which the seed settles all; a battle has its own.
+/// A random number generator (xorshift), whose output depends only on its seed; a battle has its own.
 struct Random(u32);
 
 impl Random {
@@ -12,7 +12,7 @@ impl Random {
         Random(seed.wrapping_mul(0x9e37_79b9) | 1)
     }
 
-    /// 24 bits.
+    /// A random number of 24 bits.
     fn draw(&mut self) -> u32 {
         self.0 ^= self.0 << 13;
         self.0 ^= self.0 >> 17;
@@ -48,10 +48,10 @@ pub fn playouts(input: &[u8], side: u8, count: u32, seed: u32, out: &mut Out<'_>
     choices.len()
 }
 
-/// 2 where the side wins a random battle that begins with a choice, 1 where nobody does.
+/// The score of a side in one random battle that begins with a choice: 2 for a win, 1 for a tie or a fault.
 fn brought(battle: &Battle, side: Side, choice: Choice, random: &mut Random) -> u32 {
     let mut copy = battle.clone();
-    // With the battle's own numbers the player would know what will be drawn.
+    // With the battle's own numbers the player would know the draws to come.
     copy.reseed(random.seed());
     let mut events = EventList::new();
     let mut own = Some(choice);
@@ -73,7 +73,7 @@ fn brought(battle: &Battle, side: Side, choice: Choice, random: &mut Random) -> 
     }
 }
 
-/// The offered choice that most damage is expected of; the first where none has any.
+/// The offered choice with the highest expected damage; the first one if none has any.
 pub fn greedy(input: &[u8], side: u8) -> u8 {
     let (Some(battle), Some(side)) = (battle_of(input), Side::from_number(side)) else {
         return 255;
@@ -89,7 +89,7 @@ pub fn greedy(input: &[u8], side: u8) -> u8 {
     best.1
 }
 
-/// The sum of the 39 numbers, times how many bytes let the move hit.
+/// The sum of the 39 damages, times how many of 256 draws let the move hit.
 fn expected(input: &[u8], side: Side, choice: Choice) -> Option<u32> {
     let Choice::Move(slot) = choice else {
         return None;

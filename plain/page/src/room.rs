@@ -1,10 +1,10 @@
-//! The two rooms of the module's memory that the page writes to and reads, and what is kept between calls.
+//! The input and output buffers in the module's memory, and the spectator that is kept between calls.
 #![allow(unsafe_code)]
 use crate::json::Out;
 use core::cell::UnsafeCell;
 use gen1::Spectator;
 
-/// As many bytes as the program takes (docs/PROGRAM.md).
+/// The same limit as the program's (docs/PROGRAM.md).
 pub const INPUT: usize = 1_048_576;
 const OUTPUT: usize = 65_536;
 
@@ -13,7 +13,7 @@ struct Alone<T>(UnsafeCell<T>);
 // SAFETY: a module of WebAssembly without threads runs one call at a time; the tests take a lock.
 unsafe impl<T> Sync for Alone<T> {}
 
-// Each by itself: what is all zeros takes no room in the module's file.
+// Separate statics: one that is all zeros takes no space in the module's file.
 static ASKED: Alone<[u8; INPUT]> = Alone(UnsafeCell::new([0; INPUT]));
 static ANSWERED: Alone<[u8; OUTPUT]> = Alone(UnsafeCell::new([0; OUTPUT]));
 static VIEW: Alone<Option<Spectator>> = Alone(UnsafeCell::new(None));
@@ -26,9 +26,9 @@ pub fn output() -> *const u8 {
     ANSWERED.0.get().cast_const().cast()
 }
 
-/// Has a function read the input and write the output.
+/// Calls a function with the input, the output and the spectator.
 pub fn answer(write: impl FnOnce(&[u8], &mut Out<'_>, &mut Option<Spectator>) -> usize) -> usize {
-    // SAFETY: no call begins while another runs, so nothing else has the rooms and the view.
+    // SAFETY: no call begins while another runs, so nothing else refers to the buffers or the spectator.
     let (asked, answered, view) =
         unsafe { (&*ASKED.0.get(), &mut *ANSWERED.0.get(), &mut *VIEW.0.get()) };
     write(asked, &mut Out::new(answered), view)

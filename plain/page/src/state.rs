@@ -1,4 +1,4 @@
-//! A battle as it is looked at: all that its bytes say (docs/LAYOUT.md).
+//! The whole state of a battle as JSON (docs/LAYOUT.md).
 use crate::battles::{BATTLE, battle_of};
 use crate::json::Out;
 use gen1::{Battle, Kind, Outcome, Request, Side, Stat, Status};
@@ -25,7 +25,7 @@ pub fn outcome_word(outcome: Outcome) -> &'static str {
     }
 }
 
-/// A status as the lines print it; empty without one.
+/// A status as in the lines; empty without one.
 pub fn status_word(kind: Option<Kind>) -> &'static str {
     match kind {
         None => "",
@@ -105,7 +105,7 @@ fn write_side(battle: &Battle, packed: &Packed, side: Side, out: &mut Out<'_>) {
     out.raw("}");
 }
 
-/// The number of the move that the member is in the middle of; 0 where there is none.
+/// The number of the move that the member is in the middle of; 0 if there is none.
 fn going_on(packed: &Packed, side: Side) -> u8 {
     match packed.current_move(side) {
         UsedMove::Slot(slot) if packed.conditions(side).has_any(Conditions::CONTINUES) => {
@@ -136,7 +136,7 @@ const CONDITIONS: [(&str, Conditions); 17] = [
     ("Disabled", Conditions::DISABLED),
 ];
 
-/// The turns, HP, count or slot of a condition that is on; 0 where it has no number.
+/// The turns, HP, count or slot of a condition that is on; 0 if it has no number.
 fn number_of(packed: &Packed, side: Side, which: Conditions) -> u16 {
     let number = match which {
         Conditions::BIDE => packed.bide(side).map(u16::from),

@@ -1,15 +1,15 @@
-//! Teams out of bytes, as C passes them (include/gen1.h), and out of the texts of a team builder (docs/TEAM_TEXT.md).
+//! Teams from bytes, as C passes them (include/gen1.h), and from the text of a team builder (docs/TEAM_TEXT.md).
 use crate::json::Out;
 use arrayvec::ArrayVec;
 use core::fmt;
 use gen1::text::{members_in_packed, members_in_text};
 use gen1::{MemberSpec, MoveId, Species, Team, TeamRefusal};
 
-/// The bytes of a member, and of a team: six members, how many there are, and a byte that is not read.
+/// The length in bytes of a member, and of a team: six members, their number, and a byte that is ignored.
 pub const MEMBER: usize = 24;
 pub const TEAM: usize = 146;
 
-/// Why there is no team of some bytes.
+/// Why bytes are not a team.
 #[derive(Clone, Copy, Debug, PartialEq, Eq)]
 pub enum Fault {
     NoSpecies,
@@ -27,7 +27,7 @@ impl fmt::Display for Fault {
     }
 }
 
-/// `{"fault":text,"side":side,"place":place,"number":number}`, and how long it is. Place and number are 0 where they are not told.
+/// Writes `{"fault":text,"side":side,"place":place,"number":number}`, and returns its length. An unknown place or number is 0.
 pub fn write_fault(side: u8, fault: Fault, out: &mut Out<'_>) -> usize {
     let (place, number) = match fault {
         Fault::Refused(why) => (why.place(), why.number()),
@@ -78,7 +78,7 @@ pub fn team_of(bytes: &[u8]) -> Result<Team, Fault> {
     Team::new(&members).map_err(Fault::Refused)
 }
 
-/// Members that a text asks for: a packed line where it has a bar, and else an export text.
+/// Writes the members of a text: a packed line if it has a bar, else an export text.
 pub fn write_members(text: &[u8], out: &mut Out<'_>) -> usize {
     let is_packed = text.contains(&b'|');
     out.raw("{");

@@ -1,5 +1,5 @@
-//! The door, from the side of the page: what is written to the input, and what is read of the output. Tests take one lock, since
-//! the rooms are one.
+//! Tests of the interface as the page uses it: writing the input and reading the output. They take a lock, since they share the
+//! buffers.
 use crate::*;
 use gen1::{Battle, Effect, MoveId, Side};
 use std::string::String;
@@ -14,7 +14,7 @@ fn alone() -> MutexGuard<'static, ()> {
 
 fn put(bytes: &[u8]) {
     assert!(bytes.len() <= page_room());
-    // SAFETY: the input has so much room, and the lock is held.
+    // SAFETY: the input has enough room, and the lock is held.
     unsafe { core::ptr::copy_nonoverlapping(bytes.as_ptr(), page_input(), bytes.len()) }
 }
 
@@ -112,7 +112,7 @@ fn members_stand_as_they_are_made_to() {
     let _alone = alone();
     let level = [6, 6, 6, 6, 6, 6, 0, 0, 0, 0];
     let ask = |one: [u8; 10], two: [u8; 10]| {
-        // Strength is known, and Body Slam asked for beside it.
+        // Strength is known, and Body Slam is the further move.
         put(&[&tauros(STRENGTH)[..], &one, &tauros(STRENGTH), &two, &[34]].concat());
         text(page_calculate())
     };
@@ -185,7 +185,7 @@ fn a_status_is_told_as_the_lines_print_it() {
 fn conditions_are_told_with_their_numbers() {
     let _alone = alone();
     let mut battle = updated(&begin(), 0, 0).0;
-    // Side 1's condition bits that no move is tied to, and their numbers (docs/LAYOUT.md, "Active block").
+    // Side 1's condition bits that don't depend on a move, and their numbers (docs/LAYOUT.md, "Active block").
     battle[168 + 17..168 + 20].copy_from_slice(&[0xe8, 0xf3, 1]);
     battle[168 + 21..168 + 26].copy_from_slice(&[30, 3, 1, 2, 5]);
     put(&battle);
@@ -234,7 +234,7 @@ fn misses(id: u8, seed: u8) -> bool {
 #[test]
 fn moves_with_a_hit_test_miss_and_no_others() {
     let _alone = alone();
-    // Vaporeon is immune to no type, and does nothing but splash.
+    // Vaporeon is not immune to any type, and only uses Splash.
     let seeds = [1, 20, 77, 130, 163, 201, 240, 254];
     for id in (1..=164).filter_map(MoveId::new) {
         let effect = id.effect();
@@ -292,7 +292,7 @@ fn playouts_do_not_know_what_the_battle_will_draw() {
 #[test]
 fn playouts_differ_from_each_other() {
     let _alone = alone();
-    // With one move a side nothing but what is drawn tells two battles apart.
+    // With one move a side, two battles differ only in their draws.
     let (battle, _) = updated(&begin(), 0, 0);
     put(&battle);
     assert_eq!(page_playouts(1, 50, 7), 1);

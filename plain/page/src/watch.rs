@@ -1,10 +1,10 @@
-//! What a watcher knows who is told the events alone (docs/MECHANICS.md, "Spectator's view").
+//! What a spectator knows from the events alone (docs/MECHANICS.md, "Spectator's view").
 use crate::json::Out;
 use crate::state::{STATS, outcome_word, status_word};
 use crate::teams::{TEAM, team_of, write_fault};
 use gen1::{Side, Spectator, events_of};
 
-/// Begins anew, with the two teams of the input.
+/// Starts a new spectator, with the two teams of the input.
 pub fn begin(input: &[u8], out: &mut Out<'_>, view: &mut Option<Spectator>) -> usize {
     match (team_of(&input[..TEAM]), team_of(&input[TEAM..2 * TEAM])) {
         (Ok(one), Ok(two)) => {
@@ -16,7 +16,7 @@ pub fn begin(input: &[u8], out: &mut Out<'_>, view: &mut Option<Spectator>) -> u
     }
 }
 
-/// What is known after some more events. Those before the first fault count.
+/// Writes what is known after more events of the log, up to its first error.
 pub fn follow(log: &[u8], out: &mut Out<'_>, view: &mut Option<Spectator>) -> usize {
     let Some(view) = view else {
         return 0;

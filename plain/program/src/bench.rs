@@ -1,4 +1,4 @@
-//! How fast battles go.
+//! A measurement of speed.
 use crate::commands::put;
 use crate::fault::Fault;
 use crate::random::Random;
@@ -6,18 +6,18 @@ use clap::Args;
 use gen1::{Battle, EventList, Side};
 use std::time::{Duration, Instant};
 
-/// What is measured.
+/// The arguments of `bench`.
 #[derive(Args)]
 pub struct Measure {
-    /// For how many seconds
+    /// How many seconds to run
     #[arg(long, default_value_t = 3, value_parser = clap::value_parser!(u64).range(1..=3600))]
     seconds: u64,
-    /// The seed of teams and choices
+    /// The seed for teams and choices
     #[arg(long, default_value_t = 1)]
     seed: u64,
 }
 
-/// Plays random battles of full teams, and tells how many, and how long an update takes.
+/// Plays random battles of full teams, and prints how many there were and how long an update takes.
 pub fn bench(measure: &Measure) -> Result<(), Fault> {
     let mut random = Random::new(measure.seed);
     let teams: Vec<_> = (0..64).map(|_| random.team(6)).collect();
@@ -41,7 +41,7 @@ pub fn bench(measure: &Measure) -> Result<(), Fault> {
     ))
 }
 
-/// Plays a battle by random choices, and answers how many updates it had.
+/// Plays a battle with random choices, and returns the number of updates.
 fn played(mut battle: Battle, random: &mut Random, events: &mut EventList) -> u64 {
     let mut updates = 0;
     let mut choose = |battle: &Battle, side| random.pick(&battle.choices(side)).copied();

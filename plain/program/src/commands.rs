@@ -1,4 +1,4 @@
-//! The commands that read an input and print what it stands for (docs/PROGRAM.md).
+//! The commands that read an input and print a result (docs/PROGRAM.md).
 use crate::fault::Fault;
 use crate::input::{
     Sheet, at, list_of, member_of, move_name_of, pair_of, submission_of, truth_of, value_of,
@@ -124,7 +124,7 @@ pub fn calc(input: &[u8]) -> Result<(), Fault> {
     ))
 }
 
-/// The damage of a move between two members that were just sent out.
+/// The damage of a move between two members that have just been sent out.
 fn damages(one: &Team, two: &Team, id: MoveId, critical: bool) -> Result<[u16; 39], DamageRefusal> {
     let mut battle = Battle::new(one, two, [0; 10]);
     battle

@@ -1,4 +1,4 @@
-//! Why the program did not do all that it was asked (docs/PROGRAM.md, "Faults and statuses", "Explanations").
+//! Errors of the program (docs/PROGRAM.md, "Faults and statuses", "Explanations").
 use crate::misfit::Misfit;
 use gen1::{LogFault, Refusal, TeamRefusal};
 use std::fmt;
@@ -6,30 +6,30 @@ use std::io::Write;
 use std::path::Path;
 use std::process::ExitCode;
 
-/// Why the program did not do all that it was asked.
+/// An error of the program.
 #[derive(Debug)]
 pub enum Fault {
-    /// The input is no JSON: at this line and column a byte stands that JSON has not there, or the input ends.
+    /// The input is not JSON: at this line and column is a byte that JSON does not allow there, or the end of the input.
     Text { line: usize, column: usize },
-    /// A value of the input is not as it should be.
+    /// A value of the input is not what is expected there.
     Value(Misfit),
-    /// The input is longer than it may be.
+    /// The input is longer than the limit.
     TooLong,
     /// The team of a side, 1 or 2, is refused.
     Team(u8, TeamRefusal),
-    /// The pair with a number from 0 is refused.
+    /// The pair with this number, from 0, is refused.
     Pair(usize, Refusal),
-    /// The bytes are no log.
+    /// The bytes are not a log.
     Log(LogFault),
     /// The move has no damage numbers.
     Calc,
-    /// The page has not one place for a battle.
+    /// The page does not have exactly one place for a battle.
     Page,
     /// A read failed.
     Read,
     /// A write failed.
     Write,
-    /// A fault of the file of this name, where a command has several.
+    /// An error in the file with this name, for a command with several files.
     Of(String, Box<Fault>),
 }
 
@@ -56,7 +56,7 @@ impl fmt::Display for Fault {
 }
 
 impl Fault {
-    /// The same as the fault of a file; without one it is that of standard input or output.
+    /// The same error with the name of the file that it is in, or without one for standard input or output.
     pub fn of(self, file: Option<&Path>) -> Fault {
         match file {
             Some(path) => Fault::Of(path.display().to_string(), Box::new(self)),
@@ -64,15 +64,15 @@ impl Fault {
         }
     }
 
-    /// Tells the fault on standard error, with its explanation where `explains`, and answers the exit status.
+    /// Prints the error to standard error, followed by its explanation if `explains` is true, and returns the exit status.
     pub fn tell(&self, explains: bool) -> ExitCode {
-        let behind = if explains {
+        let explanation = if explains {
             format!("{}\n", self.explanation())
         } else {
             String::new()
         };
-        // Where standard error cannot be written, the status says it alone.
-        let _ = write!(std::io::stderr(), "error: {self}\n{behind}");
+        // If standard error cannot be written, only the status reports the error.
+        let _ = write!(std::io::stderr(), "error: {self}\n{explanation}");
         ExitCode::from(self.status())
     }
 

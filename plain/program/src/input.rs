@@ -1,4 +1,4 @@
-//! What the program is asked for, as JSON (docs/PROGRAM.md).
+//! The program's input as JSON (docs/PROGRAM.md).
 use crate::fault::Fault;
 use crate::misfit::{Misfit, Step};
 use crate::no_json::place_in;
@@ -8,10 +8,10 @@ use std::fs::File;
 use std::io::Read;
 use std::path::Path;
 
-/// The most bytes that an input may have.
+/// The maximum length of an input in bytes.
 const LIMIT: u64 = 1_048_576;
 
-/// Reads a file, or standard input where none is named.
+/// Reads a file, or standard input if none is named.
 pub fn read(file: Option<&Path>) -> Result<Vec<u8>, Fault> {
     let mut input = Vec::new();
     let done = match file {
@@ -32,7 +32,7 @@ pub fn read(file: Option<&Path>) -> Result<Vec<u8>, Fault> {
     }
 }
 
-/// The value that an input stands for.
+/// The JSON value of an input.
 pub fn value_of(input: &[u8]) -> Result<Value, Fault> {
     serde_json::from_slice(input).map_err(|_| {
         let (line, column) = place_in(input);
@@ -40,7 +40,7 @@ pub fn value_of(input: &[u8]) -> Result<Value, Fault> {
     })
 }
 
-/// A battle that is asked for, before any test of the teams.
+/// A battle as the input describes it, before the teams are checked.
 pub struct Sheet {
     seed: [u8; 10],
     one: Vec<MemberSpec>,
@@ -50,7 +50,7 @@ pub struct Sheet {
 }
 
 impl Sheet {
-    /// The battle that a value asks for, or the first place at which it is not as it should be.
+    /// The battle that a value describes, or the first place where the value is not what is expected.
     pub fn of(value: &Value) -> Result<Sheet, Misfit> {
         Ok(Sheet {
             seed: at(value, "seed", bytes_of)?,
@@ -61,7 +61,7 @@ impl Sheet {
         })
     }
 
-    /// The battle itself; side 1's team is tested first.
+    /// The battle; side 1's team is checked first.
     pub fn battle(&self) -> Result<Battle, Fault> {
         let one = Team::new(&self.one).map_err(|why| Fault::Team(1, why))?;
         let two = Team::new(&self.two).map_err(|why| Fault::Team(2, why))?;
@@ -71,7 +71,7 @@ impl Sheet {
     }
 }
 
-/// What a function reads of the value under a key.
+/// Reads the value under a key with a function.
 pub fn at<T>(
     value: &Value,
     key: &'static str,
@@ -83,7 +83,7 @@ pub fn at<T>(
     read(found).map_err(|misfit| misfit.behind(Step::Of(key)))
 }
 
-/// The same of a key that may be absent.
+/// As [`at`], for an optional key.
 fn unless_absent<T: Default>(
     value: &Value,
     key: &'static str,
@@ -114,7 +114,7 @@ fn item_of<T>(
     read(&items[number]).map_err(|misfit| misfit.behind(Step::At(number)))
 }
 
-/// The items of a list of exactly so many.
+/// The items of a list with exactly this length.
 fn items_of<const N: usize>(value: &Value) -> Result<&[Value; N], Misfit> {
     let items = value
         .as_array()
@@ -122,12 +122,12 @@ fn items_of<const N: usize>(value: &Value) -> Result<&[Value; N], Misfit> {
     items.ok_or_else(|| Misfit::here(format!("a list of {N} items")))
 }
 
-/// A whole number of a type, if it is one and in its range.
+/// A whole number in the range of a type, if the value is one.
 fn whole_of<T: TryFrom<u64>>(value: &Value) -> Option<T> {
     value.as_u64()?.try_into().ok()
 }
 
-/// The same, or what is expected.
+/// As above, or an error with what is expected.
 fn number_of<T: TryFrom<u64> + Bound>(value: &Value) -> Result<T, Misfit> {
     whole_of(value).ok_or_else(|| Misfit::here(format!("a whole number from 0 to {}", T::MOST)))
 }
@@ -149,7 +149,7 @@ impl Bound for u32 {
     const MOST: u32 = u32::MAX;
 }
 
-/// A list of exactly so many numbers.
+/// A list with exactly this many numbers.
 fn bytes_of<T: TryFrom<u64> + Bound + Default + Copy, const N: usize>(
     value: &Value,
 ) -> Result<[T; N], Misfit> {
@@ -167,7 +167,7 @@ pub fn pair_of(value: &Value) -> Result<(u8, u8), Misfit> {
     Ok((one, two))
 }
 
-/// A submission to a room: the side, the number of the pair that is meant, and a choice as a byte.
+/// A submission to a room: the side, the number of the pair, and a choice as a byte.
 pub fn submission_of(value: &Value) -> Result<(Side, u32, u8), Misfit> {
     let items = items_of::<3>(value)?;
     Ok((
@@ -195,7 +195,7 @@ fn limit_of(value: &Value) -> Result<TurnLimit, Misfit> {
         .ok_or_else(|| Misfit::here("a whole number from 1 to 9999"))
 }
 
-/// A member, before any test of its team.
+/// A member, before its team is checked.
 pub fn member_of(value: &Value) -> Result<MemberSpec, Misfit> {
     Ok(MemberSpec {
         species: at(value, "species", species_of)?,

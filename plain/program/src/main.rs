@@ -40,22 +40,22 @@ enum Command {
     Calc(Input),
     /// Runs a room of two players: the object of run, with "submissions":[[side,number,byte],..]
     Room(Input),
-    /// Plays the choices of run's object, and shows the battle as it then stands
+    /// Plays the choices of run's object, and shows the state of the battle after them
     State(Look),
     /// Plays against the computer
     Play(play::Game),
-    /// Prints a page that holds a battle, to be watched in a browser
+    /// Prints a page that replays a battle in a browser
     Replay(replay::Replay),
-    /// Plays random battles, and tells how fast
+    /// Plays random battles, and prints the speed
     Bench(bench::Measure),
 }
 
 #[derive(Args)]
 struct Input {
-    /// Says where a fault is and what was expected, behind its line
+    /// After the line of an error, says where it is and what was expected
     #[arg(long)]
     explain: bool,
-    /// The input; without FILE it is standard input
+    /// The input; without FILE, standard input
     file: Option<PathBuf>,
 }
 
@@ -89,7 +89,7 @@ fn answer(command: &Command) -> Result<(), Fault> {
 }
 
 impl Command {
-    /// Whether a fault is to be explained: where it is asked for, and always by what programs do not read.
+    /// Whether an error is explained: if `--explain` is given, and always for subcommands whose output is for people.
     fn explains(&self) -> bool {
         match self {
             Command::Run(input)

@@ -1,25 +1,25 @@
-//! Where a value of an input is not as it should be, and what is expected there (docs/PROGRAM.md, "Explanations").
+//! Where a value of an input is wrong, and what is expected there (docs/PROGRAM.md, "Explanations").
 use std::fmt;
 
-/// A step into a value: of an object to what stands under a key, or of a list to an item, from 0.
+/// A step into a value: from an object to the value of a key, or from a list to an item, from 0.
 #[derive(Clone, Copy, Debug)]
 pub enum Step {
-    /// What stands under a key.
+    /// The value of a key.
     Of(&'static str),
     /// The item of this number.
     At(usize),
 }
 
-/// A value that is not as it should be.
+/// A value that is not what is expected.
 #[derive(Debug)]
 pub struct Misfit {
-    /// The way to it, from inside out.
+    /// The path to it, from the innermost step outward.
     steps: Vec<Step>,
     expected: String,
 }
 
 impl Misfit {
-    /// The value itself is other than expected.
+    /// The value itself is not what is expected.
     pub fn here(expected: impl Into<String>) -> Misfit {
         Misfit {
             steps: Vec::new(),
@@ -27,7 +27,7 @@ impl Misfit {
         }
     }
 
-    /// The same, seen from the value that a step leads out of.
+    /// The same misfit, with the step that leads to it from the value around it.
     pub fn behind(mut self, step: Step) -> Misfit {
         self.steps.push(step);
         self

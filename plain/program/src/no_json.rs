@@ -1,10 +1,10 @@
-//! Where bytes stop being JSON (docs/PROGRAM.md, "Explanations"): a walk over them that knows after each byte what may come next.
-//! The same walk as that of crates/battle_input, where it is proved to be what its definition says.
+//! Where bytes stop being JSON (docs/PROGRAM.md, "Explanations"): a walk over the bytes that knows after each what may come next.
+//! It is the same walk as in crates/battle_input, where it is proved to match its definition.
 
-/// The most of what is open: 127 lists and objects, one in another, and the mark below them.
+/// The maximum depth: 127 nested lists and objects, and the mark below them.
 const FULL: u128 = 1 << 127;
 
-/// What may come next in a JSON text. `true` is for the text of a key.
+/// What may come next in a JSON text. `true` is for the string of a key.
 #[derive(Clone, Copy, Debug, PartialEq, Eq)]
 enum Stand {
     /// A value.
@@ -17,42 +17,42 @@ enum Stand {
     Key,
     /// A colon.
     Colon,
-    /// What stands behind a value.
+    /// What may follow a value.
     Behind,
-    /// More of a text.
+    /// More of a string.
     Text(bool),
-    /// What is escaped in a text.
+    /// The escaped character in a string.
     Escape(bool),
-    /// So many hexadecimal digits.
+    /// This many hexadecimal digits.
     Hex(bool, u8),
-    /// So many bytes of a character of several bytes.
+    /// This many bytes of a multibyte character.
     Many(bool, u8),
     /// A letter of `true`, `false` or `null`, by its number in `letter`.
     Word(u8),
-    /// The digits of a number, behind its minus.
+    /// The digits of a number, after its minus sign.
     Minus,
-    /// What stands behind a zero.
+    /// What may follow a leading zero.
     Zero,
     /// More digits.
     Whole,
-    /// The first digit behind a point.
+    /// The first digit after a decimal point.
     Point,
     /// More of these.
     Fraction,
-    /// What stands behind an `e`.
+    /// What may follow an `e`.
     Mark,
-    /// The first digit of a power, behind its sign.
+    /// The first digit of an exponent, after its sign.
     Sign,
     /// More of these.
     Power,
 }
 
-/// Where a text stands: what may come next, and what is open. That is a number in base two: a 1, and behind it a 1 for each
-/// object and a 0 for each list, from outside in.
+/// The state of the walk: what may come next, and which lists and objects are open. Those are a binary number: a 1, followed by a 1
+/// for each object and a 0 for each list, from the outermost inward.
 type Place = (Stand, u128);
 
-/// The place of the first byte that no JSON has there, by its line and its column in bytes, each from 1; or of the end of the
-/// bytes, where each could be JSON. Nothing is said of numbers beyond a double's range, or of half a surrogate pair.
+/// The line and the column in bytes, each from 1, of the first byte that JSON does not allow there; or of the end, if every byte is
+/// allowed. Numbers beyond the range of a double and unpaired surrogates are not detected.
 pub fn place_in(input: &[u8]) -> (usize, usize) {
     let mut place = (Stand::Value, 1u128);
     let mut line = 1usize;
@@ -72,7 +72,7 @@ pub fn place_in(input: &[u8]) -> (usize, usize) {
     (line, column)
 }
 
-// What may come behind a byte, if it may stand there.
+// What may follow a byte, if the byte is allowed there.
 fn next(stand: Stand, nest: u128, byte: u8) -> Option<Place> {
     match stand {
         Stand::Value => begin(stand, nest, byte),
@@ -105,7 +105,7 @@ fn go_on(stand: Option<Stand>, nest: u128) -> Option<Place> {
     stand.map(|stand| (stand, nest))
 }
 
-// Behind the digits of a number, unless it goes on.
+// After the digits of a number, unless it goes on.
 fn number(stand: Option<Stand>, nest: u128, byte: u8) -> Option<Place> {
     match stand {
         Some(stand) => Some((stand, nest)),
@@ -139,7 +139,7 @@ fn begin(stand: Stand, nest: u128, byte: u8) -> Option<Place> {
     }
 }
 
-// At the beginning of a value that holds no other.
+// At the beginning of a value that contains no other values.
 fn first(byte: u8) -> Option<Stand> {
     match byte {
         b'"' => Some(Stand::Text(false)),
@@ -201,7 +201,7 @@ fn close(nest: u128, kind: u8) -> Option<Place> {
     }
 }
 
-// Behind a value.
+// After a value.
 fn pass(nest: u128, byte: u8) -> Option<Place> {
     if is_blank(byte) {
         return Some((Stand::Behind, nest));
@@ -238,7 +238,7 @@ fn in_text(is_key: bool, byte: u8) -> Option<Stand> {
     }
 }
 
-// The first byte of a character of several bytes.
+// The first byte of a multibyte character.
 fn lead(is_key: bool, byte: u8) -> Option<Stand> {
     if byte < 194 {
         None
@@ -285,7 +285,7 @@ fn is_hex(byte: u8) -> bool {
     byte.is_ascii_hexdigit()
 }
 
-// In `true` (1 to 3), `false` (4 to 6, then 3) or `null` (7 to 9), by the letter that is due.
+// In `true` (1 to 3), `false` (4 to 6, then 3) or `null` (7 to 9), by the number of the expected letter.
 fn in_word(number: u8, byte: u8) -> Option<Stand> {
     if byte != letter(number) {
         None

@@ -1,4 +1,4 @@
-//! A person against the computer, in the terminal.
+//! A game of a person against the computer, in the terminal.
 use crate::commands::{put, text_of};
 use crate::fault::Fault;
 use crate::input::{Sheet, read, value_of};
@@ -9,7 +9,7 @@ use gen1::{Battle, Choice, EventList, Side};
 use std::io::BufRead;
 use std::path::{Path, PathBuf};
 
-/// What is played.
+/// The arguments of `play`.
 #[derive(Args)]
 pub struct Game {
     /// Teams and seed as the object of run (you are side 1); without FILE both teams are drawn
@@ -20,17 +20,17 @@ pub struct Game {
     /// How many members a drawn team has
     #[arg(long, default_value_t = 3, value_parser = clap::value_parser!(u8).range(1..=6))]
     members: u8,
-    /// Draws the same teams, seed and answers each time
+    /// A seed for teams, battle and computer, so that the game can be repeated
     #[arg(long)]
     seed: Option<u64>,
-    /// Plays out each choice so many times, where side 2 plays by playouts
+    /// How many random battles are played for each choice, with --against playouts
     #[arg(long, default_value_t = 200, value_parser = clap::value_parser!(u32).range(1..=100_000))]
     playouts: u32,
 }
 
 #[derive(Clone, Copy, ValueEnum)]
 enum Foe {
-    /// Any choice, each as likely
+    /// Any choice, with equal chances
     Random,
     /// The choice whose random battles side 2 wins most often
     Playouts,
@@ -66,13 +66,13 @@ pub fn play(game: &Game) -> Result<(), Fault> {
     })
 }
 
-/// The battle that a file asks for.
+/// The battle that a file describes.
 fn battle_in(path: &Path) -> Result<Battle, Fault> {
     let value = value_of(&read(Some(path))?)?;
     Sheet::of(&value).map_err(Fault::Value)?.battle()
 }
 
-/// What the person chooses; `None` where the input ends.
+/// The choice of the person; `None` at the end of the input.
 fn asked(battle: &Battle) -> Result<Option<Choice>, Fault> {
     let choices = battle.choices(Side::One);
     if let [only @ Choice::Pass] = choices.as_slice() {
@@ -109,7 +109,7 @@ fn asked(battle: &Battle) -> Result<Option<Choice>, Fault> {
     }
 }
 
-/// What the computer chooses.
+/// The choice of the computer.
 fn answer(game: &Game, battle: &Battle, random: &mut Random) -> Option<Choice> {
     let choices = battle.choices(Side::Two);
     match game.against {
@@ -122,14 +122,14 @@ fn answer(game: &Game, battle: &Battle, random: &mut Random) -> Option<Choice> {
     }
 }
 
-/// How many random battles side 2 wins that begin with a choice; a tie counts half.
+/// The score of side 2 over random battles that begin with a choice: 2 for a win, 1 for a tie.
 fn wins(game: &Game, battle: &Battle, choice: Choice, random: &mut Random) -> u32 {
     (0..game.playouts)
         .map(|_| won(battle, choice, random))
         .sum()
 }
 
-/// 2 where side 2 wins a random battle that begins with a choice, 1 where nobody does.
+/// The score of side 2 in one random battle that begins with a choice: 2 for a win, 1 for a tie or a fault.
 fn won(battle: &Battle, choice: Choice, random: &mut Random) -> u32 {
     let mut copy = battle.clone();
     let mut events = EventList::new();

@@ -1,18 +1,18 @@
-//! Random numbers for players and measures; a battle has its own.
+//! Random numbers for players and measurements; a battle has its own.
 use gen1::{MemberSpec, MoveId, Species, Team};
 use std::hash::{BuildHasher, Hasher, RandomState};
 
-/// A generator of random numbers (xorshift), for which its seed settles all that it gives.
+/// A random number generator (xorshift), whose output depends only on its seed.
 #[derive(Clone)]
 pub struct Random(u64);
 
 impl Random {
-    /// The generator of a seed.
+    /// A generator with a seed.
     pub fn new(seed: u64) -> Self {
         Random(seed.wrapping_mul(0x9e37_79b9_7f4a_7c15) | 1)
     }
 
-    /// A generator that is another one each time.
+    /// A generator with a different seed in each run.
     pub fn any() -> Self {
         Random::new(RandomState::new().build_hasher().finish())
     }
@@ -25,7 +25,7 @@ impl Random {
         ((self.0 >> 32) as usize) % bound.max(1)
     }
 
-    /// One of some items; `None` where there is none.
+    /// One of the items; `None` if there is none.
     pub fn pick<'a, T>(&mut self, items: &'a [T]) -> Option<&'a T> {
         items.get(self.below(items.len()))
     }
@@ -35,11 +35,11 @@ impl Random {
         std::array::from_fn(|_| self.below(256) as u8)
     }
 
-    /// A team of so many random members at level 100, each with four moves that a team may hold.
+    /// A team of `members` random members at level 100, each with four moves that a team may have.
     pub fn team(&mut self, members: usize) -> Team {
         loop {
             let specs: Vec<_> = (0..members).map(|_| self.member()).collect();
-            // A member with a move that no team may hold is refused, and drawn again.
+            // A member with a move that no team may have is refused, and another one is drawn.
             if let Ok(team) = Team::new(&specs) {
                 return team;
             }

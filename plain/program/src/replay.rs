@@ -7,18 +7,18 @@ use clap::Args;
 use gen1::events_of;
 use std::path::PathBuf;
 
-/// What stands in a page where a battle may.
+/// The place for a battle in a page.
 const PLACE: &str = r#"<script id="battle" type="application/json">null</script>"#;
 
-/// A battle, and the page that is to hold it.
+/// The arguments of `replay`.
 #[derive(Args)]
 pub struct Replay {
-    /// The object of run, or a log's bytes; without FILE it is standard input
+    /// The object of run, or the bytes of a log; without FILE, standard input
     file: Option<PathBuf>,
     /// The page, as web/build makes it
     #[arg(long, value_name = "HTML")]
     page: PathBuf,
-    /// The file that is written; without it the page goes to standard output
+    /// The file to write; without it, the page goes to standard output
     #[arg(long, value_name = "FILE")]
     out: Option<PathBuf>,
 }
@@ -46,12 +46,12 @@ fn filled(page: &[u8], battle: &str) -> Option<String> {
     if after.contains(PLACE) {
         return None;
     }
-    // In JSON a bracket stands only in texts, where it may be written so; as it is it could end the element.
+    // In JSON `<` occurs only in strings, where this escape is allowed. Unescaped it could end the element.
     let held = battle.trim().replace('<', "\\u003c");
     Some([before, &PLACE.replace("null", &held), after].concat())
 }
 
-/// The JSON that stands for an input: the text of an object of run with lawful teams, or a log's digits.
+/// The JSON for an input: the text of an object of run with lawful teams, or the digits of a log.
 fn battle_in(input: &[u8]) -> Result<String, Fault> {
     if input.trim_ascii_start().first() != Some(&b'{') {
         return log_in(input);

@@ -1,10 +1,10 @@
-//! A battle as a person looks at it.
+//! Battles as text for people.
 use gen1::{Battle, Choice, KnownMove, MemberState, Side};
 
-/// How many characters an HP bar has.
+/// The width of an HP bar in characters.
 const BAR: u16 = 20;
 
-/// A bar as full as HP are of their maximum; a member with any HP has a mark.
+/// An HP bar, rounded up, so that a member with any HP has at least one mark.
 fn bar(hp: u16, max: u16) -> String {
     let filled = u32::from(hp) * u32::from(BAR);
     let marks = filled.div_ceil(u32::from(max.max(1))) as usize;
@@ -15,7 +15,7 @@ fn bar(hp: u16, max: u16) -> String {
     )
 }
 
-/// A member in a line: its name, level, HP and status.
+/// A member on one line: name, level, HP and status.
 fn member(it: &MemberState) -> String {
     let status = it
         .status
@@ -31,7 +31,7 @@ fn member(it: &MemberState) -> String {
     )
 }
 
-/// Who is out, on both sides.
+/// The members that are out, on both sides.
 pub fn both(battle: &Battle) -> String {
     let state = battle.state();
     let mut text = format!("-- turn {} --\n", state.turn);
@@ -47,7 +47,7 @@ fn known(it: &KnownMove) -> String {
     format!("{} ({} PP)", it.id, it.pp)
 }
 
-/// The whole battle, with what each side may choose.
+/// The whole battle, with the choices of each side.
 pub fn whole(battle: &Battle) -> String {
     let state = battle.state();
     let mut text = format!(
@@ -85,7 +85,7 @@ pub fn whole(battle: &Battle) -> String {
     text
 }
 
-/// A choice of a side in words: the move's name, or who comes out.
+/// A choice of a side in words: the name of the move, or the member that comes out.
 pub fn choice(battle: &Battle, side: Side, it: Choice) -> String {
     let state = battle.state();
     let of_side = state.side(side);

@@ -1,10 +1,10 @@
-//! What `--explain` tells behind the line of a fault, and `log` (docs/PROGRAM.md, "Explanations", "log").
+//! The explanation that `--explain` prints after the line of an error, and `log` (docs/PROGRAM.md, "Explanations", "log").
 use std::io::Write;
 use std::process::{Command, Output, Stdio};
 
 const TAUROS: &str = r#"{"species":"Tauros","level":100,"dvs":[15,15,15,15],"exp":[65535,65535,65535,65535,65535],"moves":[["Strength",3]]}"#;
 
-/// A battle of a Tauros and the members that are given, with what stands behind the teams.
+/// A battle of a Tauros against the given members; `end` is the rest of the object.
 fn battle(two: &str, end: &str) -> String {
     format!(r#"{{"seed":[1,36,255,7,31,100,179,254,127,10],"one":[{TAUROS}],"two":[{two}],{end}}}"#)
 }
@@ -18,7 +18,7 @@ fn ran(words: &[&str], input: &[u8]) -> Output {
         .spawn()
         .expect("the program starts");
     let mut given = child.stdin.take().expect("standard input");
-    // A program that needs no more input may be gone.
+    // A program that needs no more input may have ended already.
     let _ = given.write_all(input);
     drop(given);
     child.wait_with_output().expect("the program ends")

@@ -1,6 +1,6 @@
-//! Recorded cases of an independent program, each answered by the program to the byte (docs/PLAIN.md, "What is compared").
+//! Cases recorded by an independent program, which the program reproduces byte for byte (docs/PLAIN.md, "What is compared").
 //!
-//! They stand in `battles/*.jsonl` of the workspace, a case a line: `args`, `input` or `hex`, `stdout`, and where they are compared
+//! They are in `battles/*.jsonl` of the workspace, one case a line: `args`, `input` or `hex`, `stdout`, and, if they are compared,
 //! `stderr` and `status`. Without that folder nothing is tested, and the test says so.
 use serde_json::Value;
 use std::io::Write;
@@ -45,7 +45,7 @@ fn answered(case: &Value) {
     let mut pipe = child.stdin.take().expect("its input");
     let writer = std::thread::spawn(move || pipe.write_all(&input));
     let done = child.wait_with_output().expect("the program ends");
-    // The program need not read what it refuses.
+    // The program need not read all of an input that it refuses.
     let _ = writer.join();
     assert_eq!(
         String::from_utf8_lossy(&done.stdout),

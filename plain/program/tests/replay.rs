@@ -1,4 +1,4 @@
-//! A page that holds a battle: filled in its one place, and refused where it has none (web/README.md).
+//! Pages that hold a battle: a page is filled in its one place, and refused if it has none (web/README.md).
 use std::fs;
 use std::path::PathBuf;
 use std::process::{Command, Output};
