@@ -1,14 +1,14 @@
-// The caller's arguments, before the library is asked, whose numbers are bytes: what each has to be, and an error that says so.
+// Checks and converts the caller's arguments before a call of the library, whose numbers are bytes. Each error says what is lawful.
 import { ArgumentError, ArgumentTypeError } from "./errors.mjs";
 
-/** The choices in the order of their bits in a mask (include/gen1.h, GEN1_BIT), which is that of their bytes. */
+/** The choices in the order of their bits in a mask (include/gen1.h, GEN1_BIT), which is also the order of their bytes. */
 export const CHOICES = Object.freeze(["pass", "move 0", "move 1", "move 2", "move 3", "move 4",
   "switch 1", "switch 2", "switch 3", "switch 4", "switch 5", "switch 6"]);
 const BYTES = CHOICES.map((_, bit) => (bit === 0 ? 0 : bit < 6 ? bit + 0x0f : bit + 0x1b));
 const NAME_OF_BYTE = new Map(BYTES.map((byte, bit) => [byte, CHOICES[bit]]));
 const MOST_SHOWN = 60;
 
-/** A value as an error shows it. */
+/** A value as text for an error message. */
 export function shown(value) {
   if (typeof value === "function" || typeof value === "symbol") return `a ${typeof value}`;
   let text;
@@ -21,7 +21,7 @@ export function shown(value) {
   return text.length > MOST_SHOWN ? `${text.slice(0, MOST_SHOWN)}..` : text;
 }
 
-/** The error of an argument that has another type. */
+/** The error for an argument of a wrong type. */
 export function wrongType(value, what, lawful) {
   return new ArgumentTypeError(`${what} is ${shown(value)}, not ${lawful}`, what);
 }
@@ -38,18 +38,18 @@ export function within(value, what, least, most) {
   return value;
 }
 
-/** A number as a byte; one that is none as 255, which the library refuses where this is used. */
+/** A number as a byte; 255 if it is out of range, which the library refuses where this is used. */
 export function byteOr255(value, what) {
   return whole(value, what) >= 0 && value <= 255 ? value : 255;
 }
 
-/** Either truth value. */
+/** true or false. */
 export function truth(value, what) {
   if (typeof value !== "boolean") throw wrongType(value, what, "true or false");
   return value;
 }
 
-/** A text. */
+/** A string. */
 export function text(value, what) {
   if (typeof value !== "string") throw wrongType(value, what, "a text");
   return value;
@@ -61,26 +61,26 @@ export function object(value, what, lawful) {
   return value;
 }
 
-/** A list: an array, a typed array, or what else has a length and is no text. */
+/** A list: an array, a typed array, or any other object with a length. */
 export function list(value, what, lawful = "a list") {
   const isList = typeof value === "object" && value !== null && Number.isInteger(value.length) && value.length >= 0;
   if (!isList) throw wrongType(value, what, lawful);
   return value;
 }
 
-/** So many numbers, each of which `of` tests and answers. */
+/** A list of exactly `count` numbers, each checked and converted by `of`. */
 export function numbers(value, what, count, of) {
   const { length } = list(value, what, `a list of ${count} numbers`);
   if (length !== count) throw new ArgumentError(`${what} has ${length} numbers, not ${count}`, what);
   return Array.from(value, (it, place) => of(it, `${what}[${place}]`));
 }
 
-/** Ten bytes of seed. */
+/** The ten bytes of a seed. */
 export function seedBytes(value) {
   return Uint8Array.from(numbers(value, "seed", 10, (it, what) => within(it, what, 0, 255)));
 }
 
-/** Bytes, out of what has them: a Uint8Array, an ArrayBuffer, or a DataView. */
+/** The bytes of a Uint8Array, an ArrayBuffer, or a DataView. */
 export function octets(value, what) {
   if (value instanceof ArrayBuffer) return new Uint8Array(value);
   if (!ArrayBuffer.isView(value) || (value.BYTES_PER_ELEMENT ?? 1) !== 1) throw wrongType(value, what, "bytes, as a Uint8Array");
@@ -93,29 +93,29 @@ export function sideOf(value) {
   return value;
 }
 
-/** A choice as its byte: a byte, be it offered or not, or "pass", "move 1", "switch 2". */
+/** The byte of a choice, whether offered or not: a byte, or a name such as "pass", "move 1", "switch 2". */
 export function byteOf(choice, what = "choice") {
   if (typeof choice === "number") return within(choice, what, 0, 255);
   const bit = CHOICES.indexOf(choice);
   if (bit >= 0) return BYTES[bit];
   const lawful = "pass, move 0 to 4, or switch 1 to 6";
-  if (typeof choice === "string") throw new ArgumentError(`${what}: ${shown(choice)} is no choice: ${lawful}`, what);
+  if (typeof choice === "string") throw new ArgumentError(`${what}: ${shown(choice)} is not a choice: ${lawful}`, what);
   throw wrongType(choice, what, `a choice: ${lawful}, or its byte`);
 }
 
-/** The choice of a side as its byte. */
+/** The byte of a side's choice. */
 export function choiceByte(choice, side) {
   return byteOf(choice, `side ${side}'s choice`);
 }
 
-/** The text of a choice's byte. */
+/** The name of a choice's byte. */
 export function choiceOf(byte) {
   const name = NAME_OF_BYTE.get(within(byte, "byte", 0, 255));
-  if (!name) throw new ArgumentError(`byte is ${byte}, which is no choice: 0, 16 to 20, or 33 to 38`, "byte");
+  if (!name) throw new ArgumentError(`byte is ${byte}, which is not a choice: 0, 16 to 20, or 33 to 38`, "byte");
   return name;
 }
 
-/** A byte as a choice, or as what it is where it is none. */
+/** The name of a choice's byte, or a text that says that the byte is not a choice. */
 export function choiceText(byte) {
-  return NAME_OF_BYTE.get(byte) ?? `${byte}, which is no choice`;
+  return NAME_OF_BYTE.get(byte) ?? `${byte}, which is not a choice`;
 }

@@ -1,4 +1,4 @@
-// A battle, and what an update of it told.
+// A battle, and the result of an update.
 import { choiceByte, choiceOf, choiceText, seedBytes, shown, sideOf, truth, whole, within, wrongType } from "./arguments.mjs";
 import { ArgumentError, ArgumentTypeError, DamageError, LoadError, LogError, RefusedError } from "./errors.mjs";
 import { CODES } from "./header.mjs";
@@ -10,18 +10,18 @@ export const BATTLE_SIZE = 384;
 const FACTORS = 39;
 const MOST_CHOICES = 9;
 
-/** Refuses a call of a constructor from outside. */
+/** Refuses a call of a constructor by users of the library. */
 export function made(library, what, by) {
-  if (!(library instanceof Library)) throw new ArgumentTypeError(`a ${what} is made by ${by}, and not by new`, "library");
+  if (!(library instanceof Library)) throw new ArgumentTypeError(`a ${what} is created by ${by}, not by new`, "library");
   return library;
 }
 
-/** Why a choice was refused that is none of those that are offered. */
+/** Why a choice that is not offered was refused. */
 export function notOffered(sentence, byte, offered) {
   return `${sentence}: ${choiceText(byte)}; offered: ${offered.join(", ")}`;
 }
 
-/** The choices that a call writes to the front of its room. */
+/** The choices that a call writes. */
 export function offeredBy(library, call, it, side) {
   const room = library.room(MOST_CHOICES);
   const count = library.calls[call](it, side, room);
@@ -38,12 +38,12 @@ export class Battle {
     this.#bytes = bytes;
   }
 
-  /** A copy of the 384 bytes, which are all there is of it (docs/LAYOUT.md). */
+  /** A copy of the battle's 384 bytes, which are its whole state (docs/LAYOUT.md). */
   get bytes() {
     return this.#bytes.slice();
   }
 
-  /** A battle of its own with the same bytes. It will draw the same numbers, unless it is reseeded. */
+  /** An independent copy. It draws the same numbers, unless it is reseeded. */
   clone() {
     return new Battle(this.#library, this.bytes);
   }
@@ -54,7 +54,7 @@ export class Battle {
     return this.#library.put(this.#bytes);
   }
 
-  /** How the battle stands, and what is asked of each side. */
+  /** The outcome so far, and what is asked of each side. */
   get result() {
     return resultOf(this.#library.calls.gen1_result(this.#put()));
   }
@@ -63,24 +63,24 @@ export class Battle {
     return this.result.outcome !== "ongoing";
   }
 
-  /** All that the bytes stand for. */
+  /** The whole state as an object with named fields. */
   get state() {
     const [battle, state] = [this.#put(), this.#library.roomOf("gen1_state")];
     this.#library.calls.gen1_get_state(battle, state);
     return stateOf(this.#library.readStruct("gen1_state", state));
   }
 
-  /** What a side, 1 or 2, may choose: none where the battle is over. */
+  /** The choices that a side, 1 or 2, is offered; none if the battle is over. */
   choices(side) {
     return offeredBy(this.#library, "gen1_choices", this.#put(), sideOf(side));
   }
 
-  /** The same as a mask: its bit N stands for CHOICES[N]. */
+  /** The offered choices as a mask, whose bit N is for CHOICES[N]. */
   offeredMask(side) {
     return this.#library.calls.gen1_offered(this.#put(), sideOf(side));
   }
 
-  /** A choice of a side in words, as the battle stands: "move 2 Body Slam". It need not be offered. */
+  /** A choice of a side in words, such as "move 2 Body Slam". It need not be offered. */
   words(side, choice) {
     const byte = choiceByte(choice, sideOf(side));
     const [code, text] = this.#library.written("gen1_choice_words", CODES.WORDS_ROOM, this.#put(), side, byte);
@@ -89,13 +89,13 @@ export class Battle {
     throw new ArgumentError(`${what}: ${this.#library.sentence(CODES.ABOUT_CHOICE, code)}: ${choiceText(byte)}`, what);
   }
 
-  /** Updates the battle by a choice of each side. */
+  /** Updates the battle with a choice of each side, and returns the result and the log. */
   update(one, two) {
     const log = this.#updated(one, two, CODES.LOG_ROOM);
     return new Update(this.#library, this.result, log);
   }
 
-  /** The same without a log, which is quicker: the result after it. */
+  /** As `update` without a log, which is faster. Returns the result. */
   updateSilent(one, two) {
     this.#updated(one, two, 0);
     return this.result;
@@ -119,7 +119,7 @@ export class Battle {
     return new RefusedError(notOffered(sentence, choice, offered), code, { side, choice, offered });
   }
 
-  /** Gives the battle other numbers to draw: ten bytes, and the place, 0 to 8, of the one that is drawn next. */
+  /** Replaces the numbers to draw: ten bytes, and the index, 0 to 8, of the one that is drawn next. */
   reseed(seed, index = 0) {
     const numbers = seedBytes(seed);
     const place = whole(index, "index");
@@ -129,7 +129,7 @@ export class Battle {
     this.#bytes = this.#library.read(battle, BATTLE_SIZE);
   }
 
-  /** How so many copies end, each side choosing at random among what it is offered; the battle stays as it is. */
+  /** Plays `rounds` copies to their end with random choices, and counts how they end. The battle is unchanged. */
   playout(seed, rounds) {
     const state = seedOf(seed);
     const [battle, counts] = [this.#put(), this.#library.roomOf("gen1_playouts")];
@@ -138,7 +138,7 @@ export class Battle {
     return this.#library.readStruct("gen1_playouts", counts);
   }
 
-  /** What a use of a move by a side would come to, as both members that are out now stand. */
+  /** The odds of a side's move in the current state: its damage, and its chances of a hit and of a critical hit. */
   odds(side, move) {
     const number = moveOf(this.#library, move);
     const [battle, odds] = [this.#put(), this.#library.roomOf("gen1_odds")];
@@ -147,7 +147,7 @@ export class Battle {
     return oddsOf(this.#library, number, odds);
   }
 
-  /** The damage of a hit by a move, as both members that are out now stand, at each factor from 217 to 255. */
+  /** The damage of a side's move in the current state, at each factor from 217 to 255. */
   damage(side, move, critical = false) {
     const number = moveOf(this.#library, move);
     const [battle, numbers] = [this.#put(), this.#library.room(2 * FACTORS)];
@@ -157,7 +157,7 @@ export class Battle {
   }
 }
 
-/** What an update told. */
+/** The result of an update, and its log. */
 export class Update {
   #library;
 
@@ -190,21 +190,21 @@ export function damageError(library, code, move) {
   return new DamageError(`no damage of ${shown(move)}: ${library.sentence(CODES.ABOUT_DAMAGE, code)}`, code);
 }
 
-/** Why so many bytes are no battle. */
+/** Why `count` bytes are not a battle. */
 export function loadError(library, code, count) {
   const was = code === CODES.LOAD_LENGTH ? `: there are ${count}` : "";
   const test = `test ${code} of 7 fails: ${library.sentence(CODES.ABOUT_LOAD, code)}${was}`;
-  return new LoadError(`the bytes are no battle: ${test} (docs/LAYOUT.md, "Loading")`, code);
+  return new LoadError(`the bytes are not a battle: ${test} (docs/LAYOUT.md, "Loading")`, code);
 }
 
-/** Why bytes are no log: the event at fault begins at byte `at` of these, or below 0 in those before them. */
+/** Why bytes are not a log. The wrong event begins at byte `at` of these, or, below 0, in the bytes before them. */
 export function logError(library, code, at) {
   const where = at < 0 ? `${-at} bytes before these` : `byte ${at}`;
   return new LogError(`${where}: ${library.sentence(CODES.ABOUT_LOG, code)}`, code, at);
 }
 
-// What is read of each event of a log, which is put into memory once. `reader` is given the call's first arguments, and answers
-// what reads the next event: its code, and what there is of it.
+// Reads each event of a log, which is put into memory once. `reader` is passed the first arguments of the call, and returns a function
+// that reads the next event. That returns the code, and a function for the event.
 function told(library, log, reader) {
   library.begin();
   const [bytes, at, found] = [library.put(log), library.room(8), []];
@@ -217,7 +217,7 @@ function told(library, log, reader) {
   }
 }
 
-/** The events of log bytes, with the numbers that stand in them. */
+/** The events of log bytes, with their numbers. */
 export function eventsOf(library, log) {
   return told(library, log, (...given) => {
     const event = library.roomOf("gen1_event");
@@ -235,7 +235,7 @@ export function linesOf(library, log) {
   });
 }
 
-/** Where the first event of log bytes begins that cannot be read. */
+/** The offset of the first event in log bytes that cannot be read. */
 export function faultPlace(library, log) {
   library.begin();
   const [bytes, at, event] = [library.put(log), library.room(8), library.roomOf("gen1_event")];

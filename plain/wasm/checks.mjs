@@ -1,4 +1,4 @@
-// Holds the module against recorded battles (tests/battles), in any host of JavaScript.
+// Compares the module with recorded battles (tests/battles), in any JavaScript host.
 import * as library from "./gen1.mjs";
 import { badInput, badSources } from "./faults.mjs";
 import { bytesOfHex, equal, hexOf, holds } from "./holding.mjs";
@@ -7,7 +7,7 @@ import { worked } from "./worked.mjs";
 
 const { SPECIES, MOVES, TYPES } = library;
 const KINDS_OF_STATUS = { 0: "none", 8: "poison", 16: "burn", 32: "freeze", 64: "paralysis" };
-// One of so many updates is viewed: a look takes ten times as long as an update.
+// The state is read after one of this many updates, since that takes ten times the time of an update.
 const VIEWED = 3;
 const wordOf = (bytes, at) => bytes[at] + 256 * bytes[at + 1];
 const wordsOf = (bytes, ...places) => places.map((at) => wordOf(bytes, at));
@@ -51,7 +51,7 @@ function memberOf(bytes) {
   };
 }
 
-// Who is out, by the 36 bytes of the active block (docs/LAYOUT.md, "Active block").
+// The member that is out, by the 36 bytes of the active block (docs/LAYOUT.md, "Active block").
 function activeOf(bytes) {
   if (!bytes[0]) return null;
   const [substitute, confusion, disabledSlot, disabledTurns, badPoison, turns] = bytes.slice(21, 27);
@@ -64,7 +64,7 @@ function activeOf(bytes) {
   };
 }
 
-// What the 384 bytes stand for (docs/LAYOUT.md).
+// The state in 384 bytes (docs/LAYOUT.md).
 function stateOf(bytes) {
   const [one, two] = [24, 204].map((at) => {
     const places = [0, 1, 2, 3, 4, 5].map((place) => bytes.slice(at + 24 * place, at + 24 * place + 24));
@@ -75,7 +75,7 @@ function stateOf(bytes) {
   return { one, two, turn, limit, lastDamage, rules: bytes[19], index: bytes[5], numbers: Array.from(bytes.slice(6, 16)), outcome, requests };
 }
 
-// What of a state shows to a watcher who has seen the log of each update (docs/MECHANICS.md, "Spectator's view").
+// What of a state a spectator knows after the log of each update (docs/MECHANICS.md, "Spectator's view").
 function shownOf({ one, two, turn, outcome }) {
   const sides = [one, two].map(({ members, active }) => {
     const is = (condition) => active?.conditions.includes(condition) ?? false;
@@ -88,10 +88,10 @@ function shownOf({ one, two, turn, outcome }) {
   return { one: sides[0], two: sides[1], turn, outcome };
 }
 
-// A recorded battle, update by update: log, bytes, choices, state, and what a watcher knows.
+// A recorded battle, update by update: log, bytes, choices, state, and what a spectator knows.
 function traceCase(gen1, one) {
   const battle = gen1.battle(one.object);
-  const watcher = gen1.spectator(one.object.one, one.object.two);
+  const spectator = gen1.spectator(one.object.one, one.object.two);
   for (const [number, update] of one.updates.entries()) {
     let log = "";
     let refused = null;
@@ -104,13 +104,13 @@ function traceCase(gen1, one) {
     equal(hexOf(battle.bytes), update.bytes);
     stands(battle, update);
     const [given, middle] = [bytesOfHex(log), log.length >> 2];
-    for (const piece of [given.subarray(0, middle), given.subarray(middle)]) watcher.feed(piece);
-    if (number % VIEWED === 0) viewed(battle, watcher, stateOf(bytesOfHex(update.bytes)));
+    for (const piece of [given.subarray(0, middle), given.subarray(middle)]) spectator.feed(piece);
+    if (number % VIEWED === 0) viewed(battle, spectator, stateOf(bytesOfHex(update.bytes)));
   }
   roomCase(gen1, one.object, one.updates.filter((it) => it.refused === null));
 }
 
-// What is asked of the battle after a recorded update.
+// Calls on the battle after a recorded update.
 function stands(battle, update) {
   const offered = [1, 2].map((side) => battle.choices(side).map(library.byteOf));
   equal(offered, update.offered);
@@ -118,13 +118,13 @@ function stands(battle, update) {
   equal(masks, update.offered);
 }
 
-// A battle's state, and what a watcher knows of it.
-function viewed(battle, watcher, state) {
+// A battle's state, and what a spectator knows of it.
+function viewed(battle, spectator, state) {
   equal(sorted(battle.state), sorted(state));
-  equal(watcher.state, shownOf(state));
+  equal(spectator.state, shownOf(state));
 }
 
-// An object with its keys in order, and so those of the objects in it.
+// An object with its keys sorted, also in the objects in it.
 function sorted(value) {
   if (typeof value !== "object" || value === null || Array.isArray(value)) return Array.isArray(value) ? value.map(sorted) : value;
   return Object.fromEntries(Object.entries(value).sort(([one], [two]) => (one < two ? -1 : 1)).map(([key, it]) => [key, sorted(it)]));
@@ -202,8 +202,8 @@ const KINDS = {
 };
 
 /**
- * Runs all checks, and answers how many passed and what failed. `linesIn(name)` gives the lines of a recorded file, one after the
- * other; none where there is no such file.
+ * Runs all checks, and returns how many passed and what failed. `linesIn(name)` iterates over the lines of a recorded file; there are
+ * none if the file doesn't exist.
  */
 export async function checks(gen1, linesIn) {
   let passed = 0;

@@ -1,6 +1,6 @@
-// What the library throws. Where one comes, nothing has changed.
+// The library's errors. A call that throws one of them has changed nothing.
 
-/** Something that the library refused. `code` is that of include/gen1.h. */
+/** The library refused a call. `code` is the number in include/gen1.h. */
 export class Gen1Error extends Error {
   constructor(message, code = 0) {
     super(message);
@@ -9,7 +9,7 @@ export class Gen1Error extends Error {
   }
 }
 
-/** An argument of a wrong type. `argument` is its name, as `two[0].level`. */
+/** An argument has a wrong type. `argument` is its name, such as `two[0].level`. */
 export class ArgumentTypeError extends TypeError {
   constructor(message, argument) {
     super(message);
@@ -18,7 +18,7 @@ export class ArgumentTypeError extends TypeError {
   }
 }
 
-/** An argument that is out of its range, or that names nothing. `argument` is its name, as `two[0].species`. */
+/** An argument is out of range, or is an unknown name. `argument` is its name, such as `two[0].species`. */
 export class ArgumentError extends RangeError {
   constructor(message, argument) {
     super(message);
@@ -27,10 +27,10 @@ export class ArgumentError extends RangeError {
   }
 }
 
-/** A module that is not there, that cannot be run here, or that is not the C library's. */
+/** The module was not found, cannot run here, or is not the C library's. */
 export class ModuleError extends Gen1Error {}
 
-/** There is no battle of these teams, rules or limit: the side (0 where neither team is at fault), the member's place, and the field. */
+/** Teams, rules or limit are refused: the side (0 if neither team is wrong), the place of the member, and the field. */
 export class TeamError extends Gen1Error {
   constructor(message, code, { side = 0, place = 0, field = "" } = {}) {
     super(message, code);
@@ -40,7 +40,7 @@ export class TeamError extends Gen1Error {
   }
 }
 
-/** A text tells of no team: where, by places from 1, 0 for none; and with the code 14 the rule of teams, as TeamError's code. */
+/** A text is not a team. Places are from 1, or 0 for none. With code 14 `rule` is the code of a TeamError. */
 export class TextError extends Gen1Error {
   constructor(message, { code, line, member, field, rule }) {
     super(message, code);
@@ -48,10 +48,10 @@ export class TextError extends Gen1Error {
   }
 }
 
-/** Bytes are no battle: `code` is the number of the first of the seven tests that they fail. */
+/** Bytes are not a battle. `code` is the number of the first of the seven tests that they fail. */
 export class LoadError extends Gen1Error {}
 
-/** A choice was refused: whose (0 where the battle is over), the choice's byte, and what is offered. */
+/** A choice was refused: the side (0 if the battle is over), the byte of the choice, and what is offered. */
 export class RefusedError extends Gen1Error {
   constructor(message, code, { side = 0, choice = null, offered = [] } = {}) {
     super(message, code);
@@ -61,7 +61,7 @@ export class RefusedError extends Gen1Error {
   }
 }
 
-/** A room refused a choice for the pair `number`; `current` is the number of the current pair. Neither tells what the foe has chosen. */
+/** A room refused a choice for the pair `number`; `current` is the number of the current pair. Neither reveals the foe's choice. */
 export class RoomError extends RefusedError {
   constructor(message, code, { number, current, ...more }) {
     super(message, code, more);
@@ -70,7 +70,7 @@ export class RoomError extends RefusedError {
   }
 }
 
-/** Bytes are no log. `at` is where the event at fault begins; below 0 where that was in bytes that a spectator was fed before. */
+/** Bytes are not a log. `at` is the offset of the wrong event; below 0 if it began in bytes that a spectator was fed before. */
 export class LogError extends Gen1Error {
   constructor(message, code, at) {
     super(message, code);
@@ -78,5 +78,5 @@ export class LogError extends Gen1Error {
   }
 }
 
-/** There are no damage numbers. */
+/** There is no damage. */
 export class DamageError extends Gen1Error {}

@@ -1,4 +1,4 @@
-// Bad input: a named error that says which argument, what it was and what is lawful, and nothing changed.
+// Bad input: each error is named and says which argument is wrong, what it was and what is lawful, and nothing changes.
 import * as library from "./gen1.mjs";
 import { equal, hexOf, holds, thrown } from "./holding.mjs";
 
@@ -8,15 +8,15 @@ const TAUROS = { species: "Tauros", moves: [["Strength", 3]] };
 const TERMS = { one: [TAUROS], two: [TAUROS], seed: SEED };
 const NO_NUMBERS = [null, 1.5, NaN, Infinity, "1", true, [1], {}, 1n, Symbol("1"), () => 1];
 const BIG = [-1, 256, 257, 300, 65536, 2 ** 32, 2 ** 53, -(2 ** 70)];
-// What a call throws of an argument of a wrong type, and of one out of its range.
+// Calls with an argument of a wrong type, and with one out of range.
 const wrong = (call, text) => thrown(call, ArgumentTypeError, text);
 const outside = (call, text) => thrown(call, ArgumentError, text);
 const NO_OBJECTS = [undefined, null, 5, "Tauros", true];
 
-// Fields of a member: what is given, the error, its argument and text, and with a TeamError its code.
+// Fields of a member: the given value, the error, its argument and text, and the code of a TeamError.
 const MEMBERS = [
-  [{ species: "Missingno." }, ArgumentError, "species", /is "Missingno.", which is none of docs\/TABLES.md$/],
-  [{ species: "tauros" }, ArgumentError, "species", /is "tauros", which is none of docs\/TABLES.md; did you mean "Tauros"\?/],
+  [{ species: "Missingno." }, ArgumentError, "species", /is "Missingno.", which is not in docs\/TABLES.md$/],
+  [{ species: "tauros" }, ArgumentError, "species", /is "tauros", which is not in docs\/TABLES.md; did you mean "Tauros"\?/],
   ...[undefined, null, {}, true, 1.5].map((species) => [{ species }, ArgumentTypeError, "species", /, not (a name or a number|a whole number)$/]),
   ...[0, 152, 255, ...BIG].map((species) => [{ species }, TeamError, 10, /the species is not 1 to 151: species is /]),
   ...[0, 101, 255, ...BIG].map((level) => [{ level }, TeamError, 3, /the level is not 1 to 100: level is /]),
@@ -32,7 +32,7 @@ const MEMBERS = [
   [{ moves: Array(5).fill(["Pound", 3]) }, ArgumentError, "moves", /has 5 moves, not at most 4$/],
   [{ moves: [["Pound", 3], "Cut"] }, ArgumentTypeError, "moves[1]", /is "Cut", not a pair: a move, and its PP ups from 0 to 3$/],
   [{ moves: [["Pound"]] }, ArgumentError, "moves[0]", /is \["Pound"\], not a pair/],
-  [{ moves: [["Pond", 3]] }, ArgumentError, "moves[0][0]", /is "Pond", which is none of docs\/TABLES.md$/],
+  [{ moves: [["Pond", 3]] }, ArgumentError, "moves[0][0]", /is "Pond", which is not in docs\/TABLES.md$/],
   [{ moves: [["body slam", 3]] }, ArgumentError, "moves[0][0]", /did you mean "Body Slam"\?$/],
   ...[0, 166, 255, ...BIG].map((move) => [{ moves: [["Pound", 3], [move, 3]] }, TeamError, 11, /a move is not 1 to 165: moves is \[\["Pound",3\],/]),
   ...NO_NUMBERS.filter((it) => typeof it !== "string").map((move) => [{ moves: [[move, 3]] }, ArgumentTypeError, "moves[0][0]", /, not a/]),
@@ -43,7 +43,7 @@ const MEMBERS = [
   ...["Mimic", "Metronome", "Mirror Move", "Transform"].map((name) => [{ moves: [[name, 3]] }, TeamError, 6, /a move is left out of the engine/]),
 ];
 
-// Whatever takes a member: as the second of side 2, and alone in a hit.
+// All calls that take a member: as the second of side 2, and alone for odds.
 function members(gen1, check) {
   check(`${MEMBERS.length} members`, () => {
     for (const [changed, type, which, text] of MEMBERS) {
@@ -129,7 +129,7 @@ function bytes(gen1, check) {
   });
 }
 
-// Sides and choices that are none, or not offered.
+// Sides and choices that are invalid, or not offered.
 function choices(battle, check) {
   check("sides", () => {
     const asked = [(side) => battle.choices(side), (side) => battle.offeredMask(side), (side) => battle.damage(side, "Pound"),
@@ -146,7 +146,7 @@ function choices(battle, check) {
       for (const it of [undefined, null, true, [17], {}, 17n])
         wrong(() => call(it), /^side 1's choice is .*, not a choice: pass, move 0 to 4, or switch 1 to 6, or its byte$/);
       for (const it of ["jump", "move 5", "switch 0", "", "Move 1"])
-        outside(() => call(it), /^side 1's choice: ".*" is no choice: pass, move 0 to 4, or switch 1 to 6$/);
+        outside(() => call(it), /^side 1's choice: ".*" is not a choice: pass, move 0 to 4, or switch 1 to 6$/);
     }
   });
   check("choices that are not offered", () => {
@@ -158,11 +158,11 @@ function choices(battle, check) {
         equal([fault.code, fault.side, fault.choice, fault.offered], [side + 1, side, choice, ["move 1"]]);
       }
     thrown(() => battle.update("move 1", "switch 2"), RefusedError, /^the choice of side 2 was not offered: switch 2; offered: move 1$/);
-    for (const byte of [1, 15, 21, 32, 39, 255]) outside(() => library.choiceOf(byte), /is no choice/);
+    for (const byte of [1, 15, 21, 32, 39, 255]) outside(() => library.choiceOf(byte), /is not a choice/);
   });
   check("choices in words that are none", () => {
     outside(() => battle.words(1, 0x22), /^side 1's choice: there is no move in that slot, .*: switch 2$/);
-    outside(() => battle.words(1, 5), /^side 1's choice: the byte is no choice: .*: 5, which is no choice$/);
+    outside(() => battle.words(1, 5), /^side 1's choice: the byte is no choice: .*: 5, which is not a choice$/);
   });
 }
 
@@ -172,7 +172,7 @@ function moves(gen1, battle, check) {
       for (const call of [() => battle.damage(1, move), () => battle.odds(1, move), () => gen1.odds(TAUROS, TAUROS, move)])
         thrown(call, DamageError, /^no damage of -?\d.*: the move is not 1 to 165$/);
     for (const call of [(move) => battle.damage(1, move), (move) => battle.odds(1, move), (move) => gen1.damage(TAUROS, TAUROS, move)]) {
-      outside(() => call("Pond"), /^move is "Pond", which is none of docs\/TABLES.md$/);
+      outside(() => call("Pond"), /^move is "Pond", which is not in docs\/TABLES.md$/);
       outside(() => call("body slam"), /did you mean "Body Slam"\?$/);
       for (const it of [undefined, null, true, [1], {}, 1n]) wrong(() => call(it), /^move is .*, not a name or a number$/);
     }
@@ -187,7 +187,7 @@ function rows(gen1, check) {
   check("species and moves of the tables", () => {
     for (const it of [0, 152, 255, ...BIG]) outside(() => gen1.base(it), /^species is -?\d.*, not 1 to 151$/);
     for (const it of [0, 166, 255, ...BIG]) outside(() => gen1.moveData(it), /^move is -?\d.*, not 1 to 165$/);
-    outside(() => gen1.base("tauros"), /^species is "tauros", which is none of docs\/TABLES.md; did you mean "Tauros"\?$/);
+    outside(() => gen1.base("tauros"), /^species is "tauros", which is not in docs\/TABLES.md; did you mean "Tauros"\?$/);
     for (const call of [gen1.base, gen1.moveData]) for (const it of [undefined, null, [1]]) wrong(() => call.call(gen1, it), /not a name or a number$/);
   });
 }
@@ -209,7 +209,7 @@ function seeds(battle, check) {
   });
 }
 
-// What is asked of a battle that has begun.
+// Calls on a battle that has begun.
 function calls(gen1, check) {
   const battle = gen1.battle(TERMS);
   battle.update("pass", "pass");
@@ -236,7 +236,7 @@ function rooms(gen1, check) {
     thrown(() => room.submit(1, 7, 17), RoomError, /^the number is not that of the current pair of choices: 7; the current pair is 0$/);
     const chosen = room.clone();
     chosen.submit(1, 0, 17);
-    thrown(() => chosen.submit(1, 0, 17), RoomError, /^the side has chosen: side 1 may submit nothing for pair 0 any more$/);
+    thrown(() => chosen.submit(1, 0, 17), RoomError, /^the side has chosen: side 1 can submit nothing more for pair 0$/);
     for (const call of [(side) => room.submit(side, 0, 17), (side) => room.choices(side)]) {
       for (const side of [0, 3, ...BIG]) outside(() => call(side), /^side is -?\d.*, not 1 or 2$/);
       for (const side of NO_NUMBERS) wrong(() => call(side), /^side is .*, not a whole number$/);
@@ -248,27 +248,27 @@ function rooms(gen1, check) {
     for (const it of [...NO_OBJECTS, room, SEED]) wrong(() => gen1.room(it), /^battle is .*, not a Battle$/);
     equal(seen(), before);
   });
-  check("what a watcher refuses", () => {
-    const watcher = gen1.spectator([TAUROS], [TAUROS]);
-    for (const it of [undefined, null, 5, "a log", [1]]) wrong(() => watcher.feed(it), /^log is .*, not bytes, as a Uint8Array$/);
-    equal(thrown(() => watcher.feed(Uint8Array.of(26, 1, 0)), LogError, /^byte 2: a byte in a tag's place is no tag/).at, 2);
-    equal([watcher.state, watcher.held], [gen1.spectator([TAUROS], [TAUROS]).state, new Uint8Array(0)]);
+  check("what a spectator refuses", () => {
+    const spectator = gen1.spectator([TAUROS], [TAUROS]);
+    for (const it of [undefined, null, 5, "a log", [1]]) wrong(() => spectator.feed(it), /^log is .*, not bytes, as a Uint8Array$/);
+    equal(thrown(() => spectator.feed(Uint8Array.of(26, 1, 0)), LogError, /^byte 2: a byte in a tag's place is no tag/).at, 2);
+    equal([spectator.state, spectator.held], [gen1.spectator([TAUROS], [TAUROS]).state, new Uint8Array(0)]);
   });
   check("constructors", () => {
     for (const kind of [library.Gen1, library.Battle, library.Update, library.Room, library.Spectator])
-      wrong(() => new kind(), /(is made by|not by new|and not by new)/);
+      wrong(() => new kind(), /is created by .*, not by new/);
   });
 }
 
-// Each is a source that is no module of the library's, the error, and its text. The last is the smallest module that there is.
+// Sources that aren't the library's module, each with the error and its text. The last is the smallest possible module.
 const SOURCES = [
   ...[undefined, null, 5, true, {}, [1], { plain: 5 }].map((it) => [it, ArgumentTypeError, /^source(\.plain)? is .*, not a module: a URL or its text/]),
-  [new URL("data:text/plain,none"), ModuleError, /^source, data:.* is no module that can be run here: /],
-  [{ plain: Uint8Array.of(1, 2, 3) }, ModuleError, /^source\.plain is no module that can be run here: /],
+  [new URL("data:text/plain,none"), ModuleError, /^source, data:.* is not a module that can run here: /],
+  [{ plain: Uint8Array.of(1, 2, 3) }, ModuleError, /^source\.plain is not a module that can run here: /],
   [Uint8Array.of(0, 0x61, 0x73, 0x6d, 1, 0, 0, 0), ModuleError, /^the module is not the C library's: it exports no memory, /],
 ];
 
-/** Loads what is no module. */
+/** Loads sources that aren't the library's module. */
 export async function badSources(check) {
   for (const [source, type, text] of SOURCES) {
     const fault = await library.load(source).then(() => null, (it) => it);
@@ -276,7 +276,7 @@ export async function badSources(check) {
   }
 }
 
-/** Runs all of them. */
+/** Runs all checks of bad input. */
 export function badInput(gen1, check) {
   for (const part of [members, terms, bytes, calls, rows, rooms]) part(gen1, check);
 }

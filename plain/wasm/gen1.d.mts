@@ -1,23 +1,23 @@
-// Types of gen1.mjs. TypeScript finds them by their name: node, node16, nodenext and bundler look for .d.mts beside an .mjs.
-// uses.mjs holds them against what the module does.
+// Types of gen1.mjs. TypeScript finds them by name: the resolutions node, node16, nodenext and bundler look for a .d.mts next to an
+// .mjs. uses.mjs compares them with what the module does.
 
-/** A choice as `choices` answers it. */
+/** A choice as `choices` returns it. */
 export type ChoiceName = "pass" | `move ${0 | 1 | 2 | 3 | 4}` | `switch ${1 | 2 | 3 | 4 | 5 | 6}`;
-/** A choice as a call takes it: its name, or its byte from 0 to 255. */
+/** A choice as an argument: its name, or its byte from 0 to 255. */
 export type Choice = ChoiceName | number;
 export type Side = 1 | 2;
 export type Outcome = "ongoing" | "win one" | "win two" | "tie" | "fault 1" | "fault 2";
 export type Request = "pass" | "move" | "switch";
 export type Status = "none" | "sleep" | "poison" | "burn" | "freeze" | "paralysis";
-/** What the member that is out is under (docs/MECHANICS.md, "Conditions"). */
+/** A condition of the member that is out (docs/MECHANICS.md, "Conditions"). */
 export type Condition = "bide" | "thrash" | "trapping" | "flinch" | "charging" | "invulnerable" | "confused" | "mist" | "focus energy"
   | "substitute" | "recharge" | "rage" | "seeded" | "bad poison" | "light screen" | "reflect" | "disabled";
-/** Numbers in an array, a typed array, or what else has a length; no text. */
+/** Numbers in an array, a typed array, or another object with a length. */
 export type Numbers = ArrayLike<number> & object;
 
-/** A member as it is asked for. Without them the level is 100, DVs and experience are full. */
+/** A member as an argument. By default the level is 100, and DVs and experience are at their maximum. */
 export interface Member {
-  /** The name to the letter (docs/TABLES.md), or the number from 1 to 151. */
+  /** The exact name (docs/TABLES.md), or the number from 1 to 151. */
   species: string | number;
   level?: number;
   /** Attack, Defense, Speed, Special: 0 to 15. */
@@ -36,13 +36,13 @@ export interface Terms {
   two: Team;
   /** Ten numbers from 0 to 255. */
   seed: Numbers;
-  /** 1 is the sleep clause, 2 the freeze clause, 3 both; 0 without it. */
+  /** 0 is no clause, which is the default, 1 the sleep clause, 2 the freeze clause, 3 both. */
   rules?: number;
-  /** The last turn, 1 to 9999; 1000 without it. */
+  /** The last turn, 1 to 9999; 1000 by default. */
   limit?: number;
 }
 
-/** A member as a text tells of it, with all that `battle` takes. */
+/** A member from a text, with all fields that `battle` takes. */
 export interface WholeMember {
   species: string;
   level: number;
@@ -56,18 +56,18 @@ export interface Result {
   requests: [Request, Request];
 }
 
-/** An event with its numbers as they stand in log bytes (include/gen1.h); a field that it has not is 0. */
+/** An event with its numbers as in log bytes (include/gen1.h, gen1_event). A field that the event doesn't have is 0. */
 export interface GameEvent {
   tag: number; side: number; species: number; move: number; targetSide: number; targetSpecies: number; place: number; level: number;
   status: number; detail: number; amount: number; hp: number; maxHp: number; turn: number;
 }
 
-/** A member as it stands. */
+/** The state of a member. */
 export interface MemberState {
   species: string;
   level: number;
   status: Status;
-  /** Turns left where it is asleep, 1 to 7; else 0. */
+  /** How many more turns it sleeps, 1 to 7; 0 if it is awake. */
   sleep: number;
   /** Whether the sleep clause counts its sleep. */
   marked: boolean;
@@ -76,23 +76,23 @@ export interface MemberState {
   pp: number[];
   hp: number;
   maxHp: number;
-  /** Its own Attack, Defense, Speed and Special, 5 to 999. */
+  /** Attack, Defense, Speed and Special before stages and penalties, 5 to 999. */
   stats: number[];
 }
 
-/** The member that is out, and what lasts only while it is. Counters are 0 where they do not apply; docs/LAYOUT.md has their ranges. */
+/** The member that is out, with the state that lasts only while it is. A counter that doesn't apply is 0; docs/LAYOUT.md has the ranges. */
 export interface ActiveState {
   /** 1 to 6. */
   place: number;
   types: string[];
-  /** Attack, Defense, Speed and Special at their stages and after their penalties, 1 to 999. */
+  /** Attack, Defense, Speed and Special after stages and penalties, 1 to 999. */
   stats: number[];
   /** -6 to 6: Attack, Defense, Speed, Special, accuracy, evasion. */
   stages: number[];
   conditions: Condition[];
   /** The slot of the move that was used last, 1 to 4; 5 is Struggle, 0 none. */
   currentMove: number;
-  /** The one that was picked last, likewise. */
+  /** The slot of the move that was picked last, likewise. */
   pickedMove: number;
   keptAccuracy: number;
   /** HP of the Substitute. */
@@ -103,18 +103,18 @@ export interface ActiveState {
   badPoison: number;
   /** Turns left of Bide, Thrash or trapping. */
   turns: number;
-  /** What Bide has stored. */
+  /** The damage that Bide has stored. */
   energy: number;
 }
 
 export interface SideState {
-  /** By their places. */
+  /** In the order of their places. */
   members: MemberState[];
   /** Null before the first update. */
   active: ActiveState | null;
 }
 
-/** All that the 384 bytes stand for. */
+/** The whole state of a battle: everything in its 384 bytes. */
 export interface State {
   one: SideState;
   two: SideState;
@@ -125,22 +125,22 @@ export interface State {
   rules: number;
   outcome: Outcome;
   requests: Request[];
-  /** The place, 0 to 8, of the number that is drawn next. */
+  /** The index, 0 to 8, of the number that is drawn next. */
   index: number;
   /** Nine link numbers, and the tenth byte of the seed, which is never drawn. */
   numbers: number[];
 }
 
 export interface ShownMember {
-  /** Before it first came out its maximum. */
+  /** The maximum until the member first comes out. */
   hp: number;
   status: Status;
 }
 
-/** What shows of a side. All but the members is of the one that is out. */
+/** What a spectator knows of a side. All fields but `members` are of the member that is out. */
 export interface ShownSide {
   members: ShownMember[];
-  /** 1 to 6; 0 before the first came out. */
+  /** 1 to 6; 0 before the first member comes out. */
   place: number;
   /** -6 to 6: Attack, Defense, Speed, Special, accuracy, evasion. */
   stages: number[];
@@ -157,23 +157,23 @@ export interface ShownState {
   outcome: Outcome;
 }
 
-/** The damage of a hit at the factors from 217 to 255, 39 numbers; or none, and the code of why, as DamageError's. */
+/** The damage of a hit: 39 numbers, at the factors from 217 to 255, and code 0; or no numbers, and the code of a DamageError. */
 export interface Damages {
   numbers: number[];
   code: number;
 }
 
-/** What a use of a move would come to. Chances are exact: so many of 256 draws. */
+/** The odds of a move: its damage, and its chances of a hit and of a critical hit. Chances are exact multiples of 1/256. */
 export interface Odds {
   usual: Damages;
   critical: Damages;
   criticalChance: number;
   hitChance: number;
-  /** Whether the move takes the hit test. Moves that fail, or that work on their user alone, take none. */
+  /** Whether the move takes the hit test. Moves that fail, or that affect only their user, take none. */
   takesHitTest: boolean;
 }
 
-/** A species (docs/TABLES.md): base stats from 5 to 250, and two types; one with a single type has it twice. */
+/** A species (docs/TABLES.md): base stats from 5 to 250, and two types. A single type is listed twice. */
 export interface Base {
   hp: number;
   attack: number;
@@ -183,15 +183,18 @@ export interface Base {
   types: [string, string];
 }
 
-/** A move (docs/TABLES.md): power 0 to 170, 0 where it has no damage of its power; accuracy in percent; PP without PP ups. */
+/** A move (docs/TABLES.md). */
 export interface MoveData {
   type: string;
+  /** 0 to 170. Moves with a fixed damage, one-hit moves and Counter have 1; Night Shade, Bide and moves without damage have 0. */
   power: number;
+  /** In percent, 0 to 100. */
   accuracy: number;
+  /** Without PP ups. */
   pp: number;
 }
 
-/** How playouts ended. */
+/** The counts of how playouts ended. */
 export interface Playouts {
   winsOne: number;
   winsTwo: number;
@@ -199,60 +202,67 @@ export interface Playouts {
   faults: number;
 }
 
-/** An argument of a wrong type. */
+/** An argument has a wrong type. */
 export class ArgumentTypeError extends TypeError {
-  /** Its name, as `two[0].level`. */
+  /** Its name, such as `two[0].level`. */
   readonly argument: string;
 }
-/** An argument out of its range, or that names nothing. */
+/** An argument is out of range, or is an unknown name. */
 export class ArgumentError extends RangeError {
-  /** Its name, as `two[0].species`. */
+  /** Its name, such as `two[0].species`. */
   readonly argument: string;
 }
-/** Something that the library refused. */
+/** The library refused a call. */
 export class Gen1Error extends Error {
-  /** That of include/gen1.h. */
+  /** The number in include/gen1.h. */
   readonly code: number;
 }
-/** The module is not there, cannot be run here, or is not the C library's. `cause` is what the host threw, where it did. */
+/** The module was not found, cannot run here, or is not the C library's. `cause` is the host's error, if there was one. */
 export class ModuleError extends Gen1Error {}
+/** Teams, rules or limit are refused. */
 export class TeamError extends Gen1Error {
-  /** 1 or 2; 0 where neither team is at fault. */
+  /** 1 or 2; 0 if neither team is wrong. */
   readonly side: number;
-  /** The member's place from 1; 0 where it is no single one. */
+  /** The place of the member from 1; 0 if it is not about one member. */
   readonly place: number;
   /** "level", "moves", "members", "rules", .. */
   readonly field: string;
 }
-/** A text tells of no team. Places are from 1, and 0 where there is none. */
+/** A text is not a team. Places are from 1, or 0 for none. */
 export class TextError extends Gen1Error {
   readonly line: number;
   readonly member: number;
-  /** Of a packed line. */
+  /** The field of a packed line. */
   readonly field: number;
   /** With code 14 the code of a TeamError; else 0. */
   readonly rule: number;
 }
+/** Bytes are not a battle. `code` is the number of the first of the seven tests that they fail (docs/LAYOUT.md, "Loading"). */
 export class LoadError extends Gen1Error {}
+/** A choice was refused. */
 export class RefusedError extends Gen1Error {
-  /** Whose choice it was; 0 where the battle is over. */
+  /** The side that chose; 0 if the battle is over. */
   readonly side: number;
-  /** Its byte; null where the battle is over. */
+  /** The byte of the choice; null if the battle is over. */
   readonly choice: number | null;
   readonly offered: readonly ChoiceName[];
 }
+/** A room refused a choice. */
 export class RoomError extends RefusedError {
   /** The pair that the choice was for. */
   readonly number: number;
   /** The current pair. */
   readonly current: number;
 }
+/** Bytes are not a log. */
 export class LogError extends Gen1Error {
-  /** The byte at which the event begins that could not be read; below 0 where that was in bytes that a spectator was fed before. */
+  /** The offset of the event that could not be read; below 0 if it began in bytes that a spectator was fed before. */
   readonly at: number;
 }
+/** There is no damage: the move doesn't have the usual damage, or no member is out. */
 export class DamageError extends Gen1Error {}
 
+/** The result of an update, and its log. */
 export class Update {
   private constructor();
   readonly result: Result;
@@ -261,37 +271,40 @@ export class Update {
   readonly lines: string[];
 }
 
-/** A battle. `gen1.battle` and `gen1.load` make it. */
+/** A battle. `gen1.battle` and `gen1.load` create it; `update` changes it in place. */
 export class Battle {
   private constructor();
-  /** A copy of all there is of the battle: 384 bytes (docs/LAYOUT.md). */
+  /** A copy of the battle's 384 bytes, which are its whole state (docs/LAYOUT.md). */
   readonly bytes: Uint8Array;
   readonly result: Result;
   readonly isOver: boolean;
   readonly state: State;
-  /** A battle of its own. It will draw the same numbers, unless it is reseeded. */
+  /** An independent copy. It draws the same numbers, unless it is reseeded. */
   clone(): Battle;
-  /** What a side may choose; nothing where the battle is over. */
+  /** The choices that a side is offered; none if the battle is over. */
   choices(side: Side): ChoiceName[];
-  /** The same as a mask: its bit N stands for CHOICES[N]. */
+  /** The offered choices as a mask, whose bit N is for CHOICES[N]. */
   offeredMask(side: Side): number;
-  /** A choice in words, "move 2 Body Slam". It need not be offered. Throws ArgumentError where there is nothing to choose. */
+  /** A choice in words, "move 2 Body Slam". It need not be offered. Throws ArgumentError if there is no such move or member. */
   words(side: Side, choice: Choice): string;
-  /** Throws RefusedError, and then nothing has changed. */
+  /** Updates the battle with a choice of each side. Throws RefusedError, and then the battle is unchanged. */
   update(one: Choice, two: Choice): Update;
-  /** The same without a log. Throws RefusedError. */
+  /** As `update` without a log, which is faster. Throws RefusedError. */
   updateSilent(one: Choice, two: Choice): Result;
-  /** Other numbers to draw: ten from 0 to 255, and the place, 0 to 8, of the next. A search reseeds each copy that it plays out. */
+  /** Replaces the numbers to draw: ten bytes, and the index, 0 to 8, of the next one. A search reseeds each copy that it plays out. */
   reseed(seed: Numbers, index?: number): void;
-  /** Plays copies to their end by random choices; the same seed gives the same counts. The copies draw what the battle will draw. */
+  /**
+   * Plays copies to their end with random choices, and counts how they end. The same seed gives the same counts. The copies draw the
+   * numbers that the battle will draw, unless it is reseeded.
+   */
   playout(seed: number | bigint, rounds: number): Playouts;
-  /** Throws DamageError where nobody is out. */
+  /** The odds of a side's move in the current state. Throws DamageError if no member is out. */
   odds(side: Side, move: string | number): Odds;
-  /** 39 numbers, at the factors from 217 to 255. Throws DamageError. */
+  /** The damage of a side's move: 39 numbers, at the factors from 217 to 255. Throws DamageError. */
   damage(side: Side, move: string | number, critical?: boolean): number[];
 }
 
-/** A battle of two players who choose apart from each other. `gen1.room` makes it. */
+/** A battle of two players who choose independently. `gen1.room` creates it. */
 export class Room {
   private constructor();
   /** A copy of the battle. */
@@ -299,87 +312,88 @@ export class Room {
   readonly result: Result;
   /** The number of the current pair of choices, from 0. */
   readonly number: number;
-  /** The log of the last pair that ended; before one has, that of the start, if it was here. */
+  /** The log of the last pair that ended; before the first, that of the start, if the room started the battle. */
   readonly log: Uint8Array;
   clone(): Room;
-  /** What a side may submit for the current pair; nothing where its choice is there. */
+  /** The choices that a side may submit for the current pair; none if it has chosen. */
   choices(side: Side): ChoiceName[];
-  /** The update, or null while the foe's choice is awaited. Throws RoomError, and then nothing has changed. */
+  /** Returns the update, or null while the foe's choice is awaited. Throws RoomError, and then the room is unchanged. */
   submit(side: Side, number: number, choice: Choice): Update | null;
 }
 
-/** What a watcher knows, who has both teams and the log. `gen1.spectator` makes it. */
+/** A spectator, which knows both teams and the log alone. `gen1.spectator` creates it. */
 export class Spectator {
   private constructor();
   readonly state: ShownState;
-  /** The bytes, at most 9, of an event that has come in part. */
+  /** The bytes, at most 9, of an incomplete event. */
   readonly held: Uint8Array;
   clone(): Spectator;
-  /** Takes in the next bytes of the log, cut anywhere. Throws LogError, and then none of them is taken in. */
+  /** Reads the next bytes of the log, in pieces of any size. Throws LogError, and then the spectator is unchanged. */
   feed(log: Uint8Array | ArrayBuffer): void;
 }
 
-/** The library. `load` makes it. Its calls throw ArgumentTypeError and ArgumentError for what no call of it takes. */
+/** The library. `load` creates it. Its calls throw ArgumentTypeError and ArgumentError for invalid arguments. */
 export class Gen1 {
   private constructor();
   /** Whether the module has a 64-bit memory. */
   readonly is64: boolean;
-  /** Which module runs, by the name that it was loaded under; null where it had none. */
+  /** Which module runs, by the key that `load` was passed; null if it was passed one source without a key. */
   readonly build: "proved" | "plain" | null;
+  /** The version of the library, such as "1.0.0". */
   readonly version: string;
-  /** Throws TeamError. */
+  /** Creates a battle before its first update, in which both sides pass. Throws TeamError. */
   battle(terms: Terms): Battle;
-  /** Throws LoadError. */
+  /** Loads a battle from its 384 bytes. Throws LoadError. */
   load(bytes: Uint8Array | ArrayBuffer): Battle;
-  /** A room with a copy of the battle, which is started at once if it has not begun. */
+  /** Creates a room with a copy of the battle, which is started at once if it has not begun. */
   room(battle: Battle): Room;
-  /** Throws TeamError. */
+  /** Creates a spectator of a battle of two teams, before its start. Throws TeamError. */
   spectator(one: Team, two: Team): Spectator;
-  /** The members that a team builder's text tells of (docs/TEAM_TEXT.md). Throws TextError. */
+  /** The members in a team builder's text (docs/TEAM_TEXT.md). Throws TextError. */
   teamFromText(text: string): WholeMember[];
-  /** The same of a packed line. Throws TextError. */
+  /** The members in a packed line (docs/TEAM_TEXT.md). Throws TextError. */
   teamFromPacked(line: string): WholeMember[];
-  /** Of two members that have just been sent out alone. Throws TeamError, DamageError. */
+  /** The odds of a move between two members that have just been sent out. Throws TeamError, DamageError. */
   odds(attacker: Member, defender: Member, move: string | number): Odds;
-  /** The same as 39 numbers. */
+  /** The damage of a move between two members that have just been sent out: 39 numbers. Throws TeamError, DamageError. */
   damage(attacker: Member, defender: Member, move: string | number, critical?: boolean): number[];
-  /** Throws ArgumentError for what is no species. */
+  /** The row of a species. Throws ArgumentError for an unknown one. */
   base(species: string | number): Base;
-  /** Throws ArgumentError for what is no move. */
+  /** The row of a move. Throws ArgumentError for an unknown one. */
   moveData(move: string | number): MoveData;
-  /** Throws LogError. */
+  /** The events of log bytes. Throws LogError. */
   events(log: Uint8Array | ArrayBuffer): GameEvent[];
-  /** Throws LogError. */
+  /** The lines of log bytes, without line feeds. Throws LogError. */
   lines(log: Uint8Array | ArrayBuffer): string[];
 }
 
 export type Source = URL | string | BufferSource;
 
 /**
- * The library of a module; of two, that of the proved one where this host has 64-bit memories, else that of the plain one. Rejects with
- * ArgumentTypeError, ModuleError.
+ * Loads the library from a module's URL or bytes. Of two modules, it loads the proved one if this host has 64-bit memories, else the
+ * plain one. Rejects with ArgumentTypeError, ModuleError.
  */
 export function load(source: Source | { proved?: Source; plain: Source }): Promise<Gen1>;
 /** Whether this host has 64-bit memories. */
 export const HAS_LONG_MEMORIES: boolean;
-/** Throws ArgumentError for a name or number that is none. */
+/** The byte of a choice. Throws ArgumentError for an unknown name, or a number that is not a byte. */
 export function byteOf(choice: Choice): number;
-/** Throws ArgumentError for a byte that is no choice. */
+/** The name of a choice's byte. Throws ArgumentError for a byte that is not a choice. */
 export function choiceOf(byte: number): ChoiceName;
 /** The choices in the order of their bits in a mask. */
 export const CHOICES: readonly ChoiceName[];
 export const LOG_ROOM: 512;
-/** Each at its number less 1. */
+/** Each at the index that is its number less 1. */
 export const SPECIES: readonly string[];
-/** Each at its number less 1. */
+/** Each at the index that is its number less 1. */
 export const MOVES: readonly string[];
-/** Each at its number. */
+/** Each at the index that is its number. */
 export const TYPES: readonly string[];
-/** Each at its number. */
+/** Each at the index that is its number. */
 export const STATUSES: readonly Status[];
-/** Each at its bit. */
+/** Each at the index that is its bit. */
 export const CONDITIONS: readonly Condition[];
-/** Each at its number. */
+/** Each at the index that is its number. */
 export const OUTCOMES: readonly Outcome[];
-/** Each at its number. */
+/** Each at the index that is its number. */
 export const REQUESTS: readonly Request[];

@@ -5,8 +5,8 @@
 //     const battle = gen1.battle({ one: [member], two: [member], seed });
 //     const { lines } = battle.update("pass", "pass");
 //
-// A battle is 384 bytes of its own; what is called is copied to the module's memory and back, and nothing has to be freed. No rule of
-// battle stands in JavaScript. README.md says which files belong to it.
+// A battle holds its 384 bytes. Each call copies them to the module's memory and back, so nothing has to be freed. JavaScript contains
+// no rules of battle. README.md lists the files that belong to this module.
 import { byteOf, CHOICES, choiceOf, object, octets, seedBytes, truth, whole, wrongType, byteOr255 } from "./arguments.mjs";
 import { Battle, BATTLE_SIZE, damageError, eventsOf, linesOf, loadError, Update } from "./battle.mjs";
 import { ModuleError } from "./errors.mjs";
@@ -25,11 +25,11 @@ const HIT_SIDES = ["", "attacker: ", "defender: "];
 export class Gen1 {
   #library;
 
-  /** Which module runs: "proved" or "plain", by the name that it was loaded under; null where it had none. */
+  /** Which module runs, "proved" or "plain", by the key that `load` was passed; null if it was passed one source without a key. */
   build;
 
   constructor(library, build = null) {
-    if (!(library instanceof Library)) throw wrongType(library, "library", "the module's own; a Gen1 is made by load, and not by new");
+    if (!(library instanceof Library)) throw wrongType(library, "library", "the module's own; a Gen1 is created by load, not by new");
     this.build = build;
     this.#library = library;
   }
@@ -39,13 +39,13 @@ export class Gen1 {
     return this.#library.isLong;
   }
 
-  /** The version of the library, as "1.0.0". */
+  /** The version of the library, such as "1.0.0". */
   get version() {
     const number = this.#library.calls.gen1_version();
     return [number >> 16, (number >> 8) & 255, number & 255].join(".");
   }
 
-  /** A battle of two teams before its first update, in which both sides pass. */
+  /** Creates a battle of two teams before its first update, in which both sides pass. */
   battle(terms) {
     const { one, two, seed, rules = 0, limit = 1000 } = object(terms, "terms", "an object with one, two and seed");
     const library = this.#library;
@@ -58,7 +58,7 @@ export class Gen1 {
     return new Battle(library, library.read(battle, BATTLE_SIZE));
   }
 
-  /** The battle of 384 bytes, of any of the three versions. */
+  /** Loads a battle from its 384 bytes, of any of the three versions. */
   load(bytes) {
     const given = octets(bytes, "bytes");
     const library = this.#library;
@@ -69,27 +69,27 @@ export class Gen1 {
     return new Battle(library, library.read(battle, BATTLE_SIZE));
   }
 
-  /** A room with a copy of a battle, which is started at once if it has not begun. */
+  /** Creates a room with a copy of a battle, which is started at once if it has not begun. */
   room(battle) {
     return new Room(this.#library, roomOf(this.#library, battle));
   }
 
-  /** A watcher of a battle of two teams, before it. */
+  /** Creates a spectator of a battle of two teams, before its start. */
   spectator(one, two) {
     return new Spectator(this.#library, spectatorOf(this.#library, one, two));
   }
 
-  /** The members that a team builder's text tells of (docs/TEAM_TEXT.md), as `battle` takes them. */
+  /** The members in a team builder's text (docs/TEAM_TEXT.md), as `battle` takes them. */
   teamFromText(text) {
     return membersFrom(this.#library, "gen1_team_from_text", text);
   }
 
-  /** The same of a packed line. */
+  /** The members in a packed line, as `battle` takes them. */
   teamFromPacked(line) {
     return membersFrom(this.#library, "gen1_team_from_packed", line);
   }
 
-  /** What a use of a move by one member on another would come to, each just sent out alone. */
+  /** The odds of a move between two members that have just been sent out: its damage, and its chances of a hit and of a critical hit. */
   odds(attacker, defender, move) {
     const library = this.#library;
     const members = [memberBytes(library, attacker, "attacker"), memberBytes(library, defender, "defender")];
@@ -102,7 +102,7 @@ export class Gen1 {
     return oddsOf(library, number, odds);
   }
 
-  /** The damage of a hit by one member on another, each just sent out alone: 39 numbers, as of `Battle.damage`. */
+  /** The damage of a move between two members that have just been sent out: 39 numbers, as from `Battle.damage`. */
   damage(attacker, defender, move, critical = false) {
     const isCritical = truth(critical, "critical");
     const odds = this.odds(attacker, defender, move);
@@ -121,7 +121,7 @@ export class Gen1 {
     return moveDataOf(this.#library, move);
   }
 
-  /** The events of log bytes, as plain objects. */
+  /** The events of log bytes, as objects. */
   events(log) {
     return eventsOf(this.#library, octets(log, "log"));
   }
@@ -141,7 +141,7 @@ async function fetched(source) {
   return answer.arrayBuffer();
 }
 
-// The instance of a module. What the host throws of one that is not there, or that is none, becomes the cause of a ModuleError.
+// The instance of a module. If there is none, the host's error becomes the cause of a ModuleError.
 async function instanceOf(source, what) {
   const isPlace = source instanceof URL || typeof source === "string";
   if (!isPlace && !(source instanceof ArrayBuffer) && !ArrayBuffer.isView(source)) throw wrongType(source, what, SOURCE);
@@ -149,16 +149,16 @@ async function instanceOf(source, what) {
     return (await WebAssembly.instantiate(isPlace ? await fetched(source) : source, {})).instance;
   } catch (cause) {
     const where = isPlace ? `${what}, ${source},` : what;
-    throw Object.assign(new ModuleError(`${where} is no module that can be run here: ${cause.message}`), { cause });
+    throw Object.assign(new ModuleError(`${where} is not a module that can run here: ${cause.message}`), { cause });
   }
 }
 
-/** Whether this host runs modules with a 64-bit memory, as the proved one is: it takes the smallest of them. */
+/** Whether this host runs modules with a 64-bit memory, which the proved one has. It is tested with the smallest such module. */
 export const HAS_LONG_MEMORIES = WebAssembly.validate(Uint8Array.of(0, 0x61, 0x73, 0x6d, 1, 0, 0, 0, 5, 3, 1, 4, 1));
 
 /**
- * The library of a module: its URL, or its bytes. Of two, `{ proved, plain }`, it takes the proved one where the host can run it,
- * and the plain one elsewhere; `build` says which.
+ * Loads the library from a module's URL or bytes. Of two modules, `{ proved, plain }`, it loads the proved one if the host can run it,
+ * else the plain one; `build` says which.
  */
 export async function load(source) {
   const isNamed = source?.proved !== undefined || source?.plain !== undefined;

@@ -1,7 +1,7 @@
-// What the checks hold facts with.
+// Assertions for the checks.
 
 /**
- * Throws where a fact does not hold.
+ * Throws if a fact does not hold.
  * @param {unknown} fact
  * @param {string} what
  */
@@ -10,7 +10,7 @@ export function holds(fact, what) {
 }
 
 /**
- * Throws where two values are not the same as JSON.
+ * Throws if two values differ as JSON.
  * @param {unknown} found
  * @param {unknown} wanted
  */
@@ -20,7 +20,7 @@ export function equal(found, wanted) {
 }
 
 /**
- * What a call throws, which is of this type and named by it, with this text in its message.
+ * The error that a call throws, which must have this type and its name, and a message that matches this text.
  * @template {Error} T
  * @param {() => unknown} call
  * @param {Function & { prototype: T }} type

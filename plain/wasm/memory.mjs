@@ -1,18 +1,18 @@
-// The module's memory, and what a call puts there. Pointers and sizes are BigInts in a module with a 64-bit memory.
+// The module's memory, and the arguments of a call in it. Pointers and sizes are BigInts in a module with a 64-bit memory.
 import { CODES } from "./header.mjs";
 import { ModuleError } from "./errors.mjs";
 import { layoutOf, readStruct } from "./structs.mjs";
 
 const DECODER = new TextDecoder();
 const PAGE = 65536;
-// All that is called, and the memory. A module of an older version may lack some.
+// All exports that are used. A module of an older version may lack some.
 const NEEDED = [
   "memory", "__heap_base", ...["version", "new", "load", "choices", "offered", "update", "result", "next_event", "next_line", "damage", "odds_now",
     "odds_between", "takes_hit_test", "playout", "team_from_text", "team_from_packed", "species_from_name", "move_from_name", "text", "get_state",
     "choice_words", "reseed", "room_begin", "room_choices", "room_submit", "spectator_begin", "spectator_feed"].map((call) => `gen1_${call}`),
 ];
 
-/** The exports of a module, with a place for the arguments of one call at a time behind what is the module's own. */
+/** The exports of a module, with space for the arguments of one call at a time after the module's own data. */
 export class Library {
   #begin;
   #end;
@@ -34,12 +34,12 @@ export class Library {
     this.isLong = typeof base.value === "bigint";
   }
 
-  /** Begins a call: what the call before it has put down is given up. */
+  /** Begins a call: frees the space of the previous one. */
   begin() {
     this.#end = this.#begin;
   }
 
-  /** So many bytes of zeros, as a pointer. It lies as any struct wants it. */
+  /** A pointer to `count` zero bytes, aligned for any struct. */
   room(count) {
     const place = (this.#end + 7) & ~7;
     this.#end = place + count;
@@ -49,7 +49,7 @@ export class Library {
     return this.size(place);
   }
 
-  // Hosts have changed their minds: of a 64-bit memory some take the number of pages as a BigInt, and some, as Node 20, as a number.
+  // For a 64-bit memory some hosts take the number of pages as a BigInt; others, such as Node 20, take a number.
   #grow(pages) {
     try {
       this.#memory.grow(this.size(pages));
@@ -59,7 +59,7 @@ export class Library {
     }
   }
 
-  /** Bytes, as a pointer to them. */
+  /** A pointer to a copy of these bytes. */
   put(bytes) {
     const pointer = this.room(bytes.length);
     this.write(pointer, bytes);
@@ -71,7 +71,7 @@ export class Library {
     new Uint8Array(this.#memory.buffer).set(bytes, Number(pointer));
   }
 
-  /** Room for a struct of gen1.h. */
+  /** A pointer to space for a struct of gen1.h. */
   roomOf(struct) {
     return this.room(layoutOf(struct, this.isLong).size);
   }
@@ -101,7 +101,7 @@ export class Library {
     return readStruct(struct, new DataView(this.#memory.buffer), Number(pointer), this.isLong);
   }
 
-  /** What a call writes as text, which takes `room`, text, its room and its length last: its code, and the text. */
+  /** The code of a call whose last arguments are a text, its size and its length; and the text, of at most `room` bytes. */
   written(call, room, ...words) {
     const [text, length] = [this.room(room), this.room(8)];
     const code = this.calls[call](...words, text, this.size(room), length);

@@ -1,4 +1,4 @@
-// A battle of two players who choose apart from each other (docs/MECHANICS.md, "Rooms").
+// A battle of two players who choose independently (docs/MECHANICS.md, "Rooms").
 import { choiceByte, sideOf, within, wrongType } from "./arguments.mjs";
 import { Battle, BATTLE_SIZE, made, notOffered, offeredBy, Update } from "./battle.mjs";
 import { RoomError } from "./errors.mjs";
@@ -17,7 +17,7 @@ export function roomOf(library, battle) {
   return library.read(room, layoutOf("gen1_room", library.isLong).size);
 }
 
-/** A room: the first choice of a pair is kept until the other is there, and then the battle is updated. Pairs are numbered from 0. */
+/** A room keeps the first choice of a pair until the other one comes, and then updates the battle. Pairs are numbered from 0. */
 export class Room {
   #library;
   #bytes;
@@ -31,12 +31,12 @@ export class Room {
     return fieldOf("gen1_room", name, this.#bytes, this.#library.isLong);
   }
 
-  /** A copy of the battle. It has everything, also what neither player knows. */
+  /** A copy of the battle. It includes what the players must not know. */
   get battle() {
     return new Battle(this.#library, this.#bytes.slice(0, BATTLE_SIZE));
   }
 
-  /** How the battle stands, and what is asked of each side. */
+  /** The outcome so far, and what is asked of each side. */
   get result() {
     return this.battle.result;
   }
@@ -46,12 +46,12 @@ export class Room {
     return this.#field("number");
   }
 
-  /** The log bytes of the last pair that ended; before one has, those of the start, if that was here. */
+  /** The log bytes of the last pair that ended; before the first, those of the start, if the room started the battle. */
   get log() {
     return this.#field("log").slice(0, this.#field("log_length"));
   }
 
-  /** A room of its own with the same battle, number, log and choices. */
+  /** An independent copy with the same battle, number, log and choices. */
   clone() {
     return new Room(this.#library, this.#bytes.slice());
   }
@@ -61,12 +61,12 @@ export class Room {
     return this.#library.put(this.#bytes);
   }
 
-  /** What a side may submit for the current pair: nothing where its choice is there, or where the battle is over. */
+  /** The choices that a side may submit for the current pair; none if it has chosen, or the battle is over. */
   choices(side) {
     return offeredBy(this.#library, "gen1_room_choices", this.#put(), sideOf(side));
   }
 
-  /** Takes a player's choice for the pair of this number: the update, or null while the foe's choice is awaited. */
+  /** Submits a side's choice for the pair with this number. Returns the update, or null while the foe's choice is awaited. */
   submit(side, number, choice) {
     const asked = [sideOf(side), within(number, "number", 0, MOST_NUMBER), choiceByte(choice, side)];
     const [before, room] = [this.number, this.#put()];
@@ -81,7 +81,7 @@ export class Room {
     const said = {
       [CODES.ROOM_OVER]: () => `${sentence}: ${this.result.outcome}`,
       [CODES.ROOM_STALE]: () => `${sentence}: ${number}; the current pair is ${current}`,
-      [CODES.ROOM_CHOSEN]: () => `${sentence}: side ${side} may submit nothing for pair ${number} any more`,
+      [CODES.ROOM_CHOSEN]: () => `${sentence}: side ${side} can submit nothing more for pair ${number}`,
       [CODES.ROOM_NOT_OFFERED]: () => `side ${side}: ${notOffered(sentence, choice, offered)}`,
     }[code]();
     return new RoomError(said, code, { side, choice, offered, number, current });

@@ -1,11 +1,11 @@
-// What a watcher knows of a battle who has both teams and its log, and nothing else (docs/MECHANICS.md, "Spectator's view").
+// What a spectator knows of a battle from both teams and the log alone (docs/MECHANICS.md, "Spectator's view").
 import { octets } from "./arguments.mjs";
 import { faultPlace, logError, made } from "./battle.mjs";
 import { fieldOf, layoutOf, readStruct } from "./structs.mjs";
 import { teamBytes, teamError } from "./teams.mjs";
 import { shownOf } from "./views.mjs";
 
-/** The bytes of a watcher before a battle of two teams. */
+/** The bytes of a spectator before a battle of two teams. */
 export function spectatorOf(library, one, two) {
   const teams = [teamBytes(library, one, "one"), teamBytes(library, two, "two")];
   library.begin();
@@ -15,7 +15,7 @@ export function spectatorOf(library, one, two) {
   return library.read(spectator, layoutOf("gen1_spectator", library.isLong).size);
 }
 
-/** A watcher, who is fed the log of each update. */
+/** A spectator, which is fed the log of each update. */
 export class Spectator {
   #library;
   #bytes;
@@ -34,17 +34,17 @@ export class Spectator {
     return shownOf(readStruct("gen1_spectator", new DataView(this.#bytes.buffer), 0, this.#library.isLong));
   }
 
-  /** The bytes, at most 9, of an event that has come in part. */
+  /** The bytes, at most 9, of an incomplete event. */
   get held() {
     return this.#field("held").slice(0, this.#field("held_count"));
   }
 
-  /** A watcher of its own who knows the same. */
+  /** An independent copy that knows the same. */
   clone() {
     return new Spectator(this.#library, this.#bytes.slice());
   }
 
-  /** Takes in the next bytes of the battle's log, which may be cut anywhere: an event counts as soon as its last byte is there. */
+  /** Reads the next bytes of the battle's log, in pieces of any size. An event counts as soon as its last byte is read. */
   feed(log) {
     const given = octets(log, "log");
     const library = this.#library;

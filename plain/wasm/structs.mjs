@@ -1,4 +1,4 @@
-// The structs of include/gen1.h as they lie in the module's memory: C's rules, over the fields of header.mjs.
+// The structs of include/gen1.h in the module's memory, by C's layout rules, from the fields in header.mjs.
 import { STRUCTS } from "./header.mjs";
 
 const NUMBERS = { uint8_t: 1, uint16_t: 2, uint32_t: 4 };
@@ -8,7 +8,7 @@ const layouts = [new Map(), new Map()];
 
 const up = (place, alignment) => Math.ceil(place / alignment) * alignment;
 
-// What a type takes: a number's bytes, or the layout of a struct.
+// The size of a type: the bytes of a number, or the layout of a struct.
 function typeOf(type, isLong) {
   const size = type === "size_t" ? (isLong ? 8 : 4) : NUMBERS[type];
   return size ? { size, alignment: size } : layoutOf(type, isLong);
@@ -27,14 +27,14 @@ function made(name, isLong) {
   return { size: up(place, alignment), alignment, fields };
 }
 
-/** Size and alignment of a struct in bytes, and each field with its place (`at`), in a module with a 32-bit or a 64-bit memory. */
+/** The size and alignment of a struct in bytes, and each field with its offset (`at`), for a 32-bit or a 64-bit memory. */
 export function layoutOf(name, isLong) {
   const known = layouts[isLong ? 1 : 0];
   if (!known.has(name)) known.set(name, made(name, isLong));
   return known.get(name);
 }
 
-// A value of a field. A size_t is never above 4 GB here, so its lower half is all of it.
+// A value of a field. A size_t is always below 4 GB here, so its lower half is enough.
 function read(field, view, at, isLong) {
   return field.struct ? readStruct(field.struct, view, at, isLong) : view[READERS[Math.min(field.size, 4)]](at, true);
 }
@@ -46,7 +46,7 @@ function valueOf(field, view, place, isLong) {
   return values;
 }
 
-/** The struct at a place of a DataView, as an object with its fields; a field of several values is an array. */
+/** The struct at an offset of a DataView, as an object with its fields; a field of several values is an array. */
 export function readStruct(name, view, at, isLong) {
   const found = {};
   for (const field of layoutOf(name, isLong).fields) {
@@ -55,14 +55,14 @@ export function readStruct(name, view, at, isLong) {
   return found;
 }
 
-/** The value of one field of the struct whose bytes these are; several bytes are a Uint8Array. `name` is that of the header. */
+/** The value of one field of a struct's bytes; an array of bytes is a Uint8Array. `name` is the name in the header. */
 export function fieldOf(struct, name, bytes, isLong) {
   const field = layoutOf(struct, isLong).fields.find((it) => it.name === name);
   if (field.count !== undefined && field.size === 1) return bytes.slice(field.at, field.at + field.count);
   return valueOf(field, new DataView(bytes.buffer, bytes.byteOffset), field.at, isLong);
 }
 
-/** Writes an object's fields to a place of a DataView; fields that it has not, and values behind its last, are left alone. */
+/** Writes an object's fields at an offset of a DataView. Missing fields, and values after the last one of a list, are unchanged. */
 export function writeStruct(name, view, at, isLong, object) {
   for (const field of layoutOf(name, isLong).fields) {
     if (object[field.key] === undefined) continue;

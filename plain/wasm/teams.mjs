@@ -1,4 +1,4 @@
-// Teams as the library takes them, out of objects and out of a team builder's text, and why there is none.
+// Teams in the library's form, from objects and from a team builder's text, and the errors for them.
 import { ArgumentError, TeamError, TextError } from "./errors.mjs";
 import { byteOr255, list, numbers, object, shown, text, within, wrongType } from "./arguments.mjs";
 import { CODES, TEXT_FAULTS } from "./header.mjs";
@@ -11,13 +11,13 @@ const FULL_DVS = Object.freeze([15, 15, 15, 15]);
 const FULL_EXP = Object.freeze([65535, 65535, 65535, 65535, 65535]);
 const SPECIES_KIND = { names: SPECIES, rows: SPECIES_ROWS, find: "gen1_species_from_name" };
 const MOVE_KIND = { names: MOVES, rows: MOVE_ROWS, find: "gen1_move_from_name" };
-// The field that a code of gen1_new is about; where it is not here, it is the moves.
+// The field that a code of gen1_new is about; for other codes it is the moves.
 const FIELDS = {
   [CODES.EMPTY]: "members", [CODES.TOO_MANY]: "members", [CODES.LEVEL]: "level", [CODES.DV]: "dvs", [CODES.NO_SUCH_SPECIES]: "species",
   [CODES.RULES]: "rules", [CODES.TURN_LIMIT]: "limit",
 };
 
-// The number of a name to the letter, or a number as a byte; 255, which the library refuses, for one that has no place in a byte.
+// The number of a name, which must match exactly, or a number as a byte; 255, which the library refuses, for a number out of range.
 function numberOf(library, value, kind, what) {
   if (typeof value === "number") return byteOr255(value, what) || 255;
   if (typeof value !== "string") throw wrongType(value, what, "a name or a number");
@@ -27,10 +27,10 @@ function numberOf(library, value, kind, what) {
   const name = new TextEncoder().encode(value);
   const near = library.calls[kind.find](library.put(name), library.size(name.length));
   const meant = near ? `; did you mean ${shown(kind.names[near - 1])}?` : "";
-  throw new ArgumentError(`${what} is ${shown(value)}, which is none of docs/TABLES.md${meant}`, what);
+  throw new ArgumentError(`${what} is ${shown(value)}, which is not in docs/TABLES.md${meant}`, what);
 }
 
-/** A move as the library takes it. */
+/** The number of a move. */
 export function moveOf(library, value) {
   return numberOf(library, value, MOVE_KIND, "move");
 }
@@ -42,13 +42,13 @@ function rowOf(library, value, kind, what) {
   return row;
 }
 
-/** What docs/TABLES.md has of a species. */
+/** The row of a species in docs/TABLES.md. */
 export function baseOf(library, value) {
   const [one, two, hp, attack, defense, speed, special] = rowOf(library, value, SPECIES_KIND, "species");
   return { hp, attack, defense, speed, special, types: [TYPES[one], TYPES[two]] };
 }
 
-/** What docs/TABLES.md has of a move. */
+/** The row of a move in docs/TABLES.md. */
 export function moveDataOf(library, value) {
   const [type, power, accuracy, pp] = rowOf(library, value, MOVE_KIND, "move");
   return { type: TYPES[type], power, accuracy, pp };
@@ -87,7 +87,7 @@ export function memberBytes(library, given, what) {
   return bytesOf("gen1_member", library.isLong, memberOf(library, given, what));
 }
 
-/** A team's bytes. `what` names the argument. Of too many members only the count is looked at, which the library refuses. */
+/** A team's bytes. `what` names the argument. With too many members only the count is passed, which the library refuses. */
 export function teamBytes(library, given, what) {
   const { length } = list(given, what, "a list of 1 to 6 members");
   const members = length > MOST_MEMBERS ? [] : Array.from(given, (it, place) => memberOf(library, it, `${what}[${place}]`));
@@ -96,7 +96,7 @@ export function teamBytes(library, given, what) {
 
 const ofTeams = (side, place) => (side ? `team ${side}: ` : "") + (place ? `member ${place}: ` : "");
 
-/** Why there is no battle of these teams and with these terms, by an answer of gen1_new; `where` says whose fault it is. */
+/** Why gen1_new refuses teams and terms, by the number that it returns; `where` names the member. */
 export function teamError(library, answer, teams, terms = {}, where = ofTeams) {
   const [code, place, side] = [answer & 255, (answer >> 8) & 255, answer >> 16];
   const [field, team] = [FIELDS[code] ?? "moves", teams[side - 1]];
@@ -104,7 +104,7 @@ export function teamError(library, answer, teams, terms = {}, where = ofTeams) {
   return new TeamError(`${where(side, place)}${library.sentence(CODES.ABOUT_NEW, code)}: ${was}`, code, { side, place, field });
 }
 
-// A member as `battle` takes it, of the library's own.
+// A member as `battle` takes it, from the library's form.
 function memberFrom(of) {
   const moves = of.moves.flatMap((move, slot) => (move ? [[MOVES[move - 1], of.ppUps[slot]]] : []));
   return { species: SPECIES[of.species - 1], level: of.level, dvs: of.dvs, exp: of.exp, moves };
@@ -117,7 +117,7 @@ function textError(library, of) {
   return new TextError(where ? `${where}: ${said}` : said, of);
 }
 
-/** The members that a text tells of, by the call that reads such texts: gen1_team_from_text or gen1_team_from_packed. */
+/** The members in a text. `call` reads the text: gen1_team_from_text or gen1_team_from_packed. */
 export function membersFrom(library, call, given) {
   const bytes = new TextEncoder().encode(text(given, "text"));
   library.begin();

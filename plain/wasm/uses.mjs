@@ -57,7 +57,7 @@ const OF_EVENT = {
   tag: true, side: true, species: true, move: true, targetSide: true, targetSpecies: true, place: true, level: true, status: true, detail: true,
   amount: true, hp: true, maxHp: true, turn: true,
 };
-// The names of docs/MECHANICS.md and docs/LAYOUT.md, in the order of their numbers and bits.
+// The names in docs/MECHANICS.md and docs/LAYOUT.md, in the order of their numbers and bits.
 /** @type {Record<import("./gen1.mjs").Condition, true>} */
 const ALL_CONDITIONS = {
   bide: true, thrash: true, trapping: true, flinch: true, charging: true, invulnerable: true, confused: true, mist: true, "focus energy": true,
@@ -85,7 +85,7 @@ function hasKeys(found, wanted) {
   equal(Object.keys(found).sort(), Object.keys(wanted).sort());
 }
 
-// What a class of the module offers: its methods and getters, and the fields of one of its instances.
+// The members of a class of the module: its methods and getters, and the fields of an instance.
 /** @param {object} one @param {Record<string, true>} wanted */
 function offers(one, wanted) {
   const names = [...Object.getOwnPropertyNames(Object.getPrototypeOf(one)), ...Object.keys(one)].filter((name) => name !== "constructor");
@@ -126,18 +126,18 @@ function battles(gen1) {
 }
 
 /** @param {Gen1} gen1 */
-function roomsAndWatchers(gen1) {
+function roomsAndSpectators(gen1) {
   const room = gen1.room(gen1.battle(TERMS));
-  const watcher = gen1.spectator(TERMS.one, TERMS.two);
+  const spectator = gen1.spectator(TERMS.one, TERMS.two);
   offers(room, OF_ROOM);
-  offers(watcher, OF_SPECTATOR);
+  offers(spectator, OF_SPECTATOR);
   /** @type {import("./gen1.mjs").Update | null} */
   const waiting = room.submit(1, room.number, room.choices(1)[0]);
-  watcher.feed(room.submit(2, 0, "move 1")?.log ?? new Uint8Array(0));
-  holds(waiting === null && watcher.state.one.place === 0 && room.clone() instanceof Room && watcher.clone() instanceof Spectator, "another room");
-  hasKeys(watcher.state, OF_SHOWN);
-  hasKeys(watcher.state.two, OF_SHOWN_SIDE);
-  hasKeys(watcher.state.two.members[0], { hp: true, status: true });
+  spectator.feed(room.submit(2, 0, "move 1")?.log ?? new Uint8Array(0));
+  holds(waiting === null && spectator.state.one.place === 0 && room.clone() instanceof Room && spectator.clone() instanceof Spectator, "another room");
+  hasKeys(spectator.state, OF_SHOWN);
+  hasKeys(spectator.state.two, OF_SHOWN_SIDE);
+  hasKeys(spectator.state.two.members[0], { hp: true, status: true });
 }
 
 // Each of these is refused by its types, else tsc calls the directive above it unused; and by the module.
@@ -178,12 +178,12 @@ function refused(gen1) {
 }
 
 /**
- * Runs all of them.
+ * Runs all checks of the types.
  * @param {Gen1} gen1
  */
 export function uses(gen1) {
   lists();
   battles(gen1);
-  roomsAndWatchers(gen1);
+  roomsAndSpectators(gen1);
   refused(gen1);
 }

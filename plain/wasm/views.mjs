@@ -1,24 +1,24 @@
-// What the library shows of battles, as plain objects with names in place of numbers.
+// States, results and odds as objects, with names in place of the library's numbers.
 import { CODES } from "./header.mjs";
 import { MOVES, SPECIES, TYPES } from "./tables.mjs";
 
-// The names of the header's codes that begin so, in the order of their numbers: BAD_POISON is "bad poison".
+// The names of the header's codes with this prefix, in the order of their numbers: BAD_POISON is "bad poison".
 function namesOf(start) {
   const found = Object.entries(CODES).filter(([name]) => name.startsWith(start)).sort(([, one], [, two]) => one - two);
   return Object.freeze(found.map(([name]) => name.slice(start.length).replaceAll("_", " ").toLowerCase()));
 }
 
-/** What ails a member, by number. */
+/** The statuses of a member, by number. */
 export const STATUSES = namesOf("STATUS_");
-/** What an active is under, by bit (docs/LAYOUT.md, "Condition bits"). */
+/** The conditions of a member that is out, by bit (docs/LAYOUT.md, "Condition bits"). */
 export const CONDITIONS = namesOf("CONDITION_");
-/** How a battle stands, by number. */
+/** The outcomes, by number. */
 export const OUTCOMES = Object.freeze(["ongoing", "win one", "win two", "tie", "fault 1", "fault 2"]);
-/** What a side is asked for, by number. */
+/** The requests to a side, by number. */
 export const REQUESTS = Object.freeze(["pass", "move", "switch"]);
 const MIDDLE = 6;
 
-/** An answer of gen1_result. */
+/** The object of a number that gen1_result returns. */
 export function resultOf(answer) {
   return { outcome: OUTCOMES[answer & 7], requests: [REQUESTS[(answer >> 3) & 3], REQUESTS[(answer >> 5) & 3]] };
 }
@@ -42,7 +42,7 @@ function activeOf({ conditions, types, stages, ...rest }) {
 
 const sideOf = (of) => ({ members: of.members.filter((it) => it.species).map(memberOf), active: activeOf(of.active) });
 
-/** A gen1_state. */
+/** The object of a gen1_state. */
 export function stateOf({ sides, outcome, requests, ...rest }) {
   const [one, two] = sides.map(sideOf);
   return { one, two, ...rest, outcome: OUTCOMES[outcome], requests: requests.map((request) => REQUESTS[request]) };
@@ -56,7 +56,7 @@ function shownSide({ members, count, stages, place, ...up }) {
   };
 }
 
-/** A gen1_spectator. */
+/** The object of a gen1_spectator. */
 export function shownOf({ sides, turn, outcome }) {
   const [one, two] = sides.map(shownSide);
   return { one, two, turn, outcome: OUTCOMES[outcome] };
@@ -64,7 +64,7 @@ export function shownOf({ sides, turn, outcome }) {
 
 const damagesOf = ({ numbers, count, code }) => ({ numbers: numbers.slice(0, count), code });
 
-/** A gen1_odds by the move of a number. Draws are of 256, so each chance is exact. */
+/** The object of a gen1_odds for the move with this number. Chances are multiples of 1/256, so each is exact. */
 export function oddsOf(library, move, odds) {
   const { usual, critical, criticalDraws, hitDraws } = library.readStruct("gen1_odds", odds);
   return {

@@ -1,4 +1,5 @@
-// Examples that were worked out by hand, from docs/MECHANICS.md, docs/TEAM_TEXT.md, README.md and include/gen1.h.
+// Worked examples from docs/MECHANICS.md, docs/TEAM_TEXT.md, README.md and include/gen1.h, whose results were calculated without the
+// library.
 import * as library from "./gen1.mjs";
 import { CODES } from "./header.mjs";
 import { bytesOfHex, equal, hexOf, holds, thrown } from "./holding.mjs";
@@ -9,7 +10,7 @@ const STRONG = { species: "Tauros", moves: [["Strength", 3]] };
 const BATTLE = { one: [STRONG], two: [STRONG], seed: SEED };
 const PAIR = [{ ...STRONG }, { species: "Chansey", moves: [["Strength", 3]] }];
 const OUT = [2, 1, 128, 1, 100, 97, 1, 97, 1, 0, 2, 2, 128, 1, 100, 97, 1, 97, 1, 0];
-// The lines of README.md, and the log that they are of (docs/MECHANICS.md, "Log bytes").
+// The lines in README.md, and the log bytes for them (docs/MECHANICS.md, "Log bytes").
 const LINES = `|switch|p1a: Tauros|Tauros|353/353
 |switch|p2a: Tauros|Tauros|353/353
 |turn|1
@@ -27,7 +28,7 @@ const LINES = `|switch|p1a: Tauros|Tauros|353/353
 const LOG = bytesOfHex("020180016461016101000202800164610161010001010003018046028007028005028095006101000003028046018005018007016101000001020003018046"
   + "02800702800502800000610100001902801a01");
 
-// The lines and log bytes of whole battles, and of many one after the other.
+// The lines and log bytes of whole battles, and of many battles in a row.
 function logs(gen1, check) {
   check("the battle of README.md", () => {
     const battle = gen1.battle(BATTLE);
@@ -52,7 +53,7 @@ function logs(gen1, check) {
 }
 
 // docs/MECHANICS.md, "Critical hits" and "Hit test".
-function hits(gen1, check) {
+function odds(gen1, check) {
   const [persian, gengar] = [{ species: "Persian", moves: [["Focus Energy", 3]] }, { species: "Gengar", moves: [["Splash", 3]] }];
   const chances = (move) => gen1.odds(persian, gengar, move);
   check("chances of a critical hit", () => {
@@ -78,10 +79,10 @@ function hits(gen1, check) {
     }
     equal(chances("Strength").usual, { numbers: Array(39).fill(0), code: 0 });
   });
-  check("each draw of a hit", () => everyDraw(gen1));
+  check("each draw of a move", () => everyDraw(gen1));
 }
 
-// A use of Thunder with each byte as the draw that decides: as many are critical, and as many hit, as `hit` tells.
+// Thunder with each byte as the deciding draw: as many are critical, and as many hit, as `odds` returns.
 function everyDraw(gen1) {
   const [user, foe] = [{ species: "Tauros", moves: [["Thunder", 3]] }, { species: "Snorlax", moves: [["Splash", 3]] }];
   let [critical, missed] = [0, 0];
@@ -95,7 +96,7 @@ function everyDraw(gen1) {
       critical += tags.includes(CODES.CRIT) ? 1 : 0;
       missed += tags.includes(CODES.MISS) ? 1 : 0;
     }
-  // Tauros' base Speed is 110, and half of it is drawn against.
+  // Tauros has base Speed 110, and the draw is compared with half of it.
   const { criticalChance, hitChance } = gen1.odds(user, foe, "Thunder");
   equal([critical, 256 - missed], [55, 256 * hitChance]);
   equal(criticalChance, 55 / 256);
@@ -131,11 +132,11 @@ function rooms(gen1, check) {
 }
 
 // docs/MECHANICS.md, "Spectator's view".
-function watchers(gen1, check) {
+function spectators(gen1, check) {
   const begun = (...events) => {
-    const watcher = gen1.spectator(PAIR, PAIR);
-    watcher.feed(Uint8Array.from([...OUT, ...events.flat()]));
-    return watcher.state;
+    const spectator = gen1.spectator(PAIR, PAIR);
+    spectator.feed(Uint8Array.from([...OUT, ...events.flat()]));
+    return spectator.state;
   };
   check("before the start", () => {
     const side = { members: [{ hp: 353, status: "none" }, { hp: 703, status: "none" }], place: 0, stages: [0, 0, 0, 0, 0, 0] };
@@ -144,14 +145,14 @@ function watchers(gen1, check) {
   });
   check("a log is followed however it is cut", () => {
     for (let cut = 0; cut <= LOG.length; cut++) {
-      const watcher = gen1.spectator(PAIR, PAIR);
-      watcher.feed(LOG.subarray(0, cut));
-      const held = watcher.held.length;
-      equal(hexOf(watcher.held), hexOf(LOG.subarray(cut - held, cut)));
-      watcher.clone().feed(LOG.subarray(cut));
-      watcher.feed(LOG.subarray(cut));
-      const { one, two, turn, outcome } = watcher.state;
-      equal([one.members[0].hp, two.members[0].hp, turn, outcome, watcher.held.length], [263, 0, 2, "win one", 0]);
+      const spectator = gen1.spectator(PAIR, PAIR);
+      spectator.feed(LOG.subarray(0, cut));
+      const held = spectator.held.length;
+      equal(hexOf(spectator.held), hexOf(LOG.subarray(cut - held, cut)));
+      spectator.clone().feed(LOG.subarray(cut));
+      spectator.feed(LOG.subarray(cut));
+      const { one, two, turn, outcome } = spectator.state;
+      equal([one.members[0].hp, two.members[0].hp, turn, outcome, spectator.held.length], [263, 0, 2, "win one", 0]);
     }
   });
   check("what events change", () => {
@@ -162,12 +163,12 @@ function watchers(gen1, check) {
     equal([stages.one.stages, stages.two.stages, begun([1, 15, 39]).turn], [[0, 0, 0, 0, 0, 6], [0, 0, 0, -6, 0, 0], 9999]);
   });
   check("no log", () => {
-    const watcher = gen1.spectator(PAIR, PAIR);
-    watcher.feed(LOG.subarray(0, 26));
-    const before = [watcher.state, hexOf(watcher.held)];
+    const spectator = gen1.spectator(PAIR, PAIR);
+    spectator.feed(LOG.subarray(0, 26));
+    const before = [spectator.state, hexOf(spectator.held)];
     equal(before[1], "030180");
-    const fault = thrown(() => watcher.feed(Uint8Array.of(255, 255, 255)), library.LogError, /^3 bytes before these: a field of an event is out of its range$/);
-    equal([fault.code, fault.at, watcher.state, hexOf(watcher.held)], [2, -3, ...before]);
+    const fault = thrown(() => spectator.feed(Uint8Array.of(255, 255, 255)), library.LogError, /^3 bytes before these: a field of an event is out of its range$/);
+    equal([fault.code, fault.at, spectator.state, hexOf(spectator.held)], [2, -3, ...before]);
   });
 }
 
@@ -196,7 +197,7 @@ function texts(gen1, check) {
   });
 }
 
-// The same rounds update by update, by the generator that include/gen1.h describes.
+// The same rounds update by update, with the generator that include/gen1.h describes.
 function playedOut(battle, seed, rounds) {
   const counts = { winsOne: 0, winsTwo: 0, ties: 0, faults: 0 };
   const names = { "win one": "winsOne", "win two": "winsTwo", tie: "ties", "fault 1": "faults", "fault 2": "faults" };
@@ -247,7 +248,7 @@ function searching(gen1, check) {
   });
 }
 
-// The sizes that include/gen1.h names, and where C puts the rest of a struct with a size_t.
+// The sizes that include/gen1.h states, and the offsets of a struct with a size_t in C.
 function layouts(check) {
   check("structs", () => {
     const sizes = (isLong) => ["gen1_battle", "gen1_team", "gen1_event", "gen1_room", "gen1_spectator", "gen1_odds"].map((it) => layoutOf(it, isLong).size);
@@ -257,8 +258,8 @@ function layouts(check) {
   });
 }
 
-/** Runs all of them. */
+/** Runs all worked examples. */
 export function worked(gen1, check) {
-  for (const part of [logs, hits, rooms, watchers, texts, rows, searching]) part(gen1, check);
+  for (const part of [logs, odds, rooms, spectators, texts, rows, searching]) part(gen1, check);
   layouts(check);
 }
