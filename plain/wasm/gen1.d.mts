@@ -186,9 +186,9 @@ export interface Base {
 /** A move (docs/TABLES.md). */
 export interface MoveData {
   type: string;
-  /** 0 to 170. Moves with a fixed damage, one-hit moves and Counter have 1; Night Shade, Bide and moves without damage have 0. */
+  /** 0 to 170. One-hit moves, Counter, Super Fang and moves with a fixed damage have 1; Night Shade, Bide and moves without damage, 0. */
   power: number;
-  /** In percent, 0 to 100. */
+  /** In percent, 30 to 100. */
   accuracy: number;
   /** Without PP ups. */
   pp: number;

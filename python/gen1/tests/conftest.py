@@ -1,18 +1,27 @@
-"""What the tests share: the recorded battles of the repository, teams, and battles that are played at random."""
+"""Shared by the tests: the repository's recorded battles, the library itself, wrong arguments, and random teams."""
 
+import ctypes
 import random
 import sys
+from decimal import Decimal
 from pathlib import Path
 
 import pytest
 from gen1 import Battle, Choice, Member, Move, Species, Team
+from gen1._library import PATH
 
 ROOT = Path(__file__).resolve().parents[3]
 RECORDED = ROOT / "tests" / "battles"
 LEFT_OUT = {Move.MIMIC, Move.METRONOME, Move.MIRROR_MOVE, Move.TRANSFORM, Move.STRUGGLE}
 sys.path.insert(0, str(ROOT / "tools"))
 
-recorded_only = pytest.mark.skipif(not RECORDED.is_dir(), reason="the recorded battles are not here")
+# The library itself, without the types that the package gives its calls.
+LIB = ctypes.CDLL(PATH)
+# Values that are not whole numbers, and whole numbers that are not bytes.
+NO_NUMBERS = (None, 1.0, "1", b"\x01", True, False, [1], Decimal(1), object())
+BIG = (-1, 256, 257, 300, 65536, 1 << 32, 1 << 33, 1 << 64, -(1 << 70))
+
+recorded_only = pytest.mark.skipif(not RECORDED.is_dir(), reason="the recorded battles are missing")
 
 
 @pytest.fixture
@@ -27,7 +36,7 @@ def team(tauros):
 
 @pytest.fixture
 def battle(team):
-    """A battle after its start."""
+    """A battle after its first update."""
     made = Battle(team, team, seed=range(10))
     made.update(Choice.PASS, Choice.PASS)
     return made

@@ -1,4 +1,4 @@
-"""Batches of battles against single ones, and against the library called apart from the package; what a side is shown of them."""
+"""Arrays of battles against single battles, and against direct calls of the library; and observations."""
 
 import copy
 import ctypes
@@ -7,17 +7,14 @@ import random
 import time
 
 import pytest
-from conftest import random_team
+from conftest import LIB, random_team
 
 np = pytest.importorskip("numpy")
 
 from gen1 import BadArgument, BadType, Battle, BattleArray, Conditions, Error  # noqa: E402
-from gen1._library import PATH  # noqa: E402
 from gen1.arrays import ACTIONS, CHOICES, bits  # noqa: E402
 from gen1.layout import ACTIVE, BATTLE, MEMBER  # noqa: E402
 from gen1.observations import COLUMNS  # noqa: E402
-
-LIB = ctypes.CDLL(PATH)
 
 
 def random_battles(count, seed, limit=30):
@@ -55,7 +52,7 @@ def test_it_is_a_sequence_of_battles(battle):
 
 
 def test_what_a_step_answers_is_the_callers(battle):
-    """A later step, reset or battle that is put in leaves what was answered before as it was."""
+    """Arrays that were returned don't change by a later step, reset or assignment."""
     array, dice = BattleArray(20, battle), np.random.default_rng(15)
     while not array.over.all():
         array.random_step(dice)
@@ -68,7 +65,7 @@ def test_what_a_step_answers_is_the_callers(battle):
 
 
 def test_the_arrays_can_only_be_read(battle):
-    """So that results are always those of the bytes."""
+    """Read-only arrays, so that results always match the bytes."""
     array = BattleArray(4, battle)
     for held in (array.bytes, array.fields["turn"], array.fields["sides"]["members"]["hp"], array.results, array.codes):
         with pytest.raises(ValueError):
@@ -77,7 +74,7 @@ def test_the_arrays_can_only_be_read(battle):
 
 
 def test_battles_that_are_taken():
-    """Copies by their places, with results; each goes its own way, and back to where it was taken."""
+    """Copies by their places, with results. They are independent, and `reset` restores them to what was taken."""
     battles = random_battles(4, 16)
     array = BattleArray.of(battles)
     array.random_step(np.random.default_rng(1))
@@ -106,7 +103,7 @@ def test_battles_that_are_taken():
 
 
 def test_what_is_wrong_is_named(battle):
-    """Which item of an array, and what it is."""
+    """Errors name the item of an array, and its value."""
     array = BattleArray(5, battle)
     seeds = np.zeros((5, 10), int)
     seeds[2, 3] = 256
@@ -144,7 +141,7 @@ def test_seeds_are_those_of_new_battles(team):
 
 
 def test_steps_against_single_updates():
-    """A batch of random battles, in which one choice of five is any byte: results, codes, masks and bytes."""
+    """An array of random battles, in which one choice of five is any byte: results, codes, masks and bytes."""
     battles, dice = random_battles(200, 3), random.Random(4)
     array = BattleArray.of(battles)
     while not array.over.all():
@@ -167,7 +164,7 @@ def test_steps_against_single_updates():
 
 
 def test_random_steps_take_what_is_offered():
-    """Each choice that is taken is offered, each that is offered is taken, and about as often as the others."""
+    """Each choice that is made is offered; each that is offered is made, and about as often as the others."""
     battles = random_battles(1, 5) * 4000
     array, dice = BattleArray.of(battles), np.random.default_rng(6)
     array.step(np.zeros(4000, np.uint8), np.zeros(4000, np.uint8))
@@ -251,7 +248,7 @@ def observed(seed):
         yield battle
 
 
-def test_of_the_foe_a_side_sees_what_a_watcher_knows():
+def test_of_the_foe_a_side_sees_what_a_spectator_knows():
     """Place, HP, kinds, stages and what is up (docs/MECHANICS.md, "Spectator's view"), and the species and levels of the team."""
     stages = ("attack", "defense", "speed", "special", "accuracy", "evasion")
     for battle in observed(8):
@@ -312,7 +309,7 @@ def test_the_columns(battle):
 
 
 def test_the_fields_are_what_the_library_shows():
-    """`fields` of random battles at some update against `Battle.state`, which is the library's own view of the bytes."""
+    """`fields` of random battles at some update against `Battle.state`, which the library reads from the bytes."""
     asleep = {0: 0, 8: 2, 16: 3, 32: 4, 64: 5, **dict.fromkeys(range(1, 8), 1)}
     for battle in observed(13):
         of, state = BattleArray(1, battle).fields[0], battle.state
@@ -337,7 +334,7 @@ def test_the_fields_are_what_the_library_shows():
 
 
 def test_it_is_quick(battle):
-    """Far quicker than a loop of single updates. The number that is promised is measured on an idle machine (README)."""
+    """Much faster than a loop of single updates. The speed in the README was measured on a less busy machine."""
     array, dice = BattleArray(4096, battle), np.random.default_rng(12)
     spent = steps = 0
     for _ in range(40):

@@ -15,7 +15,7 @@ from gen1.spaces import Box, Discrete  # noqa: E402
 
 
 def played(env, seed, dice):
-    """All that an episode tells, by choices at random."""
+    """Everything that an episode with random choices returns."""
     told = [env.reset(seed=seed)]
     while True:
         action = dice.choice(np.flatnonzero(env.action_masks()))
@@ -25,7 +25,7 @@ def played(env, seed, dice):
 
 
 def same(one, two):
-    """Whether two told things are the same, arrays too."""
+    """Whether two returned values are the same, including arrays."""
     if isinstance(one, np.ndarray):
         return np.array_equal(one, two)
     if isinstance(one, (tuple, list)):
@@ -136,12 +136,12 @@ def test_other_arguments():
     env.reset(seed=1, options={"one": [tauros]})
     assert len(env.battle.choices(1)) == 1 and env.render().startswith("turn 1: Tauros 353/353 - ")
     assert BattleEnv().render() is None
-    # What wrappers and checkers put in for others is left alone.
+    # Keys that wrappers and checkers add are ignored.
     assert same(env.reset(seed=1, options={"options": 1}), BattleEnv().reset(seed=1))
 
 
 def test_a_reset_that_is_refused_changes_nothing():
-    """What follows, and the battle after that, are those of an environment that was asked nothing in between."""
+    """The rest of the episode, and the next battle, are the same as without the wrong call."""
     for wrong in ({"seed": -1}, {"seed": "1"}, {"seed": 3, "options": 5}, {"seed": 3, "options": {"two": []}}):
         env, other, dice = BattleEnv(), BattleEnv(), np.random.default_rng(6)
         assert same(env.reset(seed=8), other.reset(seed=8))
@@ -154,7 +154,7 @@ def test_a_reset_that_is_refused_changes_nothing():
 
 
 def test_a_refused_action_is_refused_before_the_policy_is_asked():
-    """So it draws nothing: what follows is as if it had not been."""
+    """It draws nothing, so the rest of the episode is the same as without it."""
     asked = []
 
     def policy(battle, side, dice):
@@ -258,7 +258,7 @@ def test_our_spaces():
 
 
 def test_with_gymnasium_its_spaces_are_taken(monkeypatch):
-    """A module of its name, with what is used of it."""
+    """A module with its name, and the attributes that are used."""
     from importlib.machinery import ModuleSpec
 
     from gen1 import spaces
@@ -274,8 +274,7 @@ def test_with_gymnasium_its_spaces_are_taken(monkeypatch):
     assert spaces.made() == (Discrete, Box, Env)
 
 
-# The published checkers themselves, where they are installed. They take actions that no mask has let through, which is refused here; so
-# each such action is put to one that is offered.
+# The published checkers, if they are installed. They ignore masks, so an action that is not offered is replaced by one that is.
 
 
 def offered(mask, action):

@@ -1,27 +1,24 @@
-"""Every bad argument: an exception with a sentence, and nothing changed. The faults of the earlier example, each as a test."""
+"""Every wrong argument raises an exception with a message, and changes nothing. Bugs of an earlier example are tests too."""
 
 import copy
 import pickle
-from decimal import Decimal
 
 import gen1
 import pytest
+from conftest import BIG, NO_NUMBERS
 from gen1 import BadArgument, BadBytes, BadLog, BadTeam, BadType, Battle, Choice, Member, Move, NoDamage, Refused, Species, Team
 from gen1.names import DamageFault, LoadFault, NewFault, Refusal
 
-NO_NUMBERS = (None, 1.0, "1", b"\x01", True, False, [1], Decimal(1), object())
-BIG = (-1, 256, 257, 300, 65536, 1 << 32, 1 << 64, -(1 << 70))
-
 
 def said(fault):
-    """The sentence of an exception of the package, which names what was wrong."""
+    """The message of an exception of the package."""
     assert isinstance(fault.value, gen1.Error)
     text = str(fault.value)
     assert len(text) > 10 and "\n" not in text
     return text
 
 
-# What was found faulty in the earlier example.
+# Bugs that were found in the earlier example.
 
 
 def test_a_species_is_not_cut_to_a_byte():
@@ -106,7 +103,7 @@ def test_pp_ups_of_a_wrong_type():
 def test_choices_that_are_not_offered(battle, choice):
     before = battle.bytes
     for side, pair in ((1, (choice, 0x11)), (2, (0x11, choice))):
-        for call in (battle.update, battle.play):
+        for call in (battle.update, battle.update_silent):
             with pytest.raises(Refused) as fault:
                 call(*pair)
             it = fault.value
@@ -271,7 +268,7 @@ LONG = 10**5000
 
 
 def test_numbers_and_names_of_any_length(team, tauros, battle):
-    """Python refuses to write a number of thousands of digits, so an error that would show it says how long it is; and names are cut."""
+    """Python refuses to write a number of thousands of digits, so an error shows its length instead; and long names are cut."""
     member, before = tauros.to_dict(), battle.bytes
     calls = (
         lambda: Choice.move(LONG),
@@ -306,7 +303,7 @@ def test_numbers_and_names_of_any_length(team, tauros, battle):
 
 
 def test_what_cannot_be_shown():
-    """A value of a class whose `repr` raises is named by its class."""
+    """For a value whose `repr` raises, an error names the class."""
 
     class Hidden:
         def __repr__(self):
@@ -367,7 +364,7 @@ def test_seeds_and_indexes_to_reseed(battle):
 
 
 def test_a_fault_that_is_pickled_is_the_same(team, tauros):
-    """As a worker's fault is on its way to who asked for the work."""
+    """Errors can be pickled, as they are on their way from a worker process."""
     room = gen1.Room(Battle(team, team, range(10)))
     calls = (
         lambda: Battle(team, team, range(10)).update(17, 17),

@@ -1,4 +1,4 @@
-"""examples/python/linear_value: it learns to beat random choices, by what a side knows, and the same words give the same curve."""
+"""examples/python/linear_value: it learns to beat random choices from what a side knows, and the same arguments give the same curve."""
 
 import csv
 import os
@@ -47,7 +47,7 @@ def short(tmp_path_factory):
 
 
 def test_it_learns_to_beat_random(short, parts):
-    """With 99.9 % it wins more than four battles of five, and far more than before it learned."""
+    """It wins more than four battles of five, and far more than before it learned, at a confidence of 99.9 %."""
     first, last = list(csv.DictReader(open(short[0] / "curve.csv")))
     before, after = (int(row["won"]) for row in (first, last))
     assert parts[1].interval(after, 400, 3.29)[0] > 0.8
@@ -56,7 +56,7 @@ def test_it_learns_to_beat_random(short, parts):
 
 
 def test_the_same_words_give_the_same_curve(tmp_path):
-    """And another seed another one."""
+    """Another seed gives another curve."""
     folders = [tmp_path / name for name in ("one", "two", "three")]
     for out, seed in zip(folders, (7, 7, 8)):
         assert run(*SHORTER, "--seed", seed, "--out", out).returncode == 0

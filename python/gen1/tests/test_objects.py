@@ -1,4 +1,4 @@
-"""What the objects do: how they compare, hash, are copied, pickled and shown, and what their parts hold."""
+"""Objects: how they are compared, hashed, copied, pickled and shown, and their attributes."""
 
 import array
 import copy
@@ -15,7 +15,7 @@ from functools import cached_property
 
 import gen1
 import pytest
-from conftest import ROOT, random_team
+from conftest import PATH, ROOT, random_team
 from gen1 import Battle, Choice, EventKind, Member, Move, Outcome, Request, Result, Rules, Side, Species, Team, Update
 
 
@@ -31,7 +31,7 @@ def test_choices_and_their_bytes():
 
 
 def test_formats_of_names():
-    """The same by every Python: the label, or where the format is a number's the number."""
+    """The same in every Python: the label, or the number if the format is that of a number."""
     move, side = Move.BODY_SLAM, Side.ONE
     assert (f"{move}", f"{move:>10}", f"{move:s}", f"{move!s}") == ("Body Slam", " Body Slam", "Body Slam", "Body Slam")
     assert (f"{move:d}", f"{move:03d}", f"{move:#04x}", f"{side:b}", "%d" % move) == ("34", "034", "0x22", "1", "34")
@@ -72,7 +72,7 @@ def test_a_battle_shows_itself(battle):
 
 
 class Noted(Battle):
-    """A battle of a class of the caller's."""
+    """A battle of a caller's own class."""
 
 
 def test_a_copy_is_of_the_same_class(team):
@@ -122,13 +122,13 @@ def test_random_teams_to_dicts_and_back():
 
 
 def without_numpy(script):
-    """What a script prints, by a Python that finds no numpy."""
+    """The output of a script in a Python without numpy."""
     words = [sys.executable, "-c", f"import sys; sys.modules['numpy'] = None\n{script}"]
     return subprocess.run(words, capture_output=True, text=True, check=True).stdout
 
 
 def test_without_numpy():
-    """All can be named and imported; what needs numpy says so when it is used, and what needs none works."""
+    """Everything can be imported; classes that need numpy say so when they are used, and everything else works."""
     told = without_numpy(
         "import gen1\n"
         "from gen1 import *\n"
@@ -156,16 +156,28 @@ def test_the_classes_of_events_are_exported():
 
 
 def test_the_version_of_the_library(tmp_path):
-    """It is told; and a library of another major version, or one that tells none, is not taken."""
+    """It is that of the repository; a library of another major version, or without a version, is refused."""
     assert gen1.library_version == (ROOT / "VERSION").read_text().strip()
     if not shutil.which("cc"):
         pytest.skip("there is no cc")
-    for number, said in ((0x020000, "is of version 2.0.0, and this package needs one of version 1"), (None, "has no gen1_version")):
+    for number, said in ((0x020000, "has version 2.0.0, but this package needs version 1"), (None, "has no gen1_version")):
         library = tmp_path / f"{number}.so"
         source = "int other;" if number is None else f"unsigned gen1_version(void) {{ return {number}; }}"
         subprocess.run(["cc", "-shared", "-fPIC", "-x", "c", "-", "-o", library], input=source, text=True, check=True)
         done = subprocess.run([sys.executable, "-c", "import gen1"], capture_output=True, text=True, env={**os.environ, "GEN1_LIBRARY": library})
         assert done.returncode == 1 and "LibraryMissing" in done.stderr and said in done.stderr
+
+
+def test_the_build_of_the_library(tmp_path):
+    """The file libgen1.build next to the library says which build it is."""
+    library, mark = tmp_path / "libgen1.so", tmp_path / "libgen1.build"
+    shutil.copy(PATH, library)
+    for text, wanted in ((None, "unknown"), ("plain\n", "plain"), ("proved\n", "proved"), ("other", "unknown")):
+        if text is not None:
+            mark.write_text(text)
+        words = [sys.executable, "-c", "import gen1; print(gen1.library_build)"]
+        done = subprocess.run(words, capture_output=True, text=True, env={**os.environ, "GEN1_LIBRARY": str(library)})
+        assert done.stdout == f"{wanted}\n", done.stderr
 
 
 def test_everything_that_is_exported_is_there():

@@ -1,4 +1,4 @@
-"""Hits and playouts: recorded damages, the numbers of docs/MECHANICS.md, every draw tried, and single updates."""
+"""Odds and playouts: recorded damages, the numbers of docs/MECHANICS.md, every draw tried, and single updates."""
 
 import ctypes
 import json
@@ -6,7 +6,7 @@ import random
 from fractions import Fraction
 
 import pytest
-from conftest import RECORDED, random_member, random_team, recorded_only
+from conftest import BIG, LIB, NO_NUMBERS, RECORDED, random_member, random_team, recorded_only
 from gen1 import (
     BadArgument,
     BadTeam,
@@ -19,6 +19,7 @@ from gen1 import (
     Member,
     Move,
     NoDamage,
+    Odds,
     Outcome,
     Playouts,
     Team,
@@ -27,19 +28,14 @@ from gen1 import (
     move_data,
     odds,
 )
-from gen1._library import PATH
 from gen1._structs import OddsStruct, PlayoutsStruct
 
 if RECORDED.is_dir():
     from battles import cases, recorded
 
-LIB = ctypes.CDLL(PATH)
-NO_NUMBERS = (None, 1.0, b"\x01", True, False, [1], object())
-BIG = (-1, 256, 257, 300, 65536, 1 << 33, -(1 << 70))
-
 
 def facing(one, two):
-    """A battle of two members, both just sent out."""
+    """A battle of two members that have just been sent out."""
     battle = Battle([one], [two], bytes(10))
     battle.update_silent(Choice.PASS, Choice.PASS)
     return battle
@@ -47,7 +43,7 @@ def facing(one, two):
 
 @recorded_only
 def test_recorded_damages():
-    """Each recorded case of `calc` that has numbers, of members alone and in a battle."""
+    """Each recorded case of `calc` that has numbers, for members alone and in a battle."""
     count = 0
     for case in cases(recorded("calc.jsonl")):
         if case.get("status"):
@@ -62,7 +58,7 @@ def test_recorded_damages():
 
 
 def test_chances_of_the_rules():
-    """docs/MECHANICS.md, "Critical hits" and "Hit test": Persian's b, accuracies in 255ths, and what is settled without a draw."""
+    """docs/MECHANICS.md, "Critical hits" and "Hit test": Persian's b, accuracies in 255ths, and hit tests without a draw."""
     persian, gengar = Member("Persian", ["Slash", "Strength"]), Member("Gengar", ["Splash"])
     assert odds(persian, gengar, "Slash").critical_chance == Fraction(255, 256)
     assert odds(persian, gengar, "Strength").critical_chance == Fraction(57, 256)
@@ -75,7 +71,7 @@ def test_chances_of_the_rules():
 
 
 def test_moves_that_take_no_hit_test():
-    """docs/MECHANICS.md, "Hit test": moves that fail, or that work on their user alone; and the four that the engine leaves out."""
+    """docs/MECHANICS.md, "Hit test": moves that fail, or that affect only their user; and the four that the engine leaves out."""
     without = {
         "Whirlwind", "Roar", "Teleport", "Conversion", "Mist", "Focus Energy", "Light Screen", "Reflect", "Haze", "Recover", "Soft-Boiled",
         "Rest", "Substitute", "Splash", "Bide", "Swords Dance", "Meditate", "Sharpen", "Harden", "Withdraw", "Defense Curl", "Barrier",
@@ -86,12 +82,12 @@ def test_moves_that_take_no_hit_test():
 
 
 def test_chances_by_every_draw():
-    """A move is used with each byte as the draw that decides: as many are critical, and as many hit, as it is told."""
+    """A move is used with each byte as the deciding draw: as many are critical, and as many hit, as the odds say."""
     strong, splash = Member("Tauros", ["Thunder", "Strength"]), Member("Snorlax", ["Splash"])
     for slot, move in ((1, Move.THUNDER), (2, Move.STRENGTH)):
         missed = critical = 0
         for byte in range(256):
-            # Drawn are: for the critical hit, for the damage (255 is the highest factor), and for the hit.
+            # The draws are for the critical hit, the damage (255 is the highest factor) and the hit, in this order.
             for numbers in ((byte, 255, 0), (255, 255, byte)):
                 battle = facing(strong, splash)
                 battle.reseed([*numbers, *[0] * 7])
@@ -114,7 +110,7 @@ def test_moves_without_usual_damage():
 
 
 def test_odds_of_random_battles():
-    """Hits of random battles against `damage`, and against the library called apart."""
+    """Odds in random battles against `damage`, and against direct calls of the library."""
     dice = random.Random(4)
     for _ in range(100):
         battle = Battle(random_team(dice), random_team(dice), dice.randbytes(10), limit=40)
@@ -139,10 +135,10 @@ def test_odds_of_random_battles():
 def test_odds_with_wrong_arguments(battle, team, tauros):
     before = battle.bytes
     calls = [(lambda it=it: battle.odds(it, "Pound"), BadArgument) for it in (0, 3, *BIG)]
-    calls += [(lambda it=it: battle.odds(it, "Pound"), BadType) for it in (*NO_NUMBERS, "1")]
+    calls += [(lambda it=it: battle.odds(it, "Pound"), BadType) for it in NO_NUMBERS]
     for call in (lambda it: battle.odds(1, it), lambda it: odds(tauros, tauros, it)):
         calls += [(lambda call=call, it=it: call(it), BadTeam) for it in (0, 166, *BIG, "Pond", "1")]
-        calls += [(lambda call=call, it=it: call(it), BadType) for it in NO_NUMBERS]
+        calls += [(lambda call=call, it=it: call(it), BadType) for it in NO_NUMBERS if it != "1"]
     for it in (None, 5, "Tauros", tauros.to_dict(), team):
         calls += [(lambda it=it: odds(it, tauros, "Pound"), BadType), (lambda it=it: odds(tauros, it, "Pound"), BadType)]
     for at, (call, kind) in enumerate(calls):
@@ -196,8 +192,8 @@ def test_playouts_with_wrong_arguments(battle):
     before = battle.bytes
     calls = [(lambda it=it: battle.playout(it, 1), BadArgument) for it in (-1, 1 << 64, -(1 << 70))]
     calls += [(lambda it=it: battle.playout(1, it), BadArgument) for it in (-1, 1 << 32, 1 << 64)]
-    calls += [(lambda it=it: battle.playout(it, 1), BadType) for it in (*NO_NUMBERS, "1")]
-    calls += [(lambda it=it: battle.playout(1, it), BadType) for it in (*NO_NUMBERS, "1")]
+    calls += [(lambda it=it: battle.playout(it, 1), BadType) for it in NO_NUMBERS]
+    calls += [(lambda it=it: battle.playout(1, it), BadType) for it in NO_NUMBERS]
     for at, (call, kind) in enumerate(calls):
         with pytest.raises(kind) as fault:
             call()

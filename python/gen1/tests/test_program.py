@@ -1,4 +1,4 @@
-"""`python -m gen1`: the recorded inputs of battle_tool, sentences and draws, and what is said to wrong input."""
+"""`python -m gen1`: the recorded inputs of battle_tool, sentences and draws, and errors for wrong input."""
 
 import io
 import json
@@ -45,13 +45,13 @@ def test_recorded_inputs(monkeypatch, capsys, name):
         assert err.startswith("error: ") == bool(case.get("stderr")) and err.count("\n") <= 1
 
 
-# What the program takes beyond docs/PROGRAM.md: numbers for names, and longer and deeper input.
+# Inputs that the program accepts beyond docs/PROGRAM.md: numbers instead of names, and longer and deeper input.
 MORE = ["['one', 0, 'species'] as 128", "move 17", "one byte too long", "too deep in a key"]
 
 
 @recorded_only
 def test_recorded_faults(monkeypatch, capsys):
-    """The same output and status as battle_tool's for input that is cut, of a wrong shape or refused."""
+    """The same output and status as battle_tool's for input that is cut, has a wrong shape or is refused."""
     wrong = []
     for case in cases(recorded("errors.jsonl")):
         if case["args"][:1] in (["run"], ["calc"]) and len(case["args"]) == 1:
@@ -78,7 +78,7 @@ def test_the_number_of_draws(name):
 
 
 def test_draws_one_by_one(team):
-    """What is told of a draw comes out where its byte is put there; and nothing for a byte that changes nothing."""
+    """An update with another byte in a draw's place has the difference that is reported for it."""
     battle = Battle(team, team, [1, 36, 255, 7, 31, 100, 179, 254, 127, 10])
     battle.update(0, 0)
     after, told, draws = explained(battle, Choice.MOVE_1, Choice.MOVE_1)
@@ -133,9 +133,9 @@ def test_sentences_for_every_event():
 
 
 def test_play(monkeypatch, capsys):
-    """A battle by the keyboard: what is no choice is asked for again, and the end of the input ends it."""
+    """A battle from the keyboard: the program asks again after a wrong choice, and the end of the input ends the battle."""
     out, status, err = ran(monkeypatch, capsys, b"1\n0\nx\n99\n1\n", "play", "--seed", "3")
-    assert (status, err) == (0, "") and out.count("is none of 1 to") == 3 and "choose 1 to 6" in out
+    assert (status, err) == (0, "") and out.count("is not 1 to") == 3 and "choose 1 to 6" in out
     again = ran(monkeypatch, capsys, b"1\n0\nx\n99\n1\n", "play", "--seed", "3")
     assert again[0] == out
     out, status, err = ran(monkeypatch, capsys, b"1\n" * 2000, "play", "--seed", "5", "--against", "random")
@@ -164,7 +164,7 @@ def test_wrong_input(monkeypatch, capsys, given, words, status, said):
 
 
 def test_input_that_is_wrong_says_where(monkeypatch, capsys, tmp_path, tauros):
-    """The attacker or the defender, the side and the member, and no traceback for a number of any length."""
+    """Errors name the attacker or the defender, or the side and the member; a number of any length gives no traceback."""
     whole, wrong = tauros.to_dict(), tauros.to_dict() | {"level": 0}
     asked = {"seed": [0] * 10, "one": [whole], "two": [whole, wrong], "choices": [[0, 0]]}
     for key in ("attacker", "defender"):
@@ -193,7 +193,7 @@ def test_as_a_module():
     done = subprocess.run([sys.executable, "-m", "gen1", "--help"], capture_output=True, text=True)
     assert done.returncode == 0 and "explain" in done.stdout
     done = subprocess.run([sys.executable, "-m", "gen1", "--version"], capture_output=True, text=True)
-    assert done.stdout == f"gen1 {gen1.__version__}, library {gen1.library_version}\n"
+    assert done.stdout == f"gen1 {gen1.__version__}, library {gen1.library_version}, build: {gen1.library_build}\n"
 
 
 def test_progress_without_a_terminal():
@@ -220,7 +220,7 @@ def test_progress_on_a_terminal():
 
 
 def test_random_battles_explained():
-    """Each update of random battles is told, and is the one that `update` makes."""
+    """Each update of random battles can be explained, and is the same as by `update`."""
     import random
 
     dice = random.Random(7)
@@ -257,7 +257,7 @@ def test_replays_that_are_refused(monkeypatch, capsys, tmp_path):
     page.write_text(PAGE), other.write_text(PAGE + PAGE)
     good = (ROOT / "crates" / "battle_tool" / "stdin").read_bytes()
     for given, words, status, said in (
-        (b"\x99", ["--page", str(page)], 1, "no log"),
+        (b"\x99", ["--page", str(page)], 1, "not a log"),
         (b"{}", ["--page", str(page)], 1, "'seed'"),
         (b'{"seed":[],"one":[],"two":[],"choices":[]}', ["--page", str(page)], 1, "seed"),
         (good, ["--page", str(other)], 1, "2 places"),

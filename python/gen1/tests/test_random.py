@@ -1,14 +1,10 @@
-"""Random battles, bytes, logs and hits: the package answers what the C library answers, called apart from it."""
+"""Random battles, bytes, logs and damages: the package returns the same as direct calls of the C library."""
 
 import ctypes
 import random
 
-from conftest import random_team
+from conftest import LIB, random_team
 from gen1 import BadBytes, BadLog, Battle, Move, NoDamage, Refused, events, lines
-from gen1._library import PATH
-
-# The calls by their C types alone, apart from the package's own.
-LIB = ctypes.CDLL(PATH)
 
 
 def raw_choices(held, side):

@@ -1,4 +1,4 @@
-"""All recorded battles through the package: each answer, log, event, line, load and damage."""
+"""All recorded battles through the package: each result, log, event, line, load and damage."""
 
 import json
 from dataclasses import fields
@@ -23,7 +23,7 @@ def two_bytes(number):
 
 
 def code_of(event):
-    """The log bytes of an event (docs/MECHANICS.md, "Events"), of its fields in the order of the dataclass."""
+    """The log bytes of an event (docs/MECHANICS.md, "Events"), from its fields in the order of the dataclass."""
     code = [event.kind]
     for name in (field.name for field in fields(event)):
         value = getattr(event, name)
@@ -38,7 +38,7 @@ def code_of(event):
 
 @pytest.mark.parametrize("name", ["traces", "corners"])
 def test_updates(name):
-    """Each recorded update, in all that it answers and leaves; the battle is loaded, copied and pickled at each."""
+    """Each recorded update, with everything that it returns and changes; the battle is loaded, copied and pickled at each."""
     assert name in TRACES
     for at, trace in enumerate(traces(recorded(f"{name}.jsonl"))):
         battle = battle_of(trace["object"])
@@ -143,7 +143,7 @@ def test_refused_teams():
 
 
 def test_inputs_of_wrong_shape():
-    """Objects that `run` refuses as JSON of a wrong shape raise errors of the package, and none of Python's own."""
+    """Objects that `run` refuses as JSON of a wrong shape raise errors of the package, and not of Python."""
     for case in cases(recorded("errors.jsonl")):
         if case["args"] == ["run"] and case.get("stderr") == "error: json\n":
             try:

@@ -1,4 +1,4 @@
-"""Rooms: the recorded ones, the example of docs/MECHANICS.md, and random ones against single updates and the library called apart."""
+"""Rooms: recorded ones, the example of docs/MECHANICS.md, and random ones against single updates and direct calls of the library."""
 
 import copy
 import ctypes
@@ -10,15 +10,13 @@ import threading
 import time
 
 import pytest
-from conftest import RECORDED, random_team, recorded_only
+from conftest import BIG, LIB, NO_NUMBERS, RECORDED, random_team, recorded_only
 from gen1 import BadArgument, BadType, Battle, Choice, Error, Member, Outcome, Request, Room, RoomRefusal, RoomRefused, Side, Team, Update
-from gen1._library import PATH
 from gen1._structs import RoomStruct
 
 if RECORDED.is_dir():
     from battles import cases, recorded
 
-LIB = ctypes.CDLL(PATH)
 SEED = bytes([1, 36, 255, 7, 31, 100, 179, 254, 127, 10])
 STRONG = Team([Member("Tauros", ["Strength"])])
 # The first update of the battle that docs/PROGRAM.md shows: both come out, and turn 1 begins.
@@ -30,7 +28,7 @@ def two_tauros():
 
 
 def reply(room, *submission):
-    """What a room answers: "waiting", "advanced", or the number of its refusal."""
+    """The reply of a room: "waiting", "advanced", or the number of its refusal."""
     before = copy.copy(room)
     try:
         told = room.submit(*submission)
@@ -121,7 +119,7 @@ def test_what_a_refusal_says():
     room.submit(1, 0, 17)
     with pytest.raises(RoomRefused) as fault:
         room.submit(1, 0, 17)
-    assert str(fault.value) == "the side's choice is there: side 1 may submit nothing for pair 0 any more" and fault.value.offered == ()
+    assert str(fault.value) == "the side's choice is there: side 1 can submit nothing more for pair 0" and fault.value.offered == ()
 
 
 def test_a_battle_that_is_over_takes_nothing():
@@ -149,7 +147,7 @@ def test_a_side_of_which_nothing_is_asked_passes_by_itself():
 
 
 def test_no_answer_tells_what_the_foe_has_chosen(team):
-    """Rooms in which side 1 has chosen otherwise answer side 2 alike, and show both alike, until the pair has ended."""
+    """Rooms in which side 1 made different choices give the same results to both sides, until the pair has ended."""
     begun = Room(Battle(team, team, SEED))
     rooms = []
     for choice in begun.choices(1):
@@ -163,7 +161,7 @@ def test_no_answer_tells_what_the_foe_has_chosen(team):
 
 
 def test_random_rooms():
-    """Rooms against the library called apart, with any numbers and bytes; each pair is the update of a single battle."""
+    """Rooms against direct calls of the library, with any numbers and bytes; each pair is the update of a single battle."""
     dice = random.Random(7)
     for _ in range(60):
         battle = Battle(random_team(dice), random_team(dice), dice.randbytes(10), dice.randint(0, 3), dice.randint(1, 40))
@@ -202,7 +200,7 @@ def hurried():
 
 
 def player(room, side, told):
-    """A thread that takes choices at random for a side until the battle is over; `told` has each choice and its answer by its pair."""
+    """A thread that makes random choices for a side until the battle is over; `told` has each choice and its result by its pair."""
 
     def play():
         dice = random.Random(side)
@@ -221,7 +219,7 @@ def player(room, side, told):
 
 
 def test_both_players_in_threads_of_their_own(hurried):
-    """Each pair ends for one of them, who is told its log; and the battle is that of the same choices in turn."""
+    """Each pair ends for exactly one of them, which gets its log; and the battle is the same as with single updates."""
     dice, pairs = random.Random(17), 0
     for _ in range(20):
         room, told = Room(Battle(random_team(dice), random_team(dice), dice.randbytes(10), limit=40)), {}
@@ -270,12 +268,8 @@ def test_the_battle_of_a_room_is_a_copy(battle):
     assert room == Room(room.battle) and room.battle != battle and room.number == 0
 
 
-NO_NUMBERS = (None, 1.0, "1", b"\x01", True, False, [1], object())
-BIG = (-1, 256, 257, 300, 65536, 1 << 33, 1 << 64, -(1 << 70))
-
-
 def test_arguments_that_are_wrong():
-    """Each alone beside good ones: an exception of the package with a sentence, and nothing changed."""
+    """Each wrong argument with right others raises an exception of the package with a message, and changes nothing."""
     room = two_tauros()
     before = room.copy()
     calls = [(lambda it=it: Room(it), BadType) for it in (None, 5, STRONG, before.battle.bytes, room)]

@@ -97,7 +97,7 @@ def test_dask(alone, tmp_path):
 
 
 def test_the_data_set(alone, tmp_path):
-    """Each log reads as the battle that its row says, a watcher of it sees that battle's end, and the table counts the rows."""
+    """Each log is of the battle in its row, a spectator of it knows that battle's end, and the table counts the rows."""
     arena = example("arena")
     path = tmp_path / "logs.npz"
     path.write_bytes(alone[0]["logs.npz"])
@@ -110,9 +110,9 @@ def test_the_data_set(alone, tmp_path):
         last = told[-1]
         won = {gen1.EventKind.WIN: lambda: int(last.side), gen1.EventKind.TIED: lambda: 3}[last.kind]()
         assert won == it["outcome"][at] and it["turns"][at] == sum(event.kind is gen1.EventKind.TURN for event in told)
-        watcher = gen1.Spectator(*(arena.TEAMS[number] for number in it["teams"][at]))
-        watcher.feed(log)
-        assert (watcher.state.turn, watcher.state.outcome) == (it["turns"][at], won)
+        spectator = gen1.Spectator(*(arena.TEAMS[number] for number in it["teams"][at]))
+        spectator.feed(log)
+        assert (spectator.state.turn, spectator.state.outcome) == (it["turns"][at], won)
     for at, row in enumerate(rows):
         of = it["pair"] == at
         one = (it["outcome"][of] - 1) ^ it["first_player"][of] if len(it["outcome"][of]) else []

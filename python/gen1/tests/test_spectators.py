@@ -1,4 +1,4 @@
-"""Watchers: of recorded battles, fed the logs however cut, against the recorded bytes; of events by hand; of what is no log."""
+"""Spectators of recorded battles, fed the logs in pieces, against the recorded bytes; of single events; and of bytes that aren't a log."""
 
 import copy
 import ctypes
@@ -6,16 +6,14 @@ import pickle
 import random
 
 import pytest
-from conftest import RECORDED, random_team, recorded_only
+from conftest import LIB, RECORDED, random_team, recorded_only
 from gen1 import BadLog, BadTeam, BadType, Battle, Error, Member, Outcome, Spectator, Stat, Status, Team
-from gen1._library import PATH
 from gen1._structs import SpectatorStruct
 from gen1.names import LogFault
 
 if RECORDED.is_dir():
     from battles import TRACES, recorded, traces
 
-LIB = ctypes.CDLL(PATH)
 KINDS = {0: Status.NONE, 8: Status.POISON, 16: Status.BURN, 32: Status.FREEZE, 64: Status.PARALYSIS}
 # The log of the battle that docs/PROGRAM.md shows: both come out, the first turn hits each, and the second fells side 2.
 LOG = bytes.fromhex(
@@ -28,20 +26,20 @@ OUT = bytes([2, 1, 128, 1, 100, 97, 1, 97, 1, 0, 2, 2, 128, 1, 100, 97, 1, 97, 1
 
 
 def begun(*more):
-    """A watcher who saw both first members come out, and then these events."""
+    """A spectator of both first members coming out, and then of these events."""
     made = Spectator(TEAM, TEAM)
     made.feed(OUT + b"".join(map(bytes, more)))
     return made.state
 
 
 def shown(side):
-    """A side's place, the HP and kind of each member, stages, and what is up."""
+    """A side's place, the HP and status of each member, stages and conditions."""
     up = side.substitute, side.confused, side.light_screen, side.reflect
     return side.place, [(it.hp, it.status) for it in side.members], side.stages, up
 
 
 def read(given, at):
-    """The same of the 180 bytes of a side (docs/LAYOUT.md); who has no active has no stages."""
+    """The same from the 180 bytes of a side (docs/LAYOUT.md). A side without an active member has no stages."""
     places = [given[at + 24 * it : at + 24 * it + 24] for it in range(6)]
     active = given[at + 144 : at + 180]
     members = [(it[4] + 256 * it[5], KINDS.get(it[14], Status.SLEEP)) for it in places if it[0]]
@@ -50,11 +48,11 @@ def read(given, at):
     return active[0], members, tuple(it - 6 for it in active[3:9]), up
 
 
-def agrees(watcher, given):
-    """A watcher who has seen the log of each update knows of the battle with these bytes what shows of it."""
-    state = watcher.state
+def agrees(spectator, given):
+    """A spectator that was fed the log of each update agrees with the battle of these bytes."""
+    state = spectator.state
     assert (state.turn, state.outcome) == (given[1] + 256 * given[2], given[16])
-    assert [shown(state.one), shown(state.two)] == [read(given, 24), read(given, 204)] and watcher.held == b""
+    assert [shown(state.one), shown(state.two)] == [read(given, 24), read(given, 204)] and spectator.held == b""
 
 
 def cut(dice, log):
@@ -70,33 +68,33 @@ def test_recorded_battles(name):
     assert name in TRACES
     dice = random.Random(1)
     for trace in traces(recorded(f"{name}.jsonl")):
-        watcher = Spectator(trace["object"]["one"], trace["object"]["two"])
+        spectator = Spectator(trace["object"]["one"], trace["object"]["two"])
         for update in trace["updates"]:
             for piece in cut(dice, bytes.fromhex(update["log"] or "")):
-                watcher.feed(piece)
-                assert pickle.loads(pickle.dumps(watcher)) == watcher
+                spectator.feed(piece)
+                assert pickle.loads(pickle.dumps(spectator)) == spectator
             if not update["refused"]:
-                agrees(watcher, bytes.fromhex(update["bytes"]))
+                agrees(spectator, bytes.fromhex(update["bytes"]))
 
 
 def test_random_battles():
-    """Whole random battles: each watcher knows what `Battle.state` shows, and so does one who is fed all at once."""
+    """Whole random battles: each spectator agrees with `Battle.state`, and so does one that is fed the whole log at once."""
     dice = random.Random(2)
     for _ in range(60):
         teams = random_team(dice), random_team(dice)
-        battle, watcher, log = Battle(*teams, dice.randbytes(10), dice.randint(0, 3), 60), Spectator(*teams), b""
+        battle, spectator, log = Battle(*teams, dice.randbytes(10), dice.randint(0, 3), 60), Spectator(*teams), b""
         while not battle.result.is_over:
             update = battle.update(*(dice.choice(battle.choices(side)) for side in (1, 2)))
             log += update.log
             for piece in cut(dice, update.log):
-                watcher.feed(piece)
-            agrees(watcher, battle.bytes)
+                spectator.feed(piece)
+            agrees(spectator, battle.bytes)
         other = Spectator(*teams)
         other.feed(log)
-        assert other == watcher
+        assert other == spectator
 
 
-# By hand, as docs/MECHANICS.md, "Spectator's view", and crates/test_views have it.
+# Single events, as in docs/MECHANICS.md, "Spectator's view", and in crates/test_views.
 
 
 def test_before_the_start():
@@ -108,21 +106,21 @@ def test_before_the_start():
 
 def test_a_log_is_followed_however_it_is_cut():
     for first in range(len(LOG) + 1):
-        watcher = Spectator(TEAM, TEAM)
-        watcher.feed(LOG[:first])
-        assert LOG[:first].endswith(watcher.held) and len(watcher.held) <= 9
-        watcher.feed(LOG[first:])
-        state = watcher.state
+        spectator = Spectator(TEAM, TEAM)
+        spectator.feed(LOG[:first])
+        assert LOG[:first].endswith(spectator.held) and len(spectator.held) <= 9
+        spectator.feed(LOG[first:])
+        state = spectator.state
         assert (state.one.members[0].hp, state.two.members[0].hp, state.turn) == (263, 0, 2), first
-        assert state.outcome is Outcome.WIN_ONE and watcher.held == b"" and repr(watcher) == "<Spectator, turn 2, win one>"
+        assert state.outcome is Outcome.WIN_ONE and spectator.held == b"" and repr(spectator) == "<Spectator, turn 2, win one>"
 
 
 def test_what_each_event_changes():
     who = 1, 128
     assert shown(begun((2, *who, 2, 100, 244, 1, 191, 2, 5)).one)[:2] == (2, [(353, Status.NONE), (500, Status.PARALYSIS)])
-    # To a place without a member a switch changes nothing.
+    # A switch to a place without a member changes nothing.
     assert shown(begun((2, *who, 3, 100, 11, 0, 11, 0, 0)).one) == shown(begun().one)
-    # Nothing but a switch changes a side with nobody out.
+    # If no member is out, only a switch changes a side.
     before = Spectator(TEAM, TEAM)
     before.feed(bytes([5, *who, 12, 0, 97, 1, 0, 0, 15, *who, 1, 2, 18, *who, 2]))
     assert before == Spectator(TEAM, TEAM)
@@ -140,11 +138,11 @@ def test_what_each_event_changes():
 
 
 def test_the_bytes_of_a_fault_are_not_taken_in():
-    """Where in these bytes it is, behind those that are held; not even what stands before it is taken in."""
+    """The error has the offset in these bytes, which follow those that are held; events before it are not applied either."""
     for held in (b"", LOG[20:21], LOG[20:22]):
-        watcher = Spectator(TEAM, TEAM)
-        watcher.feed(OUT + held)
-        before, rest = watcher.copy(), LOG[20 + len(held) : 23]
+        spectator = Spectator(TEAM, TEAM)
+        spectator.feed(OUT + held)
+        before, rest = spectator.copy(), LOG[20 + len(held) : 23]
         for given, code, at in (
             (rest + b"\x00", LogFault.TAG, len(rest)),
             (rest + b"\x1d" + LOG, LogFault.TAG, len(rest)),
@@ -152,37 +150,37 @@ def test_the_bytes_of_a_fault_are_not_taken_in():
             (rest + bytes([5, 1, 128, 255, 255, 255, 255, 9, 9]), LogFault.FIELD, len(rest)),
         ):
             with pytest.raises(BadLog) as fault:
-                watcher.feed(given)
-            assert (fault.value.code, fault.value.at) == (code, at) and watcher == before and f"byte {at}" in str(fault.value)
-    watcher.feed(LOG[22:26])
-    before = watcher.copy()
-    assert watcher.held == LOG[23:26]
+                spectator.feed(given)
+            assert (fault.value.code, fault.value.at) == (code, at) and spectator == before and f"byte {at}" in str(fault.value)
+    spectator.feed(LOG[22:26])
+    before = spectator.copy()
+    assert spectator.held == LOG[23:26]
     with pytest.raises(BadLog) as fault:
-        watcher.feed(b"\xff\xff\xff")
-    assert (fault.value.code, fault.value.at) == (LogFault.FIELD, -3) and watcher == before
+        spectator.feed(b"\xff\xff\xff")
+    assert (fault.value.code, fault.value.at) == (LogFault.FIELD, -3) and spectator == before
     assert str(fault.value).endswith("in the event that begins 3 bytes before these")
 
 
 def test_any_bytes():
-    """Changed bytes of a log: the same answer and the same struct as of the library called apart."""
+    """Changed bytes of a log: the same code and the same struct as by direct calls of the library."""
     dice, changed = random.Random(3), 0
     for _ in range(4000):
-        watcher, raw = Spectator(TEAM, TEAM), SpectatorStruct()
+        spectator, raw = Spectator(TEAM, TEAM), SpectatorStruct()
         LIB.gen1_spectator_begin(ctypes.byref(raw), ctypes.byref(TEAM._struct), ctypes.byref(TEAM._struct))
         for piece in cut(dice, LOG):
             given = bytearray(piece)
             if given and dice.random() < 0.2:
                 given[dice.randrange(len(given))] = dice.randint(0, 255)
-            before = watcher.copy()
+            before = spectator.copy()
             code = LIB.gen1_spectator_feed(ctypes.byref(raw), bytes(given), ctypes.c_size_t(len(given))) & 0xFF
             try:
-                watcher.feed(bytes(given))
+                spectator.feed(bytes(given))
                 assert code == 0
             except BadLog as fault:
                 changed += 1
-                assert fault.code == code and watcher == before and -9 <= fault.at < len(given)
-            assert (watcher.state.turn, watcher.state.outcome, watcher.held) == (raw.turn, raw.outcome, bytes(raw.held[: raw.held_count]))
-            for side, of in zip((watcher.state.one, watcher.state.two), raw.sides):
+                assert fault.code == code and spectator == before and -9 <= fault.at < len(given)
+            assert (spectator.state.turn, spectator.state.outcome, spectator.held) == (raw.turn, raw.outcome, bytes(raw.held[: raw.held_count]))
+            for side, of in zip((spectator.state.one, spectator.state.two), raw.sides):
                 assert [(it.hp, it.status) for it in side.members] == [(it.hp, it.status) for it in of.members[: of.count]]
     assert changed > 500
 
@@ -192,28 +190,28 @@ def test_the_struct_is_that_of_the_header():
 
 
 @pytest.mark.parametrize("copied", [copy.copy, copy.deepcopy, Spectator.copy, lambda it: pickle.loads(pickle.dumps(it))])
-def test_a_copy_is_a_watcher_of_its_own(copied):
-    watcher = Spectator(TEAM, TEAM)
-    watcher.feed(LOG[:40])
-    other = copied(watcher)
-    assert other == watcher and other is not watcher and other.held == watcher.held != b""
+def test_a_copy_is_an_independent_spectator(copied):
+    spectator = Spectator(TEAM, TEAM)
+    spectator.feed(LOG[:40])
+    other = copied(spectator)
+    assert other == spectator and other is not spectator and other.held == spectator.held != b""
     other.feed(LOG[40:])
-    assert other != watcher and watcher.state.turn == 1
-    watcher.feed(LOG[40:])
-    assert other == watcher and watcher != "a watcher"
+    assert other != spectator and spectator.state.turn == 1
+    spectator.feed(LOG[40:])
+    assert other == spectator and spectator != "a spectator"
     with pytest.raises(TypeError):
-        hash(watcher)
+        hash(spectator)
 
 
 def test_arguments_that_are_wrong():
-    """An exception of the package with a sentence, and nothing changed."""
-    watcher = Spectator(TEAM, TEAM)
-    watcher.feed(LOG[:40])
-    before = watcher.copy()
+    """Wrong arguments raise an exception of the package with a message, and change nothing."""
+    spectator = Spectator(TEAM, TEAM)
+    spectator.feed(LOG[:40])
+    before = spectator.copy()
     for it in (None, 5, "a log", list(LOG), 1.5, True):
         with pytest.raises(BadType) as fault:
-            watcher.feed(it)
-        assert "log must be bytes" in str(fault.value) and watcher == before
+            spectator.feed(it)
+        assert "log must be bytes" in str(fault.value) and spectator == before
     for wrong in (None, 5, "Tauros", [None]):
         for pair in ((wrong, TEAM), (TEAM, wrong)):
             with pytest.raises(BadType) as fault:
@@ -223,10 +221,10 @@ def test_arguments_that_are_wrong():
         with pytest.raises(BadTeam) as fault:
             Spectator(TEAM, [TEAM[0]] * count)
         assert fault.value.side == 2 and str(fault.value).startswith("side 2: ")
-    for it, name in ((watcher, "state"), (watcher, "held"), (watcher, "unknown"), (watcher.state, "turn"), (watcher.state.one, "place")):
+    for it, name in ((spectator, "state"), (spectator, "held"), (spectator, "unknown"), (spectator.state, "turn"), (spectator.state.one, "place")):
         with pytest.raises(AttributeError):
             setattr(it, name, None)
-    # Anything that has bytes is taken.
-    watcher.feed(bytearray(LOG[40:50]))
-    watcher.feed(memoryview(LOG)[50:])
-    assert watcher.state.outcome is Outcome.WIN_ONE
+    # Any bytes-like object is accepted.
+    spectator.feed(bytearray(LOG[40:50]))
+    spectator.feed(memoryview(LOG)[50:])
+    assert spectator.state.outcome is Outcome.WIN_ONE

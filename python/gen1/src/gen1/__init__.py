@@ -1,4 +1,4 @@
-"""First-generation Pokemon link battles: a proved engine, by its C library.
+"""First-generation Pokemon link battles, through the C library of a proved engine.
 
 >>> from gen1 import Battle, Choice, Member
 >>> tauros = Member("Tauros", ["Body Slam"])
@@ -6,8 +6,8 @@
 >>> print(battle.update(Choice.PASS, Choice.PASS).lines[0])
 |switch|p1a: Tauros|Tauros|353/353
 
-The rules are docs/MECHANICS.md of the repository. None of them stands in Python, but for one: `gen1.draws`, which tells the draws of an
-update, steps the generator of link numbers itself.
+The rules are in docs/MECHANICS.md of the repository. All of them are implemented in the library but one: `gen1.draws`, which lists the
+draws of an update, also steps the generator of link numbers in Python.
 """
 
 from importlib import import_module
@@ -15,6 +15,7 @@ from importlib.metadata import PackageNotFoundError, version
 from importlib.util import find_spec
 from typing import TYPE_CHECKING
 
+from gen1._library import LIBRARY_BUILD as library_build
 from gen1._library import LIBRARY_VERSION as library_version
 from gen1._odds import Damages, Odds, damage, odds
 from gen1.battle import Battle, Playouts, Result, Update
@@ -101,7 +102,7 @@ try:
     __version__ = version("gen1")
 except PackageNotFoundError:
     __version__ = "0+not.installed"
-# What needs numpy is imported where it is asked for.
+# Modules that need numpy are imported on first use.
 _WITH_NUMPY = {"BattleArray": "gen1.arrays", "BattleEnv": "gen1.environments", "TwoPlayerEnv": "gen1.environments"}
 
 if TYPE_CHECKING:
@@ -216,6 +217,7 @@ __all__ = [
     "base",
     "damage",
     "events",
+    "library_build",
     "library_version",
     "lines",
     "move_data",

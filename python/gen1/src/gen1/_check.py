@@ -1,4 +1,4 @@
-"""The caller's types: what a Python object has to be before the library, whose numbers are bytes, can be asked."""
+"""Checks and conversions of the caller's arguments before a call of the library, whose numbers are bytes."""
 
 import difflib
 import operator
@@ -30,7 +30,7 @@ def within(value: object, what: str, low: int, high: int) -> int:
 
 
 def place(value: object, count: int) -> int:
-    """A place in something of so many, from 0 on, or from -1 on counted from its end."""
+    """An index into `count` items, from 0, or from -1 for the last one."""
     number = whole(value, "place")
     if not -count <= number < count:
         raise BadPlace(f"place must be {-count:,} to {count - 1:,}, not {digits(number)}")
@@ -38,26 +38,26 @@ def place(value: object, count: int) -> int:
 
 
 def truth(value: object, what: str) -> bool:
-    """True or False, and nothing that only counts as one."""
+    """True or False, and no value that only converts to one."""
     if not isinstance(value, bool):
         raise BadType(f"{what} must be True or False, not {shown(value)}")
     return value
 
 
 def byte(number: int) -> int:
-    """A number as a byte; one that is none as 255, which the library refuses where this is used."""
+    """A number as a byte; 255 if it is out of range, which the library refuses where this is used."""
     return number if 0 <= number <= 255 else 255
 
 
 def listed(value: object, what: str) -> list[object]:
-    """The items of a list, tuple or other iterable, but not of a text or of bytes."""
+    """The items of a list, tuple or other iterable, except a str or bytes."""
     if isinstance(value, (str, bytes, bytearray)) or not isinstance(value, Iterable):
         raise BadType(f"{what} must be a list, not {shown(value)}")
     return list(value)
 
 
 def octets(value: object, what: str) -> bytes:
-    """Bytes, out of anything that has them by the buffer protocol: a `bytearray`, an mmap, an array of numpy whose items are bytes."""
+    """The bytes of an object with the buffer protocol: a `bytearray`, an mmap, a numpy array whose items are bytes."""
     try:
         view = memoryview(value)  # type: ignore[arg-type]
     except TypeError:
@@ -68,7 +68,7 @@ def octets(value: object, what: str) -> bytes:
 
 
 def seed_bytes(value: object) -> bytes:
-    """Ten bytes of seed: bytes, or a list of ten numbers from 0 to 255."""
+    """The ten bytes of a seed: bytes, or a list of ten numbers from 0 to 255."""
     if isinstance(value, (bytes, bytearray, memoryview)):
         given = list(bytes(value))
     else:
@@ -79,7 +79,7 @@ def seed_bytes(value: object) -> bytes:
 
 
 def named(kind: type[N], value: object, field: str) -> N:
-    """A species or a move, of its name to the letter, its number, or itself; else BadTeam."""
+    """A species or a move from its exact name, its number, or itself. Raises `BadTeam` for any other value."""
     if isinstance(value, kind):
         return value
     code = NewFault.NO_SUCH_SPECIES if issubclass(kind, Species) else NewFault.NO_SUCH_MOVE
@@ -99,29 +99,29 @@ def named(kind: type[N], value: object, field: str) -> N:
 
 
 def species(value: object, field: str = "species") -> Species:
-    """A species, of its name, number, or itself."""
+    """A species from its name, its number, or itself."""
     return named(Species, value, field)
 
 
 def move(value: object, field: str = "move") -> Move:
-    """A move, of its name, number, or itself."""
+    """A move from its name, its number, or itself."""
     return named(Move, value, field)
 
 
 def shown(value: object) -> str:
-    """A value as an error shows it, cut to a screen's width."""
+    """A value as text for an error message, cut to a screen's width."""
     try:
         text = cut(repr(value))
-    except Exception:  # whatever a value of the caller's own class raises, and a number too long to be written
-        text = "what cannot be shown"
+    except Exception:  # a caller's own class may raise anything, and Python refuses to write a number that is too long
+        text = "a value that cannot be shown"
     return f"{text} ({type(value).__name__})"
 
 
 def digits(number: int) -> str:
-    """A number as an error shows it; of one that fills more than a line how long it is, as Python writes none of any length."""
+    """A number as text for an error message; only its length if it is too long, since Python refuses to write such numbers."""
     return str(int(number)) if number.bit_length() <= 192 else f"a number of {number.bit_length():,} bits"
 
 
 def cut(text: str) -> str:
-    """The front of a text, as far as an error shows it."""
+    """A text, cut to the length that an error message shows."""
     return text if len(text) <= 60 else text[:57] + "..."

@@ -1,7 +1,7 @@
-"""The calls of libgen1 (include/gen1.h) by ctypes, with their types, and where the library is found.
+"""The calls of libgen1 (include/gen1.h) with their types, through ctypes, and the search for the library.
 
-A call of microseconds keeps the interpreter's lock (`PyDLL`): to wait for it again would take far longer than the call where other threads
-run Python. A call that may take long lets them run (`CDLL`).
+A call of microseconds keeps the interpreter's lock (`PyDLL`), since waiting for it again would take far longer than the call while other
+threads run Python. A call that may take long releases it (`CDLL`).
 """
 
 import ctypes
@@ -65,16 +65,16 @@ class EventStruct(Structure):
 
 
 def _found() -> str:
-    """The shared library: what GEN1_LIBRARY names, the one that the package carries, or one that is installed."""
+    """The shared library: the one that GEN1_LIBRARY names, the one in the package, or an installed one, in this order."""
     named = os.environ.get("GEN1_LIBRARY")
     if named:
         if not Path(named).is_file():
-            raise LibraryMissing(f"GEN1_LIBRARY names {named}, which is no file")
+            raise LibraryMissing(f"GEN1_LIBRARY names {named}, which is not a file")
         return str(Path(named).resolve())
     carried = Path(__file__).with_name("libgen1.so")
     found = str(carried) if carried.is_file() else find_library("gen1")
     if not found:
-        raise LibraryMissing(f"there is no {carried}; install the wheel, or let GEN1_LIBRARY name a libgen1.so")
+        raise LibraryMissing(f"there is no {carried}; install the wheel, or set GEN1_LIBRARY to the path of a libgen1.so")
     return found
 
 
@@ -90,7 +90,7 @@ SHORT, LONG = _loaded(PATH)
 
 
 def bind(name: str, answer: Any, *takes: Any, of: ctypes.CDLL = SHORT) -> Any:
-    """A call of the library with its types; `LONG` lets other threads run meanwhile."""
+    """A call of the library with its types. Calls of `LONG` let other threads run."""
     try:
         call = getattr(of, name)
     except AttributeError:
@@ -100,15 +100,25 @@ def bind(name: str, answer: Any, *takes: Any, of: ctypes.CDLL = SHORT) -> Any:
 
 
 def _version() -> str:
-    """The version that the library tells. One of another major number has other calls or structs than this package knows."""
+    """The version of the library. With another major version its calls or structs differ from those that this package knows."""
     number = bind("gen1_version", c_uint32)()
-    told = f"{number >> 16}.{number >> 8 & 0xFF}.{number & 0xFF}"
+    version = f"{number >> 16}.{number >> 8 & 0xFF}.{number & 0xFF}"
     if number >> 16 != HEADER_VERSION[0]:
-        raise LibraryMissing(f"{PATH} is of version {told}, and this package needs one of version {HEADER_VERSION[0]}")
-    return told
+        raise LibraryMissing(f"{PATH} has version {version}, but this package needs version {HEADER_VERSION[0]}")
+    return version
+
+
+def _build(path: str) -> str:
+    """Which build a library is, by the file `libgen1.build` next to it; "unknown" if there is none."""
+    try:
+        word = Path(path).with_name("libgen1.build").read_text("ascii").strip()
+    except (OSError, UnicodeDecodeError):
+        return "unknown"
+    return word if word in ("proved", "plain") else "unknown"
 
 
 LIBRARY_VERSION = _version()
+LIBRARY_BUILD = _build(PATH)
 _BATTLE, _TEAM, _ROOM, _SPECTATOR = POINTER(BattleBytes), POINTER(TeamStruct), POINTER(RoomStruct), POINTER(SpectatorStruct)
 _SIZES, _BYTES, _TEXT, _MEMBER = POINTER(c_size_t), ctypes.c_char_p, POINTER(c_char), POINTER(MemberStruct)
 new = bind("gen1_new", c_uint32, _BATTLE, _TEAM, _TEAM, SeedBytes, c_uint8, c_uint16)

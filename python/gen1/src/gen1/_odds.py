@@ -1,4 +1,4 @@
-"""What a use of a move would come to: its damage, and how likely it hits and is critical (docs/MECHANICS.md, "Damage numbers")."""
+"""The odds of a move: its damage, and its chances of a hit and of a critical hit (docs/MECHANICS.md, "Damage numbers")."""
 
 from ctypes import byref
 from dataclasses import dataclass
@@ -15,9 +15,9 @@ from gen1.teams import Member, struct_of
 
 @dataclass(frozen=True)
 class Damages:
-    """The damage of a hit in HP: 39 numbers in rising order, at the factors from 217 to 255, each as likely as the others.
+    """The damage of a hit in HP: 39 numbers in rising order, at the factors from 217 to 255, which are equally likely.
 
-    Where there are none `numbers` is empty, and `code` says why: `DamageFault.UNUSUAL` or `DamageFault.DIVISOR`.
+    If there are none, `numbers` is empty, and `code` says why: `DamageFault.UNUSUAL` or `DamageFault.DIVISOR`.
     """
 
     numbers: tuple[int, ...]
@@ -26,11 +26,11 @@ class Damages:
 
 @dataclass(frozen=True)
 class Odds:
-    """What a use of a move would come to: the damage of a usual hit and of a critical one.
+    """The odds of a move: the damage of a usual and of a critical hit, and the chances of both.
 
-    `critical_chance`, 0 to 255/256, is that of a critical hit, 0 for a move without the usual damage; `hit_chance`, 0 to 1, that of the
-    hit test. Both are exact: so many of 256 numbers that may be drawn bring it about. Where `takes_hit_test` is false the move takes no
-    such test: it fails, or works on its user alone.
+    `critical_chance`, 0 to 255/256, is the chance of a critical hit; it is 0 for a move without the usual damage. `hit_chance`, 0 to 1, is
+    the chance to pass the hit test. Both are exact multiples of 1/256. If `takes_hit_test` is false, the move takes no hit test, because it
+    fails or affects only its user.
     """
 
     usual: Damages
@@ -41,9 +41,9 @@ class Odds:
 
 
 def odds(attacker: Member, defender: Member, move: Move | str | int) -> Odds:
-    """What a use of a move by one member on another would come to, each just sent out alone; `Battle.odds` is that of a battle.
+    """The odds of a move between two members that have just been sent out. For members in a battle use `Battle.odds`.
 
-    The attacker need not know the move. Raises `BadTeam` for what is no move, `BadType` for what is no member.
+    The attacker need not know the move. Raises `BadTeam` for an unknown move, `BadType` for a value that is not a `Member`.
     """
     known, of = a_move(move), OddsStruct()
     pair = [byref(struct_of([_a_member(it, name)]).members[0]) for it, name in ((attacker, "attacker"), (defender, "defender"))]
@@ -54,7 +54,7 @@ def odds(attacker: Member, defender: Member, move: Move | str | int) -> Odds:
 
 
 def damage(attacker: Member, defender: Member, move: Move | str | int, critical: bool = False) -> tuple[int, ...]:
-    """The damage of a hit by one member on another, each just sent out alone: 39 numbers, as `Battle.damage`."""
+    """The damage of a move between two members that have just been sent out: 39 numbers, as from `Battle.damage`."""
     is_critical, known = truth(critical, "critical"), a_move(move)
     found = odds(attacker, defender, known)
     damages = found.critical if is_critical else found.usual
@@ -64,13 +64,13 @@ def damage(attacker: Member, defender: Member, move: Move | str | int, critical:
 
 
 def odds_of(of: OddsStruct, move: Move) -> Odds:
-    """The hit by a move that a struct holds."""
+    """The odds of a move that a struct holds."""
     chances = Fraction(of.critical_draws, 256), Fraction(of.hit_draws, 256)
     return Odds(_damages(of.usual), _damages(of.critical), *chances, _library.takes_hit_test(move) == 1)
 
 
 def no_damage(code: DamageFault, move: Move) -> NoDamage:
-    """Why a hit by a move has no damages."""
+    """The error for a move without damage."""
     return NoDamage(code, f"no damage of {move.label}: {code.label}")
 
 

@@ -1,4 +1,4 @@
-"""The structs of include/gen1.h by ctypes, field by field in its order, but for those of teams and events (`_library`)."""
+"""The structs of include/gen1.h for ctypes, with their fields in its order; those of teams and events are in `_library`."""
 
 from ctypes import Structure, c_uint8, c_uint16, c_uint32
 

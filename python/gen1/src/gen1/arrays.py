@@ -25,7 +25,7 @@ _update = _library.bind("gen1_update_many", c_uint8, c_void_p, c_size_t, *[c_voi
 CHOICES: Bytes = np.array([int(it) for it in Choice], np.uint8)
 ACTIONS = len(CHOICES)
 ALIGNED = 64
-# For each mask how many bits it has, and at 16 times the mask and n the number of the choice of its n-th bit.
+# For each mask, how many bits it has; and at the index 16 * mask + n, the number of the choice of its n-th bit.
 _COUNT: NDArray[np.uint32] = np.array([bin(mask).count("1") for mask in range(1 << ACTIONS)], np.uint32)
 _NTH: Bytes = np.zeros(16 << ACTIONS, np.uint8)
 for _mask in range(1 << ACTIONS):
@@ -35,18 +35,18 @@ for _mask in range(1 << ACTIONS):
 class BattleArray:
     """Battles in one array of (n, 384) bytes that begins at a multiple of 64.
 
-    `bytes` is the array itself, `fields` the same with the names of docs/LAYOUT.md (`array.fields["sides"]["members"]["hp"]` is
-    (n, 2, 6)); `results` (n) are the result bytes of the battles, `codes` (n) what each answered to the last step: 0, or the number of its
-    `Refusal`. All four can only be read, and show the battles as they are now: copy what is to be kept over a step. Battles are put in by
-    `array[place] = battle`, `reseed`, `reset` and `take`.
+    `bytes` is the array itself. `fields` is the same array with the field names of docs/LAYOUT.md: `array.fields["sides"]["members"]["hp"]`
+    has shape (n, 2, 6). `results` (n) are the result bytes of the battles. `codes` (n) is 0 for each battle that the last step updated, else
+    the number of its `Refusal`. All four are read-only and show the current battles, so copy what is needed after the next step. Battles
+    are changed by `array[place] = battle`, `step`, `random_step`, `reseed` and `reset`.
 
-    One array is for one thread at a time. A step and the masks let other threads run, so that arrays of their own step in parallel.
+    An array must be used by one thread at a time. Steps and masks let other threads run, so that different arrays can step in parallel.
     """
 
     def __init__(self, n: int, battle: Battle, seeds: ArrayLike | None = None) -> None:
-        """`n` copies of a battle, 1 or more; with `seeds`, (n, 10) bytes, each has numbers of its own to draw.
+        """Creates `n` copies of a battle, at least 1. With `seeds`, (n, 10) bytes, each draws numbers of its own.
 
-        Without seeds all of them draw the same numbers as the battle.
+        Without seeds all copies draw the same numbers as the battle.
         """
         count, row = within(n, "n", 1, 1 << 40), _row(battle, "battle")
         self._allot(count)
@@ -60,14 +60,14 @@ class BattleArray:
         """An array of these battles, at least one."""
         rows = [_row(it, f"battles[{at}]") for at, it in enumerate(listed(battles, "battles"))]
         if not rows:
-            raise BadArgument("battles must be one or more, and there is none")
+            raise BadArgument("battles must have at least one battle, and is empty")
         return cls._holding(np.stack(rows))
 
     def take(self, places: ArrayLike) -> "BattleArray":
-        """An array of its own of copies of the battles at these places, (m) numbers from -n to n - 1, at least one; any may come again.
+        """A new array with copies of the battles at these places: (m) numbers from -n to n - 1, at least one, which may repeat.
 
-        As forks of each battle for a search: `array.take(np.repeat(np.arange(n), 4))`, which are reseeded then. Their `reset` puts them
-        back to what they are now.
+        A search makes copies of each battle with `array.take(np.repeat(np.arange(n), 4))` and reseeds them. `reset` on the new array
+        restores these copies.
         """
         at = _array(places, "places")
         if at.ndim != 1 or not len(at):
@@ -105,7 +105,7 @@ class BattleArray:
     __hash__ = None  # type: ignore[assignment]
 
     def copy(self) -> "BattleArray":
-        """An array of its own with the same battles, results and codes."""
+        """An independent array with the same battles, results and codes."""
         made = self._holding(self._first)
         made._bytes[:], made._results[:], made._codes[:] = self._bytes, self._results, self._codes
         return made
@@ -120,19 +120,19 @@ class BattleArray:
 
     @property
     def outcomes(self) -> Bytes:
-        """The outcome of each battle, (n), as `Outcome` numbers them; an array of its own."""
+        """The number of each battle's `Outcome`, (n), as a new array."""
         return self._results & np.uint8(7)
 
     @property
     def over(self) -> NDArray[np.bool_]:
-        """Which battles are over, (n); an array of its own."""
+        """Which battles are over, (n) bools, as a new array."""
         over: NDArray[np.bool_] = self.outcomes != 0
         return over
 
     def masks(self) -> Masks:
-        """What each side of each battle may choose, (2, n): side 1's masks, then side 2's.
+        """The offered choices of each side of each battle as masks, (2, n): first side 1, then side 2.
 
-        Bit b is 1 exactly where `CHOICES[b]` is offered; `bits` makes an array of truths of it. 0 where a battle is over.
+        Bit b of a mask is 1 exactly if `CHOICES[b]` is offered; `bits` converts masks to bools. The mask of a battle that is over is 0.
         """
         masks = np.empty((2, len(self)), np.uint16)
         for side in (1, 2):
@@ -140,19 +140,19 @@ class BattleArray:
         return masks
 
     def step(self, ones: ArrayLike, twos: ArrayLike) -> Bytes:
-        """An update of each battle by the choices of both sides, each (n) numbers from 0 to 255; a copy of the results, (n).
+        """Updates each battle with a choice of each side, (n) numbers from 0 to 255 each, and returns a copy of the results, (n).
 
-        A battle that refuses its pair stays as it is, and `codes` says why; so one that is over is left alone whatever its
-        choices. Raises `BadArgument` or `BadType` for choices of another length, range or type, and then nothing has changed.
+        A battle that refuses its pair is unchanged, and `codes` says why. So a battle that is over is unchanged whatever its choices
+        are. Raises `BadArgument` or `BadType` for choices of another length, range or type, and then nothing has changed.
         """
         pair = self._choices(ones, "ones"), self._choices(twos, "twos")
         self._update(*pair)
         return self._results.copy()
 
     def random_step(self, dice: np.random.Generator) -> tuple[Bytes, Bytes]:
-        """A step in which each side takes one of its choices, each as likely as the others; the choices that were taken.
+        """Makes a step with a random choice of each side, all equally likely, and returns these choices.
 
-        A battle that is over stays as it is. Raises `BadType` where `dice` is no generator.
+        A battle that is over is unchanged. Raises `BadType` if `dice` is not a numpy generator.
         """
         if not isinstance(dice, np.random.Generator):
             raise BadType(f"dice must be a numpy.random.Generator, not {shown(dice)}")
@@ -163,22 +163,22 @@ class BattleArray:
         return taken[0], taken[1]
 
     def observe(self, side: int) -> NDArray[np.float32]:
-        """What a side knows of each battle, (n, `len(COLUMNS)`); `gen1.observations` says what each column is."""
+        """The observation of a side for each battle, (n, `len(COLUMNS)`) numbers; `gen1.observations` describes the columns."""
         known = a_side(side)
         return observe(self._fields, known, self.masks()[known - 1])
 
     def reseed(self, seeds: ArrayLike) -> None:
-        """Gives each battle other numbers to draw, (n, 10) bytes, from the first of them on; nothing else changes."""
+        """Replaces the numbers that each battle draws by (n, 10) bytes, of which the first is drawn next; nothing else changes."""
         self._fields["numbers"], self._fields["index"] = self._seeds(seeds), 0
 
     def reset(self, which: ArrayLike | None = None, seeds: ArrayLike | None = None) -> None:
-        """Puts battles back to what they were when the array was made: all, or those where `which`, (n) truths, is true.
+        """Restores battles to what they were when the array was created: all, or those where `which`, (n) bools, is true.
 
-        With `seeds`, (n, 10) bytes, those that are put back get these numbers to draw.
+        With `seeds`, (n, 10) bytes, the restored battles draw these numbers.
         """
         chosen = np.ones(len(self), bool) if which is None else _array(which, "which")
         if chosen.shape != (len(self),) or chosen.dtype != bool:
-            raise BadArgument(f"which must be ({len(self)},) truths, not {chosen.shape} of {chosen.dtype}")
+            raise BadArgument(f"which must be ({len(self)},) bools, not {chosen.shape} of {chosen.dtype}")
         fresh = None if seeds is None else self._seeds(seeds)
         self._bytes[chosen] = self._first[chosen]
         if fresh is not None:
@@ -209,7 +209,7 @@ class BattleArray:
         self._see()
 
     def _see(self) -> None:
-        """The results of the battles as they are, which are the bytes of outcome and requests."""
+        """Computes the results of the current battles from their outcomes and requests."""
         requests = self._fields["requests"]
         self._results[:] = self._fields["outcome"] | requests[:, 0] << 3 | requests[:, 1] << 5
 
@@ -233,14 +233,14 @@ class BattleArray:
 
 
 def bits(masks: Masks) -> NDArray[np.bool_]:
-    """Masks of any shape as truths, with one more axis of 12: the choices in the order of `CHOICES`."""
+    """Converts masks of any shape to bools, with a further axis of length 12: the choices in the order of `CHOICES`."""
     return (masks[..., None] >> np.arange(ACTIONS, dtype=np.uint16) & 1).astype(bool)
 
 
 def _done(code: int) -> None:
-    """Nothing where a call has done it all. It refuses arrays of other lengths than the battles', and the class hands it none."""
+    """Raises an error if a call failed. It refuses arrays of other lengths than the battles', which this class never passes."""
     if code:
-        raise BadArgument(f"an array has another length than the battles, or the side is none (code {code})")
+        raise BadArgument(f"an array has another length than the battles, or the side is not 1 or 2 (code {code})")
 
 
 def _array(given: ArrayLike, name: str) -> NDArray[Any]:
@@ -251,7 +251,7 @@ def _array(given: ArrayLike, name: str) -> NDArray[Any]:
 
 
 def _all_bytes(given: NDArray[Any], name: str) -> Bytes:
-    """An array of whole numbers as bytes, one behind the other. Raises `BadArgument` with the first that is none."""
+    """An array of whole numbers as contiguous bytes. Raises `BadArgument` with the first number that is not a byte."""
     if given.dtype != np.uint8:
         wrong = (given < 0) | (given > 255)
         if wrong.any():
@@ -261,14 +261,14 @@ def _all_bytes(given: NDArray[Any], name: str) -> Bytes:
 
 
 def _row(battle: object, name: str) -> Bytes:
-    """The 384 bytes of what has to be a battle."""
+    """The 384 bytes of a value that must be a `Battle`."""
     if not isinstance(battle, Battle):
         raise BadType(f"{name} must be a Battle, not {shown(battle)}")
     return np.frombuffer(battle.bytes, np.uint8)
 
 
 def _to_read(of: NDArray[Any]) -> NDArray[Any]:
-    """The same array, through which nothing can be changed."""
+    """A read-only view of an array."""
     view = of.view()
     view.flags.writeable = False
     return view

@@ -1,4 +1,4 @@
-"""A battle, which is its 384 bytes (docs/LAYOUT.md), and the updates of it."""
+"""Battles, each of which is its 384 bytes (docs/LAYOUT.md), and their updates."""
 
 from collections.abc import Iterable, Mapping
 from ctypes import byref, c_char, c_size_t, c_uint8, c_uint16, create_string_buffer
@@ -29,20 +29,20 @@ SeedLike: TypeAlias = bytes | Iterable[int]
 
 @dataclass(frozen=True)
 class Result:
-    """How a battle stands, and what is asked of side 1 and side 2 for the next update."""
+    """The outcome of a battle so far, and what is asked of side 1 and side 2 for the next update."""
 
     outcome: Outcome
     requests: tuple[Request, Request]
 
     @property
     def is_over(self) -> bool:
-        """Whether nothing can follow."""
+        """Whether the battle is over."""
         return self.outcome is not Outcome.ONGOING
 
 
 @dataclass(frozen=True)
 class Update:
-    """What an update answered: the result after it, and its log bytes."""
+    """The result after an update, and its log bytes."""
 
     result: Result
     log: bytes
@@ -60,7 +60,7 @@ class Update:
 
 @dataclass(frozen=True)
 class Playouts:
-    """How playouts of a battle ended: how many side 1 won, how many side 2, how many nobody, and how many ended by a fault."""
+    """How playouts of a battle ended: how many side 1 won, side 2 won, were a tie, and ended by a fault."""
 
     wins_one: int
     wins_two: int
@@ -69,24 +69,23 @@ class Playouts:
 
     @property
     def rounds(self) -> int:
-        """How many there were."""
+        """The number of playouts."""
         return self.wins_one + self.wins_two + self.ties + self.faults
 
 
 class Battle:
-    """A battle of two teams. `update` changes it in place; `copy` keeps it.
+    """A battle of two teams. `update` changes it in place; `copy` returns an independent copy.
 
-    Two battles are equal where their bytes are. The hash is that of the bytes at the time: a battle that stands in a set or is
-    the key of a dict must not be updated there. One battle is for one thread at a time; a `Room` takes the choices of several.
+    Two battles are equal if their bytes are equal. The hash is computed from the current bytes, so a battle that is in a set or is the
+    key of a dict must not be updated. A battle must be used by one thread at a time; a `Room` accepts choices from several threads.
     """
 
     __slots__ = ("_held",)
 
     def __init__(self, one: TeamLike, two: TeamLike, seed: SeedLike, rules: int = 0, limit: int = 1000) -> None:
-        """A battle before its first update, which is `PASS` and `PASS`.
+        """Creates a battle before its first update, in which both sides choose `PASS`.
 
-        `seed` is ten bytes; `rules` 0 to 3 (`Rules`); `limit` the last turn, 1 to 9,999. Raises `BadTeam`, `BadArgument`,
-        `BadType`.
+        `seed` is ten bytes, `rules` 0 to 3 (`Rules`), and `limit` the last turn, 1 to 9,999. Raises `BadTeam`, `BadArgument`, `BadType`.
         """
         asked_rules, asked_limit = whole(rules, "rules"), whole(limit, "limit")
         terms = a_byte(asked_rules), min(max(asked_limit, 0), 65535)
@@ -105,7 +104,7 @@ class Battle:
 
     @classmethod
     def load(cls: type[B], given: "ReadableBuffer") -> B:
-        """The battle of these bytes, of any of the three versions, out of whatever holds bytes. Raises `BadBytes`, `BadType`."""
+        """Loads a battle from bytes of any of the three versions, in any bytes-like object. Raises `BadBytes`, `BadType`."""
         whole_bytes = octets(given, "a battle")
         made = cls.__new__(cls)
         made._held = BattleBytes()
@@ -116,11 +115,11 @@ class Battle:
 
     @property
     def bytes(self) -> bytes:
-        """The 384 bytes."""
+        """The 384 bytes of the battle, which are its whole state."""
         return bytes(self._held)
 
     def copy(self: B) -> B:
-        """A battle of its own, of the same class, with the same bytes. It will draw the same numbers, unless it is reseeded."""
+        """An independent copy, of the same class. It draws the same numbers, unless it is reseeded."""
         made = type(self).__new__(type(self))
         made._held = BattleBytes.from_buffer_copy(self._held)
         return made
@@ -146,23 +145,24 @@ class Battle:
 
     @property
     def result(self) -> Result:
-        """How the battle stands."""
+        """The outcome so far, and what is asked of each side."""
         return result_of(self._held)
 
     def place(self, side: Side | int) -> int:
-        """The place of the member of a side that is out, 1 to 6; 0 before the first update."""
+        """The place of a side's member that is out, 1 to 6; 0 before the first update."""
         return int(struct_of_state(self._held).sides[a_side(side) - 1].active.place)
 
     def choices(self, side: Side | int) -> tuple[Choice, ...]:
-        """What a side may choose, in rising order: none where the battle is over, and at most nine."""
+        """The choices that a side is offered, in rising order: at most nine, and none if the battle is over."""
         room = CHOICES()
         count = _library.choices(byref(self._held), a_side(side), room)
         return tuple([CHOICE[it] for it in room[:count]])
 
     def update(self, one: Choice | int, two: Choice | int) -> Update:
-        """An update by a choice of each side. Raises `Refused`, and then nothing has changed.
+        """Updates the battle with a choice of each side, and returns the result and the log.
 
-        Choices are `Choice`, or their numbers from 0 to 255; others are a `BadArgument`.
+        Choices are `Choice`, or their numbers from 0 to 255. Raises `Refused` for a choice that is not offered, or if the battle is over,
+        and `BadArgument` for other numbers; then the battle is unchanged.
         """
         pair = a_choice(one, 1), a_choice(two, 2)
         log, length = create_string_buffer(LOG_ROOM), c_size_t(0)
@@ -172,7 +172,7 @@ class Battle:
         return Update(self.result, log.raw[: length.value])
 
     def update_silent(self, one: Choice | int, two: Choice | int) -> Result:
-        """The same as `update` without a log, which is quicker."""
+        """As `update` without a log, which is faster. Returns the result."""
         pair = a_choice(one, 1), a_choice(two, 2)
         length = c_size_t(0)
         code = _library.update(byref(self._held), *pair, None, 0, byref(length))
@@ -182,13 +182,13 @@ class Battle:
 
     @property
     def state(self) -> State:
-        """All that the bytes stand for, as dataclasses."""
+        """The whole state of the battle, as dataclasses."""
         return state_of(self._held)
 
     def words(self, side: Side | int, choice: Choice | int) -> str:
-        """A choice of a side in words, as the battle stands: "move 2 Body Slam", "switch 3 Gengar". It need not be offered.
+        """A choice of a side in words, such as "move 2 Body Slam" or "switch 3 Gengar". It need not be offered.
 
-        Raises `BadArgument` for a slot without a move, a place without a member, and what is no choice.
+        Raises `BadArgument` for a slot without a move, a place without a member, and a number that is not a choice.
         """
         known = a_side(side)
         number = a_choice(choice, known)
@@ -201,20 +201,20 @@ class Battle:
         return text.raw[: length.value].decode("ascii")
 
     def reseed(self, seed: SeedLike, index: int = 0) -> None:
-        """Gives the battle other numbers to draw: ten bytes, and the place, 0 to 8, of the one that is drawn next.
+        """Replaces the numbers to draw: ten bytes, and the index, 0 to 8, of the one that is drawn next.
 
-        Nothing else changes. A copy knows the numbers that its battle will draw; so a search reseeds each copy that it plays out.
+        Nothing else changes. A copy draws the same numbers as its battle, so a search reseeds each copy that it plays out.
         """
         numbers, place = seed_bytes(seed), whole(index, "index")
         if _library.reseed(byref(self._held), _library.SeedBytes(*numbers), a_byte(place)):
             raise BadArgument(f"index must be 0 to 8, not {digits(place)}")
 
     def playout(self, seed: int, rounds: int) -> Playouts:
-        """How so many copies of the battle end, each side choosing at random among what it is offered; the battle stays as it is.
+        """Plays `rounds` copies of the battle to their end with random choices, and counts how they end. The battle is unchanged.
 
-        `seed`, 0 to 2 ** 64 - 1, is of the choices, and the same one gives the same counts (include/gen1.h, "many battles"); `rounds` 0 to
-        2 ** 32 - 1. What the copies draw is what the battle will draw: a search that must not know it takes reseeded copies. The call
-        comes back when all are played, some ten thousand a second, and lets other threads run meanwhile. Raises `BadArgument`, `BadType`.
+        `seed`, 0 to 2 ** 64 - 1, is for the choices; the same seed gives the same counts (include/gen1.h, "many battles"). `rounds` is 0 to
+        2 ** 32 - 1. The copies draw the numbers that the battle will draw; a search that must not know them reseeds a copy first. The call
+        returns when all copies are played, at about ten thousand a second, and lets other threads run. Raises `BadArgument`, `BadType`.
         """
         of, numbers = PlayoutsStruct(), (within(seed, "seed", 0, (1 << 64) - 1), within(rounds, "rounds", 0, (1 << 32) - 1))
         test = _library.playout(byref(self._held), *numbers, byref(of))
@@ -223,10 +223,10 @@ class Battle:
         return Playouts(of.wins_one, of.wins_two, of.ties, of.faults)
 
     def odds(self, side: Side | int, move: Move | str | int) -> Odds:
-        """What a use of a move by a side on the foe that is out would come to, as both are now: damage, and chances of critical and hit.
+        """The odds of a side's move in the current state: its damage, and its chances of a hit and of a critical hit.
 
-        The member need not know the move. The accuracy is that of a new use: the one that Thrash and Rage keep is not looked at. Raises
-        `NoDamage` where nobody is out, `BadTeam` for what is no move.
+        The member need not know the move. The accuracy is that of a new use; the one that Thrash and Rage keep is ignored. Raises
+        `NoDamage` if no member is out, `BadTeam` for an unknown move.
         """
         of, known = OddsStruct(), a_move(move)
         code = _library.odds_now(byref(self._held), a_side(side), known, byref(of))
@@ -235,10 +235,10 @@ class Battle:
         return odds_of(of, known)
 
     def damage(self, side: Side | int, move: Move | str | int, critical: bool = False) -> tuple[int, ...]:
-        """The damage of a hit by a move of a side on the foe that is out, as both are now: 39 numbers.
+        """The damage of a side's move in the current state: 39 numbers in HP, in rising order.
 
-        They are those at the factors from 217 to 255, each as likely as the others, in rising order. The member need not know
-        the move. Raises `NoDamage` for a move without the usual damage, and where nobody is out.
+        They are the damage at the factors from 217 to 255, which are equally likely. The member need not know the move. Raises
+        `NoDamage` for a move without the usual damage, and if no member is out.
         """
         is_critical, numbers, known = truth(critical, "critical"), _DAMAGES(), a_move(move)
         code = _library.damage(byref(self._held), a_side(side), known, is_critical, numbers)
@@ -255,19 +255,19 @@ class Battle:
 
 
 def battle_of(held: Any) -> Battle:
-    """A battle with a copy of these 384 bytes, which are one's."""
+    """A battle with a copy of these 384 bytes, which must be those of a battle."""
     made = Battle.__new__(Battle)
     made._held = BattleBytes.from_buffer_copy(held)
     return made
 
 
 def result_of(held: Any) -> Result:
-    """How a battle of these 384 bytes stands."""
+    """The result of the battle with these 384 bytes."""
     return _RESULTS[_library.result(byref(held))]
 
 
 def sides_of(one: TeamLike, two: TeamLike) -> tuple[Team, Team]:
-    """Both teams; a fault says whose it is."""
+    """Both teams; an error says which side it is about."""
     return _side(1, one), _side(2, two)
 
 
@@ -281,12 +281,12 @@ def _side(number: int, given: TeamLike) -> Team:
 
 
 def _load_text(code: LoadFault, given: "bytes") -> str:
-    """Why bytes are no battle."""
+    """Why bytes are not a battle."""
     tests = {
         LoadFault.LENGTH: f"there are {len(given)}, not {_library.BATTLE_BYTES}",
         LoadFault.VERSION: f"their version is {given[0] if given else 'missing'}, not 1, 2 or 3",
     }
-    return f"no battle: {tests.get(code, 'the test of the ' + code.label + ' fails')} (docs/LAYOUT.md, \"Loading\")"
+    return f"not a battle: {tests.get(code, 'the test of the ' + code.label + ' fails')} (docs/LAYOUT.md, \"Loading\")"
 
 
 CHOICES = c_uint8 * 9

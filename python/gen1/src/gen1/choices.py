@@ -21,7 +21,7 @@ class Side(Named):
 
 
 class Rules(IntFlag):
-    """Rules that a battle is begun with, to be added up (docs/MECHANICS.md, "Rules (sleep clause, freeze clause)")."""
+    """The rules of a battle, which can be combined (docs/MECHANICS.md, "Rules (sleep clause, freeze clause)")."""
 
     NONE = 0
     SLEEP_CLAUSE = 1
@@ -29,9 +29,9 @@ class Rules(IntFlag):
 
 
 class Choice(Named):
-    """What a side decides for an update, with the number that stands for it.
+    """A side's choice for an update, with its number.
 
-    `MOVE_0` is what is left where no slot can be chosen. A number that is none of these is refused as not offered.
+    `MOVE_0` is offered if no slot can be chosen. Any other number is refused as not offered.
     """
 
     PASS = 0x00, "pass"
@@ -49,7 +49,7 @@ class Choice(Named):
 
     @classmethod
     def move(cls, slot: int) -> "Choice":
-        """The move in a slot, 1 to 4, or `MOVE_0` of 0."""
+        """The move in a slot, 1 to 4, or `MOVE_0` for 0."""
         return cls(0x10 + within(slot, "slot", 0, 4))
 
     @classmethod
@@ -69,7 +69,7 @@ class Choice(Named):
 
     @property
     def slot(self) -> int:
-        """The slot of a move, 0 to 4, or the place of a switch, 1 to 6; 0 of `PASS`."""
+        """The slot of a move, 0 to 4, or the place of a switch, 1 to 6; 0 for `PASS`."""
         return self & 0x0F
 
 
@@ -82,21 +82,21 @@ def a_side(value: object) -> int:
 
 
 def a_choice(value: object, side: int) -> int:
-    """A byte of a choice, be it offered or not."""
+    """The byte of a choice, whether offered or not."""
     if type(value) is Choice:
         return int(value)
     return within(value, f"side {side}'s choice", 0, 255)
 
 
 def choice_text(byte: int) -> str:
-    """A byte as a choice, or as the number that it is where it is none."""
+    """The name of a choice's byte, or a text that says that the byte is not a choice."""
     try:
         return Choice(byte).label
     except ValueError:
-        return f"{byte}, which is no choice"
+        return f"{byte}, which is not a choice"
 
 
 def not_offered(side: int, byte: int, offered: Iterable[Choice]) -> str:
-    """Why a choice is refused that is none of those that are offered."""
+    """Why a choice that is not offered is refused."""
     names = ", ".join(it.label for it in offered)
     return f"side {side}'s choice is not offered: {choice_text(byte)}; offered: {names}"

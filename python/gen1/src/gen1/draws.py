@@ -1,9 +1,9 @@
 """Which numbers an update drew (docs/MECHANICS.md, "Link numbers"), and what each of them decided.
 
-What a draw decided is found by trying, and by no rule of battle: a copy of the battle with each other byte in its place is
-updated by the same choices, and what comes out otherwise is told. Which bytes were drawn the library does not tell; so the generator of
-link numbers is stepped here, from the numbers before an update to those after it. It is the one rule that stands in Python, and the tests
-hold it against the recorded draws.
+What a draw decided is found by trying: copies of the battle, each with another byte in the draw's place, are updated with the same
+choices, and the differences are reported. The library doesn't report the drawn bytes, so the generator of link numbers is stepped here,
+from the numbers before an update to those after it. This is the only rule that is implemented in Python; the tests compare it with the
+recorded draws.
 """
 
 from collections import defaultdict
@@ -16,17 +16,16 @@ from gen1.errors import Refused
 from gen1.events import DamageEvent, Event, HealEvent
 from gen1.sentences import sentence
 
-# How many numbers are drawn in turn, and more draws than an update takes.
+# How many numbers are drawn in turn; and a limit that is above the draws of any update.
 NUMBERS, MOST = 9, 4700
 
 
 @dataclass(frozen=True)
 class Draw:
-    """A draw: its number in its update from 1, the byte that was drawn, and what other bytes would have decided.
+    """A draw: its number in the update from 1, the byte that was drawn, and what other bytes would have decided.
 
-    `others` are ranges of bytes, each with the sentence of the first thing that would have come otherwise; empty where no byte changes
-    what the update tells. `again` where the draw uses a byte that an earlier draw of the update stood for, so that it can't be changed
-    alone.
+    `others` are ranges of bytes, each with a sentence for the first event that would have been different; empty if no byte changes the
+    events. `again` is true if the byte is computed from that of an earlier draw in the same update, so that it can't be changed alone.
     """
 
     number: int
@@ -36,7 +35,7 @@ class Draw:
 
 
 def drawn(before: Battle, after: Battle) -> bytes:
-    """The bytes that were drawn from one battle to another, which is the same after one update."""
+    """The bytes that were drawn between a battle and the same battle after one update."""
     (index, numbers), goal, found = _drawing(before), _drawing(after), bytearray()
     while (index, numbers) != goal and len(found) <= MOST:
         found.append(numbers[index])
@@ -47,13 +46,13 @@ def drawn(before: Battle, after: Battle) -> bytes:
 
 
 def _drawing(battle: Battle) -> tuple[int, list[int]]:
-    """Which number is drawn next, and the nine."""
+    """The index of the number that is drawn next, and the nine numbers."""
     state = battle.state
     return state.index, list(state.numbers[:NUMBERS])
 
 
 def explained(before: Battle, one: int, two: int) -> tuple[Battle, list[Event], list[Draw]]:
-    """The battle after an update by two choices, its events, and its draws. Raises `Refused`."""
+    """Makes an update on a copy: the battle after it, its events, and its draws. Raises `Refused`."""
     after = before.copy()
     told = list(after.update(one, two).events)
     numbers = drawn(before, after)
@@ -69,7 +68,7 @@ def _others(before: Battle, one: int, two: int, at: int, told: list[Event]) -> I
     state = before.state
     index, seed = state.index, bytearray(state.numbers)
     place = (index + at) % NUMBERS
-    # The draws after the ninth number are renewed ones: the byte that becomes this one there.
+    # Draws after the ninth number are renewed. This inverts the renewal, to find the byte that becomes `byte` there.
     renewed = index + at >= NUMBERS
     ways = defaultdict(list)
     for byte in range(256):
@@ -86,7 +85,7 @@ def _others(before: Battle, one: int, two: int, at: int, told: list[Event]) -> I
 
 
 def _difference(told: list[Event], other: list[Event]) -> str:
-    """The first thing that two lists of events tell otherwise; nothing where they are the same."""
+    """The first difference between two lists of events; empty if they are the same."""
     for one, two in zip(told, other):
         if one != two:
             if isinstance(one, (DamageEvent, HealEvent)) and isinstance(two, (DamageEvent, HealEvent)) and one.who == two.who:
@@ -100,7 +99,7 @@ def _difference(told: list[Event], other: list[Event]) -> str:
 
 
 def ranges(numbers: list[int]) -> str:
-    """Numbers in rising order as ranges, "0-56, 60"; of many ranges the first few."""
+    """Numbers in rising order as ranges, "0-56, 60"; of many ranges only the first few."""
     runs = [[it for _, it in run] for _, run in groupby(enumerate(numbers), lambda it: it[1] - it[0])]
     texts = [f"{run[0]}-{run[-1]}" if len(run) > 1 else str(run[0]) for run in runs]
     return ", ".join(texts) if len(texts) <= 8 else f"{', '.join(texts[:4])}, .. ({len(numbers)} of 256)"

@@ -1,7 +1,7 @@
-"""Environments to train in: one player against a policy by Gymnasium's API, and two players by PettingZoo's parallel API.
+"""Environments for training: one player against a policy with Gymnasium's API, and two players with PettingZoo's parallel API.
 
-Neither package is needed; where gymnasium is installed its spaces and its `Env` are used. An action is a number from 0 to 11: the bit of
-a choice (0 pass, 1 to 5 moves 0 to 4, 6 to 11 switches to 1 to 6). An observation is a row of `gen1.observations`.
+Neither package is needed. If gymnasium is installed, its spaces and its `Env` are used. An action is a number from 0 to 11, the bit of a
+choice: 0 is pass, 1 to 5 are moves 0 to 4, 6 to 11 are switches to 1 to 6. An observation is a row of `gen1.observations`.
 """
 
 from collections.abc import Callable, Mapping
@@ -22,8 +22,8 @@ from gen1.teams import Member
 
 Row: TypeAlias = NDArray[np.float32]
 Truths: TypeAlias = NDArray[np.bool_]
-# A policy is given a copy of the battle, its side and a generator, and answers one of `battle.choices(side)`. The copy holds the numbers
-# that will be drawn: who plays it out reseeds it before.
+# A policy is passed a copy of the battle, its side and a generator, and returns one of `battle.choices(side)`. The copy has the numbers
+# that will be drawn, so a policy that plays it out must reseed it first.
 Policy: TypeAlias = Callable[[Battle, Side, np.random.Generator], Choice]
 
 _Discrete, _Box, _Base = spaces.made()
@@ -35,13 +35,13 @@ DEFAULT_TEAM = (
 
 
 def random_policy(battle: Battle, side: Side, dice: np.random.Generator) -> Choice:
-    """One of the choices, each as likely as the others."""
+    """A random choice, all equally likely."""
     offered = battle.choices(side)
     return offered[int(dice.integers(len(offered)))]
 
 
 class _Table:
-    """A battle that is played: the array of one that is observed, and the teams and terms that it is begun with."""
+    """The battle of an environment, as an array of one battle, with the teams, rules and limit for new battles."""
 
     def __init__(self, one: TeamLike, two: TeamLike, rules: int, limit: int) -> None:
         self.teams, self.terms = sides_of(one, two), (rules, limit)
@@ -49,7 +49,7 @@ class _Table:
         self.begin(None, None)
 
     def begin(self, seed: int | None, options: Mapping[str, Any] | None) -> None:
-        """A new battle, after its start. With a seed the numbers that are drawn begin anew too. What is wrong is refused before."""
+        """Starts a new battle. A seed also restarts the generator of seeds. Wrong arguments raise an error before anything changes."""
         if options is not None and not isinstance(options, Mapping):
             raise BadType(f"options must be a dict, not {shown(options)}")
         given = {} if options is None else options
@@ -87,12 +87,14 @@ def _choice(action: object, name: str) -> Choice:
 
 
 class BattleEnv(_Base):  # type: ignore[misc, valid-type]
-    """One player, side 1, against a policy on side 2, by Gymnasium's API.
+    """One player, side 1, against a policy on side 2, with Gymnasium's API.
 
-    The reward is 1 for a win, -1 for a loss, and 0 otherwise; a tie at the turn limit ends the battle, as the rules have it, so no
-    episode is truncated. An action that is not offered raises `Refused`, before the policy is asked, and changes nothing: take
-    `action_masks()` into account; `action_space.sample()` does not without its mask. What the policy answers is refused likewise, as side
-    2's; then the battle has not changed, and the numbers that the policy drew are drawn.
+    The reward is 1 for a win, -1 for a loss, and 0 otherwise. At the turn limit the battle ends in a tie, as its rules say, so no episode
+    is truncated.
+
+    An action that is not offered raises `Refused`, before the policy is called, and changes nothing. So use `action_masks()`, and pass a
+    mask to `action_space.sample()`. A choice of the policy that is not offered raises `Refused` for side 2; the battle is unchanged, but
+    the numbers that the policy drew from the generator are used up.
     """
 
     metadata: dict[str, Any] = {"render_modes": ["ansi"], "name": "gen1_v0"}
@@ -119,14 +121,14 @@ class BattleEnv(_Base):  # type: ignore[misc, valid-type]
 
     @property
     def battle(self) -> Battle:
-        """A copy of the battle. It has everything, also what side 1 does not know."""
+        """A copy of the battle. It includes what side 1 does not know."""
         return self._table.battle
 
     def reset(self, *, seed: int | None = None, options: Mapping[str, Any] | None = None) -> tuple[Row, dict[str, Any]]:
-        """A new battle: the observation of side 1, and what `step` tells too.
+        """Starts a new battle, and returns the observation of side 1 and the info, as from `step`.
 
-        `options` may have teams "one" and "two"; what else it has is left alone, as wrappers put in what is theirs. Raises `BadTeam`,
-        `BadArgument`, `BadType`, and then the battle goes on as it was.
+        `options` may have teams "one" and "two"; other keys are ignored, since wrappers add keys of their own. Raises `BadTeam`,
+        `BadArgument`, `BadType`, and then the battle is unchanged.
         """
         self._table.begin(seed, options)
         if _Base is not object:
@@ -134,33 +136,33 @@ class BattleEnv(_Base):  # type: ignore[misc, valid-type]
         return self._table.seen(1), self._info()
 
     def step(self, action: int) -> tuple[Row, float, bool, bool, dict[str, Any]]:
-        """Side 1's choice, and side 2's by the policy: observation, reward, whether it is over, False, and the mask."""
+        """Updates the battle with side 1's action and the policy's choice: observation, reward, whether it is over, False, and the mask."""
         battle, table = self._table.battle, self._table
         mine, foes = _choice(action, "action"), battle.choices(Side.TWO)
         if mine not in battle.choices(Side.ONE):
-            battle.update_silent(mine, foes[0] if foes else Choice.PASS)  # says in a copy why it is refused
+            battle.update_silent(mine, foes[0] if foes else Choice.PASS)  # on a copy, to raise the error
         table.update([mine, self.policy(battle, Side.TWO, table.dice)])
         return table.seen(1), table.reward(1), table.battle.result.is_over, False, self._info()
 
     def action_masks(self) -> Truths:
-        """Which actions are offered, (12)."""
+        """Which actions are offered, as (12) bools."""
         return self._table.mask(1)
 
     def render(self) -> str | None:
-        """Who is out on both sides, in a line, with render mode "ansi"."""
+        """The members that are out, on one line, with render mode "ansi"."""
         return _sight(self._table) if self.render_mode == "ansi" else None
 
     def close(self) -> None:
-        """Nothing is open."""
+        """Does nothing, since there is nothing to close."""
 
     def _info(self) -> dict[str, Any]:
         return {"action_mask": self.action_masks()}
 
 
 class TwoPlayerEnv:
-    """Two players, "one" and "two", by PettingZoo's parallel API.
+    """Two players, "one" and "two", with PettingZoo's parallel API.
 
-    Both act in each step; a side of which nothing is asked takes action 0, pass. When the battle is over both agents leave.
+    Both act in each step; a side that is asked for nothing takes action 0, pass. When the battle is over, `agents` becomes empty.
     """
 
     metadata: dict[str, Any] = {"render_modes": ["ansi"], "name": "gen1_v0", "is_parallelizable": True}
@@ -184,7 +186,7 @@ class TwoPlayerEnv:
 
     @property
     def battle(self) -> Battle:
-        """A copy of the battle. It has everything, also what no side knows."""
+        """A copy of the battle. It includes what the players do not know."""
         return self._table.battle
 
     def observation_space(self, agent: str) -> Any:
@@ -198,13 +200,13 @@ class TwoPlayerEnv:
     def reset(
         self, seed: int | None = None, options: Mapping[str, Any] | None = None
     ) -> tuple[dict[str, Row], dict[str, dict[str, Any]]]:
-        """A new battle: the observation of each agent, and its mask. `options` are those of `BattleEnv.reset`."""
+        """Starts a new battle, and returns the observation and the info of each agent. `options` are those of `BattleEnv.reset`."""
         self._table.begin(seed, options)
         self.agents = list(self.possible_agents)
         return self._each(self._table.seen), self._each(self._info)
 
     def step(self, actions: Mapping[str, int]) -> tuple[dict[str, Any], ...]:
-        """Both choices: observations, rewards, terminations, truncations and infos of the agents that were there."""
+        """Updates the battle with both actions: observations, rewards, terminations, truncations and infos of the agents."""
         if not isinstance(actions, Mapping):
             raise BadType(f"actions must be a dict, not {shown(actions)}")
         if not self.agents:
@@ -224,23 +226,23 @@ class TwoPlayerEnv:
         return told
 
     def action_masks(self, agent: str) -> Truths:
-        """Which actions an agent is offered, (12)."""
+        """Which actions an agent is offered, as (12) bools."""
         return self._table.mask(self._side(agent))
 
     def state(self) -> NDArray[np.uint8]:
-        """The 384 bytes, which are all there is of the battle."""
+        """The 384 bytes of the battle, which are its whole state."""
         return np.array(self._table.array.bytes[0])
 
     def render(self) -> str | None:
-        """Who is out on both sides, in a line, with render mode "ansi"."""
+        """The members that are out, on one line, with render mode "ansi"."""
         return _sight(self._table) if self.render_mode == "ansi" else None
 
     def close(self) -> None:
-        """Nothing is open."""
+        """Does nothing, since there is nothing to close."""
 
     @property
     def unwrapped(self) -> "TwoPlayerEnv":
-        """This environment, which wraps no other."""
+        """This environment, which does not wrap another one."""
         return self
 
     def _side(self, agent: str) -> int:
@@ -256,7 +258,7 @@ class TwoPlayerEnv:
 
 
 def _sight(table: _Table) -> str:
-    """The turn, and who is out with how many HP."""
+    """The turn, and the members that are out with their HP."""
     fields = table.array.fields[0]
     text = []
     for side in fields["sides"]:

@@ -1,4 +1,4 @@
-"""What the package raises. Each says in a sentence what was wrong and what was expected."""
+"""The package's errors. Each message says what was wrong and what was expected."""
 
 from typing import Any
 
@@ -6,41 +6,41 @@ from gen1.names import DamageFault, LoadFault, LogFault, NewFault, Refusal, Room
 
 
 class Error(Exception):
-    """Whatever this package raises. Nothing has changed where one comes. It can be pickled, as a worker's is on its way home."""
+    """The base class of this package's errors. A call that raises one has changed nothing. Errors can be pickled, for worker processes."""
 
     def __reduce__(self) -> tuple[Any, ...]:
         return _restored, (type(self), self.args, self.__dict__)
 
 
 class LibraryMissing(Error, ImportError):
-    """There is no shared library libgen1.so, or it is of another version, or lacks a call."""
+    """The shared library libgen1.so was not found, has another major version, or lacks a call."""
 
 
 class NumpyMissing(Error, ModuleNotFoundError):
-    """What needs numpy was used where numpy is not installed."""
+    """A class that needs numpy was used, and numpy is not installed."""
 
     def __init__(self, what: str) -> None:
         super().__init__(f"{what} needs numpy: install numpy, or gen1 with its extra, as gen1[arrays]", name="numpy")
 
 
 class BadType(Error, TypeError):
-    """An argument of a wrong type."""
+    """An argument has a wrong type."""
 
 
 class BadArgument(Error, ValueError):
-    """An argument that is out of its range."""
+    """An argument is out of range."""
 
 
 class BadPlace(BadArgument, IndexError):
-    """A place behind the last battle of an array, or behind the last member of a team."""
+    """An index is past the last battle of an array, or past the last member of a team."""
 
 
 class BadTeam(BadArgument):
-    """A team, or a member of one, that the rules of teams refuse (docs/MECHANICS.md, "Teams").
+    """A team or a member is refused by the rules of teams (docs/MECHANICS.md, "Teams").
 
-    `side` is 1 or 2, or 0 where it is not yet of a battle; `member` the place from 1 to 6, or 0 where it is no single member
-    or stands in no team; `field` what is at fault ("level", "moves[2]"); `code` the library's number, None where the value
-    fits no field of the library; `said` the sentence without side and place.
+    `side` is 1 or 2, or 0 for a team outside a battle. `member` is the place from 1 to 6, or 0 if the error is not about one member, or the
+    member is not in a team. `field` is the wrong field ("level", "moves[2]"). `code` is the library's number, or None if the value was
+    refused before a call of the library. `said` is the message without side and place.
     """
 
     def __init__(
@@ -51,16 +51,16 @@ class BadTeam(BadArgument):
         self.said, self.side, self.member, self.field, self.code = said, side, member, field, code
 
     def at(self, member: int) -> "BadTeam":
-        """The same for the member at this place."""
+        """The same error for the member at this place."""
         return BadTeam(self.said, side=self.side, member=member, field=self.field, code=self.code)
 
     def of(self, side: int) -> "BadTeam":
-        """The same for the team of this side."""
+        """The same error for the team of this side."""
         return BadTeam(self.said, side=side, member=self.member, field=self.field, code=self.code)
 
 
 class BadBytes(BadArgument):
-    """Bytes that are no battle. `code` is the first test that they fail (docs/LAYOUT.md, "Loading")."""
+    """Bytes are not a battle. `code` is the first test that they fail (docs/LAYOUT.md, "Loading")."""
 
     def __init__(self, code: LoadFault, said: str) -> None:
         super().__init__(said)
@@ -68,22 +68,22 @@ class BadBytes(BadArgument):
 
 
 class BadLog(BadArgument):
-    """Bytes that are no log (docs/MECHANICS.md, "Log bytes").
+    """Bytes are not a log (docs/MECHANICS.md, "Log bytes").
 
-    `at` is the byte where the event at fault begins, from 0; below 0 where it began in bytes that a spectator had been fed before.
+    `at` is the offset of the wrong event, from 0; below 0 if it began in bytes that a spectator was fed before.
     """
 
     def __init__(self, code: LogFault, at: int) -> None:
         where = f"at byte {at}" if at >= 0 else f"{-at} bytes before these"
-        super().__init__(f"no log: {code.label}, in the event that begins {where}")
+        super().__init__(f"not a log: {code.label}, in the event that begins {where}")
         self.code, self.at = code, at
 
 
 class Refused(Error):
-    """An update that was refused; the battle has not changed.
+    """An update was refused; the battle is unchanged.
 
-    `side` is the side whose choice was not offered, 0 where the battle is over; `choice` its byte; `offered` what it is
-    offered.
+    `side` is the side whose choice was not offered, or 0 if the battle is over; `choice` is the byte, and `offered` are the choices that
+    the side is offered.
     """
 
     code: Refusal | RoomRefusal
@@ -96,10 +96,10 @@ class Refused(Error):
 
 
 class RoomRefused(Refused):
-    """A player's choice that a room refused (docs/MECHANICS.md, "Rooms"); the room has not changed.
+    """A room refused a choice (docs/MECHANICS.md, "Rooms"); the room is unchanged.
 
-    `side` is who submitted it, `number` the pair that it was for, `current` the number of the current pair, `choice` its byte, and
-    `offered` what the side may submit. None of them tells what the foe has chosen.
+    `side` is the side that submitted it, `number` the pair that it was for, `current` the number of the current pair, `choice` the byte,
+    and `offered` what the side may submit. None of them reveals the foe's choice.
     """
 
     code: RoomRefusal
@@ -112,7 +112,7 @@ class RoomRefused(Refused):
 
 
 class NoDamage(Error, ValueError):
-    """There are no damages of this hit; `code` says why."""
+    """There is no damage; `code` says why."""
 
     def __init__(self, code: DamageFault, said: str) -> None:
         super().__init__(said)
@@ -120,10 +120,10 @@ class NoDamage(Error, ValueError):
 
 
 class BadText(BadTeam):
-    """A text that tells of no team (docs/TEAM_TEXT.md).
+    """A text is not a team (docs/TEAM_TEXT.md).
 
-    `line` is the line at fault from 1, 0 where it is no single one; of a packed line `member` and `column` are the member and its
-    field, from 1, else 0; `text_code` what was expected there.
+    `line` is the wrong line from 1, or 0 if the error is not about one line. `member` and `column` are the member and its field in a packed
+    line, from 1, else 0. `text_code` is what was expected there.
     """
 
     def __init__(self, said: str, text_code: TextFault, *, line: int, member: int, column: int, code: NewFault | None) -> None:

@@ -36,7 +36,7 @@ class Health:
 
 @dataclass(frozen=True)
 class Event:
-    """What all events have: their kind."""
+    """The base class of events, which all have a kind."""
 
     kind: ClassVar[EventKind]
 
@@ -68,7 +68,7 @@ class SwitchEvent(OfOne):
 
 @dataclass(frozen=True)
 class MoveEvent(OfOne):
-    """`who` uses a move; `foe` is the active of the other side, whomever the move is for."""
+    """`who` uses a move; `foe` is the active member of the other side, whatever the target is."""
 
     kind = EventKind.MOVED
     move: Move
@@ -137,7 +137,7 @@ class MissEvent(OfOne):
 
 @dataclass(frozen=True)
 class FailEvent(OfOne):
-    """What `who` did fails."""
+    """The action of `who` fails."""
 
     kind = EventKind.FAIL
 
@@ -178,7 +178,7 @@ class UnboostEvent(OfOne):
 
 @dataclass(frozen=True)
 class ClearAllEvent(Event):
-    """Haze: the stages of both sides go."""
+    """Haze resets the stages of both sides."""
 
     kind = EventKind.CLEAR_ALL
 
@@ -201,7 +201,7 @@ class EndEvent(OfOne):
 
 @dataclass(frozen=True)
 class ActivateEvent(OfOne):
-    """A condition of `who` shows."""
+    """A condition of `who` takes effect."""
 
     kind = EventKind.ACTIVATE
     volatile: Volatile
@@ -254,7 +254,7 @@ class WinEvent(Event):
 
 @dataclass(frozen=True)
 class TieEvent(Event):
-    """Nobody wins."""
+    """The battle is a tie."""
 
     kind = EventKind.TIED
 
@@ -283,7 +283,7 @@ def _event(of: _library.EventStruct) -> Event:
 
 
 def _more(kind: EventKind, who: Who, of: _library.EventStruct) -> Event:
-    """An event about somebody with more fields."""
+    """An event about a member, with further fields."""
     if kind in _VOLATILE:
         return _VOLATILE[kind](who, Volatile(of.detail))
     if kind in _STAGES:
@@ -324,7 +324,7 @@ _STATUS = {it.kind: it for it in (StatusEvent, CureEvent)}
 
 
 def events(log: "ReadableBuffer") -> tuple[Event, ...]:
-    """The events of a log, be it of one update or of several, one after the other. Raises `BadLog`."""
+    """The events of a log, of any number of updates one after the other. Raises `BadLog`."""
     given, at, of = octets(log, "log"), c_size_t(0), _library.EventStruct()
     found: list[Event] = []
     while (code := _library.next_event(given, len(given), byref(at), byref(of))) == 0:

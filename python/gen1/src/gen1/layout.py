@@ -2,7 +2,7 @@
 
 import numpy as np
 
-# Each name is the field of docs/LAYOUT.md, in its order; "<u2" has the low byte first.
+# The fields of docs/LAYOUT.md, in its order; "<u2" is little-endian.
 MEMBER = np.dtype(
     [
         ("species", "u1"),

@@ -1,9 +1,9 @@
 """What a side knows of a battle, as a row of numbers from -1 to 1.
 
-A side knows its own members wholly, but for what the game hides of them (how long a sleep or a confusion lasts, which numbers are
-drawn next). Of the foe it knows what a watcher knows (docs/MECHANICS.md, "Spectator's view"), who begins with both teams: species
-and level of each member, HP, the kind of status, who is out, the stages, and whether a Substitute, confusion, Light Screen and
-Reflect are up. Moves, PP and stats of the foe are in no column. `COLUMNS` has the name of each column.
+A side knows everything about its own members except what the game hides: how long sleep and confusion last, and which numbers are drawn
+next. Of the foe it knows what a spectator of both teams knows (docs/MECHANICS.md, "Spectator's view"): species and level of each member,
+HP, the kind of status, who is out, the stages, and whether a Substitute, confusion, Light Screen and Reflect are up. Moves, PP and stats
+of the foe are not in any column. `COLUMNS` has the name of each column.
 """
 
 from typing import Any
@@ -23,7 +23,7 @@ UP = (
     ("light_screen", Conditions.LIGHT_SCREEN),
     ("reflect", Conditions.REFLECT),
 )
-# The kind of each status byte of docs/LAYOUT.md: 1 to 7 asleep, 8, 16, 32 and 64 the others.
+# The kind of each status byte in docs/LAYOUT.md: 1 to 7 are sleep, 8, 16, 32 and 64 the others.
 _KIND = np.zeros(256, np.uint8)
 _KIND[1:8], _KIND[8], _KIND[16], _KIND[32], _KIND[64] = 1, 2, 3, 4, 5
 
@@ -48,12 +48,12 @@ def _columns() -> tuple[str, ...]:
     return tuple(names)
 
 
-# The name of each column: what it holds, and what it is divided by. Without a divisor it is 0 or 1. A place without a member is 0.
+# The name of each column: its value, and what that is divided by. Without a divisor it is 0 or 1. A place without a member is all 0.
 COLUMNS = _columns()
 
 
 def observe(fields: Any, side: int, masks: NDArray[np.uint16]) -> Row:
-    """The rows of a side, (n, `len(COLUMNS)`), of battles as `gen1.layout.BATTLE`, with the masks of that side."""
+    """The observations of a side, (n, `len(COLUMNS)`), from battles as `gen1.layout.BATTLE` and the masks of that side."""
     own, foe = fields["sides"][:, side - 1], fields["sides"][:, 2 - side]
     n = len(fields)
     parts = [_members(own, True), _members(foe, False), _active(own), _active(foe), _whole(fields, side)]
@@ -76,7 +76,7 @@ def _members(side: Any, own: bool) -> Row:
 
 
 def _active(side: Any) -> Row:
-    """The stages of who is out, and what is up. Before the first update nobody is, and all is 0."""
+    """The stages and conditions of the member that is out. Before the first update there is none, and all are 0."""
     active = side["active"]
     there = (active["place"] > 0)[:, None]
     stages = (active["stages"].astype(np.float32) - 6) / 6 * there
@@ -85,7 +85,7 @@ def _active(side: Any) -> Row:
 
 
 def _whole(fields: Any, side: int) -> Row:
-    """What concerns the whole battle."""
+    """The columns for the whole battle."""
     asked, outcome = fields["requests"][:, side - 1], fields["outcome"]
     columns = (fields["turn"] / fields["limit"], asked == 1, asked == 2, outcome == side, outcome == 3 - side, outcome == 3)
     return np.stack(columns, 1, dtype=np.float32, casting="unsafe")

@@ -1,4 +1,4 @@
-"""How far a long work is: a bar by rich on a terminal, else a plain line now and then. It goes to standard error."""
+"""Progress of long work: a bar of rich on a terminal, else a line of text from time to time, on standard error."""
 
 import sys
 import time
@@ -11,9 +11,9 @@ SECONDS = 10.0
 
 
 def progress(items: Iterable[T], total: int, what: str, to: TextIO | None = None) -> Iterator[T]:
-    """The items, of which there are `total`, as they are taken.
+    """Yields the items, of which there are `total`, and shows the progress.
 
-    A plain line is written every ten seconds, and then one at the end too; so nothing for what takes less.
+    Without a bar, a line is written every ten seconds and, after the first such line, at the end. Shorter work writes nothing.
     """
     stream = sys.stderr if to is None else to
     if stream.isatty() and find_spec("rich"):

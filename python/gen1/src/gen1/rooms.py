@@ -1,4 +1,4 @@
-"""Rooms: battles of two players who choose apart from each other (docs/MECHANICS.md, "Rooms")."""
+"""Rooms: battles of two players who choose independently (docs/MECHANICS.md, "Rooms")."""
 
 from ctypes import byref
 from threading import RLock
@@ -16,17 +16,18 @@ NUMBERS = (1 << 32) - 1
 
 
 class Room:
-    """A battle of two players: the first choice of a pair is kept until the other is there, and then the battle is updated.
+    """A battle of two players: it keeps the first choice of a pair until the other one comes, and then updates the battle.
 
-    Pairs are numbered from 0. Until a pair has ended, no answer tells which of the offered choices a side has made. Two rooms are equal
-    where battle, number, log and choices are; a room has no hash. Several threads may use one room, as the handlers of both players do.
+    Pairs are numbered from 0. Until a pair has ended, no call reveals which of the offered choices a side has made. Two rooms are equal if
+    their battles, numbers, logs and choices are equal; a room has no hash. Several threads may use one room, for example the handlers of
+    both players.
     """
 
-    # Each call of the library is one step to other threads; the lock makes one of those that look twice.
+    # Each call of the library is atomic for other threads; the lock makes methods with several calls atomic.
     __slots__ = ("_held", "_lock")
 
     def __init__(self, battle: Battle) -> None:
-        """A room with a copy of the battle. One that is before its first update is started at once. Raises `BadType`."""
+        """Creates a room with a copy of the battle. A battle that has not begun is started at once. Raises `BadType`."""
         if not isinstance(battle, Battle):
             raise BadType(f"battle must be a Battle, not {shown(battle)}")
         self._held, self._lock = RoomStruct(), RLock()
@@ -35,12 +36,12 @@ class Room:
 
     @property
     def battle(self) -> Battle:
-        """A copy of the battle. It has everything, also what neither player knows."""
+        """A copy of the battle. It includes what the players must not know."""
         return battle_of(self._held.battle)
 
     @property
     def result(self) -> Result:
-        """How the battle stands, and what is asked of each side."""
+        """The outcome so far, and what is asked of each side."""
         return result_of(self._held.battle)
 
     @property
@@ -50,24 +51,25 @@ class Room:
 
     @property
     def log(self) -> bytes:
-        """The log bytes of the last pair that ended; before one has, those of the start, or none where the battle had been started."""
+        """The log bytes of the last pair that ended; before the first, those of the start, or none if the battle had already begun."""
         with self._lock:
             return bytes(self._held.log[: self._held.log_length])
 
     def choices(self, side: Side | int) -> tuple[Choice, ...]:
-        """What a side may submit for the current pair, in rising order.
+        """The choices that a side may submit for the current pair, in rising order.
 
-        It is empty where the battle is over, and where the side's choice is there, which it is from the beginning where nothing is asked of
-        the side. Raises `BadArgument`, `BadType` for what is no side.
+        There are none if the battle is over, or if the side has chosen. A side that is asked for nothing has chosen from the beginning.
+        Raises `BadArgument`, `BadType` for a value that is not a side.
         """
         room = CHOICES()
         count = _library.room_choices(byref(self._held), a_side(side), room)
         return tuple([CHOICE[it] for it in room[:count]])
 
     def submit(self, side: Side | int, number: int, choice: Choice | int) -> Update | None:
-        """Takes a player's choice for the pair of this number, 0 to 2 ** 32 - 1: the update, or None while the foe's choice is awaited.
+        """Submits a side's choice for the pair with this number, 0 to 2 ** 32 - 1.
 
-        Raises `RoomRefused`, and then nothing has changed; `BadArgument` and `BadType` for what is no side, number or byte.
+        Returns the update, or None while the foe's choice is awaited. Raises `RoomRefused`, and then the room is unchanged; `BadArgument`
+        and `BadType` for an invalid side, number or byte.
         """
         known, pair = a_side(side), within(number, "number", 0, NUMBERS)
         byte = a_choice(choice, known)
@@ -79,7 +81,7 @@ class Room:
             return Update(self.result, self.log) if self.number != before else None
 
     def copy(self) -> "Room":
-        """A room of its own with the same battle, number, log and choices."""
+        """An independent copy with the same battle, number, log and choices."""
         made = Room.__new__(Room)
         made._held, made._lock = RoomStruct.from_buffer_copy(self._held), RLock()
         return made
@@ -103,7 +105,7 @@ class Room:
         return f"<Room, pair {self.number}, {self.result.outcome.label}>"
 
     def _parts(self) -> tuple[bytes, int, bytes, bytes]:
-        """All that it holds: battle, number, choices and log."""
+        """Its whole state: battle, number, choices and log."""
         with self._lock:
             return bytes(self._held.battle), self.number, bytes(self._held.chosen), self.log
 
@@ -112,7 +114,7 @@ class Room:
         said = {
             RoomRefusal.OVER: f"{code.label}: {self.result.outcome.label}",
             RoomRefusal.STALE: f"{code.label}: {number}; the current pair is {self.number}",
-            RoomRefusal.CHOSEN: f"{code.label}: side {side} may submit nothing for pair {number} any more",
+            RoomRefusal.CHOSEN: f"{code.label}: side {side} can submit nothing more for pair {number}",
             RoomRefusal.NOT_OFFERED: not_offered(side, byte, offered),
         }[code]
         return RoomRefused(code, said, side=side, number=number, current=self.number, choice=byte, offered=offered)

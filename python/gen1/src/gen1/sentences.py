@@ -55,7 +55,7 @@ ALONE = {
     EventKind.RESISTED: "{} resists it.",
     EventKind.IMMUNE: "{} is immune.",
     EventKind.MISS: "{} misses.",
-    EventKind.FAIL: "What {} does fails.",
+    EventKind.FAIL: "The action of {} fails.",
     EventKind.MUST_RECHARGE: "{} has to recharge.",
     EventKind.FAINT: "{} faints.",
 }
@@ -67,7 +67,7 @@ OF_ALL = {
 
 
 def sentence(event: Event) -> str:
-    """One event in a sentence, as "Side 1's Tauros uses Body Slam."."""
+    """An event as a sentence, such as "Side 1's Tauros uses Body Slam."."""
     if isinstance(event, OfOne):
         text = ALONE.get(event.kind, "{}").format(event.who)
         text = text if event.kind in ALONE else f"{event.who} {_does(event)}."
@@ -83,7 +83,7 @@ def sentence(event: Event) -> str:
 
 
 def _does(event: OfOne) -> str:
-    """What somebody does or what happens to it."""
+    """What a member does, or what happens to it."""
     if isinstance(event, SwitchEvent):
         return f"comes out from place {event.place} at level {event.level} with {health(event.health)}"
     if isinstance(event, MoveEvent):
@@ -97,7 +97,7 @@ def _does(event: OfOne) -> str:
     if isinstance(event, StatusEvent):
         return f"is {AILS[event.status]} now"
     if isinstance(event, CureEvent):
-        return f"is not {AILS[event.status]} any more"
+        return f"is no longer {AILS[event.status]}"
     return _changes(event)
 
 
@@ -109,7 +109,7 @@ def _changes(event: OfOne) -> str:
     if isinstance(event, StartEvent):
         return f"is under {event.volatile} now"
     if isinstance(event, EndEvent):
-        return f"is not under {event.volatile} any more"
+        return f"is no longer under {event.volatile}"
     if isinstance(event, ActivateEvent):
         return f"is under {event.volatile} still"
     if isinstance(event, PrepareEvent):
@@ -119,5 +119,5 @@ def _changes(event: OfOne) -> str:
 
 
 def health(of: Health) -> str:
-    """HP in words, as "120 of 353 HP, paralysed"."""
+    """HP in words, such as "120 of 353 HP, paralysed"."""
     return f"{of.hp} of {of.max_hp} HP" + (f", {AILS[of.status]}" if of.status else "")

@@ -1,4 +1,4 @@
-"""Spaces of the environments: Gymnasium's where that package is installed, else these two, which have what it asks of them."""
+"""Spaces of the environments: Gymnasium's if that package is installed, else these two classes with the same methods."""
 
 from importlib.util import find_spec
 from typing import Any
@@ -17,12 +17,12 @@ class Discrete:
         self._dice = np.random.default_rng()
 
     def seed(self, seed: int | None = None) -> list[int]:
-        """Begins the draws of `sample` anew."""
+        """Restarts the random numbers of `sample`."""
         self._dice = np.random.default_rng(seed)
         return [0 if seed is None else seed]
 
     def sample(self, mask: NDArray[Any] | None = None) -> np.int64:
-        """One of the numbers, or of those where the mask, (n), is true; 0 where it nowhere is."""
+        """A random number, or one where the mask, (n), is true; 0 if it is true nowhere."""
         allowed = np.arange(self.n) if mask is None else np.flatnonzero(mask)
         return np.int64(self._dice.choice(allowed) if len(allowed) else 0)
 
@@ -48,12 +48,12 @@ class Box:
         self._dice = np.random.default_rng()
 
     def seed(self, seed: int | None = None) -> list[int]:
-        """Begins the draws of `sample` anew."""
+        """Restarts the random numbers of `sample`."""
         self._dice = np.random.default_rng(seed)
         return [0 if seed is None else seed]
 
     def sample(self) -> NDArray[Any]:
-        """One of the arrays."""
+        """A random array."""
         return self._dice.uniform(self.low, self.high).astype(self.dtype)
 
     def contains(self, x: object) -> bool:
@@ -74,7 +74,7 @@ class Box:
 
 
 def made() -> tuple[Any, Any, Any]:
-    """The classes Discrete, Box, and what an environment is derived from."""
+    """The classes Discrete and Box, and the base class of an environment."""
     if find_spec("gymnasium"):
         import gymnasium  # type: ignore[import]
 

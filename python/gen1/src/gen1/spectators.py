@@ -1,4 +1,4 @@
-"""What a watcher knows of a battle who has both teams and its log, and nothing else (docs/MECHANICS.md, "Spectator's view")."""
+"""What a spectator knows of a battle from both teams and the log alone (docs/MECHANICS.md, "Spectator's view")."""
 
 from ctypes import byref, c_size_t
 from dataclasses import dataclass
@@ -18,7 +18,7 @@ if TYPE_CHECKING:
 
 @dataclass(frozen=True)
 class ShownMember:
-    """What shows of a member: HP, 0 to 999, before it first came out its maximum; and the kind of status."""
+    """What a spectator knows of a member: HP, 0 to 999, which is the maximum until it first comes out; and the kind of status."""
 
     hp: int
     status: Status
@@ -26,10 +26,9 @@ class ShownMember:
 
 @dataclass(frozen=True)
 class ShownSide:
-    """What shows of a side: its members by their places, and which of them is out, 1 to 6, 0 before the first came out.
+    """What a spectator knows of a side: its members in the order of their places, and the place of the one that is out, 0 before the first.
 
-    `stages`, -6 to 6 (Attack, Defense, Speed, Special, accuracy, evasion), and whether it has a Substitute, is confused, and is behind a
-    Light Screen and a Reflect are of the one that is out.
+    All other fields are of the member that is out. `stages` are -6 to 6: Attack, Defense, Speed, Special, accuracy, evasion.
     """
 
     members: tuple[ShownMember, ...]
@@ -47,7 +46,7 @@ class ShownSide:
 
 @dataclass(frozen=True)
 class ShownState:
-    """What shows of a battle: both sides; the turn, 0 before the first; and the outcome."""
+    """What a spectator knows of a battle: both sides; the turn, 0 before the first; and the outcome."""
 
     one: ShownSide
     two: ShownSide
@@ -56,16 +55,16 @@ class ShownState:
 
 
 class Spectator:
-    """A watcher of a battle, who has both teams and is fed the log of each update.
+    """A spectator of a battle, which knows both teams and is fed the log of each update.
 
-    Two watchers are equal where they know the same and hold the same bytes of an event that has come in part; a watcher has no hash. One
-    watcher is for one thread at a time.
+    Two spectators are equal if they know the same and hold the same bytes of an incomplete event; a spectator has no hash. A spectator must
+    be used by one thread at a time.
     """
 
     __slots__ = ("_held",)
 
     def __init__(self, one: TeamLike, two: TeamLike) -> None:
-        """What is known before a battle of two teams: who they are, all at full HP. Raises `BadTeam`, `BadType`."""
+        """Creates a spectator before a battle of two teams, with all members at full HP. Raises `BadTeam`, `BadType`."""
         teams = sides_of(one, two)
         self._held = SpectatorStruct()
         answer = _library.spectator_begin(byref(self._held), *(byref(it._struct) for it in teams))
@@ -74,9 +73,9 @@ class Spectator:
             raise BadTeam(code.label, side=answer >> 16, member=answer >> 8 & 0xFF, code=code)
 
     def feed(self, log: "ReadableBuffer") -> None:
-        """Takes in the next bytes of the battle's log, which may be cut anywhere: an event counts as soon as its last byte is there.
+        """Reads the next bytes of the battle's log, in pieces of any size. An event counts as soon as its last byte is read.
 
-        Raises `BadLog` where these bytes, behind those that are held, are no log, and `BadType`; then none of them is taken in.
+        Raises `BadLog` if these bytes, after those that are held, are not a log, and `BadType`; then the spectator is unchanged.
         """
         given = octets(log, "log")
         code = _library.spectator_feed(byref(self._held), given, len(given))
@@ -91,11 +90,11 @@ class Spectator:
 
     @property
     def held(self) -> bytes:
-        """The bytes, at most 9, of an event that has come in part."""
+        """The bytes, at most 9, of an incomplete event."""
         return bytes(self._held.held[: self._held.held_count])
 
     def copy(self) -> "Spectator":
-        """A watcher of its own who knows the same."""
+        """An independent copy that knows the same."""
         made = Spectator.__new__(Spectator)
         made._held = SpectatorStruct.from_buffer_copy(self._held)
         return made
@@ -126,7 +125,7 @@ def _shown(of: ShownSideStruct) -> ShownSide:
 
 
 def _fault_place(log: bytes) -> int:
-    """Where the first event begins that cannot be read."""
+    """The offset of the first event that cannot be read."""
     at, of = c_size_t(0), _library.EventStruct()
     while _library.next_event(log, len(log), byref(at), byref(of)) == 0:
         pass
@@ -134,7 +133,7 @@ def _fault_place(log: bytes) -> int:
 
 
 def _restored(state: ShownState, held: bytes) -> Spectator:
-    """The watcher that was pickled."""
+    """The spectator that was pickled."""
     made = Spectator.__new__(Spectator)
     of = made._held = SpectatorStruct(turn=state.turn, outcome=state.outcome, held_count=len(held))
     of.held[: len(held)] = held

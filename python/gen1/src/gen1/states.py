@@ -1,4 +1,4 @@
-"""All that a battle's bytes stand for, as dataclasses, by the library's view of them."""
+"""The whole state of a battle, as dataclasses."""
 
 from ctypes import byref
 from dataclasses import dataclass
@@ -12,10 +12,10 @@ from gen1.names import Conditions, Move, Outcome, Request, Species, Stat, Status
 
 @dataclass(frozen=True)
 class MemberState:
-    """A member as it stands.
+    """The state of a member.
 
-    `hp` 0 to `max_hp`; `stats` its own Attack, Defense, Speed and Special, 5 to 999; `sleep` the turns left where it is asleep, 1 to 7,
-    else 0; `marked` whether the sleep clause counts its sleep; for each move its PP.
+    `hp` is 0 to `max_hp`. `stats` are Attack, Defense, Speed and Special before stages and penalties, 5 to 999. `sleep` is how many more
+    turns it sleeps, 1 to 7, or 0 if it is awake. `marked` says whether the sleep clause counts its sleep. `pp` has the PP of each move.
     """
 
     species: Species
@@ -32,12 +32,12 @@ class MemberState:
 
 @dataclass(frozen=True)
 class ActiveState:
-    """The member of a side that is out, and what lasts only while it is.
+    """The member of a side that is out, with the state that lasts only while it is.
 
-    `place` 1 to 6; `stats` with stages and penalties, 1 to 999; `stages` -6 to 6: Attack, Defense, Speed, Special, accuracy, evasion. The
-    move that was used and the one that was picked last are slots, 0 none, 5 Struggle. `kept_accuracy`, `substitute` (HP), `confusion`,
-    `disabled_slot`, `disabled_turns`, `bad_poison`, `turns` (of Bide, Thrash or trapping) and `energy` (of Bide) are 0 where they do not
-    apply; docs/LAYOUT.md, "Active block" has their ranges.
+    `place` is 1 to 6. `stats` are after stages and penalties, 1 to 999. `stages` are -6 to 6: Attack, Defense, Speed, Special, accuracy,
+    evasion. `current_move` and `picked_move`, the moves that were used and picked last, are slots; 0 is none, 5 is Struggle. The others are
+    `kept_accuracy`, `substitute` (HP), `confusion`, `disabled_slot`, `disabled_turns`, `bad_poison`, `turns` (of Bide, Thrash or trapping)
+    and `energy` (of Bide). They are 0 if they don't apply; docs/LAYOUT.md, "Active block" has their ranges.
     """
 
     place: int
@@ -63,7 +63,7 @@ class ActiveState:
 
 @dataclass(frozen=True)
 class SideState:
-    """A side: its members by their places, and who is out, None before the first update."""
+    """The state of a side: its members in the order of their places, and the one that is out, None before the first update."""
 
     members: tuple[MemberState, ...]
     active: ActiveState | None
@@ -71,9 +71,9 @@ class SideState:
 
 @dataclass(frozen=True)
 class State:
-    """A battle: both sides; turn (0 before the first update) and limit; the last damage, 0 to 65,535; rules, outcome, requests.
+    """The whole state of a battle: both sides; turn (0 before the first update) and limit; the last damage, 0 to 65,535; and so on.
 
-    `index` is the place, 0 to 8, of the number that is drawn next among the first nine of `numbers`; the tenth is never drawn.
+    `index`, 0 to 8, says which of the first nine `numbers` is drawn next; the tenth is never drawn.
     """
 
     one: SideState
@@ -89,14 +89,14 @@ class State:
 
 
 def struct_of_state(held: Any) -> StateStruct:
-    """The library's view of the 384 bytes of a battle."""
+    """The struct gen1_state of the battle with these 384 bytes."""
     of = StateStruct()
     _library.get_state(byref(held), byref(of))
     return of
 
 
 def state_of(held: Any) -> State:
-    """What the 384 bytes of a battle stand for."""
+    """The state of the battle with these 384 bytes."""
     of = struct_of_state(held)
     return State(
         one=_side(of.sides[0]),
@@ -113,7 +113,7 @@ def state_of(held: Any) -> State:
 
 
 def stages_of(given: Any) -> tuple[int, ...]:
-    """Six stages from 0 to 12 as they are counted, -6 to 6."""
+    """Six stages as -6 to 6, from their bytes, which are 0 to 12."""
     return tuple(it - 6 for it in given)
 
 

@@ -10,7 +10,7 @@ from gen1.rows import MOVE_ROWS, SPECIES_ROWS
 
 @dataclass(frozen=True)
 class Base:
-    """A species: base stats from 5 to 250, and two types; one with a single type has it twice."""
+    """A species: base stats from 5 to 250, and two types. A single type is listed twice."""
 
     hp: int
     attack: int
@@ -22,7 +22,10 @@ class Base:
 
 @dataclass(frozen=True)
 class MoveData:
-    """A move: type; power, 0 to 170, 0 where it has no damage of its power; accuracy in percent; PP without PP ups."""
+    """A move: its type, its power, 0 to 170, its accuracy in percent, 30 to 100, and its PP without PP ups.
+
+    One-hit moves, Counter, Super Fang and moves with a fixed damage have power 1; Night Shade, Bide and moves without damage have power 0.
+    """
 
     type: Type
     power: int
@@ -31,12 +34,12 @@ class MoveData:
 
 
 def base(species: Species | str | int) -> Base:
-    """The base stats and types of a species. Raises `BadTeam` for what is none."""
+    """The base stats and types of a species. Raises `BadTeam` for an unknown one."""
     one, two, hp, attack, defense, speed, special = SPECIES_ROWS[a_species(species) - 1]
     return Base(hp, attack, defense, speed, special, (Type(one), Type(two)))
 
 
 def move_data(move: Move | str | int) -> MoveData:
-    """The row of a move. Raises `BadTeam` for what is none."""
+    """The row of a move. Raises `BadTeam` for an unknown one."""
     kind, power, accuracy, pp = MOVE_ROWS[a_move(move) - 1]
     return MoveData(Type(kind), power, accuracy, pp)

@@ -1,4 +1,4 @@
-"""Members out of the text of Pokemon Showdown's team builder and out of its packed line, and back to that text (docs/TEAM_TEXT.md)."""
+"""Members from the text of Pokemon Showdown's team builder and from its packed line, and back to that text (docs/TEAM_TEXT.md)."""
 
 import math
 from ctypes import POINTER, Structure, byref, c_size_t, c_uint8
@@ -23,17 +23,17 @@ STATS = ("HP", "Atk", "Def", "Spe", "Spc")
 
 
 def read_text(text: object) -> list[dict[str, Any]]:
-    """The members that an export text tells of, as dicts."""
+    """The members in an export text, as dicts."""
     return _members(_from_text, text)
 
 
 def read_packed(line: object) -> list[dict[str, Any]]:
-    """The members of a packed line, as dicts."""
+    """The members in a packed line, as dicts."""
     return _members(_from_packed, line)
 
 
 def written(members: list[dict[str, Any]]) -> str:
-    """An export text of these members, of which each move has three PP ups."""
+    """An export text of these members, whose moves must all have three PP ups."""
     return "\n".join(_block(at, it) for at, it in enumerate(members, 1))
 
 

@@ -1,4 +1,4 @@
-"""Members and teams (docs/MECHANICS.md, "Teams"), from dicts and back. What makes a team is the library's to say."""
+"""Members and teams (docs/MECHANICS.md, "Teams"), from dicts and back. The library applies the rules of teams."""
 
 from collections.abc import Iterable, Iterator, Mapping
 from ctypes import byref
@@ -26,10 +26,10 @@ FIELDS = {
 
 @dataclass(frozen=True, init=False)
 class Member:
-    """A member of a team. Every way to make one tests it by the rules of teams, and raises `BadTeam` or `BadType`.
+    """A member of a team. Every way to create one checks it by the rules of teams, and raises `BadTeam` or `BadType`.
 
-    `species` 1 to 151; `moves` one to four, no two the same; `level` 1 to 100; `dvs` four numbers from 0 to 15: Attack,
-    Defense, Speed, Special; `exp` five from 0 to 65,535: HP, Attack, Defense, Speed, Special; `pp_ups` for each move 0 to 3.
+    `species` is 1 to 151, `level` 1 to 100. `moves` are one to four different moves, each with 0 to 3 `pp_ups`. `dvs` are four numbers from
+    0 to 15: Attack, Defense, Speed, Special. `exp` are five from 0 to 65,535: HP, Attack, Defense, Speed, Special.
     """
 
     species: Species
@@ -62,7 +62,7 @@ class Member:
 
     @classmethod
     def from_dict(cls, given: Mapping[str, Any]) -> "Member":
-        """The member that an object of docs/PROGRAM.md, "Input" describes: each move is a pair of a name and its PP ups."""
+        """The member that an object of docs/PROGRAM.md, "Input" describes. Each move is a pair of a name and its PP ups."""
         if not isinstance(given, Mapping):
             raise BadType(f"a member must be a dict, not {shown(given)}")
         for key in KEYS:
@@ -77,7 +77,7 @@ class Member:
         return cls(given["species"], moves, given["level"], given["dvs"], given["exp"], ups)
 
     def to_dict(self) -> dict[str, Any]:
-        """The dict that `from_dict` makes this member of; it can be written as JSON."""
+        """The dict from which `from_dict` creates this member; it can be written as JSON."""
         moves = [[it.label, ups] for it, ups in zip(self.moves, self.pp_ups)]
         return {
             "species": self.species.label,
@@ -88,14 +88,14 @@ class Member:
         }
 
     def _text(self, name: str) -> str:
-        """A field as an error shows it."""
+        """A field as text for an error message."""
         found = getattr(self, name)
         return _shown(found) if not isinstance(found, tuple) else f"[{', '.join(map(_shown, found))}]"
 
 
 @dataclass(frozen=True, init=False)
 class Team:
-    """One to six members. Every way to make one tests it by the rules of teams, and raises `BadTeam` or `BadType`."""
+    """One to six members. Every way to create a team checks it by the rules of teams, and raises `BadTeam` or `BadType`."""
 
     members: tuple[Member, ...]
     _struct: _library.TeamStruct = field(init=False, repr=False, compare=False)
@@ -118,22 +118,22 @@ class Team:
 
     @classmethod
     def from_text(cls, text: str) -> "Team":
-        """The team that a text of Pokemon Showdown's team builder tells of (docs/TEAM_TEXT.md).
+        """The team in a text of Pokemon Showdown's team builder (docs/TEAM_TEXT.md).
 
-        What is not said: level 100, DVs 15, experience 63,504; each move has three PP ups. Raises `BadText` with the line, and what was
-        expected there.
+        The defaults are level 100, DVs of 15 and experience of 63,504; each move has three PP ups. Raises `BadText` with the line, and what
+        was expected there.
         """
         return cls(read_text(text))
 
     @classmethod
     def from_packed(cls, line: str) -> "Team":
-        """The team of a packed line of the team builder. Raises `BadText` with the member and its field, from 1."""
+        """The team in a packed line of the team builder. Raises `BadText` with the member and its field, from 1."""
         return cls(read_packed(line))
 
     def to_text(self) -> str:
         """A text that `from_text` reads as a team with the same stats, moves and PP.
 
-        Texts have EVs for the experience, so the experience that is read may be another one; and three PP ups for each move: a team with
+        Texts have EVs instead of experience, so the experience that is read may differ. In texts each move has three PP ups; a team with
         other PP ups raises `BadArgument`.
         """
         return written(self.to_dicts())
@@ -148,7 +148,7 @@ class Team:
     def __getitem__(self, at: slice) -> tuple[Member, ...]: ...
 
     def __getitem__(self, at: int | slice) -> Member | tuple[Member, ...]:
-        """The member at a place from 0 on, or those of a slice. Raises `BadPlace`, which is an `IndexError` too."""
+        """The member at an index from 0, or those of a slice. Raises `BadPlace`, which is also an `IndexError`."""
         return self.members[at] if isinstance(at, slice) else self.members[place(at, len(self))]
 
     def __iter__(self) -> Iterator[Member]:
@@ -164,7 +164,7 @@ def as_team(given: "Team | Iterable[Member | Mapping[str, Any]]") -> Team:
 
 
 def numbers(value: object, what: str, count: int) -> tuple[Any, ...]:
-    """So many whole numbers, of any size."""
+    """Exactly `count` whole numbers, of any size."""
     found = tuple(whole(it, f"{what}[{at}]") for at, it in enumerate(listed(value, what)))
     if len(found) != count:
         raise BadTeam(f"{what} must be {count} numbers, not {len(found)}", field=what)
@@ -182,7 +182,7 @@ def _member(at: int, given: object) -> Member:
 
 
 def struct_of(members: Iterable[Member]) -> _library.TeamStruct:
-    """The members as the library takes a team. A number that fits no byte is one that the library refuses."""
+    """The library's struct of a team. A number that is not a byte becomes one that the library refuses."""
     made = _library.TeamStruct()
     for it in members:
         to = made.members[made.count]
@@ -195,7 +195,7 @@ def struct_of(members: Iterable[Member]) -> _library.TeamStruct:
 
 
 def _fault_of(team: _library.TeamStruct) -> NewFault | None:
-    """What the library refuses in a team."""
+    """Why the library refuses a team; None if it accepts it."""
     scratch = BattleBytes()
     answer = _library.new(byref(scratch), byref(team), byref(team), _library.SeedBytes(), 0, 1000)
     return NewFault(answer & 0xFF) if answer else None
@@ -207,7 +207,7 @@ def _shown(value: int) -> str:
 
 
 def _test_count(count: int) -> None:
-    """Tests the number of members, of which the library says what is too few and too many."""
+    """Checks the number of members by the library's rules."""
     fault = _fault_of(_library.TeamStruct(count=byte(count)))
     if fault in (NewFault.EMPTY, NewFault.TOO_MANY):
         raise BadTeam(f"{fault.label}: {count} given, and a team has 1 to 6 members", field="members", code=fault)

@@ -1,4 +1,4 @@
-"""The command line of `python -m gen1`: its words, its help and its exit statuses."""
+"""The command line of `python -m gen1`: its arguments, its help and its exit statuses."""
 
 import argparse
 import json
@@ -7,7 +7,7 @@ import sys
 from collections.abc import Callable, Sequence
 from dataclasses import asdict
 
-from gen1 import __version__, library_version
+from gen1 import __version__, library_build, library_version
 from gen1._odds import damage
 from gen1.battle import Battle
 from gen1.choices import Rules, choice_text
@@ -20,15 +20,14 @@ from gen1.program.playing import play
 from gen1.progress import progress
 from gen1.sentences import sentence
 
-EPILOG = """The inputs are those of battle_tool (docs/PROGRAM.md). FILE is a file, or - for standard input, which is read where no file
-is named.
+EPILOG = """The inputs are those of battle_tool (docs/PROGRAM.md). FILE is a file, or - for standard input, which is the default.
 
-Exit status: 0 done; 1 the input is refused, with a sentence on standard error; 2 the command line is wrong; 3 a file
-cannot be read or written; 130 ended from the keyboard."""
+Exit status: 0 success; 1 the input is refused, with a message on standard error; 2 the command line is wrong; 3 a file
+cannot be read or written; 130 interrupted from the keyboard."""
 
 
 def run(asked: argparse.Namespace) -> None:
-    """Plays the battle of a JSON object, and prints its lines."""
+    """Plays the battle that a JSON object describes, and prints its lines."""
     given = an_object(read(asked.file), "seed", "one", "two", "choices")
     battle, all_pairs = a_battle(given), pairs(given)
     for at, pair in enumerate(all_pairs):
@@ -40,7 +39,7 @@ def run(asked: argparse.Namespace) -> None:
 
 
 def explain(asked: argparse.Namespace) -> None:
-    """Tells the battle of a JSON object in sentences, with each draw and what other bytes in its place would have decided."""
+    """Prints the battle that a JSON object describes in sentences, with each draw and what other bytes would have decided."""
     given = an_object(read(asked.file), "seed", "one", "two", "choices")
     battle, all_pairs = a_battle(given), pairs(given)
     for at, pair in enumerate(progress(all_pairs, len(all_pairs), "updates")):
@@ -54,14 +53,14 @@ def explain(asked: argparse.Namespace) -> None:
 
 
 def calc(asked: argparse.Namespace) -> None:
-    """Prints the 39 damage numbers of a move of a JSON object."""
+    """Prints the 39 damage numbers of the move that a JSON object describes."""
     given = an_object(read(asked.file), "attacker", "defender", "move", "critical")
     members = [a_member(given, key) for key in ("attacker", "defender")]
     print(*damage(members[0], members[1], given["move"], given["critical"]))
 
 
 def state(asked: argparse.Namespace) -> None:
-    """Prints all that the 384 bytes of a battle stand for as JSON, with the choices of both sides in words."""
+    """Prints the state in a battle's 384 bytes as JSON, with the choices of both sides in words."""
     battle = Battle.load(read(asked.file))
     held = asdict(battle.state, dict_factory=_plain)
     held["choices"] = {name: [battle.words(side, it) for it in battle.choices(side)] for name, side in (("one", 1), ("two", 2))}
@@ -69,7 +68,7 @@ def state(asked: argparse.Namespace) -> None:
 
 
 def _plain(pairs: list[tuple[str, object]]) -> dict[str, object]:
-    """Fields as JSON has them: what has a name by its name, and conditions as a list."""
+    """Fields in a form for JSON: names instead of numbers, and a list of conditions."""
     return {name: _named(value) for name, value in pairs}
 
 
@@ -82,7 +81,7 @@ def _named(value: object) -> object:
 
 
 def replay(asked: argparse.Namespace) -> None:
-    """Writes a page to look at a battle with: one HTML file that holds it (web/README.md, "A file that holds its battle")."""
+    """Writes a page that replays a battle: one HTML file (web/README.md, "A file that holds its battle")."""
     page = page_with(read(asked.file), asked.page)
     if asked.out is None:
         sys.stdout.write(page)
@@ -93,54 +92,55 @@ def replay(asked: argparse.Namespace) -> None:
 def _draw(of: Draw) -> str:
     text = f"    draw {of.number} is {of.byte}"
     if of.again:
-        return f"{text}: a number of this update once more, renewed\n"
+        return f"{text}: a number of this update again, renewed\n"
     if not of.others:
-        return f"{text}: no other byte would have changed what is told\n"
+        return f"{text}: no other byte would have changed the events\n"
     return f"{text}; with another byte:\n" + "".join(f"      {bytes_}: {said}\n" for bytes_, said in of.others)
 
 
 COMMANDS: tuple[tuple[Callable[[argparse.Namespace], None], str], ...] = (
-    (run, "the lines of a battle"),
-    (explain, "a battle in sentences, with each draw and what it decided"),
-    (calc, "the damage numbers of a move"),
-    (state, "what the 384 bytes of a battle stand for"),
+    (run, "print the lines of a battle"),
+    (explain, "print a battle in sentences, with each draw and what it decided"),
+    (calc, "print the damage numbers of a move"),
+    (state, "print the state in a battle's 384 bytes, as JSON"),
 )
 
 
 def parser() -> argparse.ArgumentParser:
-    """The words of the command line."""
+    """The parser of the command line."""
     made = argparse.ArgumentParser(
         prog="gen1",
         description="First-generation Pokemon link battles.",
         epilog=EPILOG,
         formatter_class=argparse.RawDescriptionHelpFormatter,
     )
-    made.add_argument("--version", action="version", version=f"gen1 {__version__}, library {library_version}")
+    said = f"gen1 {__version__}, library {library_version}, build: {library_build}"
+    made.add_argument("--version", action="version", version=said, help="print the versions of package and library, and the library's build")
     subcommands = made.add_subparsers(required=True, metavar="SUBCOMMAND")
     for command, said in COMMANDS:
         words = subcommands.add_parser(command.__name__, help=said, description=command.__doc__)
-        words.add_argument("file", nargs="?", default="-", metavar="FILE", help="the input; - or nothing is standard input")
+        words.add_argument("file", nargs="?", default="-", metavar="FILE", help="the input; by default, or with -, standard input")
         words.set_defaults(command=command)
-    words = subcommands.add_parser("replay", help="a page to look at a battle with", description=replay.__doc__)
-    said = "an object of `run`, or a log's bytes; - or nothing is standard input"
+    words = subcommands.add_parser("replay", help="write a page that replays a battle", description=replay.__doc__)
+    said = "an object of `run`, or the bytes of a log; by default, or with -, standard input"
     words.add_argument("file", nargs="?", default="-", metavar="FILE", help=said)
-    words.add_argument("--page", metavar="HTML", help="the page, as web/build makes it; else the one that the package carries")
-    words.add_argument("--out", metavar="OUT", help="the file that is written; else it goes to standard output")
+    words.add_argument("--page", metavar="HTML", help="the page, as web/build makes it (default: the one in the package)")
+    words.add_argument("--out", metavar="OUT", help="the file to write (default: standard output)")
     words.set_defaults(command=replay)
-    said = "a battle against a player that chooses at random, or by damage"
+    said = "play a battle against the computer, which chooses at random or by damage"
     words = subcommands.add_parser("play", help=said, description=play.__doc__)
-    said = "an object of `run`, of which the choices are left out; else two teams of three"
+    said = "an object of `run`, whose choices are ignored (default: two teams of three)"
     words.add_argument("file", nargs="?", metavar="FILE", help=said)
-    said = "how side 2 chooses (%(default)s)"
+    said = "how side 2 chooses (default: %(default)s)"
     words.add_argument("--against", choices=("random", "greedy"), default="greedy", help=said)
-    said = "a number from 0 on, so that the battle can be had again; else one by chance"
+    said = "a number from 0 on, to repeat a battle (default: random)"
     words.add_argument("--seed", type=int, metavar="N", help=said)
     words.set_defaults(command=play)
     return made
 
 
 def main(words: Sequence[str] | None = None) -> int:
-    """Runs the program, and answers its exit status."""
+    """Runs the program, and returns its exit status."""
     asked = parser().parse_args(words)
     try:
         asked.command(asked)

@@ -12,7 +12,7 @@ from gen1.teams import Member
 
 
 class Fault(Exception):
-    """Why the program ends: a sentence, and the exit status."""
+    """An error that ends the program: a message, and the exit status."""
 
     def __init__(self, said: str, status: int = 1) -> None:
         super().__init__(said)
@@ -20,7 +20,7 @@ class Fault(Exception):
 
 
 def read(name: str) -> bytes:
-    """The whole of a file, or of standard input for "-"."""
+    """The contents of a file, or of standard input for "-"."""
     try:
         return sys.stdin.buffer.read() if name == "-" else Path(name).read_bytes()
     except OSError as fault:
@@ -28,7 +28,7 @@ def read(name: str) -> bytes:
 
 
 def write(name: str, content: bytes) -> None:
-    """Writes a file, whole or not at all."""
+    """Writes a file completely or not at all."""
     part = Path(f"{name}.part")
     try:
         part.write_bytes(content)
@@ -39,15 +39,15 @@ def write(name: str, content: bytes) -> None:
 
 
 def an_object(given: bytes, *keys: str) -> dict[str, Any]:
-    """The JSON object of some bytes, which has these keys."""
+    """The JSON object in these bytes, which must have these keys."""
     try:
         it = json.loads(given.decode("utf-8"))
     except (UnicodeDecodeError, json.JSONDecodeError) as fault:
-        raise Fault(f"the input is no JSON: {fault}") from None
-    except ValueError:  # the one more that json.loads raises, by Pythons that read no number of any length
-        raise Fault("the input is no JSON that can be read: a number of it has too many digits") from None
+        raise Fault(f"the input is not JSON: {fault}") from None
+    except ValueError:  # json.loads raises it in Pythons that limit the digits of a number
+        raise Fault("the input cannot be read as JSON: a number has too many digits") from None
     except RecursionError:
-        raise Fault("the input is no JSON that can be read: it is nested too deep") from None
+        raise Fault("the input cannot be read as JSON: it is nested too deep") from None
     if not isinstance(it, dict):
         raise Fault(f"the input must be a JSON object, not {shown(it)}")
     for key in keys:
@@ -57,12 +57,12 @@ def an_object(given: bytes, *keys: str) -> dict[str, Any]:
 
 
 def a_battle(asked: dict[str, Any]) -> Battle:
-    """The battle of an object of `run`."""
+    """The battle that an object of `run` describes."""
     return Battle(asked["one"], asked["two"], asked["seed"], asked.get("rules", 0), asked.get("limit", 1000))
 
 
 def pairs(asked: dict[str, Any]) -> list[tuple[int, int]]:
-    """The pairs of choices of an object of `run`."""
+    """The pairs of choices in an object of `run`."""
     found = []
     for at, it in enumerate(listed(asked["choices"], "choices")):
         pair = listed(it, f"choices[{at}]")
@@ -76,7 +76,7 @@ def pairs(asked: dict[str, Any]) -> list[tuple[int, int]]:
 
 
 def a_member(asked: dict[str, Any], key: str) -> Member:
-    """The member of an object of `calc`; a fault says which of the two it is of."""
+    """A member in an object of `calc`; an error says which of the two it is about."""
     try:
         return Member.from_dict(asked[key])
     except Error as fault:

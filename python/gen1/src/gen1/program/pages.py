@@ -10,21 +10,21 @@ CARRIED = Path(__file__).resolve().parents[1] / "page.html"
 
 
 def page_with(given: bytes, page: str | None) -> str:
-    """The page with the battle that an object of `run` or a log's bytes stand for."""
+    """The page with the battle of an object of `run` or of a log's bytes."""
     held = _battle(given).replace("<", "\\u003c")
     if page is None and not CARRIED.is_file():
-        raise Fault("the package carries no page; name one that web/build made by --page HTML", 2)
+        raise Fault("the package has no page; name one that web/build made with --page HTML", 2)
     try:
         text = read(str(CARRIED) if page is None else page).decode("utf-8")
     except UnicodeDecodeError:
         text = ""
     if text.count(PLACE) != 1:
-        raise Fault(f"{page or CARRIED} is no page of web/build: it has {text.count(PLACE)} places for a battle, and must have one")
+        raise Fault(f"{page or CARRIED} is not a page of web/build: it has {text.count(PLACE)} places for a battle, and must have one")
     return text.replace(PLACE, PLACE.replace("null", held))
 
 
 def _battle(given: bytes) -> str:
-    """The JSON that stands for an input, which is tested before: the text of an object of `run`, or a log's digits."""
+    """The JSON for an input, which is checked first: the text of an object of `run`, or the digits of a log."""
     if not given.lstrip().startswith(b"{"):
         events(given)
         return f'{{"log":"{given.hex()}"}}'
@@ -32,5 +32,5 @@ def _battle(given: bytes) -> str:
     a_battle(asked), pairs(asked)
     for it in (*asked["one"], *asked["two"]):
         if not all(isinstance(name, str) for name in (it["species"], *(move for move, _ in it["moves"]))):
-            raise Fault("a page reads names, and here a species or a move is a number")
+            raise Fault("a page needs species and moves as names, and one of them is a number")
     return given.decode("utf-8").strip()

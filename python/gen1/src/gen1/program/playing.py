@@ -1,4 +1,4 @@
-"""`python -m gen1 play`: a battle at the terminal, one side by the keyboard."""
+"""`python -m gen1 play`: a battle in the terminal against the computer."""
 
 import argparse
 import random
@@ -21,7 +21,7 @@ TEAM = Team(
 
 
 def play(asked: argparse.Namespace) -> None:
-    """Plays side 1 by the keyboard: at each update the offered choices are shown with their numbers; q ends the battle."""
+    """Plays a battle in the terminal. You are side 1: choose by the number of a choice; q ends the battle."""
     if asked.seed is not None and asked.seed < 0:
         raise Fault(f"--seed must be 0 or more, not {asked.seed}", 2)
     dice = random.Random(asked.seed)
@@ -47,7 +47,7 @@ def _pair(battle: Battle, teams: tuple[Team, Team], against: str, dice: random.R
 
 
 def _asked(battle: Battle, offered: tuple[Choice, ...]) -> Choice | None:
-    """What is chosen at the keyboard; None at the end of the input, or by q."""
+    """The choice that is typed; None at the end of the input, or for q."""
     for at, it in enumerate(offered, 1):
         print(f"  {at}  {battle.words(Side.ONE, it)}")
     while True:
@@ -59,11 +59,11 @@ def _asked(battle: Battle, offered: tuple[Choice, ...]) -> Choice | None:
             return None
         if word.isascii() and word.isdigit() and 1 <= int(word) <= len(offered):
             return offered[int(word) - 1]
-        print(f"{word!r} is none of 1 to {len(offered)}, or q to end")
+        print(f"{word!r} is not 1 to {len(offered)}, nor q to end")
 
 
 def greedy(battle: Battle, side: Side, team: Team, dice: random.Random) -> Choice:
-    """The move that deals most on average if it hits; where none deals damage or none is offered, one of the choices by chance."""
+    """The move with the highest average damage if it hits; a random choice if no offered move deals damage."""
     out = battle.place(side)
     best, most, offered = None, 0, battle.choices(side)
     for it in offered:
