@@ -1,24 +1,28 @@
 /*
- * gen1.h - first-generation link battles, for C and languages that call C.
+ * gen1.h - first-generation Pokemon link battles, for C and for languages that call C.
  *
- * The library is libgen1.so or libgen1_c.a. It needs nothing but memcpy, memmove and memset of the C library; one that is built of
- * the plain sources (docs/PLAIN.md) needs abort too, which it never reaches.
- * packaging/README.md says how to install it, and how a program is built with it.
- * The rules of battle are docs/MECHANICS.md, the numbers of species, moves and types docs/TABLES.md, the 384 bytes
- * docs/LAYOUT.md. crates/gen1_c/CALLING.md says what to call when, and which clause of a proved contract promises what.
+ * The library is libgen1.so (shared) or libgen1_c.a (static). From the C library it needs only memcpy, memmove and memset. A
+ * library built from the plain sources (docs/PLAIN.md) also refers to abort, and never reaches it. packaging/README.md
+ * describes how to install the library and how to build a program with it.
  *
- *   - No call allocates, opens, prints, waits or keeps anything. A battle is nothing but its 384 bytes, which are yours: copy
- *     them to keep a battle or to try a choice, write them to a file, send them.
- *   - No global state: calls on different battles may run at the same time in any threads. Calls on one battle may not, unless
- *     all of them take it as const.
- *   - Any number may be passed. One that is out of its range gets a code, and if a call answers a code, nothing that its
- *     pointers point to has changed, but for `fault` of gen1_team_from_text and gen1_team_from_packed, which says what is wrong.
- *   - What the library cannot check is up to you: a pointer points to as much memory as its type says, or as the size beside
- *     it says, and is not NULL (a NULL with size 0 is allowed). What a call may write overlaps nothing else that it is given;
- *     what it takes as const may overlap: both teams of gen1_new may be the same one.
- *   - A battle that gen1_new or gen1_load made, and that nothing but calls of this header has changed since, stands for a valid
- *     state; after gen1_update_offered it does so if both choices were offered. With other bytes every call still returns, and
- *     stays within your memory, but what it answers means nothing.
+ * docs/MECHANICS.md has the rules of battle, docs/TABLES.md the numbers of species, moves and types, and docs/LAYOUT.md the 384
+ * bytes of a battle. crates/gen1_c/CALLING.md says in which order to call the functions, and which proved contract states what
+ * each of them promises.
+ *
+ *   - Memory. No function allocates, frees, does input or output, blocks, or keeps a pointer. The caller owns all memory. A
+ *     battle is only its 384 bytes: copy them to keep a battle or to try out a choice, write them to a file, or send them.
+ *   - Threads. There is no global state. Calls on different battles may run in different threads at the same time. Calls on the
+ *     same battle may do so only if all of them take it as const.
+ *   - Errors. Any number may be passed as an argument. A number out of its range makes the function return a code. If a
+ *     function returns a code, it has changed nothing that its pointers point to. The only exception is `fault` of
+ *     gen1_team_from_text and gen1_team_from_packed, which then says what is wrong with the text.
+ *   - Pointers. The library cannot check these, so the caller has to. A pointer must not be NULL, and must point to as much
+ *     memory as its type says, or as the size next to it says. A NULL is allowed where that size is 0.
+ *   - Overlap. Memory that a function may write must not overlap anything else that is passed to it. What it takes as const may
+ *     overlap: both teams of gen1_new may be the same one.
+ *   - Valid battles. A battle made by gen1_new or gen1_load, and changed since only by functions of this header, is valid.
+ *     After gen1_update_offered it is valid if both choices were offered. With any other 384 bytes each function still returns
+ *     and stays within your memory, but its results mean nothing.
  */
 #ifndef GEN1_H
 #define GEN1_H
@@ -31,64 +35,70 @@
 extern "C" {
 #endif
 
-/* The version of this header and its library: as text, and as a number: 65,536 * major + 256 * minor + the third. */
+/*
+ * The version of this header: as text, and as a number (65,536 * major + 256 * minor + patch). gen1_version returns the
+ * library's.
+ */
 #define GEN1_VERSION "1.0.0"
 #define GEN1_VERSION_NUMBER 0x010000
 
 /* A battle (docs/LAYOUT.md). */
 typedef struct gen1_battle {
-    uint8_t bytes[384]; /* all of it: as docs/LAYOUT.md says, and to be stored or sent as they are */
+    uint8_t bytes[384]; /* the whole battle, in the format of docs/LAYOUT.md; store or send them unchanged */
 } gen1_battle;
 
-/* A member as the caller describes it (docs/MECHANICS.md, "Teams"). */
+/* A member of a team, as the caller describes it (docs/MECHANICS.md, "Teams"). */
 typedef struct gen1_member {
     uint8_t species;    /* 1 to 151 */
     uint8_t level;      /* 1 to 100 */
     uint8_t dvs[4];     /* 0 to 15: Attack, Defense, Speed, Special */
-    uint8_t moves[4];   /* 1 to 164 but for 102, 118, 119 and 144, which are left out; at least one, and no two the same. A 0 is
-                           skipped, so the others get slots from 1 on */
-    uint8_t pp_ups[4];  /* 0 to 3, of the move at the same place; ignored where the move is 0 */
-    uint16_t exp[5];    /* HP, Attack, Defense, Speed, Special */
+    uint8_t moves[4];   /* 1 to 164 except 102, 118, 119 and 144, which the engine leaves out; all different, at least one. A 0
+                           is skipped: the others move up to the first slots */
+    uint8_t pp_ups[4];  /* 0 to 3, for the move at the same index; ignored where the move is 0 */
+    uint16_t exp[5];    /* experience, 0 to 65,535: HP, Attack, Defense, Speed, Special */
 } gen1_member;
 
-/* A team: the first `count` of the members, from 1 to 6. The others are ignored. */
+/* A team: the first `count` members. The remaining ones are ignored. */
 typedef struct gen1_team {
-    gen1_member members[6]; /* by their places from 1 on */
+    gen1_member members[6]; /* the member at place p is members[p - 1] */
     uint8_t count;          /* 1 to 6 */
 } gen1_team;
 
-/* Room for the log of any update, whatever the bytes of its battle are. */
+/* The size of a buffer that holds the log of any update, whatever the bytes of the battle are. */
 #define GEN1_LOG_ROOM 512
 
-/* Room for any line. */
+/* The size of a buffer that holds any line of gen1_next_line. */
 #define GEN1_LINE_ROOM 96
 
-/* Sides. */
+/* The two sides. */
 enum { GEN1_ONE = 1, GEN1_TWO = 2 };
 
-/* Rules, to be added up. */
+/* Rules: add up those that apply; 0 for none (docs/MECHANICS.md, "Rules (sleep clause, freeze clause)"). */
 enum { GEN1_SLEEP_CLAUSE = 1, GEN1_FREEZE_CLAUSE = 2 };
 
-/* The usual turn limit. */
+/* The usual turn limit (docs/MECHANICS.md, "Turn limit"). */
 #define GEN1_LIMIT 1000
 
-/* Choices are bytes (docs/MECHANICS.md, "Offered choices"). */
+/* A choice is one byte (docs/MECHANICS.md, "Offered choices"). */
 #define GEN1_PASS 0x00
 #define GEN1_MOVE(slot) (0x10 + (slot))     /* slot 1 to 4; 0 where no slot can be chosen */
 #define GEN1_SWITCH(place) (0x20 + (place)) /* place 1 to 6 */
 
-/* What ails a member: `status` of gen1_event and gen1_member_state. */
+/* The status of a member: `status` of gen1_event, gen1_member_state and gen1_shown_member. */
 enum {
     GEN1_STATUS_NONE, GEN1_STATUS_SLEEP, GEN1_STATUS_POISON, GEN1_STATUS_BURN, GEN1_STATUS_FREEZE, GEN1_STATUS_PARALYSIS
 };
 
-/* Stats: `detail` of GEN1_BOOST and GEN1_UNBOOST. The stat n is at n - 1 of `stages` and `stats` in gen1_active_state. */
+/* Stats: `detail` of GEN1_BOOST and GEN1_UNBOOST. Stat n is at index n - 1 of `stages` and `stats` in gen1_active_state. */
 enum { GEN1_STAT_ATTACK = 1, GEN1_STAT_DEFENSE, GEN1_STAT_SPEED, GEN1_STAT_SPECIAL, GEN1_STAT_ACCURACY, GEN1_STAT_EVASION };
 
-/* What gen1_choice_kind answers. */
+/* What gen1_choice_kind returns. */
 enum { GEN1_CHOICE_NONE, GEN1_CHOICE_PASS, GEN1_CHOICE_MOVE, GEN1_CHOICE_SWITCH };
 
-/* Conditions of a member that is out (docs/MECHANICS.md, "Conditions"), to be added up: of gen1_active_state. */
+/*
+ * Conditions of the active member (docs/MECHANICS.md, "Conditions"): `conditions` of gen1_active_state is the sum of those it
+ * has.
+ */
 enum {
     GEN1_CONDITION_BIDE = 1, GEN1_CONDITION_THRASH = 2, GEN1_CONDITION_TRAPPING = 4, GEN1_CONDITION_FLINCH = 8,
     GEN1_CONDITION_CHARGING = 16, GEN1_CONDITION_INVULNERABLE = 32, GEN1_CONDITION_CONFUSED = 64, GEN1_CONDITION_MIST = 128,
@@ -97,7 +107,7 @@ enum {
     GEN1_CONDITION_LIGHT_SCREEN = 16384, GEN1_CONDITION_REFLECT = 32768, GEN1_CONDITION_DISABLED = 65536
 };
 
-/* Why a battle could not go on: `detail` of GEN1_FAULT. The outcome is then GEN1_FAULT_ONE or GEN1_FAULT_TWO, likewise. */
+/* Why a battle had to stop: `detail` of GEN1_FAULT. The outcome is then GEN1_FAULT_ONE or GEN1_FAULT_TWO, in the same order. */
 enum { GEN1_FAULT_DIVISION = 1, GEN1_FAULT_PSYWAVE };
 
 /* tools/header.py writes the lines from here to "end of the tables", from docs/TABLES.md and docs/MECHANICS.md. */
@@ -202,19 +212,22 @@ enum {
 /* ---- beginning ---- */
 
 /*
- * Makes a battle of two teams before its first update; what `battle` held is overwritten. Ten bytes of seed, rules from 0 to
- * 3, and the last turn, from 1 to 9,999.
+ * Makes a battle of two teams, before its first update, and overwrites `*battle` with it.
  *
- * Answers 0, or why there is no battle: take the answer apart with the three macros below. Tested in this order: the rules,
- * the limit, team one, team two; of a team first that it has at most six members, then species and moves of each member, and
- * then the rules of teams (docs/MECHANICS.md, "Teams").
+ * `seed` is ten bytes with any values (docs/MECHANICS.md, "Link numbers"). `rules` is 0 to 3. `limit` is the last turn, 1 to
+ * 9,999; GEN1_LIMIT is usual.
+ *
+ * Returns 0, or the first error; take it apart with the three macros below. The arguments are tested in this order: the rules,
+ * the limit, team one, team two. In a team the number of members is tested first, then species and moves of each member, then
+ * the rules of teams (docs/MECHANICS.md, "Teams").
  */
 uint32_t gen1_new(gen1_battle *battle, const gen1_team *one, const gen1_team *two, const uint8_t seed[10], uint8_t rules,
                   uint16_t limit);
 
-#define GEN1_CODE(answer) ((answer) & 0xff)       /* one of those below */
-#define GEN1_PLACE(answer) ((answer) >> 8 & 0xff) /* the member at fault, from 1; 0 if it is no single member */
-#define GEN1_SIDE(answer) ((answer) >> 16)        /* the team at fault, 1 or 2; 0 if it is neither */
+#define GEN1_CODE(answer) ((answer) & 0xff)       /* one of the codes below */
+#define GEN1_PLACE(answer) ((answer) >> 8 & 0xff) /* the place of the member with the error, 1 to 6; 0 if it is not about one
+                                                     member */
+#define GEN1_SIDE(answer) ((answer) >> 16)        /* the team with the error, 1 or 2; 0 if it is not about a team */
 
 enum {
     GEN1_EMPTY = 1,          /* the team has no member */
@@ -233,12 +246,14 @@ enum {
 };
 
 /*
- * Loads the battle that `count` bytes stand for, of any of the three versions (docs/LAYOUT.md, "Loading"). Answers 0, or the
- * number of the first test that they fail, from 1 to 7. To test a battle in place, load it into another one.
+ * Reads a battle from `count` bytes of any of the three versions of the layout (docs/LAYOUT.md, "Loading").
+ *
+ * Returns 0, or the number of the first test that the bytes fail, 1 to 7; then `*battle` has not changed. To test a battle in
+ * place, load its bytes into another one.
  */
 uint8_t gen1_load(gen1_battle *battle, const uint8_t *bytes, size_t count);
 
-/* The tests, each below what is wrong with bytes that fail it. */
+/* The tests of loading. The comment above each constant says what is wrong with bytes that fail the test. */
 enum {
     /* There are not 384 bytes. */
     GEN1_LOAD_LENGTH = 1,
@@ -259,25 +274,27 @@ enum {
 /* ---- playing ---- */
 
 /*
- * What a side may choose: writes the bytes of the choices, in rising order, to the front of `choices`, and answers how many,
- * from 0 (the battle is over) to 9. The rest of `choices` is left alone. For a side that is neither 1 nor 2 it answers
- * GEN1_NO_SIDE.
+ * Lists the choices that a side is offered (docs/MECHANICS.md, "Offered choices").
+ *
+ * Writes their bytes, in rising order, to the beginning of `choices`; the rest of the array does not change. Returns their
+ * number, 1 to 9, or 0 if the battle is over. Returns GEN1_NO_SIDE if `side` is neither 1 nor 2.
  */
 uint8_t gen1_choices(const gen1_battle *battle, uint8_t side, uint8_t choices[9]);
 
-#define GEN1_NO_SIDE 255 /* what gen1_choices answers for a side that is neither 1 nor 2 */
+#define GEN1_NO_SIDE 255 /* returned by functions that list choices for a side that is neither 1 nor 2 */
 
 /*
- * What a side may choose, as a mask of twelve bits: bit GEN1_BIT(choice) is 1 exactly if gen1_choices lists the choice. The bits
- * stand in the order of the choices' bytes: bit 0 GEN1_PASS, bits 1 to 5 GEN1_MOVE(0) to GEN1_MOVE(4), bits 6 to 11
- * GEN1_SWITCH(1) to GEN1_SWITCH(6). The mask of a battle that is over is 0. For a side that is neither 1 nor 2 it answers
- * GEN1_NO_MASK.
+ * Returns the choices that a side is offered as a mask of twelve bits: bit GEN1_BIT(choice) is 1 exactly if gen1_choices lists
+ * the choice.
+ *
+ * The bits are in the order of the bytes: bit 0 is GEN1_PASS, bits 1 to 5 are GEN1_MOVE(0) to GEN1_MOVE(4), bits 6 to 11 are
+ * GEN1_SWITCH(1) to GEN1_SWITCH(6). The mask is 0 if the battle is over, and GEN1_NO_MASK if `side` is neither 1 nor 2.
  */
 uint16_t gen1_offered(const gen1_battle *battle, uint8_t side);
 
-#define GEN1_NO_MASK 0xffff /* what gen1_offered answers for a side that is neither 1 nor 2 */
+#define GEN1_NO_MASK 0xffff /* returned by gen1_offered for a side that is neither 1 nor 2 */
 
-/* The bit of a choice's byte, 0 to 11; or 12, which is 0 in each mask but GEN1_NO_MASK, for a byte that is no choice. */
+/* Returns the bit of a choice, 0 to 11. For a byte that is not a choice it returns 12, a bit that is 1 only in GEN1_NO_MASK. */
 static inline int GEN1_BIT(int choice)
 {
     if (choice == GEN1_PASS)
@@ -287,22 +304,22 @@ static inline int GEN1_BIT(int choice)
     return choice >= GEN1_SWITCH(1) && choice <= GEN1_SWITCH(6) ? choice - GEN1_SWITCH(1) + 6 : 12;
 }
 
-/* The choice's byte of a bit from 0 to 11. */
+/* Returns the choice of a bit from 0 to 11. */
 static inline int GEN1_CHOICE(int bit)
 {
     return bit == 0 ? GEN1_PASS : bit < 6 ? GEN1_MOVE(0) + bit - 1 : GEN1_SWITCH(1) + bit - 6;
 }
 
 /*
- * An update by a choice of each side. The first update of a battle is GEN1_PASS and GEN1_PASS, and sends out both first
- * members.
+ * Plays one update: a choice of each side. The first update of a battle takes GEN1_PASS from both sides, and sends out the
+ * first member of each.
  *
- * With `room` 0 (then `log` may be NULL) there is no log. Otherwise `room` is at least GEN1_LOG_ROOM; the log bytes of the
- * update are written to the front of `log`, and their number to `*length`; the rest of `log` is left alone. Without a log
- * `*length` becomes 0.
+ * With `room` 0 no log is written, `log` may be NULL, and `*length` becomes 0. Otherwise `room` is the size of `log`, at least
+ * GEN1_LOG_ROOM. The log of the update is written to the beginning of `log`, and its number of bytes to `*length`; the rest of
+ * `log` does not change.
  *
- * Answers 0, or the first of the codes below that applies (GEN1_SMALL_LOG is tested first); then nothing has changed, whatever
- * the bytes of `battle` are.
+ * Returns 0, or the first of the codes below that applies, where GEN1_SMALL_LOG is tested first. If it returns a code nothing
+ * has changed, whatever the bytes of `battle` are.
  */
 uint8_t gen1_update(gen1_battle *battle, uint8_t one, uint8_t two, uint8_t *log, size_t room, size_t *length);
 
@@ -314,19 +331,23 @@ enum {
 };
 
 /*
- * The same by two choices that are offered, which are not tested again: for callers who took them from gen1_choices or
- * gen1_offered. It answers GEN1_SMALL_LOG as gen1_update does, and GEN1_NOT_OFFERED_ONE or GEN1_NOT_OFFERED_TWO for a byte that
- * stands for no choice at all; then nothing has changed. By a choice that is not offered, or in a battle that is over, `battle`
- * may stand for nothing afterwards (gen1_load tells); log and length are written as ever, and nothing else.
+ * Plays one update like gen1_update, without testing that the choices are offered. It is for callers that took both from
+ * gen1_choices or gen1_offered.
+ *
+ * Returns GEN1_SMALL_LOG as gen1_update does, and GEN1_NOT_OFFERED_ONE or GEN1_NOT_OFFERED_TWO for a byte that is not a choice
+ * at all; then nothing has changed.
+ *
+ * If a choice is not offered, or the battle is over, `*battle` may be invalid afterwards (gen1_load finds out). Log and length
+ * are written as usual, and no other memory.
  */
 uint8_t gen1_update_offered(gen1_battle *battle, uint8_t one, uint8_t two, uint8_t *log, size_t room, size_t *length);
 
-/* The outcome so far, and what each side is asked for the next update: one byte; take it apart with these macros. */
+/* Returns the outcome so far and what each side is asked for the next update, in one byte. Take it apart with these macros. */
 uint8_t gen1_result(const gen1_battle *battle);
 
 #define GEN1_OUTCOME(result) ((result) & 7)          /* GEN1_ONGOING to GEN1_FAULT_TWO */
-#define GEN1_REQUEST_ONE(result) ((result) >> 3 & 3) /* GEN1_ASKED_NOTHING to GEN1_ASKED_SWITCH, of side 1 */
-#define GEN1_REQUEST_TWO(result) ((result) >> 5 & 3) /* the same, of side 2 */
+#define GEN1_REQUEST_ONE(result) ((result) >> 3 & 3) /* of side 1: GEN1_ASKED_NOTHING to GEN1_ASKED_SWITCH */
+#define GEN1_REQUEST_TWO(result) ((result) >> 5 & 3) /* of side 2, likewise */
 
 enum { GEN1_ONGOING, GEN1_WIN_ONE, GEN1_WIN_TWO, GEN1_TIE, GEN1_FAULT_ONE, GEN1_FAULT_TWO };
 enum { GEN1_ASKED_NOTHING, GEN1_ASKED_MOVE, GEN1_ASKED_SWITCH };
@@ -334,26 +355,27 @@ enum { GEN1_ASKED_NOTHING, GEN1_ASKED_MOVE, GEN1_ASKED_SWITCH };
 /* ---- telling ---- */
 
 /*
- * An event of a log (docs/MECHANICS.md, "Events"). Each number is the one in the log bytes; a field that the event does not
- * have is 0.
+ * One event of a log (docs/MECHANICS.md, "Events"). Each number is the one in the log; a field that the event does not have is
+ * 0. The health of a member is `hp`, `max_hp` and `status`, in GEN1_SWITCHED, GEN1_DAMAGE and GEN1_HEAL.
  */
 typedef struct gen1_event {
-    uint8_t tag;            /* which event: GEN1_TURN to GEN1_FAULT, 1 to 28 */
-    uint8_t side;           /* whom it is about, or who wins: 1 or 2 */
-    uint8_t species;        /* the species of whom it is about, 1 to 151 */
-    uint8_t move;           /* of GEN1_MOVED and GEN1_PREPARE: 1 to 165 */
-    uint8_t target_side;    /* of GEN1_MOVED: the foe's side, 1 or 2 */
-    uint8_t target_species; /* of GEN1_MOVED: the foe's species, 1 to 151 */
-    uint8_t place;          /* of GEN1_SWITCHED: 1 to 6 */
-    uint8_t level;          /* of GEN1_SWITCHED: 1 to 100 */
-    uint8_t status;         /* of the health: GEN1_STATUS_NONE to GEN1_STATUS_PARALYSIS; of GEN1_STATUS and GEN1_CURE: not NONE */
-    uint8_t detail;         /* of GEN1_CANT a GEN1_REASON_.., of GEN1_DAMAGE a GEN1_SOURCE_.., of GEN1_START, GEN1_END and
-                               GEN1_ACTIVATE a GEN1_VOLATILE_.., of GEN1_BOOST and GEN1_UNBOOST a GEN1_STAT_.., of GEN1_FAULT
+    uint8_t tag;            /* the kind of event: GEN1_TURN to GEN1_FAULT, 1 to 28 */
+    uint8_t side;           /* the side that the event is about, or that wins: 1 or 2 */
+    uint8_t species;        /* the species of the member that the event is about, 1 to 151 */
+    uint8_t move;           /* GEN1_MOVED and GEN1_PREPARE: 1 to 165 */
+    uint8_t target_side;    /* GEN1_MOVED: the foe's side, 1 or 2 */
+    uint8_t target_species; /* GEN1_MOVED: the foe's species, 1 to 151 */
+    uint8_t place;          /* GEN1_SWITCHED: 1 to 6 */
+    uint8_t level;          /* GEN1_SWITCHED: 1 to 100 */
+    uint8_t status;         /* part of the health; in GEN1_STATUS and GEN1_CURE the status that begins or ends, never
+                               GEN1_STATUS_NONE */
+    uint8_t detail;         /* GEN1_CANT: a GEN1_REASON_..; GEN1_DAMAGE: a GEN1_SOURCE_..; GEN1_START, GEN1_END and
+                               GEN1_ACTIVATE: a GEN1_VOLATILE_..; GEN1_BOOST and GEN1_UNBOOST: a GEN1_STAT_..; GEN1_FAULT:
                                GEN1_FAULT_DIVISION or GEN1_FAULT_PSYWAVE */
-    uint8_t amount;         /* the stages of GEN1_BOOST and GEN1_UNBOOST, 1 or 2; the hits of GEN1_HIT_COUNT, 1 to 5 */
-    uint16_t hp;            /* the health of GEN1_SWITCHED, GEN1_DAMAGE and GEN1_HEAL: 0 to max_hp */
-    uint16_t max_hp;        /* of the health: 11 to 999 */
-    uint16_t turn;          /* of GEN1_TURN: 1 to 9,999 */
+    uint8_t amount;         /* GEN1_BOOST and GEN1_UNBOOST: stages, 1 or 2; GEN1_HIT_COUNT: hits, 1 to 5 */
+    uint16_t hp;            /* part of the health: 0 to max_hp */
+    uint16_t max_hp;        /* part of the health: 11 to 999 */
+    uint16_t turn;          /* GEN1_TURN: 1 to 9,999 */
 } gen1_event;
 
 enum {
@@ -363,14 +385,20 @@ enum {
 };
 
 /*
- * Reads the event of a log that begins at `*at`, and moves `*at` to the next. Begin with 0. The log may be that of several
- * updates, one after the other. Answers 0; or a code, and then nothing has changed.
+ * Reads the event that begins at index `*at` of a log of `count` bytes, and moves `*at` to the next event. Start with `*at` 0.
+ * The log may be the logs of several updates, one after the other.
+ *
+ * Returns 0, or one of the codes below; then nothing has changed.
  */
 uint8_t gen1_next_event(const uint8_t *log, size_t count, size_t *at, gen1_event *event);
 
 /*
- * The same as a line of text (docs/MECHANICS.md, "Lines"), as `battle_tool` prints it, with its line feed. It is written to the
- * front of `text`, without a zero at its end, and the number of its bytes to `*length`; the rest of `text` is left alone.
+ * Reads an event like gen1_next_event, and writes it as a line of text (docs/MECHANICS.md, "Lines"), as `battle_tool` prints
+ * it, with its line feed.
+ *
+ * `room` is the size of `text`; GEN1_LINE_ROOM is always enough. The line is written to the beginning of `text`, without a
+ * terminating zero, and its number of bytes to `*length`; the rest of `text` does not change. Returns as gen1_next_event does,
+ * or GEN1_SMALL_TEXT.
  */
 uint8_t gen1_next_line(const uint8_t *log, size_t count, size_t *at, char *text, size_t room, size_t *length);
 
@@ -385,9 +413,11 @@ enum {
 /* ---- calculating ---- */
 
 /*
- * The damage of a hit by a move of `side` on the foe that is out, in the present state of both, at each of the factors from 217
- * to 255, in this order (docs/MECHANICS.md, "Damage numbers" to "Factors"). If the damage before the factor is 0 or 1, it is 39
- * times that. The member need not know the move. Answers 0 or a code.
+ * Computes the damage of one hit by a move of `side` on the foe's active member, as both are now, for each of the factors 217
+ * to 255 in this order (docs/MECHANICS.md, "Damage numbers" to "Factors").
+ *
+ * `move` is 1 to 165, and the member need not know it. If the damage before the factor is 0 or 1, all 39 numbers are that.
+ * Returns 0, or one of the codes below; then nothing has changed.
  */
 uint8_t gen1_damage(const gen1_battle *battle, uint8_t side, uint8_t move, bool critical, uint16_t damages[39]);
 
@@ -399,114 +429,142 @@ enum {
     GEN1_DAMAGE_DIVISOR = 5  /* the defense that counts in this hit is 0, and the damage would be divided by it */
 };
 
-/* The damage of a hit in HP at each of the factors from 217 to 255, which are all as likely; or why there is none. */
+/* The damage of one hit in HP for each of the factors 217 to 255, which are equally likely; or why there is no such damage. */
 typedef struct gen1_damages {
-    uint16_t numbers[39]; /* the damages, rising; zeros where there are none */
+    uint16_t numbers[39]; /* the damages, in rising order; zeros if there are none */
     uint8_t count;        /* how many there are: 39 or 0 */
     uint8_t code;         /* 0; or why there are none: GEN1_DAMAGE_UNUSUAL or GEN1_DAMAGE_DIVISOR */
 } gen1_damages;
 
-/* What a use of a move would come to. Chances are exact: of the 256 numbers that may be drawn, how many bring it about. */
+/*
+ * The odds of one use of a move. Chances are exact counts: how many of the 256 values of a draw lead to the result.
+ *
+ * `hit_draws` counts one comparison only, the hit test (docs/MECHANICS.md, "Hit test"). It means nothing for a move for which
+ * gen1_takes_hit_test returns 0, and it is not the chance that the move hits where something else decides:
+ *
+ *   - A one-hit move misses if its user is slower than the foe, or if the foe's type is immune to it.
+ *   - Any other move with usual damage misses a foe that is immune to its type.
+ *   - Counter misses if there is nothing to counter.
+ *   - A move that goes on under Rage or Thrash is tested with the accuracy that was kept, not with the move's own.
+ *
+ * What keeps a member from acting at all, such as sleep or paralysis, is not counted either.
+ */
 typedef struct gen1_odds {
     gen1_damages usual;      /* the damage if the hit is not critical */
-    gen1_damages critical;   /* the damage if it is */
-    uint16_t critical_draws; /* 0 to 255: how many of 256 draws make it critical; 0 for a move without usual damage */
-    uint16_t hit_draws;      /* 0 to 256: how many of 256 draws pass the hit test, where gen1_takes_hit_test answers 1 */
+    gen1_damages critical;   /* the damage if the hit is critical */
+    uint16_t critical_draws; /* 0 to 255: how many of 256 draws make the hit critical; 0 for a move without usual damage */
+    uint16_t hit_draws;      /* 0 to 256: how many of 256 draws pass the hit test */
 } gen1_odds;
 
 /*
- * What a use of a move by `side` would come to, in the present state of both members that are out (docs/MECHANICS.md, "Critical
- * hits", "Hit test"). The member need not know the move. The accuracy is that of a new use: the one that Thrash and Rage keep is
- * not looked at. Answers 0, or GEN1_DAMAGE_SIDE, GEN1_DAMAGE_MOVE or GEN1_DAMAGE_NOBODY, and then nothing has changed.
+ * Computes the odds of a move of `side`, with both active members as they are now (docs/MECHANICS.md, "Critical hits", "Hit
+ * test").
+ *
+ * `move` is 1 to 165, and the member need not know it. The accuracy is that of a new use. Returns 0, or GEN1_DAMAGE_SIDE,
+ * GEN1_DAMAGE_MOVE or GEN1_DAMAGE_NOBODY; then nothing has changed.
  */
-uint8_t gen1_odds_now(const gen1_battle *battle, uint8_t side, uint8_t move, gen1_odds *hit);
+uint8_t gen1_odds_now(const gen1_battle *battle, uint8_t side, uint8_t move, gen1_odds *odds);
 
 /*
- * The same of two members that have just been sent out, without a battle. Answers 0; or GEN1_NO_SUCH_MOVE if the move is not 1 to
- * 165; or as gen1_new answers of a team of `user` alone (as team one) and of a team of `foe` alone. Then nothing has changed.
+ * Computes the odds of a move between two members that have just been sent out at full HP; it needs no battle.
+ *
+ * Returns 0; or GEN1_NO_SUCH_MOVE if `move` is not 1 to 165; or what gen1_new returns for teams of one member, `user` as team
+ * one and `foe` as team two. If it returns a code, nothing has changed.
  */
-uint32_t gen1_odds_between(const gen1_member *user, const gen1_member *foe, uint8_t move, gen1_odds *hit);
+uint32_t gen1_odds_between(const gen1_member *user, const gen1_member *foe, uint8_t move, gen1_odds *odds);
 
 /*
- * Whether a move takes the hit test when it is used (docs/MECHANICS.md, "Hit test"): 1, or 0 where it fails, or works on its user
- * alone, without one. Answers GEN1_NOT_A_MOVE if the move is not 1 to 165.
+ * Returns whether a move takes the hit test when it is used (docs/MECHANICS.md, "Hit test"): 1, or 0 for moves that always fail
+ * or only affect their user. Returns GEN1_NOT_A_MOVE if `move` is not 1 to 165.
  */
 uint8_t gen1_takes_hit_test(uint8_t move);
 
-#define GEN1_NOT_A_MOVE 255 /* what gen1_takes_hit_test answers for a number that is not 1 to 165 */
+#define GEN1_NOT_A_MOVE 255 /* returned by gen1_takes_hit_test for a number that is not 1 to 165 */
 
 /* ---- many battles ---- */
 
 /*
- * Where arrays of battles are fastest: a battle is six lines of a cache then. `_Alignas(GEN1_ALIGNMENT) gen1_battle battles[1024];`,
- * or memory from aligned_alloc. No call asks for it.
+ * The alignment at which arrays of battles are fastest: a battle then fills six cache lines. No function requires it. Use
+ * `_Alignas(GEN1_ALIGNMENT) gen1_battle battles[1024];`, or memory from aligned_alloc.
  */
 #define GEN1_ALIGNMENT 64
 
 /*
- * The masks of one side in each of `count` battles, to the place of the battle in `masks`. Answers 0; or GEN1_NO_SIDE, or else
- * GEN1_LENGTHS where `mask_count` is not `count`, and then nothing is written.
+ * Writes the mask of one side in each of `count` battles, as gen1_offered returns it: masks[i] is of battles[i].
+ *
+ * Returns 0, or GEN1_NO_SIDE, or GEN1_LENGTHS if `mask_count` is not `count`; then nothing is written.
  */
 uint8_t gen1_offered_many(const gen1_battle *battles, size_t count, uint8_t side, uint16_t *masks, size_t mask_count);
 
 /*
- * An update of each of `count` battles without a log: the battle at place i by the choices ones[i] and twos[i]. codes[i] becomes
- * what gen1_update would answer, 0 or GEN1_OVER, GEN1_NOT_OFFERED_ONE or GEN1_NOT_OFFERED_TWO; a battle that is refused is
- * unchanged, and the others are updated all the same. results[i] becomes what gen1_result answers of the battle as it now is.
+ * Plays one update of each of `count` battles, without logs: battles[i] by the choices ones[i] and twos[i].
  *
- * Each array stands with its own length. Answers 0; or GEN1_LENGTHS where one of them is not `count`, and then nothing at all has
- * changed. `ones` and `twos` may overlap, no other two.
+ * codes[i] becomes what gen1_update returns for that battle: 0, GEN1_OVER, GEN1_NOT_OFFERED_ONE or GEN1_NOT_OFFERED_TWO. A
+ * battle whose update is refused does not change, and the other battles are updated all the same. results[i] becomes what
+ * gen1_result returns for the battle as it is afterwards.
+ *
+ * Each array is followed by its own length. `ones` and `twos` may overlap, and no other two arrays. Returns 0, or GEN1_LENGTHS
+ * if one of the lengths is not `count`; then nothing has changed.
  */
 uint8_t gen1_update_many(gen1_battle *battles, size_t count, const uint8_t *ones, size_t one_count, const uint8_t *twos,
                          size_t two_count, uint8_t *results, size_t result_count, uint8_t *codes, size_t code_count);
 
-#define GEN1_LENGTHS 254 /* an array has another length than the battles */
+#define GEN1_LENGTHS 254 /* an array is not as long as that of the battles */
 
-/* How playouts ended: the four numbers add up to the rounds. */
+/* How playouts ended. The four numbers add up to `rounds`. */
 typedef struct gen1_playouts {
     uint32_t wins_one; /* side 1 won */
     uint32_t wins_two; /* side 2 won */
-    uint32_t ties;     /* nobody did */
-    uint32_t faults;   /* the battle could not go on: GEN1_FAULT_ONE or GEN1_FAULT_TWO */
+    uint32_t ties;     /* nobody won */
+    uint32_t faults;   /* the battle had to stop: GEN1_FAULT_ONE or GEN1_FAULT_TWO */
 } gen1_playouts;
 
 /*
- * Plays `rounds` copies of a battle to their end, each side choosing at random among what it is offered, and writes to `counts`
- * how they ended; the battle itself stays as it is. A copy of a battle that is over ends as that did.
+ * Plays `rounds` copies of a battle to their end, with choices made at random, and writes to `*counts` how they ended.
  *
- * The choices are drawn from a generator of this call's own: from a state of 64 bits, first `seed`, then 6364136223846793005
- * times the state before and 1442695040888963407 more, modulo 2 to the power of 64; each draw goes one state on and is its upper
- * 32 bits; of n choices the one at place (draw modulo n) of the list of gen1_choices is taken, side 1's before side 2's. The same
- * arguments give the same counts. What the battle draws (hits, damage, ..) comes from the battle's own seed, the same in each
- * round: a search that must not know it takes copies with other seeds.
+ * The battle itself does not change. Copies of a battle that is over count as that battle ended. The same arguments give the
+ * same counts.
  *
- * Answers 0, or the number of the first test of gen1_load that the bytes fail (GEN1_LOAD_VERSION, ..): then nothing is written.
+ * In each update each side takes one of the choices that it is offered, side 1 before side 2. Of n choices it takes the one at
+ * index (draw modulo n) of the list of gen1_choices. The draws come from a generator of this call alone, whose state has 64
+ * bits and is `seed` at first. Each draw replaces the state by 6364136223846793005 times the state plus 1442695040888963407,
+ * modulo 2 to the power of 64, and is the upper 32 bits of the new state.
+ *
+ * Hits, damage and all else that the battle itself draws come from its own link numbers, which are the same in each round. A
+ * search that must not know them passes copies that have other numbers (gen1_reseed).
+ *
+ * Returns 0, or the number of the first test of gen1_load that the battle's bytes fail (GEN1_LOAD_VERSION, ..); then nothing is
+ * written.
  */
 uint8_t gen1_playout(const gen1_battle *battle, uint64_t seed, uint32_t rounds, gen1_playouts *counts);
 
 /* ---- teams out of text ---- */
 
-/* Where a text is at fault, and what was expected there. */
+/* Where a text of a team is wrong, and what was expected there. */
 typedef struct gen1_text_fault {
-    size_t line;   /* of a text: the line, from 1; 0 if it is no single line */
-    size_t member; /* of a packed line, and where the members are no team: the member, from 1; 0 if it is no single member */
-    size_t field;  /* of a packed line: the field of the member, 1 to 12; 0 if it is no single field */
-    uint8_t code;  /* what was expected: one of those below */
-    uint8_t rule;  /* with GEN1_TEXT_TEAM why the members are no team, from GEN1_EMPTY to GEN1_PP_UPS; otherwise 0 */
+    size_t line;   /* in a text: the line, from 1; 0 if it is not about one line */
+    size_t member; /* in a packed line, and with GEN1_TEXT_TEAM: the member, from 1; 0 if it is not about one member */
+    size_t field;  /* in a packed line: the field of the member, 1 to 12; 0 if it is not about one field */
+    uint8_t code;  /* what was expected: one of the codes below */
+    uint8_t rule;  /* with GEN1_TEXT_TEAM: why the members are not a team, GEN1_EMPTY to GEN1_PP_UPS; otherwise 0 */
 } gen1_text_fault;
 
 /*
- * The team that a text of `count` bytes tells of, as Pokemon Showdown's team builder exports it (docs/TEAM_TEXT.md): a first line
- * with the species, then "Level: 50", "EVs: 252 HP / 4 Atk", "IVs: 0 Atk", "- Body Slam", ..; an empty line parts members. What is
- * not said is as in the games: level 100, all DVs 15, all experience 63,504; each move has three PP ups. The text needs no zero
- * at its end.
+ * Reads a team from a text of `count` bytes, as Pokemon Showdown's team builder exports it (docs/TEAM_TEXT.md, "Export text").
  *
- * Answers 0: `team` is the team, members behind the last are zeros, and `fault` is as it was. gen1_new takes such a team.
- * Otherwise it answers the code of the first fault, `fault` says where, and `team` is as it was.
+ * A member is a first line with the species, then lines such as "Level: 50", "EVs: 252 HP / 4 Atk", "IVs: 0 Atk" and "- Body
+ * Slam". An empty line ends it. The defaults are level 100, all DVs 15 and all experience 63,504. Each move has three PP
+ * ups. The text needs no terminating zero.
+ *
+ * Returns 0: `*team` is the team, which gen1_new accepts, with zeros after the last member, and `*fault` has not changed.
+ * Otherwise it returns the code of the first error, `*fault` says where, and `*team` has not changed.
  */
 uint8_t gen1_team_from_text(const char *text, size_t count, gen1_team *team, gen1_text_fault *fault);
 
-/* The same of a packed line of the team builder: twelve fields of a member with `|` between them, members with `]` between them. */
+/*
+ * Reads a team like gen1_team_from_text, from a packed line of the team builder: members separated by `]`, and the twelve
+ * fields of a member by `|` (docs/TEAM_TEXT.md, "Packed line").
+ */
 uint8_t gen1_team_from_packed(const char *text, size_t count, gen1_team *team, gen1_text_fault *fault);
 
 enum {
@@ -528,65 +586,72 @@ enum {
 
 /* ---- naming ---- */
 
-/* Room for any name, for the words of any choice, and for any sentence of gen1_text. */
+/* The sizes of buffers that hold any name, any words of gen1_choice_words, and any sentence of gen1_text. */
 #define GEN1_NAME_ROOM 16
 #define GEN1_WORDS_ROOM 32
 #define GEN1_SENTENCE_ROOM 128
 
 /*
- * Calls that write a text do so as gen1_next_line does: to the front of `text`, without a zero at its end, and the number of its
- * bytes to `*length`; the rest of `text` is left alone. They answer 0, or a code, and then nothing has changed:
+ * Functions that write a text write it to the beginning of `text`, whose size is `room`, without a terminating zero, and its
+ * number of bytes to `*length`; the rest of `text` does not change. They return 0, or one of these codes, and then nothing has
+ * changed:
  */
 enum {
-    GEN1_UNKNOWN = 1,   /* the number stands for nothing of this kind */
+    GEN1_UNKNOWN = 1,   /* there is nothing with this number */
     GEN1_SMALL_ROOM = 2 /* the text is longer than `room` */
 };
 
-/* The version of the library: 65,536 times the major number, 256 times the minor one, and the third. */
+/* Returns the version of the library: 65,536 * major + 256 * minor + patch. */
 uint32_t gen1_version(void);
 
 /*
- * The name of a species (1 to 151), a move (1 to 165) or a type (0 to 14), as docs/TABLES.md and the lines have it: "Mr. Mime",
- * "Double-Edge", "Psychic". At most 14 bytes, all of them ASCII. Answers 0 or one of the codes above.
+ * Writes the name of a species (1 to 151), a move (1 to 165) or a type (0 to 14), as in docs/TABLES.md: "Mr. Mime",
+ * "Double-Edge", "Psychic". A name is at most 14 bytes of ASCII. Returns 0 or one of the codes above.
  */
 uint8_t gen1_species_name(uint8_t species, char *text, size_t room, size_t *length);
 uint8_t gen1_move_name(uint8_t move, char *text, size_t room, size_t *length);
 uint8_t gen1_type_name(uint8_t type, char *text, size_t room, size_t *length);
 
 /*
- * The species or move that the `count` bytes name, or 0 if they name none. Only letters and digits count, in either case
- * (docs/TEAM_TEXT.md, "Names"): "mrmime" is 122, and what gen1_species_name and gen1_move_name write is found again. Two moves
- * are known by the names of later games too, "Vise Grip" and "Hi Jump Kick".
+ * Returns the species or move that the `count` bytes of `text` name, or 0 if there is none.
+ *
+ * Only letters and digits count, in upper or lower case (docs/TEAM_TEXT.md, "Names"): "mrmime" is 122. Every name that
+ * gen1_species_name and gen1_move_name write is found. Two moves are also found by the names of later games, "Vise Grip" and
+ * "Hi Jump Kick".
  */
 uint8_t gen1_species_from_name(const char *text, size_t count);
 uint8_t gen1_move_from_name(const char *text, size_t count);
 
-/* A species' base stats and types, by docs/TABLES.md; one with a single type has it twice. */
+/* The base stats and types of a species (docs/TABLES.md, "Species"). A species with one type has it twice. */
 typedef struct gen1_base {
-    uint8_t stats[5]; /* 5 to 250: HP, Attack, Defense, Speed, Special */
+    uint8_t stats[5]; /* HP, Attack, Defense, Speed, Special: 5 to 250 */
     uint8_t types[2]; /* 0 to 14 */
 } gen1_base;
 
-/* Answers 0, or GEN1_UNKNOWN if the species is not 1 to 151; then `*base` has not changed. */
+/*
+ * Writes the base stats and types of a species. Returns 0, or GEN1_UNKNOWN if it is not 1 to 151; then `*base` has not changed.
+ */
 uint8_t gen1_species_stats(uint8_t species, gen1_base *base);
 
-/* A move, by docs/TABLES.md. */
+/* A move (docs/TABLES.md, "Moves"). */
 typedef struct gen1_move {
     uint8_t type;     /* 0 to 14 */
-    uint8_t power;    /* 0 to 170; 0 if it has no damage of its power */
-    uint8_t accuracy; /* 0 to 255: the percent of docs/TABLES.md in 255ths, rounded down. A draw from 0 to 255 that is below hits */
-    uint8_t pp;       /* 1 to 40, without PP ups */
+    uint8_t power;    /* 0 to 170. 1 if the damage has another rule than the power: one-hit moves, Counter, Super Fang, Seismic
+                         Toss, Sonic Boom, Dragon Rage, Psywave. 0 for moves without damage, and for Night Shade and Bide */
+    uint8_t accuracy; /* 0 to 255: the percent of docs/TABLES.md times 255, divided by 100, rounded down. At unchanged stages a
+                         draw below it hits */
+    uint8_t pp;       /* 1 to 40: without PP ups */
 } gen1_move;
 
-/* Answers 0, or GEN1_UNKNOWN if the move is not 1 to 165; then `*row` has not changed. */
+/* Writes the data of a move. Returns 0, or GEN1_UNKNOWN if it is not 1 to 165; then `*row` has not changed. */
 uint8_t gen1_move_data(uint8_t move, gen1_move *row);
 
 /*
- * A code in words: one sentence with the ranges that would have been right, such as "a DV is above 15". `about` says whose code
- * it is. Of an answer of gen1_new, and of the calls that answer as it does, give GEN1_CODE(answer). The code 0 is "nothing is at
- * fault". GEN1_NO_SIDE, GEN1_NO_MASK, GEN1_NOT_A_MOVE, GEN1_LENGTHS and what a text of a team was expected to have (GEN1_TEXT_..)
- * have no sentence.
- * Answers 0 or one of the codes above.
+ * Writes what a code means, as one sentence that gives the valid range, such as "a DV is above 15".
+ *
+ * `about` says which function the code is from. Of a result of gen1_new, and of functions that return the same, pass
+ * GEN1_CODE(result). The sentence of code 0 is "nothing is at fault". GEN1_NO_SIDE, GEN1_NO_MASK, GEN1_NOT_A_MOVE, GEN1_LENGTHS
+ * and the codes GEN1_TEXT_.. have no sentence. Returns 0 or one of the codes above.
  */
 uint8_t gen1_text(uint8_t about, uint8_t code, char *text, size_t room, size_t *length);
 
@@ -596,7 +661,7 @@ enum {
     GEN1_ABOUT_UPDATE = 3, /* gen1_update, gen1_update_offered, and each of `codes` of gen1_update_many: 1 to 4 */
     GEN1_ABOUT_LOG = 4,    /* gen1_next_event, gen1_next_line and gen1_spectator_feed: 1 to 5 */
     GEN1_ABOUT_DAMAGE = 5, /* gen1_damage, gen1_odds_now, and `code` of gen1_damages: 1 to 5 */
-    GEN1_ABOUT_NAME = 6,   /* the calls of this section that answer one of the codes above: 1 and 2 */
+    GEN1_ABOUT_NAME = 6,   /* the functions of this section that return one of the codes above: 1 and 2 */
     GEN1_ABOUT_CHOICE = 7, /* gen1_choice_words: 1 to 4 */
     GEN1_ABOUT_RESEED = 8, /* gen1_reseed: 1 */
     GEN1_ABOUT_ROOM = 9    /* gen1_room_submit: 1 to 4 */
@@ -604,13 +669,13 @@ enum {
 
 /* ---- looking ---- */
 
-/* A member, as it stands. Where a side has none at a place, all is 0. */
+/* A member, as it is now. If a side has no member at a place, all fields are 0. */
 typedef struct gen1_member_state {
     uint8_t species;    /* 1 to 151 */
     uint8_t level;      /* 1 to 100 */
     uint8_t status;     /* GEN1_STATUS_NONE to GEN1_STATUS_PARALYSIS */
-    uint8_t sleep;      /* asleep: 1 to 7 turns left; else 0 */
-    uint8_t marked;     /* 1 if it sleeps by the foe's move and the sleep clause counts it; else 0 */
+    uint8_t sleep;      /* turns of sleep that are left, 1 to 7; 0 if not asleep */
+    uint8_t marked;     /* 1 if the foe's move put it to sleep under the sleep clause; else 0 */
     uint8_t moves[4];   /* 1 to 164; 0 in a slot without a move */
     uint8_t pp[4];      /* 0 to 63; 0 in a slot without a move */
     uint16_t hp;        /* 0 to max_hp */
@@ -618,76 +683,83 @@ typedef struct gen1_member_state {
     uint16_t stats[4];  /* 5 to 999: its own Attack, Defense, Speed and Special, without stages and penalties */
 } gen1_member_state;
 
-/* The member of a side that is out. Before the first update nobody is, and all is 0. */
+/* The active member of a side. Before the first update there is none, and all fields are 0. */
 typedef struct gen1_active_state {
-    uint32_t conditions;    /* GEN1_CONDITION_.., added up */
-    uint16_t stats[4];      /* 1 to 999: Attack, Defense, Speed and Special at their stages and after their penalties */
-    uint16_t energy;        /* Bide: what it has stored, 0 to 65,535; else 0 */
-    uint8_t place;          /* 1 to 6: which member it is */
-    uint8_t types[2];       /* 0 to 14; they need not be the species' */
-    uint8_t stages[6];      /* 0 to 12, of which 6 is the middle: Attack, Defense, Speed, Special, accuracy, evasion */
-    uint8_t current_move;   /* the move that was used last: 0 none, 1 to 4 a slot, 5 Struggle */
-    uint8_t picked_move;    /* the move that was picked last, likewise */
-    uint8_t kept_accuracy;  /* Thrash and Rage: the accuracy that is kept, 1 to 255; else 0 */
+    uint32_t conditions;    /* GEN1_CONDITION_.., added up for all that are on */
+    uint16_t stats[4];      /* 1 to 999: Attack, Defense, Speed and Special with stages and penalties */
+    uint16_t energy;        /* Bide: the energy that it has stored, 0 to 65,535; else 0 */
+    uint8_t place;          /* 1 to 6: its place in the team */
+    uint8_t types[2];       /* 0 to 14; they may differ from the species' types */
+    uint8_t stages[6];      /* 0 to 12, 6 if unchanged: Attack, Defense, Speed, Special, accuracy, evasion */
+    uint8_t current_move;   /* the move that it used last: 0 none, 1 to 4 a slot, 5 Struggle */
+    uint8_t picked_move;    /* the move that it picked last, likewise */
+    uint8_t kept_accuracy;  /* Thrash and Rage: the kept accuracy, 1 to 255; else 0 */
     uint8_t substitute;     /* HP of the Substitute, 0 to 249; 0 without one */
-    uint8_t confusion;      /* confused: 1 to 5 turns left; else 0 */
-    uint8_t disabled_slot;  /* the slot that Disable bars, 1 to 4; else 0 */
-    uint8_t disabled_turns; /* for 1 to 8 turns more; else 0 */
-    uint8_t bad_poison;     /* the counter that Toxic begins, 0 to 64; 0 without it */
-    uint8_t turns;          /* turns left of Bide, Thrash (1 to 3) or trapping (0 to 4), of which one at most is on; else 0 */
+    uint8_t confusion;      /* turns of confusion that are left, 1 to 5; 0 if not confused */
+    uint8_t disabled_slot;  /* the slot that Disable blocks, 1 to 4; else 0 */
+    uint8_t disabled_turns; /* for how many more turns, 1 to 8; else 0 */
+    uint8_t bad_poison;     /* the counter of Toxic, 0 to 64; 0 without it */
+    uint8_t turns;          /* turns left of Bide, Thrash (1 to 3) or trapping (0 to 4), at most one of which is on; else 0 */
 } gen1_active_state;
 
-/* A side: its members, and what lasts only while one of them is out. */
+/* A side: its members, and what lasts only while a member is active. */
 typedef struct gen1_side_state {
-    gen1_member_state members[6]; /* by their places from 1 on */
-    gen1_active_state active;     /* of the member that is out */
+    gen1_member_state members[6]; /* the member at place p is members[p - 1] */
+    gen1_active_state active;     /* the active member */
 } gen1_side_state;
 
-/* All that the 384 bytes stand for (docs/LAYOUT.md). */
+/* All that the 384 bytes of a battle represent (docs/LAYOUT.md). */
 typedef struct gen1_state {
     gen1_side_state sides[2]; /* side 1 and side 2 */
-    uint16_t turn;            /* 0 before the first update, up to the limit */
+    uint16_t turn;            /* 0 before the first update, then 1 up to the limit */
     uint16_t limit;           /* the last turn, 1 to 9,999 */
-    uint16_t last_damage;     /* of either side, 0 to 65,535 */
+    uint16_t last_damage;     /* one number for both sides, 0 to 65,535 */
     uint8_t rules;            /* GEN1_SLEEP_CLAUSE and GEN1_FREEZE_CLAUSE, added up */
     uint8_t outcome;          /* GEN1_ONGOING to GEN1_FAULT_TWO */
     uint8_t requests[2];      /* GEN1_ASKED_NOTHING to GEN1_ASKED_SWITCH, of side 1 and side 2 */
-    uint8_t index;            /* which of the nine link numbers is drawn next, 0 to 8 */
-    uint8_t numbers[10];      /* the nine link numbers in use, and the tenth seed byte, which is never drawn */
+    uint8_t index;            /* the index of the link number that is drawn next, 0 to 8 */
+    uint8_t numbers[10];      /* the nine link numbers in use, then the tenth seed byte, which is never drawn */
 } gen1_state;
 
-/* Writes what the battle stands for to `*state`, all of it. */
+/* Writes the state that a battle's bytes represent to `*state`, every field of it. */
 void gen1_get_state(const gen1_battle *battle, gen1_state *state);
 
-/* What a byte chooses: GEN1_CHOICE_PASS, GEN1_CHOICE_MOVE or GEN1_CHOICE_SWITCH; GEN1_CHOICE_NONE if it is no choice. */
+/*
+ * Returns the kind of a choice: GEN1_CHOICE_PASS, GEN1_CHOICE_MOVE, GEN1_CHOICE_SWITCH, or GEN1_CHOICE_NONE if it isn't a
+ * choice.
+ */
 uint8_t gen1_choice_kind(uint8_t choice);
 
-/* The slot of a move (0 to 4) or the place of a member (1 to 6) that a byte chooses; 0 for GEN1_PASS and for no choice. */
+/* Returns the slot of a move, 0 to 4, or the place of a switch, 1 to 6; 0 for GEN1_PASS and for a byte that isn't a choice. */
 uint8_t gen1_choice_slot(uint8_t choice);
 
 /*
- * A choice of a side in words, as the battle stands: "pass", "move 2 Body Slam", "move 0" (what is left where no slot can be
- * chosen), "switch 3 Gengar". It need not be offered. At most 21 bytes. Answers 0, or the first of these that applies:
+ * Writes a choice of a side in words: "pass", "move 2 Body Slam", "move 0" (where no slot can be chosen), "switch 3 Gengar".
+ *
+ * The choice need not be offered. The words are at most 21 bytes, and are written as those of gen1_text. Returns 0, or the
+ * first of these codes that applies:
  */
 uint8_t gen1_choice_words(const gen1_battle *battle, uint8_t side, uint8_t choice, char *text, size_t room, size_t *length);
 
 enum {
     GEN1_WORDS_SIDE = 1,   /* the side is neither 1 nor 2 */
-    GEN1_WORDS_CHOICE = 2, /* the byte is no choice */
-    GEN1_WORDS_NOBODY = 3, /* there is no move in that slot, or no member at that place, or nobody is out yet */
+    GEN1_WORDS_CHOICE = 2, /* the byte is not a choice */
+    GEN1_WORDS_NOBODY = 3, /* that slot has no move, that place has no member, or no member is out yet */
     GEN1_WORDS_SMALL = 4   /* the words are longer than `room` */
 };
 
 /* ---- searching ---- */
 
 /*
- * Gives the battle other numbers to draw: ten bytes of seed, of which nine are drawn in turn, and the index of the one that is
- * drawn next, from 0 to 8 (docs/MECHANICS.md, "Link numbers"). Nothing else of the battle changes.
+ * Replaces the numbers that a battle draws; nothing else of the battle changes.
  *
- * A copy of a battle holds the numbers that the battle itself will draw: a search that plays out copies as they are sees what
- * will come, and no player does. So reseed each copy with bytes of your own before it is played out.
+ * `seed` is ten bytes with any values, of which nine are drawn in turn. `index`, 0 to 8, is that of the byte that is drawn next
+ * (docs/MECHANICS.md, "Link numbers").
  *
- * Answers 0, or GEN1_RESEED_INDEX if the index is above 8; then nothing has changed.
+ * A copy of a battle holds the numbers that the battle itself will draw. A search that plays such copies knows what will
+ * happen, which no player does. So reseed each copy with bytes of your own before you play it.
+ *
+ * Returns 0, or GEN1_RESEED_INDEX if `index` is above 8; then nothing has changed.
  */
 uint8_t gen1_reseed(gen1_battle *battle, const uint8_t seed[10], uint8_t index);
 
@@ -696,36 +768,43 @@ enum { GEN1_RESEED_INDEX = 1 };
 /* ---- rooms ---- */
 
 /*
- * A battle of two players who choose apart from each other (docs/MECHANICS.md, "Rooms"): the first choice is kept until the
- * other is there, and then the battle is updated. A room is yours, as a battle is, and may be copied and stored. Make `battle`
- * by gen1_new or gen1_load, and call gen1_room_begin; from then on let nothing but gen1_room_submit change it.
+ * A battle whose two players submit their choices separately (docs/MECHANICS.md, "Rooms"). The room keeps the first choice
+ * until the other one is submitted; then it updates the battle.
+ *
+ * The caller owns a room, and may copy and store it. To make one, set `battle` by gen1_new or gen1_load and call
+ * gen1_room_begin. From then on change it only by gen1_room_submit.
  */
 typedef struct gen1_room {
-    gen1_battle battle;         /* as it stands; before gen1_room_begin the battle that the room is made of */
-    uint32_t number;            /* the number of the current pair of choices: how many pairs have ended */
-    uint16_t log_length;        /* 0 to 512: how many bytes of `log` are those of the last update */
-    uint8_t chosen[2];          /* the choices of side 1 and side 2 for the current pair, GEN1_DUE where there is none yet; they are
-                                   not for players */
-    uint8_t log[GEN1_LOG_ROOM]; /* the log of the last pair that ended; before one has, of the battle's start, if that was here */
+    gen1_battle battle;         /* the battle as it is now; before gen1_room_begin, the one to make a room of */
+    uint32_t number;            /* the number of the current pair of choices, which is how many pairs have ended */
+    uint16_t log_length;        /* 0 to 512: how many bytes of `log` belong to the last update */
+    uint8_t chosen[2];          /* the choices of side 1 and side 2 for the current pair, GEN1_DUE if not submitted; never show
+                                   them to the players */
+    uint8_t log[GEN1_LOG_ROOM]; /* the log of the last pair that ended; before that, of the start, if the room played it */
 } gen1_room;
 
-#define GEN1_ROOM_SIZE 904 /* the size of a gen1_room, for languages that know no C; it lies at a multiple of 4 */
-#define GEN1_DUE 255       /* a choice that is not there yet */
+#define GEN1_ROOM_SIZE 904 /* the size of a gen1_room, for other languages; its alignment is 4 */
+#define GEN1_DUE 255       /* a choice that has not been submitted */
 
-/* Makes a room of the battle that stands in it. One that has not begun is started at once. */
+/* Makes a room of the battle in `room->battle`. If the battle is before its first update, that update is played at once. */
 void gen1_room_begin(gen1_room *room);
 
 /*
- * What a side may submit for the current pair, as gen1_choices tells it: nothing if its choice is there, or the battle is over.
- * A side of which nothing is asked has its GEN1_PASS there from the beginning. Answers how many, or GEN1_NO_SIDE.
+ * Lists the choices that a side may submit for the current pair, as gen1_choices does. There are none if its choice is
+ * submitted, or the battle is over. For a side that is asked nothing the room itself submits GEN1_PASS.
+ *
+ * Returns how many there are, 0 to 9, or GEN1_NO_SIDE.
  */
 uint8_t gen1_room_choices(const gen1_room *room, uint8_t side, uint8_t choices[9]);
 
 /*
- * A player's choice for the pair of this number. Answers 0 if it is taken; once both choices are there, the battle is updated,
- * `log` is that of the update, and `number` is one more. Otherwise it answers GEN1_NO_SIDE or the first of these that applies,
- * and nothing has changed. Until the pair has ended, no answer to either player tells which of the offered choices the other
- * has made.
+ * Submits a choice of a side for the pair with the given number.
+ *
+ * Returns 0 if the room takes the choice. Once both choices are there, the battle is updated, `log` becomes the log of the
+ * update, and `number` rises by one. Otherwise it returns GEN1_NO_SIDE or the first of the codes below that applies, and
+ * nothing has changed.
+ *
+ * Until the pair has ended, no result that either player gets depends on which of the offered choices the other one made.
  */
 uint8_t gen1_room_submit(gen1_room *room, uint8_t side, uint32_t number, uint8_t choice);
 
@@ -738,46 +817,52 @@ enum {
 
 /* ---- watching ---- */
 
-/* What shows of a member. */
+/* What a spectator sees of a member. */
 typedef struct gen1_shown_member {
-    uint16_t hp;    /* 0 to 999; before it first came out its maximum */
+    uint16_t hp;    /* 0 to 999; its maximum before it first came out */
     uint8_t status; /* GEN1_STATUS_NONE to GEN1_STATUS_PARALYSIS */
 } gen1_shown_member;
 
-/* What shows of a side. The lower members are of the one that is out. */
+/* What a spectator sees of a side. All fields from `stages` on belong to the active member. */
 typedef struct gen1_shown_side {
-    gen1_shown_member members[6]; /* by their places from 1 on */
+    gen1_shown_member members[6]; /* the member at place p is members[p - 1] */
     uint8_t count;                /* how many members there are, 1 to 6 */
-    uint8_t place;                /* which member is out, 1 to 6; 0 before the first came out */
-    uint8_t stages[6];            /* 0 to 12, of which 6 is the middle: Attack, Defense, Speed, Special, accuracy, evasion */
+    uint8_t place;                /* the place of the active member, 1 to 6; 0 before the first came out */
+    uint8_t stages[6];            /* 0 to 12, 6 if unchanged: Attack, Defense, Speed, Special, accuracy, evasion */
     uint8_t substitute;           /* 1 if it has a Substitute, else 0 */
     uint8_t confused;             /* 1 if it is confused, else 0 */
-    uint8_t light_screen;         /* 1 behind a Light Screen, else 0 */
-    uint8_t reflect;              /* 1 behind a Reflect, else 0 */
+    uint8_t light_screen;         /* 1 if Light Screen is up, else 0 */
+    uint8_t reflect;              /* 1 if Reflect is up, else 0 */
 } gen1_shown_side;
 
 /*
- * What a watcher knows who has both teams and the log of every update so far, and nothing else (docs/MECHANICS.md,
- * "Spectator's view"): neither seed nor choices nor counters. It is yours, as a battle is. The bytes in `held` are of an event
- * that has come in part.
+ * The view of a spectator, who knows both teams and the log of every update so far, and nothing else (docs/MECHANICS.md,
+ * "Spectator's view"). It contains no seed, no choices and no hidden counters.
+ *
+ * The caller owns it, as a battle. `held` keeps the bytes of an event that has been fed in part.
  */
 typedef struct gen1_spectator {
     gen1_shown_side sides[2]; /* side 1 and side 2 */
-    uint16_t turn;            /* 0 before the first, up to the limit */
+    uint16_t turn;            /* 0 before the first turn, then 1 up to the limit */
     uint8_t outcome;          /* GEN1_ONGOING to GEN1_FAULT_TWO */
-    uint8_t held_count;       /* 0 to 9: how many bytes are held */
+    uint8_t held_count;       /* 0 to 9: how many bytes of `held` are in use */
     uint8_t held[10];         /* the bytes */
 } gen1_spectator;
 
-#define GEN1_SPECTATOR_SIZE 86 /* the size of a gen1_spectator; it lies at a multiple of 2 */
+#define GEN1_SPECTATOR_SIZE 86 /* the size of a gen1_spectator, for other languages; its alignment is 2 */
 
-/* What is known before a battle of two teams. Answers 0, or a fault of a team as gen1_new does; then nothing has changed. */
+/*
+ * Sets a spectator to what is known before a battle of two teams. Returns 0, or the error of a team as gen1_new does; then
+ * nothing has changed.
+ */
 uint32_t gen1_spectator_begin(gen1_spectator *spectator, const gen1_team *one, const gen1_team *two);
 
 /*
- * Takes in the next bytes of the battle's log, which may be cut anywhere, within an event too: an event counts as soon as its
- * last byte is there. Answers 0; or GEN1_LOG_TAG or GEN1_LOG_FIELD where these bytes, behind those that are held, are no log.
- * Then nothing has changed: none of them is taken in.
+ * Feeds a spectator the next `count` bytes of the battle's log. The log may be cut anywhere, also within an event: an event
+ * counts as soon as its last byte is there.
+ *
+ * Returns 0; or GEN1_LOG_TAG or GEN1_LOG_FIELD if these bytes, after those that are held, are not part of a log. Then nothing
+ * has changed, and none of the bytes has been taken in.
  */
 uint8_t gen1_spectator_feed(gen1_spectator *spectator, const uint8_t *log, size_t count);
 
