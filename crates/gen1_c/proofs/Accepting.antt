@@ -12,7 +12,7 @@ use Rattle.gen1_layout.specs.Shows.{Telling}
 use Rattle.gen1_layout.specs.Within.{Stands}
 use Rattle.gen1_requests.specs.Updates.{Steps}
 
--- so many pairs were accepted from s, and the battle stands where they lead
+-- that many pairs were accepted from s, and the battle represents the state that they lead to
 pub record Accepts (s : State) (count : ℕ) (battle : Parts) : Type 0 where
   pub pairs : List (Choice × Choice)
   pub stands : Stands battle (run s pairs).state

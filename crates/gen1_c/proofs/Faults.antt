@@ -1,4 +1,4 @@
--- What a team of the C library is made of, and where it is at fault.
+-- What a team of the C library consists of, and where it is wrong.
 use Rattle.std.proofs.Common.{List, None, Some, [], ap, arith, false, get_or, length, map, nat_lt, refl, take, sym, ℕ, ◌≡◌, ◌≤◌, ◌∙◌, ◌∷◌}
 use Rattle.std.proofs.lemmas.Bool.Decides.{nat_tests}
 use Rattle.std.proofs.lemmas.List.{take-map}
@@ -9,7 +9,7 @@ use Rattle.gen1_c.specs.Teams.{fault_of, first_fault, given, sheet_of, sheets_of
 use Rattle.gen1_c.specs.declared.teams.MemberForm.{MemberForm}
 use Rattle.gen1_c.specs.declared.teams.TeamForm.{TeamForm}
 
--- six members that were made of six
+-- a list of six, mapped from six
 pub six : {A B : Type 0} (f : A → B) (xs : List A) (d : A) → length xs ≡ 6
     → map f xs ≡ f (get_or xs 0 d) ∷ f (get_or xs 1 d) ∷ f (get_or xs 2 d) ∷ f (get_or xs 3 d) ∷ f (get_or xs 4 d) ∷ f (get_or xs 5 d) ∷ []
 six f (a ∷ b ∷ c ∷ x ∷ y ∷ z ∷ []) d long = refl
@@ -21,7 +21,7 @@ six f (a ∷ b ∷ c ∷ []) d long = absurd (omega arith)
 six f (a ∷ b ∷ c ∷ x ∷ []) d long = absurd (omega arith)
 six f (a ∷ b ∷ c ∷ x ∷ y ∷ []) d long = absurd (omega arith)
 
--- the sheets of a team, of which six were made
+-- the members of a team, made of six structs
 pub sheets-of : (t : TeamForm) (d : MemberForm) (n : ℕ) (a b c x y z : Sheet) → length t.members ≡ 6 → n ≡ t.count
     → a ≡ sheet_of (get_or t.members 0 d) → b ≡ sheet_of (get_or t.members 1 d) → c ≡ sheet_of (get_or t.members 2 d)
     → x ≡ sheet_of (get_or t.members 3 d) → y ≡ sheet_of (get_or t.members 4 d) → z ≡ sheet_of (get_or t.members 5 d)
@@ -29,7 +29,7 @@ pub sheets-of : (t : TeamForm) (d : MemberForm) (n : ℕ) (a b c x y z : Sheet) 
 sheets-of t d n a b c x y z long count ea eb ec ex ey ez =
     rw (ea, eb, ec, ex, ey, ez, count) (ap (take t.count) (sym (six sheet_of t.members d long)) ∙ take-map sheet_of t.count t.members)
 
--- what is at fault with a team of at most six, whose numbers are all in their ranges
+-- the error of a team of at most six, whose numbers are all in their ranges
 
 pub fault-none : (t : TeamForm) → nat_lt 6 t.count ≡ false → first_fault 1 (given t) ≡ 0 → team_refusal (sheets_of t) ≡ None → team_fault t ≡ 0
 unfolding team_fault

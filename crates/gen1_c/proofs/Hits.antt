@@ -1,4 +1,4 @@
--- Damage numbers that are due, and a battle in which somebody is out.
+-- The expected damage numbers, and battles with active members.
 use Rattle.std.proofs.Common.{Bool, Err, List, None, Ok, Result, Some, arith, false, inl, inr, nat_le, refl, subst, sym, true, ℕ, ◌&&◌, ◌==◌, ◌≡◌, ◌⊎◌}
 use Rattle.std.proofs.lemmas.Bool.Decides.{nat_tests}
 use Rattle.gen1_machine.specs.declared.side.Side.{Side}
@@ -21,7 +21,7 @@ same_side One Two e = absurd (let f = e in cc)
 same_side Two One e = absurd (let f = e in cc)
 same_side Two Two e = refl
 
--- from turn 1 on both sides have a member out
+-- from turn 1 on both sides have an active member
 pub within_out : {p : Parts} {s : State} → Stands p s → (s.field.turn ≡ 0 → ⊥) → Within (setting_of s) p s.field
 within_out {p = p} {s = s} h out = by h.valid.field
   where
@@ -32,7 +32,7 @@ within_out {p = p} {s = s} h out = by h.valid.field
 pub not_zero : (n : ℕ) → (n ≡ 0 → ⊥) → (n == 0) ≡ false
 not_zero n apart = grind (arith, nat_tests)
 
--- what is due, case by case
+-- the expected result, case by case
 
 pub due_no_move : (side : Side) (id : ℕ) (critical : Bool) (f : Field) → (nat_le 1 id && nat_le id 165) ≡ false → damages_due side id critical f ≡ Err 2
 unfolding damages_due
@@ -58,6 +58,6 @@ pub due_divisor : (side : Side) (id : ℕ) (critical : Bool) (f : Field) → (na
 unfolding damages_due
 due_divisor side id critical f e usual apart is = rw (e, usual, not_zero f.turn apart, is) refl
 
--- and so it is told
+-- and so it is what is returned
 pub told : {due : Result (List ℕ) ℕ} (r : Result (List ℕ) ℕ) (old new : List ℕ) (code : ℕ) → due ≡ r → TellsDamages r old new code → TellsDamages due old new code
 told r old new code e h = subst (λ (d : Result (List ℕ) ℕ). TellsDamages d old new code) (sym e) h

@@ -1,4 +1,4 @@
--- Odds that are due, and a battle whose members have just been sent out.
+-- The expected odds, and a battle whose members have just been sent out.
 use Rattle.std.proofs.Common.{Err, Ok, Result, arith, false, nat_le, refl, subst, sym, true, ℕ, ◌&&◌, ◌==◌, ◌≡◌}
 use Rattle.gen1_machine.specs.declared.side.Side.{Side}
 use Rattle.gen1_machine.specs.declared.choice.Choice.TheVariants.{Pass}
@@ -33,7 +33,7 @@ due_odds side id f e apart = rw (e, not_zero f.turn apart) refl
 pub told_odds : {due : Result Odds ℕ} (r : Result Odds ℕ) (old new : Odds) (code : ℕ) → due ≡ r → TellsOdds r old new code → TellsOdds due old new code
 told_odds r old new code e h = subst (λ (d : Result Odds ℕ). TellsOdds d old new code) (sym e) h
 
--- the first update of a battle is accepted, and then somebody is out
+-- the first update of a battle is accepted, and then there are active members
 
 pub sends : (s : State) (old new : Parts) (result : Result BattleResult Refusal) → Stands old s → (s.field.turn == 0) ≡ true
     → Answers s Pass Pass old new result → Stands new (step s Pass Pass).state

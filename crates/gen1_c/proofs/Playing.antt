@@ -1,4 +1,4 @@
--- A battle that is played by choices at random, update by update.
+-- A battle that is played by random choices, update by update.
 use Rattle.std.proofs.Common.{List, ap, arith, refl, sym, subst, suc, true, false, zero, ℕ, length, ◌+◌, ◌-◌, ◌/◌, ◌%◌, ◌^◌, ◌∙◌, ◌≡◌, ◌≤◌}
 use Rattle.std.proofs.Math.Nat.{mod-lt}
 use Rattle.gen1_rolls.specs.Streams.{iterate}
@@ -21,7 +21,7 @@ use Rattle.gen1_requests.proofs.MaskChoices.{offered_chosen}
 use Rattle.gen1_c.specs.Playouts.{IsDrawn, Playout, next_state, play_on, played}
 use Rattle.gen1_c.proofs.Offers.{among-at, offers-some}
 
--- what is drawn of the mask of a battle that goes on is drawn among what is offered, and so it is offered
+-- a choice drawn from the mask of a battle that goes on is drawn among the offered choices, and so is offered
 
 pub drawn-offered : (side : Side) (t : State) (mask old : ℕ) {new : ℕ} {choice : Choice} → IsState t → is_over t.field.outcome ≡ false
     → mask ≡ offered_mask t side → (1 ≤ length (choices_in mask) → IsDrawn old (choices_in mask) choice new)
@@ -46,7 +46,7 @@ goes-on : (p : Playout) {middle random : ℕ} {one two : Choice} → is_over p.b
 unfolding play_on
 goes-on p going first second = rw (going, second.0, second.1, first.0, first.1) refl
 
--- a battle stands where so many updates lead, and so does the generator
+-- a battle represents the state that so many updates lead to, and the generator has the state after them
 pub record PlaysOn (s : State) (seed updates : ℕ) (battle : Parts) (random : ℕ) : Type 0 where
   pub stands : Stands battle (played updates s seed).battle
   pub drawn : random ≡ (played updates s seed).random
@@ -69,7 +69,7 @@ plays_on-more {s = s} {seed = seed} {updates = updates} {new = new} {middle = mi
       drawn = sym (ap (λ (q : Playout). q.random) next);
     }
 
--- a battle that is over is played no further
+-- a battle that is over is not played on
 
 stays-once : (p : Playout) → is_over p.battle.field.outcome ≡ true → play_on p ≡ p
 unfolding play_on

@@ -8,7 +8,7 @@ use Rattle.gen1_layout.specs.Within.{Stands}
 use Rattle.gen1_layout.proofs.Numbers.{numbers_are}
 use Rattle.gen1_c.specs.View.{state_of}
 
--- the header of a battle that stands for a state
+-- the header of a battle that represents a state
 pub header_of : {p : Parts} {s : State} → Stands p s → p.header ≡ header_block s
 header_of h = ap (λ (q : Parts). q.header) h.same
 
@@ -19,7 +19,7 @@ pub ring_numbers : (s : State) → length s.seed ≡ 10 → (ring_at s.seed s.dr
     ∷ number_at s.seed s.drawn 8 ∷ slice_index s.seed 9 ∷ []
 ring_numbers s ten = numbers_are s.seed s.drawn ten
 
--- the state as it is viewed, with those numbers
+-- the state as it is written out, with those numbers
 pub viewed : (s : State) → length s.seed ≡ 10 → record (state_of s) {
   numbers = number_at s.seed s.drawn 0 ∷ number_at s.seed s.drawn 1 ∷ number_at s.seed s.drawn 2 ∷ number_at s.seed s.drawn 3
       ∷ number_at s.seed s.drawn 4 ∷ number_at s.seed s.drawn 5 ∷ number_at s.seed s.drawn 6 ∷ number_at s.seed s.drawn 7

@@ -1,4 +1,4 @@
--- Texts that are due, and so are written.
+-- Texts that are expected, and so are written.
 use Rattle.std.proofs.Common.{Bool, Err, List, None, Ok, Option, Result, Some, ap, codes, false, if◌then◌else◌, nat_le, ok_or, option_map, refl, subst, sym, true, ℕ, ◌&&◌, ◌++◌, ◌+◌, ◌≡◌, ◌∙◌, ◌∷◌}
 use Rattle.std.specs.List.{slice_get}
 use Rattle.gen1_tables.specs.Names.{move_name, species_name}
@@ -9,7 +9,7 @@ use Rattle.gen1_c.proofs.Hits.{not_zero}
 use Rattle.gen1_c.specs.Fronts.{Room, Writes}
 use Rattle.gen1_c.specs.Names.{Tells, numbered}
 
--- what is due is written, or it is said why not
+-- the expected text is written, or the code says why not
 pub written : (small : ℕ) {due : Result (List ℕ) ℕ} {text : List ℕ} (old new : Room) (code : ℕ) → due ≡ Ok text
     → Writes small (Ok text) old new code → Writes small due old new code
 written small old new code e h = subst (λ (due : Result (List ℕ) ℕ). Writes small due old new code) (sym e) h
@@ -17,7 +17,7 @@ written small old new code e h = subst (λ (due : Result (List ℕ) ℕ). Writes
 pub refused : (small : ℕ) {due : Result (List ℕ) ℕ} {why : ℕ} (old : Room) → due ≡ Err why → Writes small due old old why
 refused small {why = why} old e = subst (λ (due : Result (List ℕ) ℕ). Writes small due old old why) (sym e) (refl, refl)
 
--- a test that let nothing through
+-- a test that nothing passed
 pub none_through : {A : Type 0} (test : Bool) (x : A) → (if test then Some x else None) ≡ None → test ≡ false
 none_through true x e = absurd (let f = e in cc)
 none_through false x e = refl
@@ -30,7 +30,7 @@ in_range last number it e = rw e refl
 pub out_of_range : {A : Type 0} (last number : ℕ) (it : A) → (nat_le 1 number && nat_le number last) ≡ false → numbered last number it ≡ Err 1
 out_of_range last number it e = rw e refl
 
--- a row that is due is told
+-- an expected row is written
 
 pub row_told : {A : Type 0} {due : Result A ℕ} (old : A) {new : A} → due ≡ Ok new → Tells due old new 0
 row_told {A = A} old {new = new} e = subst (λ (due : Result A ℕ). Tells due old new 0) (sym e) (refl, refl)
@@ -38,7 +38,7 @@ row_told {A = A} old {new = new} e = subst (λ (due : Result A ℕ). Tells due o
 pub row_kept : {A : Type 0} {due : Result A ℕ} (old : A) → due ≡ Err 1 → Tells due old old 1
 row_kept {A = A} old e = subst (λ (due : Result A ℕ). Tells due old old 1) (sym e) (refl, refl)
 
--- a text of a list, by its place
+-- a text of a list, by its index
 
 pub got_some : {A : Type 0} (view : A → List ℕ) {o : Option A} (list : List (List ℕ)) (k : ℕ) {x : A} → option_map view o ≡ slice_get list k → o ≡ Some x
     → ok_or {E = ℕ} (slice_get list k) 1 ≡ Ok (view x)

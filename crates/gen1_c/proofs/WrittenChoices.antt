@@ -1,4 +1,4 @@
--- Choices that are written one behind the other to the front of a caller's nine bytes.
+-- Choices that are written one after the other to the beginning of a caller's nine bytes.
 use Rattle.std.proofs.Common.{Bool, List, [], ap, append-nil, append_assoc, arith, drop, false, get_or, inl, inr, length, length-append, map, refl, set, subst, sym, true, ℕ, ◌%◌, ◌++◌, ◌+◌, ◌/◌, ◌<◌, ◌==◌, ◌≡◌, ◌≤◌, ◌⊎◌, ◌∙◌, ◌∷◌}
 use Rattle.std.specs.Prelude.{if◌then◌else◌}
 use Rattle.std.proofs.lemmas.List.{drop_more, get_or-map, length-map, map-append}
@@ -13,7 +13,7 @@ use Rattle.gen1_requests.proofs.OfferedSet.{other_number}
 use Rattle.gen1_c.specs.Choices.{IsWritten}
 use Rattle.gen1_c.specs.Update.{Offers}
 
--- one byte more at the front
+-- one more byte
 pub front_more : (done base now : List ℕ) (count byte : ℕ) → IsWritten done base now count → length done < length base
     → IsWritten (done ++ (byte ∷ [])) base (set now count byte) (count + 1)
 front_more done base now count byte is inside =
@@ -27,7 +27,7 @@ front_more done base now count byte is inside =
           ∙ ap (λ (n : ℕ). (done ++ (byte ∷ [])) ++ drop n base) (sym long),
     )
 
--- none more
+-- no more bytes
 pub front_same : (done base now : List ℕ) (count : ℕ) → IsWritten done base now count → IsWritten (done ++ []) base now count
 front_same done base now count is = subst (λ (l : List ℕ). IsWritten l base now count) (sym (append-nil done)) is
 
@@ -37,7 +37,7 @@ twelve_bytes = 0x00 ∷ 0x10 ∷ 0x11 ∷ 0x12 ∷ 0x13 ∷ 0x14 ∷ 0x21 ∷ 0x
 byte_at : (digit : ℕ) → digit < 12 → get_or twelve_bytes digit 0 ≡ byte_of_choice (get_or all_choices digit choices.Pass)
 byte_at digit inside = get_or-map byte_of_choice all_choices digit choices.Pass 0 inside
 
--- what is written where the digits from one on are still to come: more choices, behind those that were done
+-- what is written while the digits from one on are still to come: more choices, after those that are done
 pub record SoFar (base : List ℕ) (done : List Choice) (mask from rest digit : ℕ) (now : List ℕ) (count : ℕ) : Type 0 where
   pub more : List Choice
   pub splits : chosen_by mask (drop from all_choices) ≡ more ++ chosen_by rest (drop digit all_choices)
@@ -57,7 +57,7 @@ one_byte holds byte = if holds then byte ∷ [] else []
 parity : (m : ℕ) → (m % 2 ≡ 1) ⊎ (m % 2 ≡ 0)
 parity m = grind arith
 
--- a digit more
+-- one more digit
 pub so_far-more : (base : List ℕ) (done : List Choice) (mask from rest digit : ℕ) (now new : List ℕ) (count next : ℕ)
     → SoFar base done mask from rest digit now count → digit < 12 → length base ≡ 9 → length (done ++ chosen_by mask (drop from all_choices)) ≤ 9
     → ((base' done' : List ℕ) → IsWritten done' base' now count → length base' ≡ 9 → length (done' ++ one_byte (rest % 2 == 1) (get_or twelve_bytes digit 0)) ≤ 9
@@ -124,7 +124,7 @@ four_first mask is =
     ∙ ap (λ (l : List Choice). choices.Move 3 ∷ l) (chosen-odd m5 (choices.Move 4) (drop 6 all_choices) (omega (arith, is))
     ∙ ap (λ (n : ℕ). choices.Move 4 ∷ chosen_by n (drop 6 all_choices)) whole)))
 
--- four bytes at the front of nine
+-- four bytes at the beginning of nine
 pub four_written : (base : List ℕ) → length base ≡ 9
     → IsWritten (map byte_of_choice four) base (set (set (set (set base 0 0x11) 1 0x12) 2 0x13) 3 0x14) 4
 four_written [] nine = absurd (omega arith)

@@ -1,4 +1,4 @@
--- The bytes of choices taken apart, and in words (include/gen1.h, "looking"; docs/MECHANICS.md, "Offered choices").
+-- Choices as bytes, taken apart and in words (include/gen1.h, "looking"; docs/MECHANICS.md, "Offered choices").
 use Rattle.std.specs.Prelude.{Err, List, None, Ok, Option, Result, Some, codes, if◌then◌else◌, length, nat_le, ℕ, ◌&&◌, ◌++◌, ◌+◌, ◌==◌, ◌≡◌, ◌∷◌}
 use Rattle.gen1_tables.specs.Names.{move_name, species_name}
 use Rattle.gen1_machine.specs.declared.choice.Choice.{Choice}
@@ -19,12 +19,12 @@ slot_of_choice (Some Pass) = 0
 slot_of_choice (Some (Move slot)) = slot
 slot_of_choice (Some (Switch place)) = place
 
--- a word, a digit and a name; the code 3 where the number is none that has a name
+-- a word, a digit and a name; the code 3 if the number has no name
 abbrev pub named : List ℕ → ℕ → ℕ → ℕ → List ℕ → Result (List ℕ) ℕ
 named word digit last number name =
     if nat_le 1 number && nat_le number last then Ok ((word ++ ((48 + digit) ∷ codes " ")) ++ name) else Err 3
 
--- before the first update nobody is out, and has moves to choose from
+-- before the first update no member is out, so there are no moves
 abbrev pub move_words : Side → ℕ → Field → Result (List ℕ) ℕ
 move_words side slot f =
     if slot == 0 then Ok (codes "move 0")
@@ -41,6 +41,6 @@ words_due side (Some Pass) f = Ok (codes "pass")
 words_due side (Some (Move slot)) f = move_words side slot f
 words_due side (Some (Switch place)) f = switch_words side place f
 
--- so many bytes stand at the front of others, which keep what stands behind
+-- these bytes are at the beginning of others, whose rest is as it was
 abbrev pub IsWritten : List ℕ → List ℕ → List ℕ → ℕ → Type 0
 IsWritten done base now count = (count ≡ length done) × (now ≡ over_front done base)

@@ -1,4 +1,4 @@
--- The damage of a hit as a battle stands, and why there is none (include/gen1.h, "calculating").
+-- The damage of a hit in the present state of a battle, and why there is none (include/gen1.h, "calculating").
 use Rattle.std.specs.Prelude.{Bool, Err, List, Ok, Result, if◌then◌else◌, nat_le, ok_or, ℕ, ◌&&◌, ◌==◌, ◌≡◌}
 use Rattle.gen1_machine.specs.declared.side.Side.{Side}
 use Rattle.gen1_machine.specs.Damage.{numbers_in}
@@ -7,7 +7,7 @@ use Rattle.gen1_machine.specs.State.{Field}
 use Rattle.gen1_hits.specs.Factors.{damages}
 use Rattle.gen1_hits.specs.UsualDamage.{has_usual_damage}
 
--- the damage at each factor from 217 to 255; or a code: no move, no usual damage, nobody is out, a divisor of 0
+-- the damage at each factor from 217 to 255; or a code: not a move, no usual damage, no active member yet, a divisor of 0
 unfoldable pub damages_due : Side → ℕ → Bool → Field → Result (List ℕ) ℕ
 damages_due side id critical f =
     if nat_le 1 id && nat_le id 165

@@ -1,21 +1,21 @@
--- What is written to the front of a caller's memory (include/gen1.h, "playing", "telling", "naming").
+-- What is written to the beginning of a caller's memory (include/gen1.h, "playing", "telling", "naming").
 use Rattle.std.specs.Prelude.{Bool, Err, List, Ok, Result, drop, false, length, nat_le, true, ℕ, ◌++◌, ◌≡◌}
 
--- these at the front, and behind them what stood there
+-- these at the beginning, and after them what was there
 abbrev pub over_front : {A : Type 0} → List A → List A → List A
 over_front front old = front ++ drop (length front) old
 
--- a caller's room for a text, and where the caller wants its length
+-- a caller's buffer for a text, and where its length is to be written
 pub record Room : Type 0 where
   pub bytes : List ℕ
   pub count : ℕ
 
--- by whether the text fits: it stands at the front and its length is told, or the room is as it was
+-- if the text fits it is at the beginning and its length is written; otherwise the buffer is as it was
 abbrev pub WritesIf : Bool → ℕ → List ℕ → Room → Room → ℕ → Type 0
 WritesIf true small text old new code = (code ≡ 0) × (new ≡ record { bytes = over_front text old.bytes; count = length text })
 WritesIf false small text old new code = (code ≡ small) × (new ≡ old)
 
--- a text is written where it fits, else the code is `small`; or there is none and it is said why
+-- a text is written if it fits, and otherwise the code is `small`; or the code says why there is none
 abbrev pub Writes : ℕ → Result (List ℕ) ℕ → Room → Room → ℕ → Type 0
 Writes small (Ok text) old new code = WritesIf (nat_le (length text) (length old.bytes)) small text old new code
 Writes small (Err why) old new code = (code ≡ why) × (new ≡ old)

@@ -1,10 +1,10 @@
--- What is written to the front of a caller's memory.
+-- What is written to the beginning of a caller's memory.
 pub mod Fronts
 -- Teams as plain structs.
 pub mod Teams
 -- How a battle begins.
 pub mod Battle
--- What updates answer, and what is offered.
+-- What updates return, and what is offered.
 pub mod Update
 -- Events as plain structs.
 pub mod Events
@@ -16,13 +16,13 @@ pub mod Damage
 pub mod Batches
 -- How playouts end.
 pub mod Playouts
--- Teams out of text.
+-- Teams read from text.
 pub mod TeamText
--- Names, and what the tables say.
+-- Names, and rows of the tables.
 pub mod Names
 -- Codes in words.
 pub mod Texts
--- What the bytes of a battle stand for.
+-- The state that a battle's bytes represent.
 pub mod View
 -- The bytes of choices.
 pub mod Choices

@@ -1,4 +1,4 @@
--- Names of species, moves and types, and what the tables say of each (include/gen1.h, "naming"; docs/TABLES.md).
+-- Names of species, moves and types, and their rows of the tables (include/gen1.h, "naming"; docs/TABLES.md).
 use Rattle.std.specs.Prelude.{Err, List, Ok, Result, [], codes, if◌then◌else◌, map, nat_le, ok_or, ℕ, ◌&&◌, ◌*◌, ◌/◌, ◌≡◌, ◌∷◌}
 use Rattle.std.specs.List.{slice_get}
 use Rattle.gen1_tables.specs.Moves.{move_row}
@@ -8,7 +8,7 @@ use Rattle.gen1_tables.specs.Types.{number_of}
 use Rattle.gen1_c.specs.declared.names.BaseForm.{BaseForm}
 use Rattle.gen1_c.specs.declared.names.MoveForm.{MoveForm}
 
--- what there is of a number from 1 up to the last; for any other the code 1
+-- the value for a number from 1 up to the last; the code 1 for any other
 abbrev pub numbered : {A : Type 0} → ℕ → ℕ → A → Result A ℕ
 numbered last number it = if nat_le 1 number && nat_le number last then Ok it else Err 1
 
@@ -48,7 +48,7 @@ row_of_move id = record {
 abbrev pub move_due : ℕ → Result MoveForm ℕ
 move_due number = numbered 165 number (row_of_move number)
 
--- a row is written; or there is none and it is said why
+-- a row is written; or there is none, and the code says why
 abbrev pub Tells : {A : Type 0} → Result A ℕ → A → A → ℕ → Type 0
 Tells (Ok row) old new code = (code ≡ 0) × (new ≡ row)
 Tells (Err why) old new code = (code ≡ why) × (new ≡ old)

@@ -1,4 +1,4 @@
--- Battles played to their end by choices at random, and how they end (include/gen1.h, "many battles").
+-- Battles played to their end by random choices, and how they end (include/gen1.h, "many battles").
 use Rattle.std.specs.Prelude.{Err, List, Ok, Result, [], if◌then◌else◌, length, slice_index_or, true, ℕ, ◌%◌, ◌*◌, ◌+◌, ◌/◌, ◌^◌, ◌≡◌, ◌∷◌}
 use Rattle.std.specs.List.{AllByRecursion}
 use Rattle.gen1_rolls.specs.Streams.{iterate}
@@ -16,24 +16,24 @@ use Rattle.gen1_layout.specs.Within.{Stands}
 use Rattle.gen1_layout.specs.declared.loading.LoadFault.{LoadFault}
 use Rattle.gen1_c.specs.declared.playouts.PlayoutCounts.{PlayoutCounts}
 
--- a battle that is played by choices at random, and the state of the generator that they are drawn from
+-- a battle that is played by random choices, and the state of their generator
 pub record Playout : Type 0 where
   pub battle : State
   pub random : ℕ
 
--- what a draw leaves of that state: Knuth's multiplier and increment
+-- the generator's next state: Knuth's multiplier and increment
 abbrev pub next_state : ℕ → ℕ
 next_state state = (state * 6364136223846793005 % 2 ^ 64 + 1442695040888963407) % 2 ^ 64
 
--- of these choices the one at the place that was drawn: the upper 32 bits, modulo how many choices there are
+-- the choice at the index that is drawn: the upper 32 bits, modulo the number of choices
 abbrev pub choice_by : ℕ → List Choice → Choice
 choice_by state choices = slice_index_or choices (state / 2 ^ 32 % length choices) Pass
 
--- this one was drawn, which leaves that state
+-- this choice was drawn, and that is the next state
 abbrev pub IsDrawn : ℕ → List Choice → Choice → ℕ → Type 0
 IsDrawn old choices choice new = (choice ≡ choice_by (next_state old) choices) × (new ≡ next_state old)
 
--- each side draws among what it is offered, side 1 first; a battle that is over stays as it is
+-- each side draws among its offered choices, side 1 first; a battle that is over does not change
 unfoldable pub play_on : Playout → Playout
 play_on p =
     let field = p.battle.field in
@@ -42,7 +42,7 @@ play_on p =
     if is_over field.outcome then p
     else record { battle = (step p.battle (choice_by one (offered One field)) (choice_by two (offered Two field))).state; random = two }
 
--- so many updates, from a seed
+-- that many updates, from a seed
 abbrev pub played : ℕ → State → ℕ → Playout
 played updates s seed = iterate updates play_on (record { battle = s; random = seed })
 
@@ -50,11 +50,11 @@ played updates s seed = iterate updates play_on (record { battle = s; random = s
 abbrev pub played_out : State → ℕ → Playout
 played_out s seed = played (s.terms.limit + 11) s seed
 
--- a copy of s ends so, and its choices leave that state
+-- a copy of s ends like this, and its choices leave that state of the generator
 abbrev pub IsPlayedOut : State → ℕ → Outcome → ℕ → Type 0
 IsPlayedOut s seed end random = (end ≡ (played_out s seed).battle.field.outcome) × (random ≡ (played_out s seed).random)
 
--- a run of the machine from s ends so
+-- a run of the machine from s ends like this
 pub record EndsAs (s : State) (end : Outcome) : Type 0 where
   pub pairs : List (Choice × Choice)
   pub tells : end ≡ (run s pairs).state.field.outcome
@@ -78,7 +78,7 @@ abbrev pub counts_of : List Outcome → PlayoutCounts
 counts_of [] = no_counts
 counts_of (end ∷ ends) = counting end (counts_of ends)
 
--- playouts of the same battle, one after the other, and the state of the generator behind the last
+-- playouts of the same battle, one after the other, and the state of the generator after the last
 pub record Tally : Type 0 where
   pub counts : PlayoutCounts
   pub random : ℕ
@@ -91,7 +91,7 @@ one_more s t =
 abbrev pub tally : State → ℕ → ℕ → Tally
 tally s seed rounds = iterate rounds (one_more s) (record { counts = no_counts; random = seed })
 
--- these are the counts of so many playouts, each of which ends as a run from s does that is over
+-- these are the counts of that many playouts, each of which ends as some finished run from s does
 pub record PlaysOut (s : State) (seed rounds : ℕ) (counts : PlayoutCounts) : Type 0 where
   pub exact : counts ≡ (tally s seed rounds).counts
   pub ends : List Outcome
@@ -99,8 +99,8 @@ pub record PlaysOut (s : State) (seed rounds : ℕ) (counts : PlayoutCounts) : T
   pub many : length ends ≡ rounds
   pub counted : counts ≡ counts_of ends
 
--- The bytes are loaded, and the counts are those of playouts from each state that the loaded battle stands for; or the first test
--- that they fail is told, and the counts stay.
+-- The bytes are loaded, and the counts are those of playouts from each state that the loaded battle represents; or the code is the
+-- first test that they fail, and the counts are as they were.
 abbrev pub PlaysAs : Result Parts LoadFault → ℕ → ℕ → PlayoutCounts → PlayoutCounts → ℕ → Type 0
 PlaysAs (Ok loaded) seed rounds old new code = (code ≡ 0) × ((s : State) → Stands loaded s → PlaysOut s seed rounds new)
 PlaysAs (Err fault) seed rounds old new code = (code ≡ number_of fault) × (new ≡ old)

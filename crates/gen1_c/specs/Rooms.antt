@@ -2,7 +2,7 @@
 use Rattle.std.specs.Prelude.{ℕ}
 use Rattle.gen1_machine.specs.Room.{Advanced, AlreadyChosen, ChoiceNotOffered, Reply, RoomOver, Stale, TurnedAway, Waiting}
 
--- 0 for a choice that is taken, whether a pair has ended by it or not; else why it is refused
+-- 0 for a choice that the room takes, whether it ends the pair or not; otherwise the number of the refusal
 abbrev pub reply_code : Reply → ℕ
 reply_code Waiting = 0
 reply_code (Advanced outcome one two) = 0

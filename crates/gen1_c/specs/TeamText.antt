@@ -1,4 +1,4 @@
--- Teams out of text as plain structs, and where a text is at fault (include/gen1.h, "teams out of text"; docs/TEAM_TEXT.md).
+-- Teams read from text into plain structs, and where a text is wrong (include/gen1.h, "teams out of text"; docs/TEAM_TEXT.md).
 use Rattle.std.specs.Prelude.{Err, List, None, Ok, Result, Some, [], length, map, replicate, slice_index_or, ℕ, ◌≡◌, ◌∷◌}
 use Rattle.gen1_stats.specs.Refusals.{number_of as rule_of, place_of}
 use Rattle.gen1_stats.specs.Sheets.{Sheet}
@@ -14,7 +14,7 @@ use Rattle.gen1_c.specs.declared.team_text.TextFaultForm.{TextFaultForm}
 use Rattle.gen1_c.specs.declared.teams.MemberForm.{MemberForm}
 use Rattle.gen1_c.specs.declared.teams.TeamForm.{TeamForm}
 
--- faults
+-- errors
 
 abbrev pub expected : ℕ → TextFaultForm
 expected code = record { line = 0; member = 0; field = 0; code = code; rule = 0 }
@@ -46,7 +46,7 @@ of_packed (packed.Field member field fault) = record (expected (code_of fault)) 
 of_packed packed.SeventhMember = expected 3
 of_packed (packed.Team refusal) = of_team refusal
 
--- the struct: zeros behind the last move, and behind the last member
+-- the struct, with zeros after the last move and after the last member
 
 abbrev pub move_at : List (ℕ × ℕ) → ℕ → ℕ × ℕ
 move_at moves k = slice_index_or moves k (0, 0)
@@ -73,7 +73,7 @@ form_of sheets = record {
   count = length sheets;
 }
 
--- what is due: the sheets that are told, if they are a team, or the first fault
+-- the members that the text describes, if they are a team, or the first error
 
 abbrev pub team_due : List Sheet → Result (List Sheet) TextFaultForm
 team_due sheets = elim (team_refusal sheets) [ None ↦ Ok sheets | Some refusal ↦ Err (of_team refusal) ]
@@ -86,12 +86,12 @@ abbrev pub packed_due : Result (List Sheet) PackedFault → Result (List Sheet) 
 packed_due (Ok sheets) = team_due sheets
 packed_due (Err fault) = Err (of_packed fault)
 
--- what a caller lends: the team and the fault
+-- the caller's memory: the team and the error
 pub record Lent : Type 0 where
   pub team : TeamForm
   pub fault : TextFaultForm
 
--- the team is put there, and the fault stays; or the fault is told, and the team stays
+-- the team is written, and the error is as it was; or the error is written, and the team is as it was
 abbrev pub TellsTeam : Result (List Sheet) TextFaultForm → Lent → Lent → ℕ → Type 0
 TellsTeam (Ok sheets) old new code = (code ≡ 0) × (new ≡ record { team = form_of sheets; fault = old.fault })
 TellsTeam (Err why) old new code = (code ≡ why.code) × (new ≡ record { team = old.team; fault = why })

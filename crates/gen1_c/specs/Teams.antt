@@ -1,4 +1,4 @@
--- The team that a plain struct asks for, and why it is none (include/gen1.h, "beginning").
+-- The team that a plain struct describes, and why it is not one (include/gen1.h, "beginning").
 use Rattle.std.specs.Prelude.{List, None, Option, Some, [], if◌then◌else◌, map, nat_le, nat_lt, slice_index, take, ℕ, ◌&&◌, ◌*◌, ◌++◌, ◌+◌, ◌==◌, ◌∷◌}
 use Rattle.std.specs.List.{list_any}
 use Rattle.gen1_stats.specs.Refusals.{number_of, place_of}
@@ -9,9 +9,9 @@ use Rattle.gen1_stats.specs.declared.refusal.TeamRefusal.TheVariants.{TooMany}
 use Rattle.gen1_c.specs.declared.teams.MemberForm.{MemberForm}
 use Rattle.gen1_c.specs.declared.teams.TeamForm.{TeamForm}
 
--- what is asked for
+-- what is described
 
--- a move with its PP ups, where the number is a move's
+-- a move with its PP ups, if the number is a move
 abbrev pub chosen : ℕ → ℕ → List (ℕ × ℕ)
 chosen id ups = if nat_le 1 id && nat_le id 165 then (id, ups) ∷ [] else []
 
@@ -30,16 +30,16 @@ sheet_of m = record {
   moves = ((chosen_at 0 m ++ chosen_at 1 m) ++ chosen_at 2 m) ++ chosen_at 3 m;
 }
 
--- the members that are looked at
+-- the members that count
 abbrev pub given : TeamForm → List MemberForm
 given t = take t.count t.members
 
 abbrev pub sheets_of : TeamForm → List Sheet
 sheets_of t = map sheet_of (given t)
 
--- what is at fault, as a code and 256 for each place up to that of the member; 0 where nothing is
+-- the error: its code, plus 256 times the place of the member; 0 if there is none
 
--- numbers that are no species' or no move's
+-- numbers that are not a species, or not a move
 abbrev pub member_fault : MemberForm → ℕ
 member_fault m =
     if nat_le 1 m.species && nat_le m.species 151

@@ -2,7 +2,7 @@
 use Rattle.std.specs.Prelude.{List, Result, [], codes, ok_or, slice_index_or, ℕ, ◌∷◌}
 use Rattle.std.specs.List.{slice_get}
 
--- the sentences of each call, by its codes from 0 on
+-- the sentences of each function, by its codes from 0 on
 
 abbrev pub new_sentences : List (List ℕ)
 new_sentences =
@@ -94,11 +94,11 @@ room_sentences =
     codes "the choice is not offered to the side" ∷
     []
 
--- by the number of the call
+-- by the number of the function
 abbrev pub sentences : ℕ → List (List ℕ)
 sentences about =
     slice_index_or ([] ∷ new_sentences ∷ load_sentences ∷ update_sentences ∷ log_sentences ∷ damage_sentences ∷ name_sentences ∷ choice_sentences ∷ reseed_sentences ∷ room_sentences ∷ []) about []
 
--- the sentence of a code; where there is none the code 1
+-- the sentence of a code; the code 1 if there is none
 abbrev pub sentence_due : ℕ → ℕ → Result (List ℕ) ℕ
 sentence_due about code = ok_or (slice_get (sentences about) code) 1

@@ -1,4 +1,4 @@
--- What is offered, what an update answers and leaves, and how a battle stands (include/gen1.h, "playing").
+-- What is offered, what an update returns and leaves, and the result of a battle (include/gen1.h, "playing").
 use Rattle.std.specs.Prelude.{Bool, List, [], length, map, nat_lt, ℕ, ◌&&◌, ◌*◌, ◌+◌, ◌≡◌, ◌≢◌, ◌∷◌}
 use Rattle.gen1_machine.specs.declared.choice.Choice.{Choice}
 use Rattle.gen1_machine.specs.declared.event.Event.{Event}
@@ -19,26 +19,26 @@ use Rattle.gen1_c.specs.Fronts.{over_front}
 abbrev pub IsNoSide : ℕ → Type 0
 IsNoSide number = (side : Side) → number ≢ side_number side
 
--- the bytes of these choices stand at the front, and their number is told
+-- the bytes of these choices are at the beginning, and their number is returned
 abbrev pub Offers : List Choice → List ℕ → List ℕ → ℕ → Type 0
 Offers choices old new count = (count ≡ length choices) × (new ≡ over_front (map byte_of_choice choices) old)
 
--- room for a log, but not for every log
+-- a buffer for a log, but too small for some logs
 abbrev pub has_small_log : List ℕ → Bool
 has_small_log log = nat_lt 0 (length log) && nat_lt (length log) 512
 
--- the log of events stands at the front of the room, where there is any, and its length is told
+-- the log of the events is at the beginning of the buffer, if there is one, and its length is written
 abbrev pub Logs : List Event → List ℕ → List ℕ → ℕ → Type 0
 Logs events [] new count = (new ≡ []) × (count ≡ 0)
 Logs events (first ∷ rest) new count = (log : List ℕ) × IsReading log events × (new ≡ over_front log (first ∷ rest)) × (count ≡ length log)
 
--- what a caller of an update holds: the battle, the room for the log, and the log's length
+-- the memory of an update: the battle, the buffer for the log, and the log's length
 pub record Held : Type 0 where
   pub battle : Parts
   pub log : List ℕ
   pub count : ℕ
 
--- a refused pair is told by its number, and nothing changes; after an accepted one the bytes stand for the next state
+-- after a refused pair its number is returned, and nothing has changed; after an accepted one the bytes represent the next state
 abbrev pub UpdatesAs : Answer → State → Held → Held → ℕ → Type 0
 UpdatesAs (Refused why) next old new code = (code ≡ refusal_number (refusal_of why)) × (new ≡ old)
 UpdatesAs (Accepted events) next old new code = (code ≡ 0) × Stands new.battle next × Logs events old.log new.log new.count
@@ -46,10 +46,10 @@ UpdatesAs (Accepted events) next old new code = (code ≡ 0) × Stands new.battl
 abbrev pub Updates : State → ℕ × ℕ → Held → Held → ℕ → Type 0
 Updates s bytes = UpdatesAs (step_by_bytes s bytes).answer (step_by_bytes s bytes).state
 
--- the outcome, and what is asked of each side, as one number
+-- the outcome and the requests of both sides, as one number
 abbrev pub result_byte : Field → ℕ
 result_byte f = outcome_byte f.outcome + 8 * request_byte f.request_one + 32 * request_byte f.request_two
 
--- a front with no byte in the memory of this name, which holds these
+-- an empty writer in the memory of this name, which holds these bytes
 abbrev pub IsNewIn : {T : Type 0} → ℕ → List ℕ → Front T → Type 0
 IsNewIn name before front = (front.memory.ghost_name ≡ name) × (front.memory.now ≡ before) × (front.length ≡ 0)

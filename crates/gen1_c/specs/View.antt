@@ -1,4 +1,4 @@
--- What the bytes of a battle stand for, as plain structs (include/gen1.h, "looking"; docs/LAYOUT.md).
+-- The state that a battle's bytes represent, as plain structs (include/gen1.h, "looking"; docs/LAYOUT.md).
 use Rattle.std.specs.Prelude.{[], if◌then◌else◌, replicate, unwrap_or, ℕ, ◌==◌, ◌∷◌}
 use Rattle.gen1_tables.specs.declared.effect.Stat.TheVariants.{Attack, Defense, Special, Speed}
 use Rattle.gen1_tables.specs.Types.{number_of}
@@ -39,7 +39,7 @@ member_state m = record {
   stats = own_stats_of m;
 }
 
--- the member that is out
+-- the active member
 
 abbrev pub active_state : Member → Active → ActiveState
 active_state m a = record {
@@ -79,7 +79,7 @@ no_active = record {
   turns = 0;
 }
 
--- before the first update nobody is
+-- before the first update there is none
 abbrev pub active_now : Side → Field → ActiveState
 active_now side f = if f.turn == 0 then no_active else active_state (member_in side f) (active_in side f)
 

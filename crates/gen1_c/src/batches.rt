@@ -19,8 +19,8 @@ const NO_SIDE: u8 = 255;
 
 const LENGTHS: u8 = 254;
 
-/// The mask of a side in each of many battles, as `gen1_offered` answers it. The answer is 0; 255 where there is no such side, and 254
-/// where there are not as many masks as battles, and then nothing has changed.
+/// Writes the mask of a side in each of many battles, as `gen1_offered` returns it. Returns 0; 255 if the side does not exist, or
+/// 254 if there are not as many masks as battles, and then nothing has changed.
 #[unsafe(no_mangle)]
 pub extern "C" fn gen1_offered_many(battles: &[Packed], side: u8, masks: &mut [u16]) -> u8
     ensures offers { (which : Side) → side ≡ side_number which
@@ -50,9 +50,9 @@ fn put_masks(battles: &[Packed], side: Side, masks: &mut [u16])
     }
 }
 
-/// An update of each of many battles, by its own pair of bytes and without a log: to each its code, as `gen1_update` answers it, and its
-/// result, as `gen1_result` does. The answer is 0; 254 where one of the lists is not as long as the battles, and then nothing has
-/// changed.
+/// Plays an update of each of many battles, without logs, by the pair of bytes at its index. Each battle gets its code, as
+/// `gen1_update` returns it, and its result, as `gen1_result` does. Returns 0; 254 if a list has another length than the battles,
+/// and then nothing has changed.
 #[unsafe(no_mangle)]
 pub extern "C" fn gen1_update_many(
     battles: &mut [Packed],
@@ -104,7 +104,7 @@ fn update_each(
     }
 }
 
-// An update without a log: 0, or the number of the refusal.
+// Plays an update without a log. Returns 0, or the number of the refusal.
 fn update_one(battle: &mut Packed, one: u8, two: u8) -> u8
     ensures answers { (s : State) → Stands battle.old s
         → AnsweredAs (step_by_bytes s (one, two)).answer (step_by_bytes s (one, two)).state

@@ -1,4 +1,4 @@
-//! Battles of two teams, and of bytes (include/gen1.h, "beginning").
+//! Battles made of two teams, or read from bytes (include/gen1.h, "beginning").
 ghost use Rattle.std.specs.Prelude.{◌↔◌, ◌≡◌, ◌≢◌};
 ghost use Rattle.gen1_stats.specs.Teams.{team_of};
 ghost use Rattle.gen1_machine.specs.Rules.{rules_of};
@@ -16,10 +16,9 @@ const WRONG_RULES: u32 = 12;
 
 const WRONG_LIMIT: u32 = 13;
 
-/// A battle of two teams before its first update (include/gen1.h, "beginning").
+/// Makes a battle of two teams, before its first update (include/gen1.h, "beginning").
 ///
-/// The answer is 0, or a fault: its code, 256 for each place up to that of the member at fault, and 65,536 for each side up to
-/// the one at fault.
+/// Returns 0, or an error: its code, plus 256 times the place of the member, plus 65,536 times the side of the team with the error.
 #[unsafe(no_mangle)]
 pub extern "C" fn gen1_new(
     battle: &mut Packed,
@@ -51,8 +50,8 @@ pub extern "C" fn gen1_new(
     }
 }
 
-/// The battle of these bytes (include/gen1.h, "beginning"; docs/LAYOUT.md, "Loading"), of any of the three versions. The answer
-/// is 0, or the number of the first of the seven tests that they fail.
+/// Reads a battle from bytes of any of the three versions (include/gen1.h, "beginning"; docs/LAYOUT.md, "Loading"). Returns 0, or
+/// the number of the first of the seven tests that they fail.
 #[unsafe(no_mangle)]
 pub extern "C" fn gen1_load(battle: &mut Packed, bytes: &[u8]) -> u8
     ensures tests { Loads bytes.now battle.old battle.new result }

@@ -1,4 +1,4 @@
-//! The bytes of choices taken apart, and in words (include/gen1.h, "looking"; docs/MECHANICS.md, "Offered choices").
+//! Choices as bytes, taken apart and in words (include/gen1.h, "looking"; docs/MECHANICS.md, "Offered choices").
 ghost use Rattle.std.specs.Prelude.{Ok, length, ◌++◌, ◌≡◌, ◌≢◌, ◌≤◌};
 ghost use Rattle.gen1_machine.specs.Choices.{choice_at};
 ghost use Rattle.gen1_machine.specs.Numbers.{side_number};
@@ -22,7 +22,7 @@ const NOBODY: u8 = 3;
 
 const SMALL_WORDS: u8 = 4;
 
-/// What a byte chooses: 1 a pass, 2 a move, 3 a switch; 0 where it is no choice.
+/// Returns the kind of a choice: 1 Pass, 2 Move, 3 Switch; 0 if the byte is not a choice.
 #[unsafe(no_mangle)]
 pub extern "C" fn gen1_choice_kind(byte: u8) -> u8
     ensures { result ≡ kind_of_choice (choice_at byte) }
@@ -35,7 +35,7 @@ pub extern "C" fn gen1_choice_kind(byte: u8) -> u8
     }
 }
 
-/// The slot of a move or the place of a member that a byte chooses; 0 for a pass, and where it is no choice.
+/// Returns the slot of a move or the place of a switch; 0 for Pass, and for a byte that is not a choice.
 #[unsafe(no_mangle)]
 pub extern "C" fn gen1_choice_slot(byte: u8) -> u8
     ensures { result ≡ slot_of_choice (choice_at byte) }
@@ -65,8 +65,9 @@ fn number_of_place(place: Place) -> u8
     place.number()
 }
 
-/// A choice of a side in words, as the battle stands: to the front of the text, and how many bytes they are. The answer is 0, or what
-/// is wrong: 1 the side, 2 the byte is no choice, 3 nobody or no move is there, 4 the room is too small; then nothing has changed.
+/// Writes a choice of a side in words, with the names of the battle, to the beginning of the text, and their number of bytes.
+/// Returns 0, or a code: 1 the side is neither 1 nor 2, 2 the byte is not a choice, 3 the move or member does not exist, 4 the text
+/// is too small. If it returns a code, nothing has changed.
 #[unsafe(no_mangle)]
 pub extern "C" fn gen1_choice_words(
     battle: &Packed,
@@ -80,7 +81,7 @@ pub extern "C" fn gen1_choice_words(
         (record { bytes = text.old; count = written.old })
         (record { bytes = text.new; count = written.new }) result }
     ensures no_side { IsNoSide side → result ≡ 1 }
-    // Whatever the bytes are.
+    // For any bytes, valid or not.
     ensures kept { result ≢ 0 → (text.new ≡ text.old) × (written.new ≡ written.old) }
 {
     let Some(side) = Side::from_number(side) else {
@@ -137,7 +138,7 @@ fn write_switch(battle: &Packed, side: Side, place: u8, text: &mut [u8], written
     }
 }
 
-// Two texts, one behind the other, as `write_text` writes one.
+// Writes two texts one after the other, as `write_text` writes one.
 fn write_joined(head: &[u8], name: &[u8], text: &mut [u8], written: &mut usize) -> u8
     requires { length head.now ≤ 9 }
     ensures { Writes 4 (Ok (head.now ++ name.now)) (record { bytes = text.old; count = written.old })

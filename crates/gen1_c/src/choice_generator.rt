@@ -1,8 +1,8 @@
-//! The generator of choices at random (include/gen1.h, "many battles").
+//! The generator of random choices (include/gen1.h, "many battles").
 ghost use Rattle.std.specs.Prelude.{◌%◌, ◌/◌, ◌<◌, ◌≡◌, ◌≤◌};
 ghost use Rattle.gen1_c.specs.Playouts.{next_state};
 
-// A linear congruential generator modulo 2 to the power of 64, of which the upper 32 bits are drawn.
+// A linear congruential generator modulo 2 to the power of 64. A draw is the upper 32 bits of its state.
 #[derive(Drop)]
 pub(crate) struct ChoiceGenerator {
     state: u64,
@@ -15,7 +15,7 @@ impl ChoiceGenerator {
         ChoiceGenerator { state: seed }
     }
 
-    // A number from 0 to a count, less one: the upper bits of the next state, modulo the count.
+    // Returns a number from 0 to `count - 1`: the upper bits of the next state, modulo the count.
     pub(crate) fn below(&mut self, count: usize) -> usize
         requires some { 1 ≤ count }
         ensures state { self.new.state ≡ next_state self.old.state }

@@ -1,4 +1,4 @@
-//! What may be chosen for an update, as bytes (include/gen1.h, "playing").
+//! The offered choices, as bytes (include/gen1.h, "playing").
 ghost use Rattle.std.specs.Prelude.{List, [], drop, if◌then◌else◌, length, map, ℕ, ◌++◌, ◌<◌, ◌≡◌, ◌≤◌, ◌∷◌};
 ghost use Rattle.gen1_machine.specs.Choices.{byte_of_choice};
 ghost use Rattle.gen1_machine.specs.Numbers.{side_number};
@@ -17,12 +17,13 @@ use gen1_machine::Side;
 
 const NO_SIDE: u8 = 255;
 
-// The bytes of all choices, by the digits of a mask.
+// The bytes of all choices, in the order of the bits of a mask.
 const BYTES: [u8; 12] = [
     0x00, 0x10, 0x11, 0x12, 0x13, 0x14, 0x21, 0x22, 0x23, 0x24, 0x25, 0x26,
 ];
 
-/// What a side may choose, by rising bytes: they are written to the front, and their number is answered.
+/// Lists the choices that a side is offered: writes their bytes, in rising order, to the beginning of the array, and returns their
+/// number.
 #[unsafe(no_mangle)]
 pub extern "C" fn gen1_choices(battle: &Packed, side: u8, choices: &mut [u8; 9]) -> u8
     ensures offers { (s : State) (which : Side) → Stands battle.now s → side ≡ side_number which
@@ -43,13 +44,13 @@ fn put_offered(battle: &Packed, side: Side, choices: &mut [u8; 9]) -> u8
     put_choices(offered_mask(battle, side), choices)
 }
 
-// Writes the choices of a mask to the front. There are never more than nine where a battle offers them.
+// Writes the choices of a mask. A battle never offers more than nine.
 #[inline(always)]
 fn put_choices(mask: u16, choices: &mut [u8; 9]) -> u8
     ensures { length (choices_in mask) ≤ 9
         → Offers (choices_in mask) choices.old choices.new result }
 {
-    // Most often all four moves can be chosen, and are one write.
+    // Usually all four moves can be chosen, and take one write.
     if mask % 64 == 0x3c {
         choices[0] = 0x11;
         choices[1] = 0x12;
@@ -60,7 +61,7 @@ fn put_choices(mask: u16, choices: &mut [u8; 9]) -> u8
     put_digits(mask, 0, 0, choices) as u8
 }
 
-// Writes the choices of the digits from one on, behind those that are there.
+// Writes the choices of the bits from one on, after those that are written already.
 #[inline(always)]
 fn put_digits(mask: u16, from: usize, before: usize, choices: &mut [u8; 9]) -> usize
     requires from { from ≤ 12 }
@@ -95,7 +96,7 @@ fn put_if(holds: bool, byte: u8, count: usize, choices: &mut [u8; 9]) -> usize
     count
 }
 
-// Nothing is written behind the ninth.
+// Nothing is written after the ninth.
 #[inline(always)]
 fn put_one(byte: u8, count: usize, choices: &mut [u8; 9]) -> usize
     requires { count ≤ 9 }

@@ -1,4 +1,4 @@
-//! The damage of a hit, as a battle stands (include/gen1.h, "calculating").
+//! The damage of a hit in the present state of a battle (include/gen1.h, "calculating").
 ghost use Rattle.std.specs.Prelude.{◌≡◌, ◌≢◌};
 ghost use Rattle.gen1_machine.specs.Numbers.{side_number};
 ghost use Rattle.gen1_machine.specs.State.{State};
@@ -22,9 +22,9 @@ const NOBODY: u8 = 4;
 
 const DIVISOR: u8 = 5;
 
-/// The damage of a hit by a move of a side at each factor from 217 to 255, as both members that are out now stand
-/// (include/gen1.h, "calculating"; docs/MECHANICS.md, "Damage numbers" to "Factors"). The answer is 0, or the first thing that is
-/// wrong, 1 to 5; then the numbers stay as they were.
+/// Computes the damage of a hit by a move of a side at each factor from 217 to 255, for both active members as they are now
+/// (include/gen1.h, "calculating"; docs/MECHANICS.md, "Damage numbers" to "Factors"). Returns 0, or the first code from 1 to 5 that
+/// applies; then the numbers have not changed.
 #[unsafe(no_mangle)]
 pub extern "C" fn gen1_damage(
     battle: &Packed,
@@ -36,7 +36,7 @@ pub extern "C" fn gen1_damage(
     ensures tells { (s : State) (which : Side) → Stands battle.now s → side ≡ side_number which
         → TellsDamages (damages_due which number critical s.field) damages.old damages.new result }
     ensures no_side { IsNoSide side → (result ≡ 1) × (damages.new ≡ damages.old) }
-    // Whatever the bytes are.
+    // For any bytes, valid or not.
     ensures kept { result ≢ 0 → damages.new ≡ damages.old }
 {
     let Some(side) = Side::from_number(side) else {

@@ -1,13 +1,13 @@
-//! What is written to a caller's memory: the front of it (include/gen1.h, "playing", "telling", "naming").
+//! Writing to the beginning of a caller's memory (include/gen1.h, "playing", "telling", "naming").
 ghost use Rattle.std.specs.Prelude.{Ok, length, ◌≡◌, ◌≤◌};
 ghost use Rattle.gen1_c.specs.Fronts.{Writes, over_front};
 
-// The code of a name or a sentence that there is none of, and of a room that is too small for it.
+// The codes for a number without a name or sentence, and for a text that is too small for it.
 pub(crate) const UNKNOWN: u8 = 1;
 
 pub(crate) const SMALL_ROOM: u8 = 2;
 
-// Copies bytes to the front of others, which keep what stands behind.
+// Copies bytes to the beginning of others, whose rest does not change.
 pub(crate) fn put_front(bytes: &[u8], room: &mut [u8])
     requires { length bytes.now ≤ length room.old }
     ensures { room.new ≡ over_front bytes.now room.old }
@@ -15,7 +15,8 @@ pub(crate) fn put_front(bytes: &[u8], room: &mut [u8])
     room[..bytes.len()].copy_from_slice(bytes);
 }
 
-// Copies a text to the front of a room, and tells its length; where it is longer, the answer is a code, and nothing changes.
+// Copies a text to the beginning of the caller's, and writes its length. If it does not fit, a code is returned and nothing
+// changes.
 pub(crate) fn write_text(text: &[u8], small: u8, room: &mut [u8], written: &mut usize) -> u8
     ensures { Writes small (Ok text.now) (record { bytes = room.old; count = written.old })
         (record { bytes = room.new; count = written.new }) result }

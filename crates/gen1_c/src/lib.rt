@@ -1,27 +1,27 @@
-//! The engine for C (include/gen1.h, CALLING.md): a battle is 384 bytes that the caller keeps, and every number that C's types
-//! let through is answered.
+//! The engine for C (include/gen1.h, CALLING.md). A battle is 384 bytes that the caller keeps. Each function accepts every number
+//! that the C types allow.
 //!
-//! - `battle`: battles of two teams, and of bytes
+//! - `battle`: battles made of two teams, or read from bytes
 //! - `teams`: teams as plain structs
 //! - `update`: updates and the result
-//! - `choices`: what may be chosen, as bytes
-//! - `masks`: what may be chosen as a mask
+//! - `choices`: offered choices as bytes
+//! - `masks`: offered choices as a mask
 //! - `batches`: many battles in one call
-//! - `playouts`: battles played to their end by choices at random
+//! - `playouts`: battles played to their end by random choices
 //! - `choice_generator`: the generator of those choices
-//! - `team_text`: teams out of text
+//! - `team_text`: teams read from text
 //! - `events`: the events of a log
 //! - `lines`: the lines of a log's events
 //! - `damage`: the damage of a hit
 //! - `names`: names of species, moves and types, and their rows of the tables
-//! - `odds`: what a use of a move would come to
+//! - `odds`: the odds of a use of a move
 //! - `texts`: codes in words
-//! - `view`: what the bytes of a battle stand for, as plain structs
-//! - `choice`: the bytes of choices taken apart, and in words
+//! - `view`: the state that a battle's bytes represent, as plain structs
+//! - `choice`: choices taken apart, and in words
 //! - `reseed`: other numbers to draw
 //! - `rooms`: rooms of two players
-//! - `spectators`: what a watcher knows
-//! - `fronts`: writing to the front of a caller's memory
+//! - `spectators`: what a spectator knows
+//! - `fronts`: writing to the beginning of a caller's memory
 #![tactic(auto)]
 
 pub mod batches;

@@ -1,4 +1,4 @@
-//! What may be chosen as a mask (include/gen1.h, "playing").
+//! The offered choices as a mask (include/gen1.h, "playing").
 ghost use Rattle.std.specs.Prelude.{◌≡◌};
 ghost use Rattle.gen1_machine.specs.Numbers.{side_number};
 ghost use Rattle.gen1_machine.specs.State.{State};
@@ -13,8 +13,8 @@ use gen1_machine::Side;
 
 const NO_MASK: u16 = 65535;
 
-/// What a side may choose, as a mask: from the lowest bit on, of Pass, Move 0 to 4 and Switch 1 to 6, whether it is offered. 65,535
-/// where there is no such side.
+/// Returns the choices that a side is offered as a mask, whose bits are from the lowest on: Pass, Move 0 to 4, Switch 1 to 6.
+/// Returns 65,535 if the side does not exist.
 #[unsafe(no_mangle)]
 pub extern "C" fn gen1_offered(battle: &Packed, side: u8) -> u16
     ensures offers { (s : State) (which : Side) → Stands battle.now s → side ≡ side_number which

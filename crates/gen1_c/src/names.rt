@@ -1,4 +1,4 @@
-//! Names of species, moves and types, and what the tables say of each (include/gen1.h, "naming"; docs/TABLES.md).
+//! Names of species, moves and types, and their rows of the tables (include/gen1.h, "naming"; docs/TABLES.md).
 ghost use Rattle.std.specs.Prelude.{map, unwrap_or, ◌*◌, ◌+◌, ◌≡◌};
 ghost use Rattle.gen1_text.specs.Ids.{move_called, species_called};
 ghost use Rattle.gen1_c.specs.Fronts.{Writes};
@@ -14,7 +14,7 @@ static TYPE_NAMES: [&str; 15] = [
     "Grass", "Electric", "Psychic", "Ice", "Dragon",
 ];
 
-// The version of the library: major, minor and third number.
+// The version of the library: major, minor and patch number.
 const VERSION: u32 = 65536;
 
 /// A species' base HP, Attack, Defense, Speed and Special, and its two types.
@@ -35,7 +35,7 @@ pub struct MoveForm {
     pub pp: u8,
 }
 
-/// The version of the library: 65,536 times the major number, 256 times the minor one, and the third.
+/// Returns the version of the library: 65,536 times the major number, plus 256 times the minor one, plus the patch number.
 #[unsafe(no_mangle)]
 pub extern "C" fn gen1_version() -> u32
     ensures { result ≡ 65536 * 1 + 256 * 0 + 0 }
@@ -43,8 +43,8 @@ pub extern "C" fn gen1_version() -> u32
     VERSION
 }
 
-/// The name of a species, from 1 to 151: to the front of the text, and how many bytes it is. The answer is 0; 1 where no species has
-/// the number, and 2 where the room is too small, and then nothing has changed.
+/// Writes the name of a species, 1 to 151, to the beginning of the text, and its number of bytes. Returns 0; 1 if the species does
+/// not exist, or 2 if the text is too small, and then nothing has changed.
 #[unsafe(no_mangle)]
 pub extern "C" fn gen1_species_name(number: u8, text: &mut [u8], written: &mut usize) -> u8
     ensures { Writes 2 (species_text number) (record { bytes = text.old; count = written.old })
@@ -56,7 +56,7 @@ pub extern "C" fn gen1_species_name(number: u8, text: &mut [u8], written: &mut u
     }
 }
 
-/// The name of a move, from 1 to 165, with the answers of `gen1_species_name`.
+/// Writes the name of a move, 1 to 165, and returns as `gen1_species_name` does.
 #[unsafe(no_mangle)]
 pub extern "C" fn gen1_move_name(number: u8, text: &mut [u8], written: &mut usize) -> u8
     ensures { Writes 2 (move_text number) (record { bytes = text.old; count = written.old })
@@ -68,7 +68,7 @@ pub extern "C" fn gen1_move_name(number: u8, text: &mut [u8], written: &mut usiz
     }
 }
 
-/// The name of a type, from 0 to 14, with the answers of `gen1_species_name`.
+/// Writes the name of a type, 0 to 14, and returns as `gen1_species_name` does.
 #[unsafe(no_mangle)]
 pub extern "C" fn gen1_type_name(number: u8, text: &mut [u8], written: &mut usize) -> u8
     ensures { Writes 2 (type_text number) (record { bytes = text.old; count = written.old })
@@ -86,7 +86,7 @@ fn type_names() -> &'static [&'static str; 15]
     &TYPE_NAMES
 }
 
-/// The species that a text names (docs/TEAM_TEXT.md, "Names"), from 1 to 151, or 0.
+/// Returns the species that a text names (docs/TEAM_TEXT.md, "Names"), 1 to 151, or 0 if there is none.
 #[unsafe(no_mangle)]
 pub extern "C" fn gen1_species_from_name(text: &[u8]) -> u8
     ensures { result ≡ unwrap_or (species_called text.now) 0 }
@@ -97,7 +97,7 @@ pub extern "C" fn gen1_species_from_name(text: &[u8]) -> u8
     }
 }
 
-/// The move that a text names, from 1 to 165, or 0.
+/// Returns the move that a text names, 1 to 165, or 0 if there is none.
 #[unsafe(no_mangle)]
 pub extern "C" fn gen1_move_from_name(text: &[u8]) -> u8
     ensures { result ≡ unwrap_or (move_called text.now) 0 }
@@ -108,8 +108,7 @@ pub extern "C" fn gen1_move_from_name(text: &[u8]) -> u8
     }
 }
 
-/// The base stats and types of a species, from 1 to 151. The answer is 0; 1 where no species has the number, and then nothing has
-/// changed.
+/// Writes the base stats and types of a species, 1 to 151. Returns 0; 1 if the species does not exist, and then nothing has changed.
 #[unsafe(no_mangle)]
 pub extern "C" fn gen1_species_stats(number: u8, base: &mut BaseForm) -> u8
     ensures { Tells (base_due number) base.old base.new result }
@@ -133,7 +132,7 @@ fn base_of(species: Species) -> BaseForm
     }
 }
 
-/// The row of a move, from 1 to 165. The answer is 0; 1 where no move has the number, and then nothing has changed.
+/// Writes the row of a move, 1 to 165. Returns 0; 1 if the move does not exist, and then nothing has changed.
 #[unsafe(no_mangle)]
 pub extern "C" fn gen1_move_data(number: u8, row: &mut MoveForm) -> u8
     ensures { Tells (move_due number) row.old row.new result }

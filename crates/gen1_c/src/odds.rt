@@ -1,4 +1,4 @@
-//! What a use of a move would come to (include/gen1.h, "calculating"; docs/MECHANICS.md, "Critical hits" to "Hit test").
+//! The odds of a use of a move (include/gen1.h, "calculating"; docs/MECHANICS.md, "Critical hits" to "Hit test").
 ghost use Rattle.std.specs.Prelude.{[], if◌then◌else◌, ◌∷◌, ◌≡◌, ◌≢◌};
 ghost use Rattle.gen1_stats.specs.Teams.{team_of};
 ghost use Rattle.gen1_machine.specs.Moves.{move_at};
@@ -30,14 +30,14 @@ const NO_SUCH_MOVE: u32 = 11;
 
 const NOT_A_MOVE: u8 = 255;
 
-/// What a use of a move by a side would come to, as both members that are out now stand. The answer is 0, or the first thing that is
-/// wrong, as `gen1_damage` answers it; then nothing has changed.
+/// Computes the odds of a move of a side, with both active members as they are now. Returns 0, or the first code that applies, as
+/// `gen1_damage` returns it; then nothing has changed.
 #[unsafe(no_mangle)]
 pub extern "C" fn gen1_odds_now(battle: &Packed, side: u8, number: u8, hit: &mut Odds) -> u8
     ensures tells { (s : State) (which : Side) → Stands battle.now s → side ≡ side_number which
         → TellsOdds (odds_due which number s.field) hit.old hit.new result }
     ensures no_side { IsNoSide side → (result ≡ 1) × (hit.new ≡ hit.old) }
-    // Whatever the bytes are.
+    // For any bytes, valid or not.
     ensures kept { result ≢ 0 → hit.new ≡ hit.old }
 {
     let Some(side) = Side::from_number(side) else {
@@ -53,8 +53,8 @@ pub extern "C" fn gen1_odds_now(battle: &Packed, side: u8, number: u8, hit: &mut
     0
 }
 
-/// What a use of a move by a member would come to against another, both at full HP and just sent out. The answer is 0, or a fault
-/// as `gen1_new` answers it of teams of one; of the move its code alone.
+/// Computes the odds of a move of one member against another, both at full HP and just sent out. Returns 0, or an error as
+/// `gen1_new` returns it for teams of one; for the move its code alone.
 #[unsafe(no_mangle)]
 pub extern "C" fn gen1_odds_between(
     user: &MemberForm,
@@ -82,7 +82,7 @@ pub extern "C" fn gen1_odds_between(
     0
 }
 
-/// Whether a move takes the hit test (docs/MECHANICS.md, "Hit test"): 1, or 0 where it takes none; 255 where the number is no move's.
+/// Returns whether a move takes the hit test (docs/MECHANICS.md, "Hit test"): 1 or 0; 255 if the number is not a move.
 #[unsafe(no_mangle)]
 pub extern "C" fn gen1_takes_hit_test(number: u8) -> u8
     ensures { result ≡ hit_test_due number }
@@ -99,14 +99,14 @@ fn flag_of(holds: bool) -> u8
     if holds { 1 } else { 0 }
 }
 
-// A battle of two teams after its first update. Nothing of it is drawn, so the seed may be any.
+// A battle of two teams after its first update. That update draws nothing, so any seed will do.
 fn sent_out(one: &Team, two: &Team) -> Packed
     ensures stands { Stands result (facing one.now two.now) }
     ensures out { (facing one.now two.now).field.turn ≢ 0 }
 {
     let mut battle = Packed::new(one, two, [0; 10]);
     let mut events = EventList::new();
-    // A Pass is what both are offered.
+    // Both sides are offered Pass.
     let _result = update_events(&mut battle, Choice::Pass, Choice::Pass, &mut events);
     battle
 }

@@ -1,4 +1,4 @@
-//! Battles played to their end by choices at random (include/gen1.h, "many battles").
+//! Battles played to their end by random choices (include/gen1.h, "many battles").
 ghost use Rattle.std.specs.Prelude.{IfOk, IsOk, length, ◌+◌, ◌<◌, ◌≡◌, ◌≢◌, ◌≤◌};
 ghost use Rattle.gen1_machine.specs.State.{State};
 ghost use Rattle.gen1_layout.specs.Within.{Stands};
@@ -28,9 +28,9 @@ pub struct PlayoutCounts {
     pub faults: u32,
 }
 
-/// Plays copies of a battle to their end, by choices at random among those that are offered, and counts how they end
-/// (include/gen1.h, "many battles"). The answer is 0, or the number of the first of the seven tests of loading that the bytes
-/// fail (docs/LAYOUT.md, "Loading").
+/// Plays copies of a battle to their end, by random choices among those offered, and counts how they end (include/gen1.h, "many
+/// battles"). Returns 0, or the number of the first of the seven tests of loading that the bytes fail (docs/LAYOUT.md, "Loading");
+/// then nothing is written.
 #[unsafe(no_mangle)]
 pub extern "C" fn gen1_playout(
     battle: &Packed,
@@ -51,7 +51,7 @@ pub extern "C" fn gen1_playout(
     }
 }
 
-// How so many playouts end.
+// How that many playouts end.
 fn counted(start: &Battle, seed: u64, rounds: u32) -> PlayoutCounts
     ensures plays { (s : State) → Stands start.now s → PlaysOut s seed rounds result }
     ensures total { total result ≡ rounds }
@@ -95,7 +95,7 @@ fn end_of(start: &Battle, random: &mut ChoiceGenerator) -> Outcome
             let mut copy = copy;
             play_out(&mut copy, random)
         }
-        // A copy takes no memory.
+        // A copy allocates nothing, so this does not happen.
         Err(_) => start.result().outcome,
     }
 }
@@ -107,7 +107,7 @@ fn copy_of(battle: &Battle) -> Result<Battle, AllocError>
     Ok(battle.clone()?)
 }
 
-// Plays a battle to its end by choices at random, and says how it ended.
+// Plays a battle to its end by random choices, and returns how it ended.
 fn play_out(battle: &mut Battle, random: &mut ChoiceGenerator) -> Outcome
     ensures ends { (s : State) → Stands battle.old s → EndsAs s result }
     ensures played { (s : State) → Stands battle.old s
@@ -126,7 +126,7 @@ fn play_out(battle: &mut Battle, random: &mut ChoiceGenerator) -> Outcome
     battle.result().outcome
 }
 
-// One of the choices of a mask; nothing is drawn where it has none.
+// One of the choices of a mask, at random. If it has none, nothing is drawn.
 fn pick(mask: u16, random: &mut ChoiceGenerator) -> Choice
     requires { mask < 4096 }
     ensures { 1 ≤ length (choices_in mask)

@@ -1,4 +1,4 @@
-//! A battle with other numbers to draw (include/gen1.h, "searching"; docs/MECHANICS.md, "Link numbers").
+//! Other numbers for a battle to draw (include/gen1.h, "searching"; docs/MECHANICS.md, "Link numbers").
 ghost use Rattle.std.specs.Prelude.{◌<◌, ◌≡◌, ◌≢◌, ◌≤◌};
 ghost use Rattle.gen1_machine.specs.State.{State};
 ghost use Rattle.gen1_engine.specs.Reseed.{reseeded};
@@ -11,15 +11,15 @@ use gen1_rolls::LinkRandom;
 
 const WRONG_INDEX: u8 = 1;
 
-/// Gives the battle other numbers to draw, and the index of the one that is drawn next, from 0 to 8; nothing else changes. The
-/// answer is 0; 1 where the index is above 8, and then nothing has changed.
+/// Replaces the numbers that a battle draws, and sets the index of the next one, 0 to 8; nothing else changes. Returns 0; 1 if the
+/// index is above 8, and then nothing has changed.
 #[unsafe(no_mangle)]
 pub extern "C" fn gen1_reseed(battle: &mut Packed, seed: &[u8; 10], index: u8) -> u8
     ensures stands { index < 9 → (s : State) → Stands battle.old s → (result ≡ 0)
         × Stands battle.new (reseeded (record { index = index; numbers = seed.now }) s) }
     ensures valid { StandsForSome battle.old → StandsForSome battle.new }
     ensures above { 9 ≤ index → result ≡ 1 }
-    // Whatever the bytes are.
+    // For any bytes, valid or not.
     ensures kept { result ≢ 0 → battle.new ≡ battle.old }
 {
     match LinkRandom::from_parts(index, *seed) {

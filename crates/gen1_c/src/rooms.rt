@@ -1,4 +1,4 @@
-//! Rooms of two players who choose apart from each other (include/gen1.h, "rooms"; docs/MECHANICS.md, "Rooms").
+//! Rooms, whose two players submit their choices separately (include/gen1.h, "rooms"; docs/MECHANICS.md, "Rooms").
 ghost use Rattle.std.specs.Prelude.{◌≡◌, ◌≢◌};
 ghost use Rattle.gen1_machine.specs.Numbers.{side_number};
 ghost use Rattle.gen1_machine.specs.Room.{Course, after, reply_to, room_of};
@@ -16,17 +16,18 @@ use gen1_room::plain::{PlainRoom, begin, choices, submit};
 
 const NO_SIDE: u8 = 255;
 
-/// Makes a room of the battle that stands in it, which is started if it has not begun.
+/// Makes a room of the battle in it, and starts the battle if it is before its first update.
 #[unsafe(no_mangle)]
 pub extern "C" fn gen1_room_begin(room: &mut PlainRoom)
     ensures keeps { (s : State) → Stands room.old.battle s → Keeps room.new (room_of s) }
-    // Whatever the bytes of the battle are.
+    // For any bytes of the battle, valid or not.
     ensures marked { IsMarked room.new }
 {
     begin(room);
 }
 
-/// What a side may submit for the current pair, by rising bytes: they are written to the front, and their number is answered.
+/// Lists the choices that a side may submit for the current pair: writes their bytes, in rising order, to the beginning of the
+/// array, and returns their number.
 #[unsafe(no_mangle)]
 pub extern "C" fn gen1_room_choices(room: &PlainRoom, side: u8, front: &mut [u8; 9]) -> u8
     ensures offers { (c : Course) (which : Side) → Keeps room.now c → side ≡ side_number which
@@ -41,7 +42,7 @@ pub extern "C" fn gen1_room_choices(room: &PlainRoom, side: u8, front: &mut [u8;
     bytes.len() as u8
 }
 
-/// A side submits the byte of a choice for the pair of a number: 0 where it is taken, else why it is refused.
+/// Submits a choice of a side for the pair with the given number. Returns 0 if the room takes it, else the number of the refusal.
 #[unsafe(no_mangle)]
 pub extern "C" fn gen1_room_submit(room: &mut PlainRoom, side: u8, number: u32, choice: u8) -> u8
     ensures submits { (c : Course) (which : Side) → Keeps room.old c → side ≡ side_number which
@@ -49,7 +50,7 @@ pub extern "C" fn gen1_room_submit(room: &mut PlainRoom, side: u8, number: u32, 
         × (result ≡ reply_code (reply_to c (submission_of which number choice))) }
     ensures no_side { IsNoSide side → result ≡ 255 }
     ensures marked { IsMarked room.old → IsMarked room.new }
-    // Whatever the bytes are.
+    // For any bytes, valid or not.
     ensures kept { result ≢ 0 → room.new ≡ room.old }
 {
     let Some(side) = Side::from_number(side) else {

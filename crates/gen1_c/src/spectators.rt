@@ -1,4 +1,4 @@
-//! What a watcher knows of a battle out of its log bytes (include/gen1.h, "watching"; docs/MECHANICS.md, "Spectator's view").
+//! What a spectator knows of a battle from its log bytes (include/gen1.h, "watching"; docs/MECHANICS.md, "Spectator's view").
 ghost use Rattle.std.specs.Prelude.{Err, Ok, [], ◌≡◌, ◌≢◌};
 ghost use Rattle.gen1_stats.specs.Teams.{team_of};
 ghost use Rattle.gen1_machine.specs.View.{View, first_view};
@@ -13,7 +13,7 @@ ghost use Rattle.gen1_c.specs.Teams.{sheets_of, team_fault};
 use crate::teams::{TeamForm, teams_of};
 use gen1_spectator::plain::{PlainSpectator, feed, first};
 
-/// The view before a battle of two teams. The answer is 0, or a fault as `gen1_new` answers it.
+/// Sets a spectator to what is known before a battle of two teams. Returns 0, or an error as `gen1_new` does.
 #[unsafe(no_mangle)]
 pub extern "C" fn gen1_spectator_begin(
     watch: &mut PlainSpectator,
@@ -35,7 +35,7 @@ pub extern "C" fn gen1_spectator_begin(
     }
 }
 
-/// Takes in the events of log bytes, which may be cut anywhere. The answer is 0, or the number of the fault.
+/// Feeds a spectator the next bytes of the log, which may be cut anywhere. Returns 0, or the number of the error.
 #[unsafe(no_mangle)]
 pub extern "C" fn gen1_spectator_feed(watch: &mut PlainSpectator, log: &[u8]) -> u8
     ensures told { IsPlainSpectator watch.old → result ≡ 0
@@ -46,7 +46,7 @@ pub extern "C" fn gen1_spectator_feed(watch: &mut PlainSpectator, log: &[u8]) ->
         × Follows (reading_of watch.old) log.now (view_of watch.old) (Err fault) last view }
     ensures valid { IsPlainSpectator watch.old → IsPlainSpectator watch.new }
     ensures exact { IsPlainSpectator watch.old → result ≡ 0 → IsExact watch.new }
-    // Whatever the bytes are.
+    // For any bytes, valid or not.
     ensures kept { result ≢ 0 → watch.new ≡ watch.old }
 {
     match feed(watch, log) {

@@ -1,4 +1,4 @@
-//! Teams out of text, as plain structs (include/gen1.h, "teams out of text"; docs/TEAM_TEXT.md).
+//! Teams read from text into plain structs (include/gen1.h, "teams out of text"; docs/TEAM_TEXT.md).
 ghost use Rattle.std.specs.Prelude.{length, ◌≡◌, ◌≤◌};
 ghost use Rattle.gen1_text.specs.Packed.{members_packed};
 ghost use Rattle.gen1_text.specs.Texts.{members_told};
@@ -10,24 +10,24 @@ use gen1_stats::{MemberSpec, Team, TeamRefusal};
 use gen1_tables::MoveId;
 use gen1_text::{MemberFault, PackedFault, TextFault, members_in_packed, members_in_text};
 
-/// Where a text is at fault, and what was expected there.
+/// Where a text is wrong, and what was expected there.
 #[repr(C)]
 #[derive(Clone, Copy)]
 pub struct TextFaultForm {
-    /// The line, from 1; 0 where it is no single line.
+    /// The line, from 1; 0 if it is not about one line.
     pub line: usize,
-    /// The member, from 1; 0 where it is no single member.
+    /// The member, from 1; 0 if it is not about one member.
     pub member: usize,
-    /// The field of a packed line, from 1; 0 where it is no single field.
+    /// The field of a packed line, from 1; 0 if it is not about one field.
     pub field: usize,
     /// What was expected.
     pub code: u8,
-    /// Why the members are no team.
+    /// Why the members are not a team.
     pub rule: u8,
 }
 
-/// The team that the export text of a team builder tells of. The answer is 0, or the code of the first fault, 1 to 14; then the team
-/// stays as it was, and `fault` says where.
+/// Reads a team from the export text of a team builder. Returns 0, or the code of the first error, 1 to 14; then the team has not
+/// changed, and `fault` says where.
 #[unsafe(no_mangle)]
 pub extern "C" fn gen1_team_from_text(
     text: &[u8],
@@ -43,7 +43,7 @@ pub extern "C" fn gen1_team_from_text(
     }
 }
 
-/// The team that a packed line tells of, with the answers of `gen1_team_from_text`.
+/// Reads a team from a packed line, and returns as `gen1_team_from_text` does.
 #[unsafe(no_mangle)]
 pub extern "C" fn gen1_team_from_packed(
     text: &[u8],
@@ -59,7 +59,7 @@ pub extern "C" fn gen1_team_from_packed(
     }
 }
 
-// The members are put into the struct, if they are a team.
+// Writes the members to the struct, if they are a team.
 fn put_team(specs: &ArrayVec<MemberSpec, 6>, team: &mut TeamForm, fault: &mut TextFaultForm) -> u8
     ensures { TellsTeam (team_due specs.now.items)
         (record { team = team.old; fault = fault.old }) (record { team = team.new; fault = fault.new }) result }
@@ -81,7 +81,7 @@ fn put_fault(found: TextFaultForm, fault: &mut TextFaultForm) -> u8
     found.code
 }
 
-// Faults.
+// Errors.
 
 fn of_text(fault: TextFault) -> TextFaultForm
     ensures { result ≡ of_text fault }
@@ -177,7 +177,7 @@ fn form_of(specs: &[MemberSpec]) -> TeamForm
     }
 }
 
-// The member at an index; zeros behind the last.
+// The member at an index; zeros after the last.
 fn member_at(specs: &[MemberSpec], index: usize) -> MemberForm
     ensures { result ≡ member_at specs.now index }
 {
@@ -210,7 +210,7 @@ fn member_of(spec: &MemberSpec) -> MemberForm
     }
 }
 
-// The number and the PP ups of the move at an index; zeros behind the last.
+// The number and the PP ups of the move at an index; zeros after the last.
 fn move_at(moves: &[(MoveId, u8)], index: usize) -> (u8, u8)
     ensures { result ≡ move_at moves.now index }
 {

@@ -10,7 +10,7 @@ use arrayvec::ArrayVec;
 use gen1_stats::{MemberSpec, Team, TeamRefusal};
 use gen1_tables::{MoveId, Species};
 
-/// A member as it is asked for. A place for a move that holds 0 is passed over.
+/// A member as the caller describes it. A 0 among the moves is skipped.
 #[derive(Drop)]
 #[repr(C)]
 pub struct MemberForm {
@@ -22,13 +22,13 @@ pub struct MemberForm {
     pub dvs: [u8; 4],
     /// 1 to 165, or 0 for no move.
     pub moves: [u8; 4],
-    /// 0 to 3, of the move at the same place.
+    /// 0 to 3, for the move at the same index.
     pub pp_ups: [u8; 4],
     /// HP, Attack, Defense, Speed, Special.
     pub exp: [u16; 5],
 }
 
-/// A team: the first of the members, as many as are counted, at most six.
+/// A team: its first `count` members, at most six.
 #[derive(Drop)]
 #[repr(C)]
 pub struct TeamForm {
@@ -36,12 +36,12 @@ pub struct TeamForm {
     pub count: u8,
 }
 
-// A number that is no species' or no move's, by its code.
+// The codes for a number that is not a species, or not a move.
 const NO_SUCH_SPECIES: u32 = 10;
 
 const NO_SUCH_MOVE: u32 = 11;
 
-// The teams of both sides. A fault is that of the first team that is none, and 65,536 for each side up to its own.
+// The teams of both sides. An error is that of the first team that has one, plus 65,536 times its side.
 pub(crate) fn teams_of(one: &TeamForm, two: &TeamForm) -> Result<(Team, Team), u32>
     ensures one { IfOk result (λ teams. teams.0 ≡ team_of (sheets_of one.now)) }
     ensures two { IfOk result (λ teams. teams.1 ≡ team_of (sheets_of two.now)) }
@@ -60,7 +60,7 @@ pub(crate) fn teams_of(one: &TeamForm, two: &TeamForm) -> Result<(Team, Team), u
     Ok((one, two))
 }
 
-// The team that is asked for. A fault is its code, and 256 for each place up to that of the member at fault.
+// The team that a struct describes. An error is its code, plus 256 times the place of the member that it is about.
 #[tactic(auto, unfolding(crate::specs::Teams::team_fault))]
 pub(crate) fn team_of(form: &TeamForm) -> Result<Team, u32>
     ensures made { IfOk result (λ team. team ≡ team_of (sheets_of form.now)) }
@@ -91,7 +91,7 @@ pub(crate) fn team_of(form: &TeamForm) -> Result<Team, u32>
     }
 }
 
-// The team of a member alone.
+// A team of one member.
 pub(crate) fn team_of_one(member: &MemberForm) -> Result<Team, u32>
     ensures made { IfOk result (λ team. team ≡ team_of (sheet_of member.now ∷ [])) }
     ensures allowed { OnOk result (one_fault member.now ≡ 0) }
@@ -108,7 +108,7 @@ pub(crate) fn team_of_one(member: &MemberForm) -> Result<Team, u32>
     }
 }
 
-// The first member with a number that is no species' or no move's; 0 where there is none.
+// The error of the first member with a number that is not a species or not a move; 0 if there is none.
 fn first_fault(members: &[MemberForm]) -> u32
     requires few { length members.now ≤ 6 }
     ensures value { result ≡ first_fault 1 members.now }
@@ -162,7 +162,7 @@ fn spec_of(member: &MemberForm) -> MemberSpec
     }
 }
 
-// Appends a move with its PP ups, where the number is a move's.
+// Appends a move with its PP ups, if the number is a move.
 fn add_move(number: u8, ups: u8, moves: &mut ArrayVec<(MoveId, u8), 4>)
     requires few { array_vec_len moves.old < 4 }
     ensures items { moves.new.items ≡ moves.old.items ++ chosen number ups }

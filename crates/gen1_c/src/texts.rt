@@ -84,8 +84,8 @@ static ROOM_TEXTS: [&str; 5] = [
     "the choice is not offered to the side",
 ];
 
-/// A code in words: one sentence, with the ranges that would have been right. `about` says whose code it is.
-/// The answer is 0; 1 where there is no such code, and 2 where the room is too small, and then nothing has changed.
+/// Writes what a code means, as one sentence with the valid range. `about` says which function the code is from. Returns 0; 1 if
+/// the code does not exist, or 2 if the text is too small, and then nothing has changed.
 #[unsafe(no_mangle)]
 pub extern "C" fn gen1_text(about: u8, code: u8, text: &mut [u8], written: &mut usize) -> u8
     ensures { Writes 2 (sentence_due about code) (record { bytes = text.old; count = written.old })
@@ -97,7 +97,7 @@ pub extern "C" fn gen1_text(about: u8, code: u8, text: &mut [u8], written: &mut 
     }
 }
 
-// The sentences of a call, by their codes; none where `about` is no call's.
+// The sentences of a function, by their codes; none if `about` has no function.
 fn texts_about(about: u8) -> &'static [&'static str]
     ensures { map (λ text. text.now) result.now ≡ sentences about }
 {
@@ -115,7 +115,7 @@ fn texts_about(about: u8) -> &'static [&'static str]
     }
 }
 
-// The text at a place of a list, counted from 0.
+// The text at an index of a list.
 pub(crate) fn text_at(texts: &'static [&'static str], place: u8) -> Option<&'static str>
     ensures { option_map (λ text. text.now) result ≡ slice_get (map (λ text. text.now) texts.now) place }
 {

@@ -1,4 +1,4 @@
-//! What the bytes of a battle stand for, as plain structs (include/gen1.h, "looking"; docs/LAYOUT.md).
+//! The state that a battle's bytes represent, as plain structs (include/gen1.h, "looking"; docs/LAYOUT.md).
 ghost use Rattle.std.specs.Prelude.{◌≡◌, ◌≤◌};
 ghost use Rattle.gen1_layout.specs.Words.{Reads, ReadsPacked, active_in, member_at, member_in, party};
 ghost use Rattle.gen1_stats.specs.declared.status.Status.{Status};
@@ -13,13 +13,13 @@ use gen1_machine::Side;
 use gen1_stats::Status;
 use gen1_tables::Stat;
 
-/// A member as it stands; zeros where there is none.
+/// A member as it is now; zeros if there is none.
 #[repr(C)]
 #[derive(Clone, Copy)]
 pub struct MemberState {
     pub species: u8,
     pub level: u8,
-    /// The kind of its status, from 1 to 5; 0 where it is healthy.
+    /// The kind of its status, 1 to 5; 0 if it is healthy.
     pub status: u8,
     /// How many turns of sleep are left.
     pub sleep: u8,
@@ -33,13 +33,13 @@ pub struct MemberState {
     pub stats: [u16; 4],
 }
 
-/// The member of a side that is out; zeros before the first update.
+/// The active member of a side; zeros before the first update.
 #[repr(C)]
 #[derive(Clone, Copy)]
 pub struct ActiveState {
     /// The bits of its conditions (docs/LAYOUT.md, "Condition bits").
     pub conditions: u32,
-    /// Attack, Defense, Speed and Special at their stages and after their penalties.
+    /// Attack, Defense, Speed and Special with stages and penalties.
     pub stats: [u16; 4],
     /// What Bide has stored.
     pub energy: u16,
@@ -60,7 +60,7 @@ pub struct ActiveState {
     pub turns: u8,
 }
 
-/// One side: its members by their places, and who of them is out.
+/// One side: its members by their places, and the active one.
 #[repr(C)]
 #[derive(Clone, Copy)]
 pub struct SideState {
@@ -68,7 +68,7 @@ pub struct SideState {
     pub active: ActiveState,
 }
 
-/// All that the bytes of a battle stand for.
+/// All that the bytes of a battle represent.
 #[repr(C)]
 #[derive(Clone, Copy)]
 pub struct BattleState {
@@ -79,13 +79,13 @@ pub struct BattleState {
     pub rules: u8,
     pub outcome: u8,
     pub requests: [u8; 2],
-    /// Which link number is drawn next.
+    /// The index of the link number that is drawn next.
     pub index: u8,
-    /// The nine link numbers in use, and the tenth, which is never drawn.
+    /// The nine link numbers in use, then the tenth, which is never drawn.
     pub numbers: [u8; 10],
 }
 
-/// What a battle stands for, all of it.
+/// Writes the state that a battle's bytes represent, every field of it.
 #[unsafe(no_mangle)]
 pub extern "C" fn gen1_get_state(battle: &Packed, state: &mut BattleState)
     ensures { (s : State) → Stands battle.now s → state.new ≡ state_of s }

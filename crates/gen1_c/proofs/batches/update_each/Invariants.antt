@@ -1,4 +1,4 @@
--- The first battles are updated, and the others are left.
+-- The first battles are updated, and the others are as they were.
 use Rattle.gen1_c.specs.Batches.{AreUpdated}
 use Rattle.gen1_c.proofs.OneByOne.{AreLeft}
 use Rattle.gen1_c.proofs.batches.update_each.Given as goal

@@ -1,4 +1,4 @@
--- So many playouts are counted.
+-- That many playouts are counted.
 use Rattle.std.proofs.Common.{◌≡◌}
 use Rattle.gen1_machine.specs.State.{State}
 use Rattle.gen1_layout.specs.Within.{Stands}

@@ -1,4 +1,4 @@
--- So many pairs were accepted, which were drawn at random.
+-- That many pairs, drawn at random, were accepted.
 use Rattle.gen1_machine.specs.State.{State}
 use Rattle.gen1_layout.specs.Within.{Stands}
 use Rattle.gen1_c.proofs.Accepting.{Accepts}

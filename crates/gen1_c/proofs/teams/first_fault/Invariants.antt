@@ -1,4 +1,4 @@
--- None of the members so far is at fault.
+-- None of the members so far has an error.
 use Rattle.std.proofs.Common.{drop, ◌+◌, ◌≡◌}
 use Rattle.gen1_c.specs.Teams.{first_fault}
 use Rattle.gen1_c.proofs.teams.first_fault.Given as goal
