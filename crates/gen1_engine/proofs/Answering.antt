@@ -1,4 +1,4 @@
--- What an update answered, by the answer of the machine's step.
+-- What an update returned, by the answer of the machine's step.
 use Rattle.arrayvec.specs.ArrayVec.{ArrayVec}
 use Rattle.std.proofs.Common.{Err, List, None, Ok, Option, Some, ap, refl, ℕ, ◌≡◌}
 use Rattle.gen1_machine.specs.declared.event.Event.{Event}
@@ -41,7 +41,7 @@ pub told_accepted : {S : Type 0} (tells : S → List Event → Type 0) {s : Stat
     → Steps s one two new (tells sink) → ToldAs tells (step s one two).answer old sink
 told_accepted tells old sink h = rw h.answers h.written
 
--- what was answered, and so what the step said
+-- what was returned, and so what the step said
 
 pub answered_err : (answer : Answer) (next : State) (old new : Parts) (why : Refusal) → AnswersAs answer next old new (Err why)
     → (reason : Reason) × (answer ≡ Refused reason) × (why ≡ refusal_of reason) × (new ≡ old)

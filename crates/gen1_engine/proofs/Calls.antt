@@ -1,4 +1,4 @@
--- Any calls of an update, one after the other.
+-- Calls of an update, one after the other.
 use Rattle.std.proofs.Common.{Bool, List, Result, [], ap, refl, subst, sym, ℕ, ◌+◌, ◌∙◌, ◌∷◌, ◌≡◌, ◌≤◌}
 use Rattle.std.specs.Prelude.{cond, count_by, is_ok}
 use Rattle.std.proofs.lemmas.List.Sums.{sum_by-cons}

@@ -1,14 +1,14 @@
--- Which update a pair of offered choices is, and what it makes.
+-- Which update a pair of offered choices is, and what it does.
 pub mod Making
--- Lists that are gone through.
+-- Lists, element by element.
 pub mod Lists
--- What an update answered.
+-- What an update returned.
 pub mod Answering
 -- Steps by two bytes.
 pub mod Bytes
--- Pairs that were played by their bytes.
+-- Pairs of bytes that were played.
 pub mod Played
--- Any calls, one after the other.
+-- Calls, one after the other.
 pub mod Calls
 -- Other numbers to draw.
 pub mod Reseeded

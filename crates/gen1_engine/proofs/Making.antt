@@ -1,4 +1,4 @@
--- Which update a pair of offered choices is, what the machine makes of it, and what was refused.
+-- Which update a pair of offered choices is, what the machine does in it, and which pairs are refused.
 use Rattle.std.proofs.Common.{Bool, Some, ap, arith, false, inl, inr, refl, subst, sym, true, ◌∙◌, ◌≡◌, ◌≤◌, ◌⊎◌}
 use Rattle.gen1_machine.specs.declared.side.Side.{Side}
 use Rattle.gen1_machine.specs.declared.side.Side.TheVariants.{One, Two}
@@ -25,7 +25,7 @@ use Rattle.gen1_engine.specs.declared.result.Refusal.TheVariants as refusals
 use Rattle.gen1_engine.specs.Replay.{IsRefused}
 use Rattle.gen1_engine.specs.Update.{AreOffered, IsBounded, IsBoundedAs, Tests}
 
--- where something is offered the battle goes on
+-- if something is offered, the battle goes on
 pub goes_on : (s : State) (side : Side) (c : Choice) → offers s side c ≡ true → s.field.outcome ≡ outcomes.Ongoing
 unfolding offered
 goes_on s side c h = by s.field.outcome refl
@@ -37,7 +37,7 @@ goes_on s side c h = by s.field.outcome refl
     by outcomes.Tie e = absurd (let f = rw e at h in cc)
     by (outcomes.Fault n) e = absurd (let f = rw e at h in cc)
 
--- what is asked for while a battle goes on
+-- the requests while a battle goes on
 
 pub data Asks (f : Field) : Type 0 where
   moves : f.request_one ≡ requests.Move → f.request_two ≡ requests.Move → Asks f
@@ -76,7 +76,7 @@ both_move s valid e asked = by valid.field
     by (inl u) = absurd (none u asked)
     by (inr v) = of (asks s.terms s.field v e) asked
 
--- which update it is, by what is asked of side 1 and by the turn
+-- which update it is, by side 1's request and the turn
 
 pub unstarted_at : (s : State) → IsState s → s.field.turn ≡ 0 → IsUnstarted s.terms s.field
 unstarted_at s valid e = by valid.field

@@ -9,7 +9,7 @@ use Rattle.gen1_layout.specs.Parts.{Parts}
 use Rattle.gen1_layout.specs.Within.{Stands}
 use Rattle.gen1_engine.specs.Reseed.{reseeded}
 
--- a state is as valid with other numbers to draw
+-- a state is just as valid with other numbers to draw
 pub valid_with : (ring : Ring) (s : State) → IsStream (Link ring.numbers) → IsState s → IsState (reseeded ring s)
 valid_with ring s stream h = record { terms = h.terms; seed = stream; field = h.field }
 

@@ -1,4 +1,4 @@
--- What any calls of `update` come to, one after the other, by what each promises (docs/PROOFS.md, "Laws").
+-- What calls of `update` lead to, one after the other, from what each of them promises (docs/PROOFS.md, "Laws").
 use Rattle.std.specs.Prelude.{List, Result, [], count_by, is_ok, true, ◌+◌, ◌≡◌, ◌≤◌, ◌∷◌}
 use Rattle.gen1_machine.specs.declared.side.Side.TheVariants.{One, Two}
 use Rattle.gen1_machine.specs.declared.choice.Choice.{Choice}
@@ -11,28 +11,28 @@ use Rattle.gen1_engine.specs.declared.result.BattleResult.{BattleResult}
 use Rattle.gen1_engine.specs.declared.result.Refusal.{Refusal}
 use Rattle.gen1_engine.specs.Update.{Answers}
 
--- one call promises its answer, and the bytes after it, for every state that the bytes before it stand for
+-- one call keeps its promise about its result and the bytes after it, for every state that the bytes before it represent
 abbrev pub Updates : Parts → Choice × Choice → Result BattleResult Refusal → Parts → Type 0
 Updates old pair result new = (s : State) → Stands old s → Answers s pair.0 pair.1 old new result
 
--- calls one after the other, each with its pair and its answer
+-- calls one after the other, each with its pair and its result
 abbrev pub UpdatesAll : Parts → List (Choice × Choice) → List (Result BattleResult Refusal) → Parts → Type 0
 UpdatesAll old [] [] new = new ≡ old
 UpdatesAll old (pair ∷ pairs) (result ∷ results) new = (next : Parts) × Updates old pair result next × UpdatesAll next pairs results new
 UpdatesAll old _ _ new = ⊥
 
--- a call by two choices of those that `choices` lists is accepted, whatever battle of two teams or of loaded bytes it is
+-- a call with two of the choices that `choices` lists is accepted, in any battle of two teams or of loaded bytes
 abbrev pub OfferedIsAccepted : Type 0
 OfferedIsAccepted = (s : State) (old new : Parts) (pair : Choice × Choice) (result : Result BattleResult Refusal)
     → Stands old s → Updates old pair result new
     → is_among pair.0 (offered One s.field) ≡ true → is_among pair.1 (offered Two s.field) ≡ true → is_ok result ≡ true
 
--- after any calls the bytes stand for the state that the machine's run leads to
+-- after any calls the bytes represent the state that the machine's run leads to
 abbrev pub CallsAreTheRun : Type 0
 CallsAreTheRun = (s : State) (old new : Parts) (pairs : List (Choice × Choice)) (results : List (Result BattleResult Refusal))
     → Stands old s → UpdatesAll old pairs results new → Stands new (run s pairs).state
 
--- no more of any calls are accepted than turns may come, and eleven; where so many were, the battle is over
+-- at most as many calls are accepted as the turn limit, plus eleven; after that many, the battle is over
 abbrev pub CallsEnd : Type 0
 CallsEnd = (s : State) (old new : Parts) (pairs : List (Choice × Choice)) (results : List (Result BattleResult Refusal))
     → Stands old s → UpdatesAll old pairs results new

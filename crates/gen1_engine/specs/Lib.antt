@@ -1,10 +1,10 @@
--- What an update answers and leaves.
+-- What an update returns and leaves.
 pub mod Update
 -- Many updates, one after the other.
 pub mod Replay
--- What any calls come to.
+-- What calls lead to, one after the other.
 pub mod Calls
--- What a side may choose, as a number.
+-- The offered choices, as a number.
 pub mod OfferedMask
 -- Other numbers to draw.
 pub mod Reseed

@@ -2,6 +2,6 @@
 use Rattle.gen1_rolls.specs.Link.{Ring}
 use Rattle.gen1_machine.specs.State.{State}
 
--- the same state, which draws from these numbers, from the index on
+-- the same state, which draws from these numbers, beginning at the index
 abbrev pub reseeded : Ring → State → State
 reseeded ring s = record s { seed = ring.numbers; drawn = ring.index }

@@ -1,4 +1,4 @@
--- What an update answers, leaves and tells, for a state that the bytes stand for (docs/MECHANICS.md, "Offered choices", "Falls
+-- What an update returns, leaves and reports, for a state that the bytes represent (docs/MECHANICS.md, "Offered choices", "Falls
 -- and requests"): what the machine's step says.
 use Rattle.std.specs.Prelude.{Err, List, None, Ok, Option, Result, Some, true, ℕ, ◌≡◌}
 use Rattle.arrayvec.specs.ArrayVec.{ArrayVec}
@@ -27,27 +27,27 @@ refusal_number refusals.Over = 1
 refusal_number (refusals.NotOffered One) = 2
 refusal_number (refusals.NotOffered Two) = 3
 
--- a refused pair leaves the bytes as they are; after an accepted one they stand for the next state, whose result is answered
+-- after a refused pair the bytes are as they were; after an accepted one they represent the next state, whose result is returned
 abbrev pub AnswersAs : Answer → State → Parts → Parts → Result BattleResult Refusal → Type 0
 AnswersAs (Refused why) next old new result = (result ≡ Err (refusal_of why)) × (new ≡ old)
 AnswersAs (Accepted events) next old new result = (result ≡ Ok (result_of next)) × Stands new next
 
--- a refused pair leaves the buffer as it is; an accepted one leaves in it what its events read as, and nothing else
+-- after a refused pair the buffer is as it was; after an accepted one it decodes to the events, and nothing else
 abbrev pub LogsAs : Answer → ArrayVec ℕ → ArrayVec ℕ → Type 0
 LogsAs (Refused why) old new = new ≡ old
 LogsAs (Accepted events) old new = IsReading new.items events
 
--- a refused pair leaves the list as it is; an accepted one leaves its events in it, and nothing else
+-- after a refused pair the list is as it was; after an accepted one it has the events, and nothing else
 abbrev pub TellsAs : Answer → ArrayVec Event → ArrayVec Event → Type 0
 TellsAs (Refused why) old new = new ≡ old
 TellsAs (Accepted events) old new = new.items ≡ events
 
--- a refused pair leaves a sink as it is; an accepted one tells it its events, and nothing else
+-- after a refused pair a sink is as it was; after an accepted one it has got the events, and nothing else
 abbrev pub ToldAs : {S : Type 0} → (S → List Event → Type 0) → Answer → S → S → Type 0
 ToldAs tells (Refused why) old new = new ≡ old
 ToldAs tells (Accepted events) old new = tells new events
 
--- what an accepted pair costs at most: 4,700 draws, 64 events and 512 bytes
+-- the most that an accepted pair takes: 4,700 draws, 64 events and 512 bytes
 abbrev pub IsBoundedAs : State → Answer → State → Type 0
 IsBoundedAs s (Refused why) next = Unit {0}
 IsBoundedAs s (Accepted events) next = Bounded s events next
@@ -71,7 +71,7 @@ pub record AreOffered (s : State) (one two : Choice) : Type 0 where
   pub first : offers s One one ≡ true
   pub second : offers s Two two ≡ true
 
--- why the machine refuses a pair; where it does not, both choices are offered
+-- why the machine refuses a pair; if it does not, both choices are offered
 abbrev pub Tests : State → Choice → Choice → Option Refusal → Type 0
 Tests s one two (Some why) = (reason : Reason) × (why ≡ refusal_of reason) × (step s one two ≡ refused s reason)
 Tests s one two None = AreOffered s one two

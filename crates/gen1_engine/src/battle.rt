@@ -1,4 +1,4 @@
-//! A battle that stands for a valid state whenever nobody is inside it (docs/LAYOUT.md, "The 384 bytes of a battle").
+//! A battle whose bytes always represent a valid state between two calls (docs/LAYOUT.md, "The 384 bytes of a battle").
 ghost use Rattle.std.specs.Prelude.{IfOk, IsOk, [], length, ◌<◌, ◌↔◌, ◌≡◌, ◌≤◌, ◌||◌};
 ghost use Rattle.gen1_machine.specs.LogBytes.{codes_of};
 ghost use Rattle.gen1_machine.specs.Layout.{bytes_of};
@@ -53,7 +53,7 @@ impl Clone for Battle {
 
     ghost is_infallible = { λ _. ⊤ };
 
-    /// A battle with the same 384 bytes, which goes on by itself. There is always an answer.
+    /// Returns an independent battle with the same 384 bytes. It always returns `Ok`.
     fn clone(&self) -> Result<Battle, AllocError> {
         Ok(Battle {
             packed: self.packed.clone()?,
@@ -62,7 +62,7 @@ impl Clone for Battle {
 }
 
 impl Battle {
-    /// A battle of two teams before its first update, with the ten numbers of a seed (docs/MECHANICS.md, "Link numbers"), no
+    /// Makes a battle of two teams, before its first update, with the ten numbers of a seed (docs/MECHANICS.md, "Link numbers"), no
     /// rules and a turn limit of 1,000.
     pub fn new(one: &Team, two: &Team, seed: [u8; 10]) -> Battle
         ensures { Stands result (first_state usual_terms one.now two.now seed) }
@@ -72,7 +72,7 @@ impl Battle {
         }
     }
 
-    /// The same under rules (docs/MECHANICS.md, "Rules (sleep clause, freeze clause)").
+    /// Makes a battle like `new`, with rules (docs/MECHANICS.md, "Rules (sleep clause, freeze clause)").
     pub fn with_rules(one: &Team, two: &Team, seed: [u8; 10], rules: Rules) -> Battle
         ensures { Stands result
             (first_state (record { rules = rules; limit = 1000 }) one.now two.now seed) }
@@ -82,7 +82,7 @@ impl Battle {
         }
     }
 
-    /// The same under rules and a turn limit (docs/MECHANICS.md, "Turn limit").
+    /// Makes a battle like `new`, with rules and a turn limit (docs/MECHANICS.md, "Turn limit").
     pub fn with_limit(
         one: &Team,
         two: &Team,
@@ -98,11 +98,11 @@ impl Battle {
         }
     }
 
-    /// The battle of these bytes (docs/LAYOUT.md, "Loading"), of any of the three versions.
+    /// Reads a battle from bytes of any of the three versions (docs/LAYOUT.md, "Loading").
     ///
     /// # Errors
     ///
-    /// The first of the seven tests that the bytes fail. They pass all exactly where they stand for a valid state.
+    /// The first of the seven tests that the bytes fail. They pass all of them exactly if they represent a valid state.
     pub fn load(bytes: &[u8]) -> Result<Battle, LoadFault>
         ensures tests { IsLoadedAs result bytes.now }
         ensures battle { IsOk result ↔ IsBattle bytes.now }
@@ -114,8 +114,8 @@ impl Battle {
         }
     }
 
-    /// The 384 bytes (docs/LAYOUT.md), in the form of version 3. They are lent as a slice, which `load` and writers take; that
-    /// there are 384 is said by the clause and not by the type.
+    /// Returns the 384 bytes (docs/LAYOUT.md), in the form of version 3. They are borrowed as a slice, as `load` and writers take
+    /// one, so the length is stated by the clause `len` and not by the type.
     pub fn bytes(&self) -> &[u8]
         ensures stands { (s : State) → Stands self.now s → result.now ≡ bytes_of s }
         ensures len { length result.now ≡ 384 }
@@ -123,16 +123,17 @@ impl Battle {
         self.packed.as_bytes()
     }
 
-    /// What a side may choose, by rising bytes: nothing once the battle is over (docs/MECHANICS.md, "Offered choices").
+    /// Lists the choices that a side is offered, in rising order of their bytes; none once the battle is over (docs/MECHANICS.md,
+    /// "Offered choices").
     pub fn choices(&self, side: Side) -> Choices
         ensures { (s : State) → Stands self.now s → result.items ≡ offered side s.field }
     {
         offered(&self.packed, side)
     }
 
-    /// The same as a number of twelve binary digits, from the lowest on: Pass, Move with slot 0 to 4, Switch to place 1 to 6.
-    /// It is 0 once the battle is over. [`count_of`](crate::packed::count_of) says how many choices it has, and
-    /// [`choice_at`](crate::packed::choice_at) which is at a place of the list.
+    /// Returns the offered choices as a mask of twelve bits, from the lowest on: Pass, Move with slot 0 to 4, Switch to place 1 to
+    /// 6. It is 0 once the battle is over. [`count_of`](crate::packed::count_of) returns how many choices a mask has, and
+    /// [`choice_at`](crate::packed::choice_at) the one at an index of the list.
     pub fn offered_mask(&self, side: Side) -> u16
         ensures stands { (s : State) → Stands self.now s → result ≡ offered_mask s side }
         ensures twelve { result < 4096 }
@@ -140,44 +141,45 @@ impl Battle {
         offered_mask(&self.packed, side)
     }
 
-    /// How the battle stands, and what is asked of each side.
+    /// Returns the outcome so far, and what each side is asked.
     pub fn result(&self) -> BattleResult
         ensures stands { (s : State) → Stands self.now s → result ≡ result_of s }
-        // Whatever this battle is, its bytes stand for a valid state.
+        // The bytes of any battle represent a valid state.
         ensures valid { StandsForSome self.now }
     {
         result(&self.packed)
     }
 
-    /// The clauses that it is fought under, which no update changes.
+    /// Returns the rules of the battle, which no update changes.
     pub fn rules(&self) -> Rules
         ensures { (s : State) → Stands self.now s → result ≡ s.terms.rules }
     {
         self.packed.rules()
     }
 
-    /// Its last turn, from 1 to 9,999, which no update changes.
+    /// Returns the turn limit, 1 to 9,999, which no update changes.
     pub fn limit(&self) -> u16
         ensures { (s : State) → Stands self.now s → result ≡ s.terms.limit }
     {
         self.packed.limit()
     }
 
-    /// Gives it other numbers to draw, and changes nothing else (docs/MECHANICS.md, "Link numbers"). A copy knows what the
-    /// battle will draw, so a search reseeds each copy before it plays it out.
+    /// Replaces the numbers that the battle draws, and changes nothing else (docs/MECHANICS.md, "Link numbers"). A copy draws what
+    /// the battle itself will draw, so a search reseeds each copy before it plays it.
     pub fn reseed(&mut self, numbers: &LinkRandom)
         ensures { (s : State) → Stands self.old s → Stands self.new (reseeded numbers.now s) }
     {
         reseed(&mut self.packed, numbers);
     }
 
-    /// An update by a choice of each side. An accepted pair leaves its log bytes in the buffer (docs/MECHANICS.md, "Log bytes"),
-    /// and nothing else: at most 512 bytes of at most 64 events. The machine's update of such a pair takes at most 4,700 draws.
+    /// Plays one update by a choice of each side. If the pair is accepted, the buffer has the update's log bytes and nothing else
+    /// (docs/MECHANICS.md, "Log bytes"): at most 64 events, at most 512 bytes in all. The machine's update of such a pair takes at
+    /// most 4,700 draws.
     ///
     /// # Errors
     ///
-    /// The first that applies: the battle is over, or side 1's choice was not offered, or side 2's. Battle and buffer stay as
-    /// they are.
+    /// The first that applies: the battle is over, side 1's choice was not offered, side 2's was not. Battle and buffer are then as
+    /// they were.
     pub fn update(
         &mut self,
         one: Choice,
@@ -192,11 +194,12 @@ impl Battle {
         update(&mut self.packed, one, two, log)
     }
 
-    /// The same by two bytes (docs/MECHANICS.md, "Offered choices"), of which one that stands for no choice is not offered.
+    /// Plays one update like `update`, by two bytes (docs/MECHANICS.md, "Offered choices"). A byte that is not a choice is not
+    /// offered.
     ///
     /// # Errors
     ///
-    /// As `update` has them.
+    /// The same as those of `update`.
     pub fn update_by_bytes(
         &mut self,
         one: u8,
@@ -210,11 +213,11 @@ impl Battle {
         update_by_bytes(&mut self.packed, one, two, log)
     }
 
-    /// An update of which nothing is told but how the battle then stands: for who reads neither log nor events.
+    /// Plays one update and returns only the result: for callers that need neither log nor events.
     ///
     /// # Errors
     ///
-    /// As `update` has them; the battle stays as it is.
+    /// The same as those of `update`; the battle is then as it was.
     pub fn update_silent(&mut self, one: Choice, two: Choice) -> Result<BattleResult, Refusal>
         ensures answers { (s : State) → Stands self.old s
             → Answers s one two self.old self.new result }
@@ -223,11 +226,11 @@ impl Battle {
         update_silent(&mut self.packed, one, two)
     }
 
-    /// The same by two bytes, of which one that stands for no choice is not offered.
+    /// Plays one update like `update_silent`, by two bytes. A byte that is not a choice is not offered.
     ///
     /// # Errors
     ///
-    /// As `update` has them; the battle stays as it is.
+    /// The same as those of `update`; the battle is then as it was.
     pub fn update_silent_by_bytes(&mut self, one: u8, two: u8) -> Result<BattleResult, Refusal>
         ensures answers { (s : State) → Stands self.old s
             → AnswersBytes s (one, two) self.old self.new result }
@@ -235,8 +238,8 @@ impl Battle {
         update_silent_by_bytes(&mut self.packed, one, two)
     }
 
-    /// An update by two choices that are offered, which are not tested again: for who took them from `choices` or from
-    /// `offered_mask`. Its events go to a sink that was told nothing yet: an empty list, an empty buffer, or `Silent`.
+    /// Plays one update by two offered choices, without testing that they are: for callers that took them from `choices` or
+    /// `offered_mask`. The events go to a sink that is still empty: a list, a buffer, or `Silent`.
     pub fn update_offered<S: EventSink>(
         &mut self,
         one: Choice,
@@ -254,12 +257,12 @@ impl Battle {
         update_offered(&mut self.packed, one, two, events)
     }
 
-    /// An update whose events themselves are left in the list, and nothing else, in place of log bytes (`write_log` makes those
-    /// of them). Nothing but the battle and the list is written.
+    /// Plays one update whose events are put into the list, and nothing else. `write_log` makes log bytes of them. Only the battle
+    /// and the list are written.
     ///
     /// # Errors
     ///
-    /// As `update` has them; battle and list stay as they are.
+    /// The same as those of `update`; battle and list are then as they were.
     pub fn update_events(
         &mut self,
         one: Choice,
@@ -270,17 +273,17 @@ impl Battle {
             → Answers s one two self.old self.new result }
         ensures tells { (s : State) → Stands self.old s → Tells s one two events.old events.new }
         ensures bounded { (s : State) → Stands self.old s → IsBounded s one two }
-        // There is room for their bytes in a buffer.
+        // Their bytes fit a buffer.
         ensures short { IsOk result → length (codes_of events.new.items) ≤ 512 }
     {
         update_events(&mut self.packed, one, two, events)
     }
 
-    /// The same by two bytes, of which one that stands for no choice is not offered.
+    /// Plays one update like `update_events`, by two bytes. A byte that is not a choice is not offered.
     ///
     /// # Errors
     ///
-    /// As `update` has them; battle and list stay as they are.
+    /// The same as those of `update`; battle and list are then as they were.
     pub fn update_events_by_bytes(
         &mut self,
         one: u8,
@@ -291,18 +294,18 @@ impl Battle {
             → AnswersBytes s (one, two) self.old self.new result }
         ensures tells { (s : State) → Stands self.old s
             → TellsBytes s (one, two) events.old events.new }
-        // There is room for their bytes in a buffer.
+        // Their bytes fit a buffer.
         ensures short { IsOk result → length (codes_of events.new.items) ≤ 512 }
     {
         update_events_by_bytes(&mut self.packed, one, two, events)
     }
 
-    /// Updates by pairs of bytes of choices, one after the other, and writes the log bytes of each.
+    /// Plays updates by pairs of bytes, one after the other, and writes the log bytes of each to a sink.
     ///
     /// # Errors
     ///
-    /// The first pair that is refused, or whose bytes cannot all be written. The battle then stands after the pairs before it,
-    /// or after it: no pair is played behind one whose bytes are not written.
+    /// The first pair that is refused, or whose bytes cannot all be written. The battle is then as the pairs before it leave it, or
+    /// as it leaves it itself. No pair is played after one whose bytes are not written.
     pub fn replay<W: Sink>(
         &mut self,
         pairs: &[(u8, u8)],

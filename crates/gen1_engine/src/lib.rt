@@ -1,16 +1,16 @@
 //! A battle that is played update by update: the choices of both sides, its log, and its 384 bytes (docs/MECHANICS.md,
 //! docs/LAYOUT.md).
 //!
-//! - `battle`: [`Battle`], valid whenever nobody is inside it
+//! - `battle`: [`Battle`], whose bytes are always valid between two calls
 //! - `packed`: updates of a `Packed` that a caller keeps
-//! - `update`: an update, by what is asked of the sides
+//! - `update`: an update, by what the sides are asked
 //! - `choice_bytes`: the same by the bytes of choices
-//! - `offered_mask`: what a side may choose, as a number
+//! - `offered_mask`: the offered choices, as a number
 //! - `replay`: many updates, one after the other
 //! - `reseed`: other numbers to draw
-//! - `result`: what a battle answers to an update
+//! - `result`: what an update returns
 //! - `log`: the log bytes of an update
-//! - `laws`: what holds of all calls
+//! - `laws`: what holds for any calls
 #![tactic(auto)]
 
 mod battle;

@@ -1,5 +1,5 @@
-//! Updates of a `Packed` that a caller keeps, as a C library's callers do. They take any bytes: a [`Battle`](crate::Battle) is
-//! for who wants its type to say that they stand for a valid state.
+//! Updates of a `Packed` that a caller keeps, as callers of the C library do. They take any bytes. A [`Battle`](crate::Battle) is
+//! for callers that want its type to guarantee a valid state.
 pub use crate::choice_bytes::{
     update_by_bytes, update_events_by_bytes, update_offered_by_bytes, update_silent_by_bytes,
     update_telling_by_bytes,

@@ -1,4 +1,4 @@
-//! A battle with other numbers to draw (docs/MECHANICS.md, "Link numbers").
+//! Other numbers for a battle to draw (docs/MECHANICS.md, "Link numbers").
 ghost use Rattle.std.specs.Prelude.{drop, length, take, ◌++◌, ◌≡◌, ◌∷◌};
 ghost use Rattle.gen1_rolls.specs.Streams.{IsStream, Link};
 ghost use Rattle.gen1_machine.specs.State.{State};
@@ -9,8 +9,8 @@ ghost use Rattle.gen1_engine.specs.Reseed.{reseeded};
 use gen1_layout::Packed;
 use gen1_rolls::LinkRandom;
 
-/// Gives a battle other numbers to draw, and changes nothing else: its bytes then stand for the same state, whose seed are these
-/// numbers and of whose draws so many were made as their index says.
+/// Replaces the numbers that a battle draws, and changes nothing else. The bytes then represent the same state, with these numbers
+/// as its seed and as many draws taken as their index says.
 pub fn reseed(battle: &mut Packed, numbers: &LinkRandom)
     ensures stands { (s : State) → Stands battle.old s
         → Stands battle.new (reseeded numbers.now s) }
@@ -22,7 +22,7 @@ pub fn reseed(battle: &mut Packed, numbers: &LinkRandom)
     put_numbers(header, index, &bytes);
 }
 
-// Writes to the bytes of a header the numbers to draw from, and the index of the one that is drawn next.
+// Writes the numbers and the index of the one that is drawn next to the bytes of a header.
 fn put_numbers(header: &mut [u8], index: u8, numbers: &[u8])
     requires header { length header.old ≡ 24 }
     requires ten { length numbers.now ≡ 10 }

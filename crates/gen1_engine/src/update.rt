@@ -1,5 +1,5 @@
-//! An update of the bytes of a battle, by what is asked of the sides (docs/MECHANICS.md, "Offered choices", "Falls and
-//! requests"). What becomes of its events its sink decides: a list, log bytes, or nothing.
+//! An update of the bytes of a battle, by what the sides are asked (docs/MECHANICS.md, "Offered choices", "Falls and requests"). A
+//! sink takes the events: a list, log bytes, or nothing.
 ghost use Rattle.std.specs.Prelude.{Bool, IsOk, OnErr, [], false, length, ◌≡◌, ◌≤◌};
 ghost use Rattle.gen1_machine.specs.LogBytes.{codes_of};
 ghost use Rattle.gen1_machine.specs.State.{State, is_over};
@@ -18,12 +18,12 @@ use gen1_machine::{Choice, EventList, Request, Side};
 use gen1_requests::{is_offered, replace, start};
 use gen1_turn::turn;
 
-/// An update by a choice of each side, whose log bytes are left in the buffer, and nothing else. Whatever the bytes of the battle
-/// are, there is an answer, and nothing but them and the buffer is written.
+/// Plays one update by a choice of each side, and puts its log bytes into the buffer, and nothing else. It takes any bytes of a
+/// battle, and writes only them and the buffer.
 ///
 /// # Errors
 ///
-/// As [`update_events`] has them; bytes and buffer stay as they are.
+/// The same as those of [`update_events`]; bytes and buffer are then as they were.
 pub fn update(
     battle: &mut Packed,
     one: Choice,
@@ -43,12 +43,13 @@ pub fn update(
     Ok(update_offered(battle, one, two, log))
 }
 
-/// An update by a choice of each side, whose events are left in the list, and nothing else. Whatever the bytes are, there is an
-/// answer, and nothing but bytes and list is written; wherever they stand for a valid state it is the machine's.
+/// Plays one update by a choice of each side, and puts its events into the list, and nothing else. It takes any bytes of a battle,
+/// and writes only them and the list. If they represent a valid state, the update is the machine's.
 ///
 /// # Errors
 ///
-/// The first that applies: the battle is over, or side 1's choice was not offered, or side 2's. Bytes and list stay as they are.
+/// The first that applies: the battle is over, side 1's choice was not offered, side 2's was not. Bytes and list are then as they
+/// were.
 pub fn update_events(
     battle: &mut Packed,
     one: Choice,
@@ -59,7 +60,7 @@ pub fn update_events(
         → Answers s one two battle.old battle.new result }
     ensures tells { (s : State) → Stands battle.old s → Tells s one two events.old events.new }
     ensures valid { StandsForSome battle.old → StandsForSome battle.new }
-    // Whether the bytes stand for a state or not.
+    // For any bytes, valid or not.
     ensures short { IsOk result → length (codes_of events.new.items) ≤ 512 }
     ensures kept { OnErr result ((battle.new ≡ battle.old) × (events.new ≡ events.old)) }
 {
@@ -70,11 +71,11 @@ pub fn update_events(
     Ok(update_offered(battle, one, two, events))
 }
 
-/// An update by a choice of each side, of which nothing is told but how the battle stands.
+/// Plays one update by a choice of each side, and returns only the result.
 ///
 /// # Errors
 ///
-/// As [`update_events`] has them; the bytes stay as they are.
+/// The same as those of [`update_events`]; the bytes are then as they were.
 pub fn update_silent(battle: &mut Packed, one: Choice, two: Choice) -> Result<BattleResult, Refusal>
     ensures answers { (s : State) → Stands battle.old s
         → Answers s one two battle.old battle.new result }
@@ -87,7 +88,7 @@ pub fn update_silent(battle: &mut Packed, one: Choice, two: Choice) -> Result<Ba
     Ok(update_offered(battle, one, two, &mut Silent))
 }
 
-// Why a pair is refused, by the first reason that applies. None: both choices are offered.
+// Why a pair is refused, by the first reason that applies. `None`: both choices are offered.
 #[inline(always)] // docs/SPEED.md, "Hints on inlining"
 fn refusal(battle: &Packed, one: &Choice, two: &Choice) -> Option<Refusal>
     ensures { (s : State) → Stands battle.now s → Tests s one.now two.now result }
@@ -101,7 +102,7 @@ fn refusal(battle: &Packed, one: &Choice, two: &Choice) -> Option<Refusal>
     None
 }
 
-// Where side 1's choice is not offered, as none is once the battle is over.
+// Why side 1's choice is not offered: perhaps because the battle is over.
 pub(crate) fn refusal_of_first(battle: &Packed) -> Refusal
     ensures { (s : State) → Stands battle.now s → (second : Bool)
         → IsRefused s false second result }
@@ -113,8 +114,9 @@ pub(crate) fn refusal_of_first(battle: &Packed) -> Refusal
     }
 }
 
-/// An update by two choices that are offered, which are not tested: for who took them from what is offered. Its events go to a
-/// sink that was told nothing yet. By choices that are not offered the bytes may be anything afterwards; nothing else is written.
+/// Plays one update by two offered choices, without testing that they are: for callers that took them from the offered choices. The
+/// events go to a sink that is still empty. If a choice is not offered, the bytes may be anything afterwards; nothing else is
+/// written.
 #[inline(always)] // docs/SPEED.md, "Hints on inlining"
 pub fn update_offered<S: EventSink>(
     battle: &mut Packed,
@@ -133,7 +135,7 @@ pub fn update_offered<S: EventSink>(
     result(battle)
 }
 
-/// How a battle stands, and what is asked of each side.
+/// Returns the outcome so far, and what each side is asked.
 pub fn result(battle: &Packed) -> BattleResult
     ensures { (s : State) → Stands battle.now s → result ≡ result_of s }
 {
@@ -150,7 +152,7 @@ fn is_over(battle: &Packed) -> bool
     battle.outcome().is_over()
 }
 
-// An update whose choices are offered.
+// An update by offered choices.
 fn play<S: EventSink>(battle: &mut Packed, one: Choice, two: Choice, events: &mut S)
     requires empty { S.tells events.old [] }
     requires room { HasRoom S.room 51 events.old }
@@ -170,7 +172,7 @@ fn play<S: EventSink>(battle: &mut Packed, one: Choice, two: Choice, events: &mu
     }
 }
 
-// A turn draws from the numbers of the header, and leaves them there as they then stand.
+// A turn draws from the numbers of the header, and leaves them there as they are afterwards.
 fn play_turn<S: EventSink>(battle: &mut Packed, one: Choice, two: Choice, events: &mut S)
     requires empty { S.tells events.old [] }
     requires room { HasRoom S.room 51 events.old }
