@@ -160,7 +160,7 @@ pub chosen_is : {r : Held} {c : Course} (side : Side) → Holds r c → chosen_i
 chosen_is One h = h.one
 chosen_is Two h = h.two
 
--- the answers in their order
+-- the replies in their order
 
 abbrev pub steps : Bool → Bool → Bool → Bool → ℕ → Reply → Reply
 steps over same there none current rest =

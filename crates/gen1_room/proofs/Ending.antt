@@ -1,4 +1,4 @@
--- A pair that ends: what it leaves, and that its number fits.
+-- A pair that ends: what it leaves, and that its number is in range.
 use Rattle.arrayvec.specs.ArrayVec.{ArrayVec}
 use Rattle.std.proofs.Common.{Bool, Err, List, None, Ok, Option, Result, Some, [], ap, arith, false, inl, inr, refl, subst, sym, true, ℕ, ◌&&◌, ◌++◌, ◌+◌, ◌==◌, ◌≡◌, ◌≤◌, ◌∙◌, ◌∷◌, ◌⊎◌}
 use Rattle.std.specs.Prelude.{if◌then◌else◌}
@@ -42,7 +42,7 @@ later n h = grind (arith, nat_tests)
 eqb_zero : (n : ℕ) → (n == 0) ≡ true → n ≡ 0
 eqb_zero n h = grind (arith, nat_tests)
 
--- after an update the battle has begun
+-- after an update the battle is started
 
 begun_or : (s : State) → IsUnstarted s.terms s.field ⊎ IsStarted s.terms s.field → IsUnstarted s.terms s.field ⊎ (IsField s.terms s.field × Standing s.terms s.field)
 begun_or s (inl h) = inl h
@@ -55,7 +55,7 @@ next_standing s one two valid h =
     (subst (λ (l : List Choice). is_among one l ≡ true) (offered-is One s.field going) h.first)
     (subst (λ (l : List Choice). is_among two l ≡ true) (offered-is Two s.field going) h.second)
 
--- while it goes on, something else than passing is asked of a side
+-- while the battle goes on, a side is asked something else than Pass
 
 asks_by : (one two : Bool) (terms : Terms) (f : Field) → IsAsked one two terms f → (is_pass f.request_one ≡ false) ⊎ (is_pass f.request_two ≡ false)
 asks_by false false terms f h = inl (ap is_pass h.0)
@@ -100,7 +100,7 @@ holds_fresh t number events r stands counted logged one two waits = record {
     by (inl e) = inl (one ∙ e)
     by (inr e) = inr (two ∙ e)
 
--- what an accepted update leaves
+-- what an accepted update leaves behind
 abbrev Left : Parts → ArrayVec ℕ → Result BattleResult Refusal → Stepped → Type 0
 Left new new_log result t = (result ≡ Ok (result_of t.state)) × Stands new t.state × IsReading new_log.items (events_of t.answer)
 
@@ -165,7 +165,7 @@ start_offered s h =
 pub unbegun_offers : {p : Parts} (s : State) → Stands p s → (s.field.turn == 0) ≡ true → AreOffered s choices.Pass choices.Pass
 unbegun_offers s h zero = start_offered s (unstarted_at s h.valid (eqb_zero s.field.turn zero))
 
--- only a battle that has not begun goes on and asks both to pass
+-- only a battle before its start goes on and asks both sides for Pass
 
 pub begun_over : (s : State) → IsState s → is_over s.field.outcome ≡ true → false ≡ (s.field.turn == 0)
 begun_over s valid over = by valid.field
@@ -185,7 +185,7 @@ begun_asks s valid going = by valid.field
     by (inl u) = rw (u.requests.one, u.requests.two, u.turn) refl
     by (inr v) = asked (asks_going s.terms s.field v.requests going) ∙ sym (later s.field.turn v.turn)
 
--- how it stands then
+-- the battle afterwards
 abbrev OpenedAs : Terms → Parts → List ℕ → Stepped → Type 0
 OpenedAs terms new log t = Stands new t.state × IsReading log (events_of t.answer) × StandsAs t.state.field.outcome terms t.state.field
 

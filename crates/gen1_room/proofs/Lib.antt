@@ -1,6 +1,6 @@
--- Updates, as they answer.
+-- Updates, and what they return.
 pub mod Steps
--- A submission more: what it makes of the choices that are there, and of the course.
+-- One more submission: what it does to the choices that are there, and to the course.
 pub mod Rooms
 pub mod Offers
 pub mod Choosing

@@ -1,4 +1,4 @@
--- Updates by choices that are offered, and what an accepted update left.
+-- Updates by offered choices, and what an accepted update left.
 use Rattle.std.proofs.Common.{List, Ok, ap, false, refl, ◌≡◌}
 use Rattle.gen1_machine.specs.declared.side.Side.TheVariants.{One}
 use Rattle.gen1_machine.specs.declared.event.Event.{Event}
@@ -13,7 +13,7 @@ use Rattle.gen1_engine.specs.declared.result.BattleResult.{BattleResult}
 use Rattle.gen1_engine.specs.Update.{AnswersAs, AreOffered}
 use Rattle.gen1_engine.proofs.Making.{goes_on}
 
--- what an accepted update makes
+-- what an accepted update does
 abbrev pub made : State → Choice → Choice → Progress
 made s one two = update (ruling_of s.terms) one two (opened s)
 
@@ -24,7 +24,7 @@ step_accepts s one two h =
     let going : is_over s.field.outcome ≡ false = ap is_over (goes_on s One one h.first) in
     rw (going, h.first, h.second) refl
 
--- what an accepted update said
+-- what an accepted update returned
 
 pub answers_ok : (answer : Answer) (next : State) (old new : Parts) (result : BattleResult)
     → AnswersAs answer next old new (Ok result) → (events : List Event) × (answer ≡ Accepted events) × Stands new next

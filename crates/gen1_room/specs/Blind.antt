@@ -1,4 +1,4 @@
--- What the replies of a room tell of choices (docs/MECHANICS.md, "Rooms").
+-- What the replies of a room reveal about choices (docs/MECHANICS.md, "Rooms").
 use Rattle.std.specs.Prelude.{false, is_none, is_some, List, true, ℕ, ◌++◌, ◌+◌, ◌||◌, ◌≡◌, ◌∷◌}
 use Rattle.gen1_machine.specs.declared.side.Side.{Side}
 use Rattle.gen1_machine.specs.declared.side.Side.TheVariants.{One, Two}
@@ -6,8 +6,8 @@ use Rattle.gen1_machine.specs.Room.{advanced_to, after, choice_made, chosen, Cou
 use Rattle.gen1_machine.specs.State.{is_over}
 use Rattle.gen1_room.specs.Rooms.{submission_of}
 
--- Of two offered choices that a side might submit for the current pair, the one is replied to as the other is, and so is all
--- that is submitted after it, by either side, as long as the pair has not ended.
+-- Take two offered choices that a side might submit for the current pair. The replies to both are the same, and so are the replies
+-- to all later submissions of either side, until the pair has ended.
 abbrev pub RepliesHideChoices : Type 0
 RepliesHideChoices = (c : Course) (before more : List Submission) (side : Side) (x y : ℕ)
     → let d : Course = course_of c before in
@@ -15,7 +15,7 @@ RepliesHideChoices = (c : Course) (before more : List Submission) (side : Side) 
     → (course_of c (before ++ submission_of side d.number x ∷ more)).number ≡ d.number
     → replies_of c (before ++ submission_of side d.number x ∷ more) ≡ replies_of c (before ++ submission_of side d.number y ∷ more)
 
--- the submission by which a pair ends is answered with how the battle stands then
+-- the reply to the submission that ends a pair is the result of the battle at that point
 abbrev pub PairsAreAnswered : Type 0
 PairsAreAnswered = (c : Course) (x : Submission)
     → is_over c.state.field.outcome ≡ false → (is_none (chosen One c) || is_none (chosen Two c)) ≡ true

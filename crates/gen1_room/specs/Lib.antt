@@ -1,8 +1,8 @@
--- What a room holds and answers, in the machine's words.
+-- What a room holds and replies, in the machine's terms.
 pub mod Rooms
 -- A room as a plain struct.
 pub mod Plain
--- What replies tell of choices.
+-- What replies reveal about choices.
 pub mod Blind
 -- The numbers of refusals.
 pub mod Refusals

@@ -1,4 +1,4 @@
--- A room as a plain struct, in the machine's words (docs/MECHANICS.md, "Rooms").
+-- A room as a plain struct, in the machine's terms (docs/MECHANICS.md, "Rooms").
 use Rattle.std.specs.Prelude.{List, None, [], if◌then◌else◌, is_some, take, ◌≡◌}
 use Rattle.gen1_machine.specs.declared.side.Side.{Side}
 use Rattle.gen1_machine.specs.declared.choice.Choice.{Choice}
@@ -9,7 +9,7 @@ use Rattle.gen1_room.specs.declared.held.Held.{Held}
 use Rattle.gen1_room.specs.declared.plain.PlainRoom.{PlainRoom}
 use Rattle.gen1_room.specs.Rooms.{Counts, Holds}
 
--- what stands in it: the log is the front of its room, and a byte that is no choice is a choice that is due
+-- what it holds: the log is the prefix of its buffer, and a byte that is not a choice is a choice that is missing
 abbrev pub held_of : PlainRoom → Held
 held_of r = record {
   battle = r.battle;
@@ -20,16 +20,16 @@ held_of r = record {
   two = choice_at r.two;
 }
 
--- it holds a course, as a room does, and its number counts the pairs that were accepted
+-- it holds a course, as a room does, and its number counts the accepted pairs
 pub record Keeps (r : PlainRoom) (c : Course) : Type 0 where
   pub holds : Holds (held_of r) c
   pub counts : Counts r.battle r.number
 
--- where a choice is due stands 255, and no other byte that is no choice
+-- a missing choice is 255, and not another byte that is not a choice
 pub record IsMarked (r : PlainRoom) : Type 0 where
   pub one : choice_at r.one ≡ None → r.one ≡ 255
   pub two : choice_at r.two ≡ None → r.two ≡ 255
 
--- what a side may submit: nothing where its choice is there
+-- what a side may submit: nothing if its choice is there
 abbrev pub due : Side → Course → List Choice
 due side c = if is_some (chosen side c) then [] else offered side c.state.field

@@ -1,4 +1,4 @@
--- What a room holds and answers, in the machine's words (docs/MECHANICS.md, "Rooms").
+-- What a room holds and replies, in the machine's terms (docs/MECHANICS.md, "Rooms").
 use Rattle.std.specs.Prelude.{Err, List, None, Ok, Option, Result, Some, false, ℕ, ◌≡◌, ◌⊎◌}
 use Rattle.gen1_machine.specs.declared.side.Side.{Side}
 use Rattle.gen1_machine.specs.declared.side.Side.TheVariants.{One, Two}
@@ -18,8 +18,8 @@ use Rattle.gen1_room.specs.declared.reply.Submitted.TheVariants as submitted
 use Rattle.gen1_room.specs.declared.reply.RoomRefusal.{RoomRefusal as Why}
 use Rattle.gen1_room.specs.declared.reply.RoomRefusal.TheVariants as whys
 
--- A room holds a course: the battle stands for its state, the log is the code of its last events, and the choices are those
--- made for the current pair. As long as the battle goes on, one of them is still due.
+-- A room holds a course: the battle represents its state, the log is the code of its last events, and the choices are those made
+-- for the current pair. While the battle goes on, one of them is missing.
 pub record Holds (r : Held) (c : Course) : Type 0 where
   pub stands : Stands r.battle c.state
   pub counted : r.number ≡ c.number
@@ -28,7 +28,8 @@ pub record Holds (r : Held) (c : Course) : Type 0 where
   pub two : r.two ≡ chosen Two c
   pub waits : is_over c.state.field.outcome ≡ false → (r.one ≡ None) ⊎ (r.two ≡ None)
 
--- The number counts accepted pairs from some valid state. There are at most as many as the turn limit, and eleven, so it fits.
+-- The number counts accepted pairs from some valid state. There are at most as many as the turn limit, plus eleven, so it is in
+-- range.
 pub record Counts (battle : Parts) (number : ℕ) : Type 0 where
   pub start : State
   pub pairs : List (Choice × Choice)
@@ -36,7 +37,7 @@ pub record Counts (battle : Parts) (number : ℕ) : Type 0 where
   pub stands : Stands battle (run start pairs).state
   pub counted : number ≡ accepted_in start pairs
 
--- what is true of every room
+-- what holds for every room
 pub record IsRoom (r : Held) : Type 0 where
   pub course : Course
   pub holds : Holds r course
@@ -63,7 +64,7 @@ pub record EndsPair (r : Held) (one two : Choice) : Type 0 where
   pub offered : AreOffered state one two
   pub counts : Counts r.battle r.number
 
--- the battle and the log of a state that was started if it had not begun
+-- the battle and the log of a state, which was started if it was before its start
 pub record Opens (s : State) (new : Parts) (log : List ℕ) : Type 0 where
   pub stands : Stands new (begun s).state
   pub logged : IsReading log (events_of (begun s).answer)
@@ -72,7 +73,7 @@ pub record Opens (s : State) (new : Parts) (log : List ℕ) : Type 0 where
 abbrev pub ended : Course → Choice → Choice → Course
 ended c one two = ended_by c (Some one) (Some two)
 
--- what is submitted and replied, in the machine's words
+-- submissions and replies, in the machine's terms
 
 abbrev pub submission_of : Side → ℕ → ℕ → Submission
 submission_of side number byte = record { side = side; number = number; byte = byte }

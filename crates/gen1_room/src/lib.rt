@@ -1,12 +1,12 @@
-//! Rooms: two players submit their choices for a battle apart from each other.
+//! Rooms: two players submit their choices for a battle separately.
 //!
 //! - `room`: [`Room`], for its players
 //! - `start`: a battle that comes into a room
 //! - `submission`: a submission
-//! - `reply`: what a submission is answered
+//! - `reply`: the reply to a submission
 //! - `held`: what a room holds
 //! - `plain`: a room as a plain struct that its caller keeps
-//! - `laws`: what holds of all rooms
+//! - `laws`: what holds for all rooms
 #![tactic(auto)]
 
 mod held;

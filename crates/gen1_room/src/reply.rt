@@ -1,31 +1,31 @@
-//! What a room answers to a submission (docs/MECHANICS.md, "Rooms").
+//! The reply of a room to a submission (docs/MECHANICS.md, "Rooms").
 ghost use Rattle.std.specs.Prelude.{◌≡◌, ◌≤◌};
 
 use gen1_engine::BattleResult;
 use thiserror::Error;
 
-/// What became of a submission that was taken.
+/// What happened after a submission was taken.
 #[derive(Clone, Copy, Debug, PartialEq, Eq, Drop)]
 pub enum Submitted {
-    /// The other side's choice is still due.
+    /// The other side's choice is still missing.
     Waiting,
     /// The pair has ended, and the battle was updated.
     Advanced(BattleResult),
 }
 
-/// Why a submission was refused: the first of these that applies. The room is as it was.
+/// Why a submission was refused: the first of these that applies. The room is then as it was.
 #[derive(Clone, Copy, Debug, PartialEq, Eq, Error)]
 pub enum RoomRefusal {
     /// The battle is over.
     #[error("the battle is over")]
     Over,
-    /// The submission is for another pair than the current one, whose number this is.
+    /// The submission is for another pair than the current one, which has this number.
     #[error("the current pair is {0}")]
     Stale(u32),
-    /// The side's choice is there. Where nothing is asked of a side, its Pass is there from the beginning.
+    /// The side's choice is there. If a side is asked nothing, its Pass is there from the start.
     #[error("the side has chosen")]
     AlreadyChosen,
-    /// The byte is no choice that the side is offered.
+    /// The byte is not a choice that the side is offered.
     #[error("the choice is not offered")]
     NotOffered,
 }
@@ -33,7 +33,7 @@ pub enum RoomRefusal {
 impl RoomRefusal {
     ghost use Rattle.gen1_room.specs.Refusals.{number_of};
 
-    /// The number of the refusal, 1 to 4, in the order of the tests.
+    /// Returns the number of the refusal, 1 to 4, in the order of the tests.
     pub fn number(self) -> u8
         ensures value { result ≡ number_of self }
         ensures low { 1 ≤ result }
@@ -48,5 +48,5 @@ impl RoomRefusal {
     }
 }
 
-/// The answer to a submission.
+/// The reply to a submission.
 pub type Reply = Result<Submitted, RoomRefusal>;

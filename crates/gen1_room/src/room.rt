@@ -15,10 +15,10 @@ use gen1_engine::Battle;
 use gen1_machine::Side;
 use std::marker::Model;
 
-/// A battle of two players who submit their choices apart from each other (docs/MECHANICS.md, "Rooms").
+/// A battle whose two players submit their choices separately (docs/MECHANICS.md, "Rooms").
 ///
-/// Pairs are numbered from 0, the first after the battle's start. A pair ends, and the battle is updated, as soon as both
-/// choices are there; a side of which nothing is asked passes by itself.
+/// Pairs are numbered from 0, the first after the battle's start. A pair ends, and the battle is updated, as soon as both choices
+/// are there. For a side that is asked nothing the room submits Pass.
 #[derive(Drop)]
 pub struct Room {
     held: Held,
@@ -36,7 +36,7 @@ impl Model for Room {
 }
 
 impl Room {
-    /// A room for a battle. One that has not begun is started at once.
+    /// Makes a room for a battle. A battle before its first update is started at once.
     pub fn new(battle: Battle) -> Self
         ensures { (s : State) → Stands battle s → Holds result (room_of s) }
     {
@@ -45,33 +45,33 @@ impl Room {
         }
     }
 
-    /// The number of the current pair: how many have ended since the room was made.
+    /// Returns the number of the current pair, which is how many pairs have ended in this room.
     pub fn number(&self) -> u32
         ensures counts { (c : Course) → Holds self.now c → result ≡ c.number }
-        // Whatever this room is, it holds a course.
+        // Any room holds a course.
         ensures valid { IsRoom self.now }
     {
         self.held.number
     }
 
-    /// The battle as it stands.
+    /// Returns the battle as it is now.
     pub fn battle(&self) -> &Battle
         ensures { (c : Course) → Holds self.now c → Stands result.now c.state }
     {
         &self.held.battle
     }
 
-    /// The log bytes of the last pair that ended; before there is one those of the battle's start, or none where it had begun
-    /// already (docs/MECHANICS.md, "Log bytes").
+    /// Returns the log bytes of the last pair that ended. Before that, those of the battle's start, or none if the battle was
+    /// started before it came into the room (docs/MECHANICS.md, "Log bytes").
     pub fn log(&self) -> &[u8]
         ensures { (c : Course) → Holds self.now c → IsReading result.now c.events }
     {
         self.held.log.as_slice()
     }
 
-    /// A side submits the byte of a choice for the pair of a number.
+    /// Submits the byte of a side's choice for the pair with the given number.
     ///
-    /// A refusal changes nothing. Where both choices are there the battle is updated, and the log is that of the update.
+    /// A refusal changes nothing. Once both choices are there the battle is updated, and the log is that of the update.
     pub fn submit(&mut self, side: Side, number: u32, byte: u8) -> Reply
         ensures holds { (c : Course) → Holds self.old c
             → Holds self.new (after c (submission_of side number byte))
@@ -81,7 +81,7 @@ impl Room {
         submit(&mut self.held, side, number, byte)
     }
 
-    /// A room for a battle, and submissions to it in their order. The reply to each is put at its place.
+    /// Makes a room for a battle, and submits each submission in order. The reply to each is written at its index.
     pub fn run(battle: Battle, submissions: &[(Side, u32, u8)], replies: &mut [Reply]) -> Self
         requires same_length { length submissions.now ≡ length replies.old }
         ensures holds { (s : State) → Stands battle s

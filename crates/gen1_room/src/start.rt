@@ -12,7 +12,7 @@ use gen1_engine::{Battle, write_log};
 use gen1_events::LogBuf;
 use gen1_machine::{Choice, EventList, Request};
 
-/// What a room holds of a battle, which is started if it has not begun.
+/// What a room holds for a battle, which is started if it is before its first update.
 pub(crate) fn begin(battle: Battle) -> Held
     ensures holds { (s : State) → Stands battle s → Holds result (room_of s) }
     ensures valid { IsRoom result }
@@ -42,12 +42,12 @@ fn start(battle: &mut Battle, events: &mut EventList, log: &mut LogBuf)
     }
     match battle.update_events(Choice::Pass, Choice::Pass, events) {
         Ok(_) => write_log(events, log),
-        // A Pass is what both are offered.
+        // Both sides are offered Pass.
         Err(_) => {}
     }
 }
 
-// Only before its start does a battle go on while nothing is asked of either side.
+// Only before its start does a battle go on while neither side is asked anything.
 fn has_not_begun(battle: &Battle) -> bool
     ensures turn { (s : State) → Stands battle.now s → result ≡ (s.field.turn == 0) }
     ensures valid { StandsForSome battle.now }
@@ -73,7 +73,7 @@ fn is_pass(request: Request) -> bool
     matches!(request, Request::Pass)
 }
 
-/// The Pass of a side of which nothing is asked.
+/// Pass, for a side that is asked nothing.
 pub(crate) fn choice_if_none_is_asked(request: Request) -> Option<Choice>
     ensures { result ≡ (if is_pass request then Some Pass else None) }
 {

@@ -13,7 +13,7 @@ use crate::start::{choice_if_none_is_asked, is_over};
 use gen1_engine::{BattleResult, write_log};
 use gen1_machine::{Choice, Side};
 
-/// A side's byte for the pair of a number.
+/// Submits the byte of a side's choice for the pair with the given number.
 pub(crate) fn submit(held: &mut Held, side: Side, number: u32, byte: u8) -> Reply
     requires valid { IsRoom held.old }
     ensures holds { (c : Course) → Holds held.old c
@@ -46,7 +46,7 @@ fn has_chosen(held: &Held, side: Side) -> bool
     }
 }
 
-/// The first of these choices whose byte this is.
+/// The first of these choices that has this byte.
 pub(crate) fn choice_by_byte(byte: u8, choices: &[Choice]) -> Option<Choice>
     ensures { result ≡ choice_by_byte byte choices.now }
 {

@@ -1,8 +1,8 @@
--- What an event does to what shows of its side.
+-- What an event does to the view of its side.
 pub mod Sides
--- What a view makes of log bytes.
+-- What a view does with log bytes.
 pub mod Following
--- What a view knows that was told all events of a battle.
+-- What a view knows that has applied all events of a battle.
 pub mod Watching
 -- A view as a plain struct.
 pub mod Plain

@@ -1,11 +1,11 @@
--- What an event does to what shows of its side (docs/MECHANICS.md, "Spectator's view").
+-- What an event does to the view of its side (docs/MECHANICS.md, "Spectator's view").
 use Rattle.std.specs.Prelude.{None, Option, Some, false, if◌then◌else◌, true, ℕ, ◌==◌}
 use Rattle.gen1_machine.specs.declared.side.Side.{Side}
 use Rattle.gen1_machine.specs.declared.event.Event.{Event}
 use Rattle.gen1_machine.specs.declared.event.Event.TheVariants as events
 use Rattle.gen1_machine.specs.View.{if_out, not_shown, on_shown, sees_drop, sees_rise, sees_switch, sees_volatile, shown_at, Shown, SideView}
 
--- the side that an event names, if it changes what shows of that side
+-- the side that an event names, if it changes what that side shows
 abbrev pub side_shown_by : Event → Option Side
 side_shown_by (events.Switch w place level h) = Some w.side
 side_shown_by (events.Damage w h source) = Some w.side
@@ -33,6 +33,6 @@ side_sees (events.Start w what) x = if_out (sees_volatile what true) x
 side_sees (events.End w what) x = if_out (sees_volatile what false) x
 side_sees _ x = x
 
--- the member at a place from 1, and nobody at place 0
+-- the member at a place from 1; no member at place 0
 abbrev pub member_shown : ℕ → SideView → Shown
 member_shown place x = if place == 0 then not_shown else shown_at place x

@@ -1,4 +1,4 @@
--- What a view knows that was told all events of a battle from its start (docs/MECHANICS.md, "Spectator's view").
+-- What a view knows that has applied all events of a battle from its start (docs/MECHANICS.md, "Spectator's view").
 use Rattle.std.specs.Prelude.{Err, List, Ok, [], ℕ, ◌++◌, ◌≡◌, ◌∷◌}
 use Rattle.std.specs.List.{flat_map}
 use Rattle.gen1_stats.specs.Members.{IsTeam, Member}
@@ -12,7 +12,7 @@ use Rattle.gen1_events.specs.Reader.{part, Reading}
 use Rattle.gen1_events.specs.Splits.{IsReading, Reads}
 use Rattle.gen1_spectator.specs.Following.{Follows}
 
--- the log of each update has the update's events as its reading; a refused pair has neither
+-- the log of each update decodes to the update's events; a refused pair has neither
 abbrev pub AreRead : List (List ℕ) → List Answer → Type 0
 AreRead [] [] = Unit {0}
 AreRead (log ∷ logs) (answer ∷ answers) = IsReading log (events_of answer) × AreRead logs answers
@@ -22,19 +22,19 @@ AreRead _ _ = ⊥
 abbrev pub joined : List (List ℕ) → List ℕ
 joined logs = flat_map (λ (log : List ℕ). log) logs
 
--- the bytes that a view followed, of a new reader, piece by piece and without a fault
+-- the bytes that a view followed, with a new reader, piece by piece and without an error
 pub data Followed (first : View) : List ℕ → Reading → View → Type 0 where
   begun : Followed first [] (part []) first
   piece : (taken : List ℕ) (old new : Reading) (before after : View) (bytes : List ℕ)
       → Followed first taken old before → Follows old bytes before (Ok tt) new after → Followed first (taken ++ bytes) new after
 
--- what is said of the logs of any run from the start of a battle of two teams
+-- a statement about the logs of any run from the start of a battle of two teams
 abbrev pub OfBattles : ((one two : List Member) → Ran → List ℕ → Type 0) → Type 0
 OfBattles says = (t : Terms) (one two : List Member) (seed : List ℕ) (pairs : List (Choice × Choice)) (logs : List (List ℕ))
     → IsTeam one → IsTeam two → AreRead logs (run (first_state t one two seed) pairs).answers
     → says one two (run (first_state t one two seed) pairs) (joined logs)
 
--- a reader that took all of the log and has nothing to hand out handed out events that tell what the battle shows
+-- if a reader has taken all of the log and has no event to return, the events that it returned give what the battle shows
 abbrev pub WatchersAgree : Type 0
 WatchersAgree = OfBattles (λ one two ran log.
     (seen : List Event) → Reads log seen (part []) → sees_all seen (first_view one two) ≡ shows ran.state.field)
@@ -45,7 +45,7 @@ FollowersAgree = OfBattles (λ one two ran log.
     (reader : Reading) (view : View) → Followed (first_view one two) log reader view
     → (reader ≡ part []) × (view ≡ shows ran.state.field))
 
--- no piece of the log has a fault
+-- no piece of the log has an error
 abbrev pub FollowersMeetNoFault : Type 0
 FollowersMeetNoFault = OfBattles (λ one two ran log.
     (taken bytes more : List ℕ) (old new : Reading) (before after : View) (fault : LogFault) → log ≡ (taken ++ bytes) ++ more

@@ -1,11 +1,11 @@
-//! What a watcher knows of a battle who is told its events alone.
+//! What a spectator who sees only the events of a battle knows of it.
 //!
 //! - `view`: [`View`], of a whole battle
-//! - `side_view`: what shows of one side
-//! - `shown`: what shows of a member
-//! - `stages`: the stages of the member that is out
+//! - `side_view`: what one side shows
+//! - `shown`: what a member shows
+//! - `stages`: the stages of the active member
 //! - `plain`: a view as a plain struct that its caller keeps
-//! - `laws`: what holds of all views
+//! - `laws`: what holds for all views
 #![tactic(auto)]
 
 mod laws;

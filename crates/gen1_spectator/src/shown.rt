@@ -1,4 +1,4 @@
-//! What shows of a member: its HP and its kind of status (docs/MECHANICS.md, "Spectator's view").
+//! What a member shows: its HP and its kind of status (docs/MECHANICS.md, "Spectator's view").
 ghost use Rattle.std.specs.Prelude.{◌≡◌};
 ghost use Rattle.gen1_machine.specs.LogBytes.{kind_or_0};
 ghost use Rattle.gen1_machine.specs.View.{not_shown};
@@ -8,7 +8,7 @@ use crate::plain::PlainMember;
 use gen1_machine::Kind;
 use std::marker::Model;
 
-/// What shows of a member: its HP and the kind of its status.
+/// What a member shows: its HP and the kind of its status.
 #[derive(Clone, Copy, Debug, PartialEq, Eq, Drop)]
 pub(crate) struct Shown {
     hp: u16,
@@ -26,7 +26,7 @@ impl Model for Shown {
 }
 
 impl Default for Shown {
-    /// Nobody: 0 HP, and no status.
+    /// No member: 0 HP, and no status.
     fn default() -> Self
         ensures { result ≡ not_shown }
     {

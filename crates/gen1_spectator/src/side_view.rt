@@ -1,4 +1,4 @@
-//! What shows of one side (docs/MECHANICS.md, "Spectator's view").
+//! What one side shows (docs/MECHANICS.md, "Spectator's view").
 ghost use Rattle.std.specs.Prelude.{None, false, length, map, ◌≡◌, ◌≤◌};
 ghost use Rattle.gen1_stats.specs.Members.{Member as Begun};
 ghost use Rattle.gen1_machine.specs.CurrentStats.{stage_of};
@@ -15,7 +15,7 @@ use gen1_stats::{Member, Team};
 use gen1_tables::Stat;
 use std::marker::Model;
 
-/// Each member's health, and what shows of the one that is out.
+/// Each member's health, and what the active one shows.
 #[derive(Clone, Debug, PartialEq, Eq, Drop)]
 pub(crate) struct SideView {
     place: u8,
@@ -57,7 +57,7 @@ impl Model for SideView {
 }
 
 impl SideView {
-    /// The team's members, none of whom is out yet.
+    /// The team's members, none of which is out yet.
     pub(crate) fn new(team: &Team) -> Self
         ensures { result ≡ first_side_view team.now }
     {
@@ -72,7 +72,7 @@ impl SideView {
         }
     }
 
-    /// The view of a plain struct. Where its numbers are out of their ranges it is some view.
+    /// The view of a plain struct. If its numbers are out of range it is some view.
     pub(crate) fn of_plain(plain: &PlainSide) -> Self
         ensures { IsPlainSide plain.now → result ≡ side_view_of plain.now }
     {
@@ -120,7 +120,7 @@ impl SideView {
         self.place
     }
 
-    /// The member at a place from 1; nobody at 0 and past the last.
+    /// The member at a place from 1; none at 0 and past the last.
     pub(crate) fn member(&self, place: u8) -> Shown
         ensures { result ≡ member_shown place self.now }
     {
@@ -164,7 +164,7 @@ impl SideView {
         self.reflect
     }
 
-    /// An event of this side.
+    /// Applies an event of this side.
     pub(crate) fn see(&mut self, event: &Event)
         ensures { self.new ≡ side_sees event.now self.old }
     {
@@ -196,7 +196,7 @@ impl SideView {
         self.show(Shown::new(health.hp(), health.kind()));
     }
 
-    /// Stages go back to the middle, and confusion and screens end.
+    /// Sets all stages to unchanged, and ends confusion and screens.
     pub(crate) fn clear(&mut self)
         ensures { self.new ≡ cleared self.old }
     {
@@ -235,7 +235,7 @@ impl SideView {
         self.show(Shown::default());
     }
 
-    // The member that is out.
+    // The active member.
     fn active(&self) -> Shown
         requires out { 1 ≤ self.now.place }
         ensures { result ≡ shown_at self.now.place self.now }
@@ -243,7 +243,7 @@ impl SideView {
         self.member(self.place)
     }
 
-    // The member that is out shows this from now on.
+    // Changes what the active member shows.
     fn show(&mut self, shown: Shown)
         requires out { 1 ≤ self.old.place }
         ensures { self.new ≡ on_shown (λ _. shown) self.old }

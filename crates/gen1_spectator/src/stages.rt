@@ -1,4 +1,4 @@
-//! The stages of the member that is out, as a watcher knows them (docs/MECHANICS.md, "Spectator's view").
+//! The stages of the active member, as a spectator knows them (docs/MECHANICS.md, "Spectator's view").
 ghost use Rattle.std.specs.Prelude.{min, ◌+◌, ◌-◌, ◌≡◌, ◌≤◌};
 ghost use Rattle.gen1_machine.specs.CurrentStats.{stage_of, with_stage};
 ghost use Rattle.gen1_machine.specs.State.{level_stages};
@@ -8,7 +8,7 @@ use crate::plain::PlainStages;
 use gen1_tables::Stat;
 use std::marker::Model;
 
-/// The stages of the member that is out, from 0 to 12, with 6 in the middle.
+/// The stages of the active member, 0 to 12, with 6 for an unchanged stage.
 #[derive(Clone, Copy, Debug, PartialEq, Eq, Drop)]
 pub(crate) struct Stages {
     attack: u8,
@@ -91,7 +91,7 @@ impl Stages {
         stages
     }
 
-    /// A stat's stage rises, to 12 at most.
+    /// The stages after a stat's stage rises, at most to 12.
     pub(crate) fn raised(self, stat: Stat, count: u8) -> Self
         requires { count ≤ 2 }
         ensures { result ≡ with_stage stat (min 12 (stage_of stat self + count)) self }
@@ -99,14 +99,14 @@ impl Stages {
         self.with(stat, (self.stage(stat) + count).min(12))
     }
 
-    /// A stat's stage falls, to 0 at least.
+    /// The stages after a stat's stage falls, at least to 0.
     pub(crate) fn lowered(self, stat: Stat, count: u8) -> Self
         ensures { result ≡ with_stage stat (stage_of stat self - count) self }
     {
         self.with(stat, self.stage(stat).saturating_sub(count))
     }
 
-    /// The stages of a plain struct. One that is above 12 is taken for 12.
+    /// The stages of a plain struct. One above 12 counts as 12.
     pub(crate) fn of_plain(plain: &PlainStages) -> Self
         ensures { AreStages plain.now → result ≡ stages_of plain.now }
     {

@@ -1,4 +1,4 @@
--- The submissions so far were answered.
+-- The submissions so far have their replies.
 use Rattle.std.proofs.Common.{map, take, ◌≡◌}
 use Rattle.gen1_machine.specs.Room.{course_of, replies_of, room_of}
 use Rattle.gen1_machine.specs.State.{State}
