@@ -1,4 +1,4 @@
--- Who is called by a name.
+-- The species or move that a name finds.
 use Rattle.std.proofs.Common.{Bool, List, None, Option, Some, [], ap, arith, false, length, refl, true, ℕ, ◌+◌, ◌-◌, ◌<◌, ◌∙◌, ◌≡◌, ◌≤◌, get_or}
 use Rattle.std.specs.Prelude.{bytes_eq, if◌then◌else◌, nat_le, nat_lt, ◌&&◌, option_map, position}
 use Rattle.std.specs.List.{position_or_len}
@@ -15,7 +15,7 @@ use Rattle.gen1_text.specs.Ids.{id_of, move_called, other_name, place_called, sp
 abbrev pub has_id : List ℕ → List ℕ → Bool
 has_id text name = bytes_eq (id_of name) (id_of text)
 
--- no name before this place has the id of the text
+-- no name before this place has the same letters as the text
 pub record NoneBefore (names : List (List ℕ)) (text : List ℕ) (place : ℕ) : Type 0 where
   pub none : (k : ℕ) → k + 1 < place → has_id text (get_or names k []) ≡ false
 
@@ -38,7 +38,7 @@ place_missing names text place all before =
     let at = position_or_len_is (has_id text) names (length names) [] (omega arith) (λ k h. before.none k (omega arith)) (λ h. absurd (omega arith)) in
     ap (λ o. option_map (λ index. index + 1) o) (position_none names text at)
 
--- one name more that has another id
+-- one more name that has other letters
 pub none_more : (names : List (List ℕ)) (text : List ℕ) (place : ℕ) → 1 ≤ place → NoneBefore names text place → has_id text (name_at names place) ≡ false
     → NoneBefore names text (place + 1)
 unfolding name_at
@@ -56,7 +56,7 @@ pub length-move_names : length move_names ≡ 165
 unfolding move_names
 length-move_names = refl
 
--- what the two look-ups ask
+-- what the two look-ups test
 pub species_found : (text : List ℕ) (place : ℕ) → 1 ≤ place → place ≤ 151 → NoneBefore species_names text place → has_id text (species_name place) ≡ true
     → species_called text ≡ Some place
 unfolding species_called species_name
@@ -82,7 +82,7 @@ pub move_more : (text : List ℕ) (place : ℕ) → 1 ≤ place → NoneBefore m
 unfolding move_name
 move_more text place low before here = none_more move_names text place low before here
 
--- the number of what `new` makes of a number
+-- the number of what `new` returns for a number
 pub numbered : (size n m : ℕ) (o : Option ℕ) → o ≡ (if nat_le 1 n && nat_le n size then Some n else None) → o ≡ Some m → m ≡ n
 numbered size n m o made some = grind (arith, nat_tests)
 
@@ -90,7 +90,7 @@ numbered size n m o made some = grind (arith, nat_tests)
 pub name_tested : (names : ℕ → List ℕ) (text name : List ℕ) (m n : ℕ) (b : Bool) → m ≡ n → name ≡ names m → b ≡ has_id text name → has_id text (names n) ≡ b
 name_tested names text name m n b same named tested = cc
 
--- where each name of a list is found at its own place, which is computed once for each list
+-- each name of a list is found at its own place, which is computed once for each list
 place_own : (names : List (List ℕ)) (size : ℕ) → map (λ n. place_called names (name_at names n)) (range_with_len 1 size) ≡ map Some (range_with_len 1 size)
     → (n : ℕ) → 1 ≤ n → n ≤ size → place_called names (name_at names n) ≡ Some n
 place_own names size each n low high =
@@ -99,7 +99,7 @@ place_own names size each n low high =
     subst (λ m. place_called names (name_at names m) ≡ Some m) at_n
     (agree_at (λ m. place_called names (name_at names m)) Some (range_with_len 1 size) (range_with_len 1 size) 0 0 each (n - 1) (omega arith) (omega arith))
 
--- each name is that of its own species, and of its own move
+-- each name finds its own species, or its own move
 pub species_own : (n : ℕ) → 1 ≤ n → n ≤ 151 → species_called (species_name n) ≡ Some n
 unfolding species_called species_name
 species_own = place_own species_names 151 (unfold species_names in unfold place_called in unfold name_at in refl)

@@ -1,4 +1,4 @@
--- Lemmas on pieces, numbers, names, lines and packed fields.
+-- Lemmas about pieces, numbers, names, lines and packed fields.
 pub mod PieceLemmas
 pub mod NumberLemmas
 pub mod IdLemmas

@@ -9,7 +9,7 @@ use Rattle.std.specs.Str.Parse.{digits_value_after}
 use Rattle.std.proofs.lemmas.Bool.Decides.{nat_tests}
 use Rattle.gen1_text.specs.Words.{number_of}
 
--- the number that digits make behind those of n, if it is at most so many
+-- the number that digits make after those of n, if it is at most `most`
 unfoldable pub number_on : ℕ → ℕ → List ℕ → Option ℕ
 number_on most n ds = if list_all is_ascii_digit ds && nat_le (digits_value_after 10 n ds) most then Some (digits_value_after 10 n ds) else None
 

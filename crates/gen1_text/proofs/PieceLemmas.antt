@@ -7,7 +7,7 @@ use Rattle.std.proofs.lemmas.List.Sums.{count_by-le-length}
 use Rattle.std.proofs.lemmas.List.Splits.{length-slice_split, slice_split_first}
 use Rattle.gen1_text.specs.Words.{pieces_of, trimmed}
 
--- a list in which nothing passes is the one part
+-- a list without separators is a single part
 slice_split_whole : (p : ℕ → Bool) (xs : List ℕ) → length xs ≤ position_or_len p xs → slice_split p xs ≡ xs ∷ []
 slice_split_whole p [] h = refl
 slice_split_whole p (x ∷ xs) h = by_test (p x) h (slice_split_whole p xs)
@@ -27,7 +27,7 @@ pub pieces_of_whole : (separator place : ℕ) (text piece : List ℕ) → place 
 unfolding pieces_of
 pieces_of_whole separator place text piece e h is = rw is (ap (map trimmed) (slice_split_whole (λ b. b == separator) text (omega arith)))
 
--- a text has one piece more than separators
+-- a text has one more piece than separators
 pub length-pieces_of : (separator : ℕ) (text : List ℕ) → length (pieces_of separator text) ≤ length text + 1
 unfolding pieces_of
 length-pieces_of separator text =

@@ -1,4 +1,4 @@
--- What is told behind members, a line at a time.
+-- What is described after members, a line at a time.
 use Rattle.std.proofs.Common.{Err, List, None, Ok, Option, Result, Some, [], ap, append_assoc, arith, false, refl, true, ℕ, ◌++◌, ◌+◌, ◌<◌, ◌∙◌, ◌∷◌, ◌≡◌, ◌≤◌}
 use Rattle.std.specs.Prelude.{OnSome, nat_le}
 use Rattle.std.proofs.lemmas.Bool.Decides.{nat_tests}

@@ -8,7 +8,7 @@ use Rattle.gen1_tables.specs.Names.{move_names, species_names}
 abbrev pub id_of : List ℕ → List ℕ
 id_of text = map to_ascii_lowercase (filter is_ascii_alphanumeric text)
 
--- the place, counted from 1, of the name that has the id of a text
+-- the place, counted from 1, of the name with the same letters as a text
 unfoldable pub place_called : List (List ℕ) → List ℕ → Option ℕ
 place_called names text = option_map (λ index. index + 1) (position (λ name. bytes_eq (id_of name) (id_of text)) names)
 

@@ -1,8 +1,8 @@
--- Steps of which each may fail.
+-- Steps that may fail.
 pub mod Results
 -- Parts of a text, and numbers.
 pub mod Words
--- The pieces that the code's `Pieces` still gives.
+-- The pieces that the code's `Pieces` has still to return.
 pub mod PieceLists
 -- Species and moves by their names.
 pub mod Ids
@@ -16,5 +16,5 @@ pub mod Texts
 pub mod PackedFields
 -- Packed lines.
 pub mod Packed
--- What the code answers.
+-- What the code returns.
 pub mod Answers

@@ -10,7 +10,7 @@ use Rattle.gen1_text.specs.Words.{has_inside, number_of, pieces_of, text_after, 
 use Rattle.gen1_text.specs.declared.fault.MemberFault.{MemberFault}
 use Rattle.gen1_text.specs.declared.fault.MemberFault.TheVariants.{Evs, FifthMove, Item, Ivs, Level, Move, Species, UnknownLine}
 
--- a member of whom only the species is said: at level 100, with the most DVs, the experience of 252 EVs, and no move
+-- a member of which only the species is given: level 100, the highest DVs, the experience of 252 EVs, and no move
 abbrev pub fresh : ℕ → Sheet
 fresh species = record { species = species; level = 100; dvs = replicate 4 15; exp = replicate 5 (experience 252); moves = [] }
 
@@ -19,7 +19,7 @@ unfoldable pub without_gender : List ℕ → List ℕ
 without_gender line =
     if ends_with nat_eq line (codes " (M)") || ends_with nat_eq line (codes " (F)") then take (length line - 4) line else line
 
--- the species of a first line: in brackets behind a nickname, or the line itself
+-- the species of a first line: in brackets after a nickname, or the line itself
 unfoldable pub species_text : List ℕ → List ℕ
 species_text line = if ends_with nat_eq line (codes ")") then after_last (λ b. b == 40) line else line
 
@@ -45,23 +45,23 @@ with_ivs text sheet =
     result_then (λ ivs. result_then (λ dvs. Ok (record sheet { dvs = dvs })) (dvs_of_ivs ivs))
     (ok_or (with_parts 31 nothing_said (pieces_of 47 text)) Ivs)
 
--- one move more, with three PP ups
+-- one more move, with three PP ups
 unfoldable pub with_move : List ℕ → Sheet → Result Sheet MemberFault
 with_move name sheet =
     if nat_le 4 (length sheet.moves) then Err FifthMove
     else result_then (λ move. Ok (record sheet { moves = sheet.moves ++ (move, 3) ∷ [] })) (ok_or (move_called name) Move)
 
--- what the first generation has not begins a line that says nothing
+-- keys of lines about what the first generation does not have
 abbrev pub idle_keys : List (List ℕ)
 idle_keys =
     codes "Ability:" ∷ codes "Shiny:" ∷ codes "Happiness:" ∷ codes "Pokeball:" ∷ codes "Hidden Power:" ∷ codes "Tera Type:"
     ∷ codes "Gigantamax:" ∷ codes "Dynamax Level:" ∷ []
 
--- whether a line says nothing: it begins with such a key, or names a nature
+-- whether a line has no effect: it begins with such a key, or names a nature
 unfoldable pub is_idle : List ℕ → Bool
 is_idle line = list_any (λ key. starts_with nat_eq line key) idle_keys || ends_with nat_eq line (codes " Nature")
 
--- what a line behind the first makes of a member
+-- what a line after the first does to a member
 unfoldable pub changed : List ℕ → Sheet → Result Sheet MemberFault
 changed line sheet =
     option_map_or (λ text. with_level (trimmed text) sheet) (text_after (codes "Level:") line)

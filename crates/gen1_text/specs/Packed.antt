@@ -1,4 +1,4 @@
--- What a packed line says: its members, each by twelve fields, and the team that these are (docs/TEAM_TEXT.md, "Packed line").
+-- What a packed line says: its members, each by twelve fields, and the team that they make (docs/TEAM_TEXT.md, "Packed line").
 use Rattle.std.specs.Prelude.{Err, List, None, Ok, Result, Some, [], if◌then◌else◌, length, nat_le, not, ℕ, ◌+◌, ◌==◌, ◌∷◌}
 use Rattle.gen1_stats.specs.Members.{Member}
 use Rattle.gen1_stats.specs.Sheets.{Sheet}
@@ -11,16 +11,16 @@ use Rattle.gen1_text.specs.declared.fault.MemberFault.{MemberFault}
 use Rattle.gen1_text.specs.declared.fault.PackedFault.{PackedFault}
 use Rattle.gen1_text.specs.declared.fault.PackedFault.TheVariants.{Field, Fields, SeventhMember, Team}
 
--- a member, or the fault of a field
+-- a member, or the error of a field
 abbrev pub in_field : ℕ → ℕ → Result Sheet MemberFault → Result Sheet PackedFault
 in_field member number (Ok sheet) = Ok sheet
 in_field member number (Err fault) = Err (Field member number fault)
 
--- what a field makes of a member, where those before it had no fault
+-- what a field does to a member, if those before it had no error
 abbrev pub then_field : ℕ → ℕ → (Sheet → Result Sheet MemberFault) → Result Sheet PackedFault → Result Sheet PackedFault
 then_field member number step before = result_then (λ sheet. in_field member number (step sheet)) before
 
--- what the fields of a member say, in their order
+-- what the fields of a member say, in order
 unfoldable pub unpacked : ℕ → List ℕ → Result Sheet PackedFault
 unpacked member text =
     if not (length (pieces_of 124 text) == 12) then Err (Fields member)
@@ -31,7 +31,7 @@ unpacked member text =
     (then_field member 3 (λ sheet. without_item (field 2 text) sheet)
     (in_field member 2 (named (species_field text)))))))
 
--- the members of texts, behind so many
+-- the members of texts, after this many
 unfoldable pub all_unpacked : ℕ → List (List ℕ) → Result (List Sheet) PackedFault
 all_unpacked members [] = Ok []
 all_unpacked members (text ∷ texts) =
@@ -42,7 +42,7 @@ all_unpacked members (text ∷ texts) =
 unfoldable pub members_packed : List ℕ → Result (List Sheet) PackedFault
 members_packed text = all_unpacked 0 (pieces_of 93 text)
 
--- the team that sheets make, or why they make none
+-- the team of these members, or why they are not one
 abbrev pub team_unpacked : Result (List Sheet) PackedFault → Result (List Member) PackedFault
 team_unpacked (Err fault) = Err fault
 team_unpacked (Ok sheets) = elim (team_refusal sheets) [ None ↦ Ok (team_of sheets) | Some refusal ↦ Err (Team refusal) ]

@@ -9,11 +9,11 @@ use Rattle.gen1_text.specs.Words.{number_of, pieces_of}
 use Rattle.gen1_text.specs.declared.fault.MemberFault.{MemberFault}
 use Rattle.gen1_text.specs.declared.fault.MemberFault.TheVariants.{Evs, Item, Ivs}
 
--- a field of a member, counted from 0; nothing behind the last
+-- a field of a member, counted from 0; empty after the last
 unfoldable pub field : ℕ → List ℕ → List ℕ
 field number member = slice_index_or (pieces_of 124 member) number []
 
--- the species, or the nickname where that is empty
+-- the species, or the nickname if that is empty
 unfoldable pub species_field : List ℕ → List ℕ
 species_field member = if length (field 1 member) == 0 then field 0 member else field 1 member
 
@@ -25,11 +25,11 @@ unfoldable pub with_moves : List (List ℕ) → Sheet → Result Sheet MemberFau
 with_moves [] sheet = Ok sheet
 with_moves (name ∷ names) sheet = result_then (λ sheet. with_moves names sheet) (if length name == 0 then Ok sheet else with_move name sheet)
 
--- a number of at most so many, or nothing
+-- a number of at most `most`, or nothing
 unfoldable pub number_if_any : ℕ → List ℕ → Option (Option ℕ)
 number_if_any most text = if length text == 0 then Some None else option_map Some (number_of most text)
 
--- the numbers of pieces, where each is one or nothing
+-- the numbers of pieces, if each is a number or empty
 unfoldable pub each_number : ℕ → List (List ℕ) → Option Spread
 each_number most [] = Some []
 each_number most (piece ∷ pieces) =
@@ -39,7 +39,7 @@ each_number most (piece ∷ pieces) =
 unfoldable pub six_numbers : ℕ → List (List ℕ) → Option Spread
 six_numbers most pieces = if length pieces == 6 then each_number most pieces else None
 
--- EVs; none where the field is empty are the most, and a lone 0 is none at all
+-- EVs: the highest if the field is empty, and zeros for a lone 0
 unfoldable pub with_packed_evs : List ℕ → Sheet → Result Sheet MemberFault
 with_packed_evs text sheet =
     if length text == 0 then Ok sheet

@@ -6,14 +6,14 @@ use Rattle.gen1_text.specs.Words.{number_of}
 use Rattle.gen1_text.specs.declared.fault.MemberFault.{MemberFault}
 use Rattle.gen1_text.specs.declared.fault.MemberFault.TheVariants.{HpIv, SpecialEvs, SpecialIvs}
 
--- the numbers of HP, Atk, Def, SpA, SpD and Spe, where they are said
+-- the numbers of HP, Atk, Def, SpA, SpD and Spe, if given
 abbrev pub Spread : Type 0
 Spread = List (Option ℕ)
 
 abbrev pub nothing_said : Spread
 nothing_said = replicate 6 None
 
--- the place of a stat in a spread; the one Special is SpA too
+-- the place of a stat in a spread; Special is at SpA
 unfoldable pub stat_named : List ℕ → Option ℕ
 stat_named name =
     if bytes_eq name (codes "HP") then Some 0
@@ -25,19 +25,19 @@ stat_named name =
     else if bytes_eq name (codes "Spe") then Some 5
     else None
 
--- what a part as `252 HP` says: a stat, and its number, of at most so many
+-- what a part such as `252 HP` says: a stat, and its number, at most `most`
 unfoldable pub part_of : ℕ → List ℕ → Option (ℕ × ℕ)
 part_of most part =
     option_and_then (λ number. option_map (λ stat. (stat, number)) (stat_named (after_first (λ b. b == 32) part)))
     (number_of most (before_first (λ b. b == 32) part))
 
--- a spread with what parts say; of two parts on one stat the last counts
+-- a spread after parts; of two parts about one stat the last counts
 unfoldable pub with_parts : ℕ → Spread → List (List ℕ) → Option Spread
 with_parts most spread [] = Some spread
 with_parts most spread (part ∷ parts) =
     option_and_then (λ said. with_parts most (slice_set spread said.0 (Some said.1)) parts) (part_of most part)
 
--- the number of a stat, or what it is where it is not said
+-- the number of a stat, or the default if it is not given
 abbrev pub said_or : ℕ → ℕ → Spread → ℕ
 said_or number stat spread = unwrap_or (slice_index_or spread stat None) number
 
@@ -45,7 +45,7 @@ said_or number stat spread = unwrap_or (slice_index_or spread stat None) number
 abbrev pub experience : ℕ → ℕ
 experience ev = ev * ev
 
--- the experience of HP, Attack, Defense, Speed and Special; SpD has the EVs of SpA where it is said at all
+-- the experience of HP, Attack, Defense, Speed and Special; SpD must have the EVs of SpA if it is given
 unfoldable pub exp_of_evs : Spread → Result (List ℕ) MemberFault
 exp_of_evs evs =
     let special = said_or 0 3 evs in
@@ -53,11 +53,12 @@ exp_of_evs evs =
     then Ok (experience (said_or 0 0 evs) ∷ experience (said_or 0 1 evs) ∷ experience (said_or 0 2 evs) ∷ experience (said_or 0 5 evs) ∷ experience special ∷ [])
     else Err SpecialEvs
 
--- the DV of a stat is half its IV, which is 31 where it is not said
+-- the DV of a stat is half its IV, which is 31 if it is not given
 abbrev pub dv_said : ℕ → Spread → ℕ
 dv_said stat ivs = said_or 31 stat ivs / 2
 
--- the DVs of Attack, Defense, Speed and Special; SpD has that of SpA, and HP the one that the others give, where they are said at all
+-- the DVs of Attack, Defense, Speed and Special; SpD must have that of SpA, and HP the one that follows from the others, if they
+-- are given
 unfoldable pub dvs_of_ivs : Spread → Result (List ℕ) MemberFault
 dvs_of_ivs ivs =
     let special = dv_said 3 ivs in

@@ -1,4 +1,4 @@
--- What a text says: its lines, the members of which they tell, and the team that these are (docs/TEAM_TEXT.md, "Export text", "Faults").
+-- What a text says: its lines, the members that they describe, and the team of these (docs/TEAM_TEXT.md, "Export text", "Faults").
 use Rattle.std.specs.Prelude.{Bool, Err, List, None, Ok, Option, Result, Some, [], codes, if◌then◌else◌, length, nat_eq, nat_le, ℕ, ◌+◌, ◌==◌, ◌||◌, ◌∷◌}
 use Rattle.std.specs.List.{starts_with}
 use Rattle.gen1_stats.specs.Members.{Member}
@@ -16,16 +16,16 @@ use Rattle.gen1_text.specs.declared.fault.TextFault.TheVariants.{Line, Team}
 abbrev pub lines_of : List ℕ → List (List ℕ)
 lines_of text = pieces_of 10 text
 
--- whether a line parts members: it is empty, or the title of a team
+-- whether a line separates members: it is empty, or the title of a team
 unfoldable pub parts_members : List ℕ → Bool
 parts_members line = length line == 0 || starts_with nat_eq line (codes "===")
 
--- a member, or the fault of its line
+-- a member, or the error of its line
 abbrev pub at_line : ℕ → Result Sheet MemberFault → Result Sheet TextFault
 at_line number (Ok sheet) = Ok sheet
 at_line number (Err fault) = Err (Line number fault)
 
--- the members that lines tell of, behind so many members and so many lines; `Some` is the member whose lines these are
+-- the members that lines describe, after this many members and lines; `Some` is the member whose lines these are
 unfoldable pub told : ℕ → ℕ → Option Sheet → List (List ℕ) → Result (List Sheet) TextFault
 told members number None [] = Ok []
 told members number (Some sheet) [] = Ok (sheet ∷ [])
@@ -41,7 +41,7 @@ told members number (Some sheet) (line ∷ lines) =
 unfoldable pub members_told : List ℕ → Result (List Sheet) TextFault
 members_told text = told 0 0 None (lines_of text)
 
--- the team that sheets make, or why they make none
+-- the team of these members, or why they are not one
 abbrev pub team_made : Result (List Sheet) TextFault → Result (List Member) TextFault
 team_made (Err fault) = Err fault
 team_made (Ok sheets) = elim (team_refusal sheets) [ None ↦ Ok (team_of sheets) | Some refusal ↦ Err (Team refusal) ]

@@ -14,23 +14,23 @@ trimmed_end text = take (length text - suffix_len is_ascii_whitespace text) text
 unfoldable pub trimmed : List ℕ → List ℕ
 trimmed text = trimmed_end (trimmed_start text)
 
--- what stands between separators, each piece without the white space around it
+-- the text between separators, each piece without the white space around it
 unfoldable pub pieces_of : ℕ → List ℕ → List (List ℕ)
 pieces_of separator text = map trimmed (slice_split (λ b. b == separator) text)
 
--- what follows a key, where the line begins with it
+-- what follows a key, if the line begins with it
 unfoldable pub text_after : List ℕ → List ℕ → Option (List ℕ)
 text_after key line = if starts_with nat_eq line key then Some (drop (length key) line) else None
 
--- whether a part stands somewhere in a line
+-- whether a part occurs in a line
 abbrev pub has_inside : List ℕ → List ℕ → Bool
 has_inside part [] = false
 has_inside part (b ∷ line) = starts_with nat_eq (b ∷ line) part || has_inside part line
 
--- whether a text is a whole number of at most so many: one digit or more, and nothing else
+-- whether a text is a whole number of at most `most`: one digit or more, and nothing else
 abbrev pub is_number : ℕ → List ℕ → Bool
 is_number most text = nat_lt 0 (length text) && (list_all is_ascii_digit text && nat_le (digits_value 10 text) most)
 
--- the whole number that a text is, if it is one of at most so many
+-- the whole number that a text is, if it is at most `most`
 unfoldable pub number_of : ℕ → List ℕ → Option ℕ
 number_of most text = if is_number most text then Some (digits_value 10 text) else None

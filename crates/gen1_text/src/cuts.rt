@@ -10,7 +10,7 @@ pub(crate) fn trimmed(text: &[u8]) -> &[u8]
     text.trim_ascii()
 }
 
-// What follows a key, where the line begins with it.
+// What follows a key, if the line begins with it.
 #[tactic(auto, unfolding(crate::specs::Words::text_after))]
 pub(crate) fn text_after<'a>(line: &'a [u8], key: &[u8]) -> Option<&'a [u8]>
     ensures { option_map (λ rest. rest.now) result ≡ text_after key.now line.now }
@@ -22,7 +22,7 @@ pub(crate) fn text_after<'a>(line: &'a [u8], key: &[u8]) -> Option<&'a [u8]>
     }
 }
 
-// Whether a part stands somewhere in the line.
+// Whether a part occurs in the line.
 pub(crate) fn has_inside(line: &[u8], part: &[u8]) -> bool
     ensures { result ≡ has_inside part.now line.now }
 {
@@ -36,7 +36,7 @@ pub(crate) fn has_inside(line: &[u8], part: &[u8]) -> bool
     false
 }
 
-// The place of the first such byte, or the length where there is none.
+// The index of the first such byte, or the length if there is none.
 fn place_of(text: &[u8], byte: u8) -> usize
     ensures value { result ≡ position_or_len (λ b. b == byte) text.now }
     ensures bound { result ≤ length text.now }
@@ -49,14 +49,14 @@ fn place_of(text: &[u8], byte: u8) -> usize
     text.len()
 }
 
-// What stands before the first such byte; all where there is none.
+// The text before the first such byte; all of it if there is none.
 pub(crate) fn text_before(text: &[u8], byte: u8) -> &[u8]
     ensures { result.now ≡ before_first (λ b. b == byte) text.now }
 {
     &text[..place_of(text, byte)]
 }
 
-// What stands behind the first such byte; nothing where there is none.
+// The text after the first such byte; empty if there is none.
 pub(crate) fn text_behind(text: &[u8], byte: u8) -> &[u8]
     ensures { result.now ≡ after_first (λ b. b == byte) text.now }
 {
@@ -68,7 +68,7 @@ pub(crate) fn text_behind(text: &[u8], byte: u8) -> &[u8]
     }
 }
 
-// What stands between separators, from the front on, each piece without the white space around it.
+// The pieces between separators, from the first on, each without the white space around it.
 #[derive(Drop)]
 pub(crate) struct Pieces<'a> {
     rest: Option<&'a [u8]>,
@@ -88,7 +88,7 @@ impl<'a> Pieces<'a> {
     }
 }
 
-// How many pieces stand between separators.
+// How many pieces the separators make.
 pub(crate) fn piece_count(text: &[u8], separator: u8) -> usize
     ensures { result ≡ length (pieces_of separator text.now) }
 {

@@ -5,8 +5,8 @@ ghost use Rattle.gen1_tables.specs.Names.{move_name, move_names, species_name};
 
 use gen1_tables::{MoveId, Species};
 
-/// The species that a text names, where only letters and digits count, in either case (docs/TEAM_TEXT.md, "Names"). Each is
-/// named by its own name.
+/// Returns the species that a text names; only letters and digits count, in either case (docs/TEAM_TEXT.md, "Names"). Each species
+/// is found by its own name.
 pub fn species_called(text: &[u8]) -> Option<Species>
     ensures value { result ≡ species_called text.now }
     ensures own { (n : ℕ) → 1 ≤ n → n ≤ 151 → text.now ≡ species_name n → result ≡ Some n }
@@ -14,8 +14,8 @@ pub fn species_called(text: &[u8]) -> Option<Species>
     species_with_id(text)
 }
 
-/// The move that a text names, where only letters and digits count, in either case (docs/TEAM_TEXT.md, "Names"). Each is named by
-/// its own name, and two by those of other generations as well.
+/// Returns the move that a text names; only letters and digits count, in either case (docs/TEAM_TEXT.md, "Names"). Each move is
+/// found by its own name, and two also by their names in other generations.
 pub fn move_called(text: &[u8]) -> Option<MoveId>
     ensures value { result ≡ move_called text.now }
     ensures own { (n : ℕ) → 1 ≤ n → n ≤ 165 → text.now ≡ move_name n → result ≡ Some n }
@@ -80,7 +80,7 @@ fn has_same_id(name: &[u8], text: &[u8]) -> bool
     first_letter(texts).is_none()
 }
 
-// The first letter or digit of a text, in lower case, and what stands behind it.
+// The first letter or digit of a text, in lower case, and the text after it.
 fn first_letter(text: &[u8]) -> Option<(u8, &[u8])>
     ensures { MatchOption result (id_of text.now ≡ [])
         (λ letter. id_of text.now ≡ letter.0 ∷ id_of letter.1.now) }

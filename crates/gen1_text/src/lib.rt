@@ -1,14 +1,14 @@
-//! Teams out of text: the export text of Pokemon Showdown's team builder, and its packed lines (docs/TEAM_TEXT.md).
+//! Teams from text: the export text of Pokemon Showdown's team builder, and its packed lines (docs/TEAM_TEXT.md).
 //!
 //! - `cuts`: parts of a text
-//! - `fault`: why a text is no team
+//! - `fault`: why a text is not a team
 //! - `ids`: species and moves by their names
 //! - `member`: a member by its lines
 //! - `numbers`: whole numbers in a text
-//! - `packed`: teams out of packed lines
+//! - `packed`: teams from packed lines
 //! - `packed_field`: the fields of a member in a packed line
 //! - `spread`: EVs and IVs
-//! - `text`: teams out of the export text
+//! - `text`: teams from the export text
 #![tactic(auto)]
 
 mod cuts;

@@ -11,7 +11,7 @@ use arrayvec::ArrayVec;
 use gen1_stats::MemberSpec;
 use gen1_tables::Species;
 
-// The member that a first line tells of.
+// The member that a first line describes.
 #[tactic(auto, unfolding(crate::specs::MemberLines::headed))]
 pub(crate) fn headed(line: &[u8]) -> Result<MemberSpec, MemberFault>
     ensures { result ≡ headed line.now }
@@ -44,7 +44,7 @@ fn without_gender(line: &[u8]) -> &[u8]
     }
 }
 
-// The species of a first line: in brackets behind a nickname, or the line itself.
+// The species of a first line: in brackets after a nickname, or the line itself.
 #[tactic(auto, unfolding(crate::specs::MemberLines::species_text))]
 fn species_text(line: &[u8]) -> &[u8]
     ensures { result.now ≡ species_text line.now }
@@ -59,7 +59,7 @@ fn species_text(line: &[u8]) -> &[u8]
     &line[start..]
 }
 
-// A member of whom only the species is said.
+// A member of which only the species is given.
 fn fresh(species: Species) -> MemberSpec
     ensures { result ≡ fresh species }
 {
@@ -72,7 +72,7 @@ fn fresh(species: Species) -> MemberSpec
     }
 }
 
-// What a line behind the first makes of a member.
+// What a line after the first does to a member.
 #[tactic(auto, unfolding(crate::specs::MemberLines::changed))]
 pub(crate) fn changed(member: MemberSpec, line: &[u8]) -> Result<MemberSpec, MemberFault>
     ensures { result ≡ changed line.now member }
@@ -130,7 +130,7 @@ fn with_ivs(member: MemberSpec, text: &[u8]) -> Result<MemberSpec, MemberFault>
     Ok(member)
 }
 
-// One move more, with three PP ups.
+// One more move, with three PP ups.
 #[tactic(auto, unfolding(crate::specs::MemberLines::with_move))]
 pub(crate) fn with_move(member: MemberSpec, name: &[u8]) -> Result<MemberSpec, MemberFault>
     ensures { result ≡ with_move name.now member }
@@ -148,7 +148,7 @@ pub(crate) fn with_move(member: MemberSpec, name: &[u8]) -> Result<MemberSpec, M
     }
 }
 
-// Whether a line says nothing that the first generation has.
+// Whether a line is about something that the first generation does not have.
 #[tactic(auto, unfolding(crate::specs::MemberLines::is_idle))]
 fn is_idle(line: &[u8]) -> bool
     ensures { result ≡ is_idle line.now }

@@ -1,4 +1,4 @@
-//! Teams out of packed lines (docs/TEAM_TEXT.md, "Packed line").
+//! Teams from packed lines (docs/TEAM_TEXT.md, "Packed line").
 ghost use Rattle.std.specs.Prelude.{◌≡◌};
 ghost use Rattle.gen1_text.specs.Packed.{in_field, members_packed, team_packed, unpacked};
 ghost use Rattle.gen1_text.specs.Answers.{members_view};
@@ -13,7 +13,7 @@ use crate::packed_field::{
 use arrayvec::ArrayVec;
 use gen1_stats::{MemberSpec, Team};
 
-/// The team that a packed line tells of, or the first fault: of a field of a member, or else of the members as a team.
+/// Reads the team of a packed line, or returns the first error: of a field of a member, or else of the members as a team.
 pub fn team_in_packed(text: &[u8]) -> Result<Team, PackedFault>
     ensures { result ≡ team_packed text.now }
 {
@@ -24,7 +24,8 @@ pub fn team_in_packed(text: &[u8]) -> Result<Team, PackedFault>
     }
 }
 
-/// The members that a packed line tells of, six at most, before any test of them as a team; or the fault of the first member that has one.
+/// Reads the members of a packed line, six at most, before any test of them as a team; or returns the error of the first member
+/// that has one.
 pub fn members_in_packed(text: &[u8]) -> Result<ArrayVec<MemberSpec, 6>, PackedFault>
     ensures { members_view result ≡ members_packed text.now }
 {
@@ -39,7 +40,7 @@ pub fn members_in_packed(text: &[u8]) -> Result<ArrayVec<MemberSpec, 6>, PackedF
     Ok(members)
 }
 
-// What the fields of a member say, in their order.
+// What the fields of a member say, in order.
 #[tactic(auto, unfolding(crate::specs::Packed::unpacked))]
 fn unpacked(text: &[u8], member: usize) -> Result<MemberSpec, PackedFault>
     ensures { result ≡ unpacked member text.now }
@@ -55,7 +56,7 @@ fn unpacked(text: &[u8], member: usize) -> Result<MemberSpec, PackedFault>
     in_field(member, 11, with_packed_level(spec, field(text, 10)))
 }
 
-// A member, or the fault of a field.
+// A member, or the error of a field.
 fn in_field(
     member: usize,
     field: usize,

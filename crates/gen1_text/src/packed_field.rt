@@ -10,7 +10,7 @@ use crate::numbers::number_in;
 use crate::spread::{Spread, dvs_of_ivs, exp_of_evs, is_text};
 use gen1_stats::MemberSpec;
 
-// A field of a member, counted from 0; nothing behind the last.
+// A field of a member, counted from 0; empty after the last.
 pub(crate) fn field(member: &[u8], number: usize) -> &[u8]
     ensures { result.now ≡ field number member.now }
 {
@@ -24,7 +24,7 @@ pub(crate) fn field(member: &[u8], number: usize) -> &[u8]
     &[]
 }
 
-// The species, or the nickname where that is empty.
+// The species, or the nickname if that is empty.
 #[tactic(auto, unfolding(crate::specs::PackedFields::species_field))]
 pub(crate) fn species_field(member: &[u8]) -> &[u8]
     ensures { result.now ≡ species_field member.now }
@@ -48,7 +48,7 @@ pub(crate) fn without_item(spec: MemberSpec, text: &[u8]) -> Result<MemberSpec, 
     }
 }
 
-// The moves between commas; a place without one says nothing.
+// The moves between commas; an empty place is skipped.
 pub(crate) fn with_moves(spec: MemberSpec, text: &[u8]) -> Result<MemberSpec, MemberFault>
     ensures { result ≡ with_moves (pieces_of 44 text.now) spec }
 {
@@ -61,7 +61,7 @@ pub(crate) fn with_moves(spec: MemberSpec, text: &[u8]) -> Result<MemberSpec, Me
     Ok(spec)
 }
 
-// Six numbers between commas, each of at most so many; a place without one says nothing.
+// Six numbers between commas, each at most `most` or left out.
 fn six_numbers(text: &[u8], most: u8) -> Option<Spread>
     ensures { result ≡ six_numbers most (pieces_of 44 text.now) }
 {
@@ -90,7 +90,7 @@ fn number_if_any(text: &[u8], most: u8) -> Option<Option<u8>>
     }
 }
 
-// The EVs of a field: all the most where it is empty, and none where it is a lone 0.
+// The EVs of a field: all at the highest if it is empty, and all 0 for a lone 0.
 #[tactic(auto, unfolding(crate::specs::PackedFields::with_packed_evs))]
 pub(crate) fn with_packed_evs(spec: MemberSpec, text: &[u8]) -> Result<MemberSpec, MemberFault>
     ensures { result ≡ with_packed_evs text.now spec }

@@ -7,10 +7,10 @@ use crate::cuts::{Pieces, text_before, text_behind};
 use crate::fault::MemberFault;
 use crate::numbers::number_in;
 
-// The numbers of HP, Atk, Def, SpA, SpD and Spe, where they are said.
+// The numbers of HP, Atk, Def, SpA, SpD and Spe, if given.
 pub(crate) type Spread = [Option<u8>; 6];
 
-// What parts with slashes between them say, each a number of at most so many and a stat.
+// What parts between slashes say, each a number of at most `most` and a stat.
 #[tactic(auto, using(crate::proofs::SpreadLemmas::parts_stop, crate::proofs::SpreadLemmas::parts_go, crate::proofs::SpreadLemmas::parts_end))]
 pub(crate) fn spread_in(text: &[u8], most: u8) -> Option<Spread>
     ensures { result ≡ with_parts most nothing_said (pieces_of 47 text.now) }

@@ -1,4 +1,4 @@
-//! Teams out of the export text of a team builder (docs/TEAM_TEXT.md, "Export text").
+//! Teams from the export text of a team builder (docs/TEAM_TEXT.md, "Export text").
 ghost use Rattle.std.specs.Prelude.{◌≡◌};
 ghost use Rattle.gen1_text.specs.Texts.{at_line, members_told, parts_members, team_told};
 ghost use Rattle.gen1_text.specs.Answers.{members_view};
@@ -9,7 +9,7 @@ use crate::member::{changed, headed};
 use arrayvec::ArrayVec;
 use gen1_stats::{MemberSpec, Team};
 
-/// The team that a text tells of, or the first fault: of a line, or else of the members as a team.
+/// Reads the team of a text, or returns the first error: of a line, or else of the members as a team.
 pub fn team_in_text(text: &[u8]) -> Result<Team, TextFault>
     ensures { result ≡ team_told text.now }
 {
@@ -20,8 +20,8 @@ pub fn team_in_text(text: &[u8]) -> Result<Team, TextFault>
     }
 }
 
-/// The members that a text tells of, six at most, before any test of them as a team; or the fault of the first line that has
-/// one (docs/TEAM_TEXT.md, "Export text", "Faults").
+/// Reads the members of a text, six at most, before any test of them as a team; or returns the error of the first line that has one
+/// (docs/TEAM_TEXT.md, "Export text", "Faults").
 pub fn members_in_text(text: &[u8]) -> Result<ArrayVec<MemberSpec, 6>, TextFault>
     ensures { members_view result ≡ members_told text.now }
 {
@@ -50,7 +50,7 @@ pub fn members_in_text(text: &[u8]) -> Result<ArrayVec<MemberSpec, 6>, TextFault
     Ok(members)
 }
 
-// A member, or the fault of its line.
+// A member, or the error of its line.
 fn at_line(line: usize, member: Result<MemberSpec, MemberFault>) -> Result<MemberSpec, TextFault>
     ensures { result ≡ at_line line member }
 {
@@ -60,7 +60,7 @@ fn at_line(line: usize, member: Result<MemberSpec, MemberFault>) -> Result<Membe
     }
 }
 
-// Whether a line parts members: it is empty, or the title of a team.
+// Whether a line separates members: it is empty, or the title of a team.
 #[tactic(auto, unfolding(crate::specs::Texts::parts_members))]
 fn parts_members(line: &[u8]) -> bool
     ensures { result ≡ parts_members line.now }
