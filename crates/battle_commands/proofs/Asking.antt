@@ -1,4 +1,4 @@
--- What words ask for, by what was found of them.
+-- What words ask for, by what was found in them.
 use Rattle.std.proofs.Common.{Bool, List, None, false, refl, Option, Some, ap, option_map, true, ◌&&◌, ◌≡◌}
 use Rattle.std.specs.Prelude.{Box, unwrap_or}
 use Rattle.std.specs.Box.{box_value}

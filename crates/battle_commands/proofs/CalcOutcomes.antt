@@ -1,4 +1,4 @@
--- What is due from `calc`, and what it and `print` answer where no input was read.
+-- What `calc` is to write and return, and what it and `print` return if no input was read.
 use Rattle.std.proofs.Common.{Err, IfSome, List, None, Ok, Option, [], false, length, nat_lt, refl, rules, true, ℕ, ◌<◌, ◌∷◌, ◌≡◌, ◌≤◌}
 use Rattle.std.specs.Prelude.{ok_or}
 use Rattle.std.proofs.KnownBytes.{Appends-nil}

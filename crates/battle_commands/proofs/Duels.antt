@@ -1,4 +1,4 @@
--- Two members of teams of one that are sent out stand within their field.
+-- Two members of teams of one that are sent out have their numbers in range.
 use Rattle.std.proofs.Common.{List, [], ap, arith, inl, inr, refl, replicate, ℕ, ◌≡◌, ◌∙◌, ◌∷◌, ◌⊎◌}
 use Rattle.gen1_stats.specs.Sheets.{Sheet as MemberSheet}
 use Rattle.gen1_stats.specs.Teams.{member_of}
@@ -14,7 +14,7 @@ use Rattle.gen1_layout.proofs.Words.{then-goes}
 use Rattle.gen1_requests.proofs.SwitchingIn.{sends_as}
 use Rattle.battle_commands.specs.Duel.{duel}
 
--- nothing is drawn, and so any seed would do
+-- nothing is drawn, so any seed will do
 abbrev no_seed : List ℕ
 no_seed = replicate 10 0
 

@@ -1,4 +1,4 @@
--- What was told of submissions so far, and what is due from there on.
+-- The replies to submissions so far, and what comes after them.
 use Rattle.std.proofs.Common.{Err, List, Ok, Option, Result, [], ap, append-nil, append_assoc, arith, drop, drop_of_length-le, get_or, length, refl, subst, suc, sym, ℕ, ◌++◌, ◌+◌, ◌<◌, ◌≡◌, ◌≤◌, ◌∙◌}
 use Rattle.std.specs.Io.KnownBytes.{Appends}
 use Rattle.std.proofs.KnownBytes.{Appends-nil, Appends-trans}
@@ -17,17 +17,17 @@ use Rattle.battle_commands.specs.declared.fault.ToolFault.{ToolFault}
 use Rattle.battle_commands.specs.declared.fault.ToolFault.TheVariants.{Calc, Json, Log, Memory, Pair, Read, Team, TooLong, Write}
 use Rattle.battle_commands.proofs.Standing.{after_after}
 
--- what one submission is answered
+-- the text of the reply to one submission
 abbrev pub told : Course → Side × ℕ × ℕ → List ℕ
 told c x = text_of_reply (reply_to c (submission_at x)) (follows c (submission_at x)).events
 
--- what was sent is what a reply is told by
+-- what was sent is the text of a reply
 pub sent_reply : (reply r : Reply) (events : List Event) (text : List ℕ) (a b : Option (List ℕ)) (result : Result (Unit {0}) ToolFault) → reply ≡ r → text ≡ text_of_reply r events
     → Answers (only text) a b result → Answers (only (text_of_reply reply events)) a b result
 sent_reply reply r events text a b result e t h =
     subst (λ (l : List ℕ). Answers (only l) a b result) (t ∙ ap (λ (x : Reply). text_of_reply x events) (sym e)) h
 
--- the submissions before a number were handed in, and what they were answered was written
+-- the submissions before an index were passed to the room, and the replies to them were written
 pub record Heard (c : Course) (xs : List (Side × ℕ × ℕ)) (number : ℕ) (room : Held) (old now : Option (List ℕ)) : Type 0 where
   pub course : Course
   pub holds : Holds room course
@@ -60,7 +60,7 @@ heard_more xs number {a = a} {b = b} {e = e} h d inside holds wrote = record {
   goes_on = due_then xs number h d inside ∙ after_after h.said (told h.course (get_or xs number d)) _;
 }
 
--- a fault behind a text that was written, and before one that was to follow: it is one of a device or of memory
+-- an error after a text that was written, and before one that was to follow: it is one of a device or of memory
 
 pub fault_between : (said text : List ℕ) (rest : Due) (a b e : Option (List ℕ)) (fault : ToolFault) → Appends a b said → Answers {T = Unit {0}} (only text) b e (Err fault)
     → Answers {T = Unit {0}} (after said (after text rest)) a e (Err fault)
@@ -89,7 +89,7 @@ heard_all x xs number {a = a} {b = b} h end =
     let due = h.goes_on ∙ ap (λ (l : List (Side × ℕ × ℕ)). after h.said (replies_due h.course l)) (drop_of_length-le xs end) in
     subst (λ (d : Due). Answers d a b (Ok x)) (sym due) (refl, subst (λ (l : List ℕ). Appends a b l) (sym (append-nil h.said)) h.written)
 
--- what follows a text that was written whole
+-- what follows a text that was written completely
 front_behind : (text : List ℕ) (due : Due) (a b e : Option (List ℕ)) → Appends a b text → AppendsFront b e due.text → AppendsFront a e (text ++ due.text)
 front_behind text due a b e p q = record {
   front = text ++ q.front;

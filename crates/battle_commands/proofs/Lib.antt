@@ -1,4 +1,4 @@
--- What the loops of the subcommands keep, what is answered where nothing is printed, and words that are worked out.
+-- What the loops of the subcommands keep true, what is returned if nothing is printed, and worked examples of command lines.
 pub mod Standing
 pub mod Outcomes
 pub mod Duels

@@ -1,4 +1,4 @@
--- What is answered for an input: where nothing is printed, and where its battle is played.
+-- What is returned for an input: if nothing is printed, and if its battle is played.
 use Rattle.std.proofs.Common.{◌≡◌, ◌||◌, ℕ, ◌<◌, ◌≤◌, Bool, true, false, nat_lt, List, [], length, Option, Some, None, Result, Ok, Err, IfSome, refl, sym, subst, ap, ◌∙◌, rules}
 use Rattle.std.proofs.KnownBytes.{Appends-nil}
 use Rattle.serde_json.specs.Data.{Data}
@@ -19,7 +19,7 @@ use Rattle.battle_commands.specs.declared.asked_battle.Bout.{Bout}
 use Rattle.battle_commands.specs.declared.fault.ToolFault.{ToolFault}
 use Rattle.battle_commands.specs.declared.fault.ToolFault.TheVariants.{Json, TooLong, Team, Pair, Log, Calc, Read, Write, Memory}
 
--- a fact of what there may be follows from another
+-- a fact about what there may be follows from another
 pub some_along : {A : Type 0} (o : Option A) (P Q : A → Type 0) → ((x : A) → P x → Q x) → IfSome o P → IfSome o Q
 some_along None P Q f h = tt
 some_along (Some x) P Q f h = f x h
@@ -28,7 +28,7 @@ pub some_all : {A : Type 0} (o : Option A) (P : A → Type 0) → ((x : A) → P
 some_all None P f = tt
 some_all (Some x) P f = f x
 
--- whatever was due, nothing of it was written
+-- nothing of the expected text was written
 
 pub answers_unread : (due : Due) (old : Option (List ℕ)) → Answers {T = Unit {0}} due old old (Err Read)
 answers_unread due old = record { front = []; rest = due.text; split = refl; written = Appends-nil old }
@@ -53,7 +53,7 @@ opens_no_input key meaning (Log number) told h = absurd h
 opens_no_input key meaning Calc told h = absurd h
 opens_no_input key meaning Write told h = absurd h
 
--- a battle is asked for where neither team is refused
+-- a battle is requested if neither team is refused
 pub asks_for : {A : Type 0} (key : Key) (meaning : Data → Result A Misfit) (input : List ℕ) (sheet : BattleData × List A) → length input ≤ input_limit
     → input_of (sheet_of key meaning) input ≡ Ok sheet → team_refusal sheet.0.one ≡ None → team_refusal sheet.0.two ≡ None
     → asked_of key meaning input ≡ Ok (record { state = begins sheet.0; items = sheet.1 })
@@ -62,7 +62,7 @@ asks_for key meaning input sheet fits is one two =
     let short : nat_lt input_limit (length input) ≡ false = search rules in
     rw (short, is, one, two) refl
 
--- and begins with the two teams
+-- and it begins with the two teams
 pub stands_begun : (p : Parts) (t : Terms) (seed : List ℕ) (one two : List Member) (a b : List MemberSheet) → one ≡ team_of a → two ≡ team_of b
     → Stands p (first_state t one two seed) → Stands p (first_state t (team_of a) (team_of b) seed)
 stands_begun p t seed one two a b e f h =
@@ -88,7 +88,7 @@ pub answers_unopened : {A : Type 0} (due : State → List A → Due) (asked : Li
     → IfSome told (λ input. Opens (Err fault) (asked input)) → IfSome told (λ input. Answers {T = Unit {0}} (due_if due (asked input)) old old (Err fault))
 answers_unopened due asked fault told old opens = some_along told _ _ (λ input h. unopened due fault (asked input) old h) opens
 
--- what is asked for was done
+-- what is requested was done
 pub answers_opened : {T A : Type 0} (due : State → List A → Due) (asked : List ℕ → Result (Asked A) ToolFault) (bout : Bout A) (told : Option (List ℕ)) (old new : Option (List ℕ)) (result : Result T ToolFault)
     → IfSome told (λ input. Opens (Ok bout) (asked input)) → ((x : Asked A) → Stands bout.battle x.state → bout.items.items ≡ x.items → Answers (due x.state x.items) old new result)
     → IfSome told (λ input. Answers (due_if due (asked input)) old new result)
@@ -96,7 +96,7 @@ answers_opened due asked bout told old new result opens done =
     some_along told (λ input. Opens (Ok bout) (asked input)) (λ input. Answers (due_if due (asked input)) old new result)
     (λ input h. subst (λ (d : Due). Answers d old new result) (sym (ap (due_if due) h.1)) (done h.0 h.2 h.3)) opens
 
--- what was opened was asked for by the bytes that were read
+-- what was opened was requested by the bytes that were read
 pub opens_read : {A : Type 0} (asked : List ℕ → Result (Asked A) ToolFault) (opened : Result (Bout A) ToolFault) (told : Option (List ℕ)) (items slice : List ℕ)
     → slice ≡ items → Opens opened (asked slice) → IfSome told (λ input. items ≡ input) → IfSome told (λ input. Opens opened (asked input))
 opens_read asked opened told items slice lent opens read =
@@ -109,11 +109,11 @@ unfailed false = refl
 pub or_false : (b : Bool) → (b || false) ≡ b
 or_false b = sym (unfailed b)
 
--- where nothing is written no write has failed
+-- if nothing is written no write has failed
 pub no_writes : (b c : Bool) → c ≡ false → b ≡ (b || c)
 no_writes b c none = unfailed b ∙ ap (λ x. b || x) (sym none)
 
--- so it is while an input is read
+-- the same while an input is read
 pub unwritten : (fault : ToolFault) (told : Option (List ℕ)) → IsInputFault fault told → of_write fault ≡ false
 unwritten Write told h = absurd h
 unwritten Read told h = refl

@@ -1,4 +1,4 @@
--- Pieces that are written one behind the other.
+-- Pieces that are written one after the other.
 use Rattle.std.proofs.Common.{List, [], ap, append-nil, append_assoc, sym, ℕ, ◌++◌, ◌∙◌, ◌∷◌, ◌≡◌}
 use Rattle.gen1_machine.specs.Lines.{joined}
 

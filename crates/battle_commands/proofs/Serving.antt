@@ -1,4 +1,4 @@
--- What a subcommand is given and prints: by its five names, and by a FILE that was opened; and the status of a run that is whole.
+-- What a subcommand reads and prints: by its five names, and by a FILE that was opened; and the status of a complete run.
 use Rattle.std.proofs.Common.{Bool, Err, IfSome, List, None, Ok, Option, Result, Some, ap, false, option_map, subst, sym, true, ℕ, ◌||◌, ◌≡◌, ◌∙◌}
 use Rattle.std.proofs.KnownBytes.{Appends-nil}
 use Rattle.std.specs.Prelude.{codes, is_ok, is_some}
@@ -24,7 +24,7 @@ pub serves : (name : List ℕ) (told old new : Option (List ℕ)) (result : Resu
 serves name None old new result print calc room log run = tt
 serves name (Some input) old new result print calc room log run = record { print = print; calc = calc; room = room; log = log; run = run }
 
--- no FILE is named, and standard input is given
+-- no FILE is named, so standard input is read
 pub without_file : {A : Type 0} (f : A → List ℕ) (found : Option A) (file : Option (List ℕ)) → option_map f found ≡ file → found ≡ None → file ≡ None
 without_file f found file e none = sym e ∙ ap (option_map f) none
 
@@ -71,12 +71,12 @@ unopened_serves file path named name standard old some = file_serves file path n
       run = λ e. answers_unread (run_due input) old;
     }
 
--- where all was done no read has failed
+-- if all was done no read has failed
 pub read_well : (result : Result (Unit {0}) ToolFault) (failed fails : Bool) → fails ≡ (failed || is_read_fault result) → is_ok result ≡ true → fails ≡ failed
 read_well (Ok x) failed fails e h = e ∙ or_false failed
 read_well (Err fault) failed fails e h = absurd (let k : false ≡ true = h in cc)
 
--- no fault has status 0
+-- no error has status 0
 pub is_above_0 : (fault : ToolFault) → status_of fault ≡ 0 → ⊥
 is_above_0 (Json fault) h = let k : 1 ≡ 0 = h in cc
 is_above_0 TooLong h = let k : 1 ≡ 0 = h in cc

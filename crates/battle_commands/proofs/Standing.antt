@@ -1,4 +1,4 @@
--- What was written so far, and what is due from there on.
+-- What was written so far, and what comes after it.
 use Rattle.std.proofs.Common.{Err, List, Ok, Option, [], ap, append-nil, append_assoc, arith, drop, drop_of_length-le, get_or, length, refl, subst, suc, sym, ℕ, ◌++◌, ◌+◌, ◌<◌, ◌≡◌, ◌≤◌, ◌∙◌}
 use Rattle.arrayvec.specs.ArrayVec.{ArrayVec}
 use Rattle.std.specs.Io.KnownBytes.{Appends}
@@ -20,7 +20,7 @@ use Rattle.battle_commands.specs.Answers.{Answers}
 use Rattle.battle_commands.specs.Due.{Due, after, due_by, due_from}
 use Rattle.battle_commands.specs.declared.fault.ToolFault.TheVariants.{Memory, Pair, Write}
 
--- what an update by bytes answered
+-- what an update by bytes returned
 
 pub answered_ok : (answer : Answer) (next : State) (old new : Parts) (old_events events : ArrayVec Event) (result : BattleResult) → AnswersAs answer next old new (Ok result) → TellsAs answer old_events events
     → (answer ≡ Accepted events.items) × Stands new next
@@ -32,7 +32,7 @@ pub answered_err : (answer : Answer) (next : State) (old new : Parts) (why : Why
 answered_err (Refused reason) next old new why h = (reason, refl, (let e = h.0 in cc))
 answered_err (Accepted events) next old new why h = absurd (let e = h.0 in cc)
 
--- the pairs before a number were played, and their lines written: what is due for all is these and what is due from there on
+-- the pairs before an index were played, and their lines written: the whole text is these and the text of the remaining pairs
 pub record Stood (tell : List Event → List ℕ) (s : State) (pairs : List (ℕ × ℕ)) (number : ℕ) (battle : Parts) (old now : Option (List ℕ)) : Type 0 where
   pub state : State
   pub stands : Stands battle state
@@ -56,7 +56,7 @@ due_here tell number t pairs inside =
 pub after_after : (said more : List ℕ) (due : Due) → after said (after more due) ≡ after (said ++ more) due
 after_after said more due = ap (λ (l : List ℕ). record { text = l; fault = due.fault }) (sym (append_assoc said more due.text))
 
--- by what the machine answers to the next pair
+-- by the machine's answer to the next pair
 due_then : {tell : List Event → List ℕ} {s : State} (pairs : List (ℕ × ℕ)) (number : ℕ) {battle : Parts} {a b : Option (List ℕ)} (h : Stood tell s pairs number battle a b) (answer : Answer)
     → number < length pairs → (step_by_bytes h.state (get_or pairs number (0, 0))).answer ≡ answer
     → due_from tell 0 s pairs

@@ -1,12 +1,12 @@
--- Words that the command line takes, worked out by hand: which subcommand they ask for, on which FILE, and whether with an
--- explanation (docs/PROGRAM.md, "The program battle_tool"). So what `tool` promises for words that are taken is promised for some.
+-- Worked examples of command lines: which subcommand they ask for, on which FILE, and whether with an explanation (docs/PROGRAM.md,
+-- "The program battle_tool"). They show that some words are accepted, so the promise of `tool` about accepted words is not empty.
 use Rattle.std.proofs.Common.{List, None, Option, Some, [], codes, false, refl, true, ◌∷◌, ◌≡◌}
 use Rattle.clap.specs.Takes.{walk_passes}
 use Rattle.clap.specs.Walk.{walked}
 use Rattle.clap.specs.Words.{Row, Text, first_of, one_of, subcommand_of, takes}
 use Rattle.battle_commands.specs.CommandLine.{tool_app}
 
--- the words behind the program's name are taken, and ask for a subcommand, a FILE and an explanation
+-- the words after the program's name are accepted, and ask for a subcommand, a FILE and an explanation
 record AsksFor (behind : List Text) (name : Text) (file explain : Option Text) : Type 0 where
   taken : takes tool_app (codes "battle_tool" ∷ behind) ≡ true
   rows : List Row
@@ -42,7 +42,7 @@ run_explained : AsksFor (codes "run" ∷ codes "--explain" ∷ codes "battle.jso
 unfolding walked walk_passes
 run_explained = record { taken = refl; rows = _; asked = refl; file_is = refl; explain_is = refl }
 
--- a word that is no subcommand, a second FILE, and no word at all are refused
+-- a word that is not a subcommand, a second FILE, and no word at all are refused
 
 another_word : takes tool_app (codes "battle_tool" ∷ codes "walk" ∷ []) ≡ false
 unfolding walked walk_passes

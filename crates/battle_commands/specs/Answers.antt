@@ -1,4 +1,4 @@
--- What a run has written and answers, beside what was due (docs/PROGRAM.md, "Faults and statuses").
+-- What a run has written and returns, compared with what is expected (docs/PROGRAM.md, "Faults and statuses").
 use Rattle.std.specs.Prelude.{◌≡◌, ◌<◌, ℕ, List, length, Bool, true, false, Option, Some, None, IfSome, Result, Ok, Err}
 use Rattle.std.specs.Io.KnownBytes.{Appends}
 use Rattle.gen1_machine.specs.Output.{AppendsFront, Sends}
@@ -8,7 +8,8 @@ use Rattle.battle_commands.specs.Due.{Due}
 use Rattle.battle_commands.specs.declared.fault.ToolFault.{ToolFault}
 use Rattle.battle_commands.specs.declared.fault.ToolFault.TheVariants.{Read, TooLong, Write, Memory}
 
--- A fault of the world leaves a front of the text. Any other fault is the one that is due, after all of the text.
+-- After an error of a device or of memory a prefix of the text is written. Any other error is the expected one, after all of the
+-- text.
 abbrev pub FaultAnswers : Due → Option (List ℕ) → Option (List ℕ) → ToolFault → Type 0
 FaultAnswers due old new Read = AppendsFront old new due.text
 FaultAnswers due old new Write = AppendsFront old new due.text
@@ -19,7 +20,7 @@ abbrev pub Answers : {T : Type 0} → Due → Option (List ℕ) → Option (List
 Answers due old new (Ok x) = (due.fault ≡ None) × Appends old new due.text
 Answers due old new (Err fault) = FaultAnswers due old new fault
 
--- faults of the devices
+-- errors of the devices
 
 abbrev pub of_write : ToolFault → Bool
 of_write Write = true
@@ -37,13 +38,13 @@ abbrev pub is_read_fault : {T : Type 0} → Result T ToolFault → Bool
 is_read_fault (Ok x) = false
 is_read_fault (Err fault) = of_read fault
 
--- why there is no input: its source failed, memory did, or there is too much of it
+-- why there is no input: its source failed, memory ran out, or it is too long
 abbrev pub IsInputFault : ToolFault → Option (List ℕ) → Type 0
 IsInputFault Read told = Unit {0}
 IsInputFault Memory told = Unit {0}
 IsInputFault TooLong told = IfSome told (λ input. input_limit < length input)
 IsInputFault fault told = ⊥
 
--- a text is sent, of which nothing is answered: all of it, or a front where the sink has failed
+-- a text is sent, about which nothing is returned: all of it, or a prefix if the sink has failed
 abbrev pub Tells : Option (List ℕ) → Option (List ℕ) → Bool → Bool → List ℕ → Type 0
 Tells old new failed fails text = (sent : Result (Unit {0}) DeviceFault) × Sends old new failed fails text sent

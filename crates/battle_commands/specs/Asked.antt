@@ -1,5 +1,5 @@
--- What an input asks for: a battle and what is done in it, or the fault that is answered instead (docs/PROGRAM.md, "What is
--- tested, in this order").
+-- What an input asks for: a battle and what is done in it, or the error that is returned instead (docs/PROGRAM.md, "What is tested,
+-- in this order").
 use Rattle.std.specs.Prelude.{Err, List, None, Ok, Option, Result, Some, if◌then◌else◌, length, nat_lt, ℕ}
 use Rattle.serde_json.specs.Data.{Data}
 use Rattle.gen1_stats.specs.Refusals.{number_of, place_of}
@@ -15,7 +15,7 @@ use Rattle.battle_input.specs.declared.misfit.Misfit.{Misfit}
 use Rattle.battle_commands.specs.declared.fault.ToolFault.{ToolFault}
 use Rattle.battle_commands.specs.declared.fault.ToolFault.TheVariants.{Json, TooLong, Team}
 
--- a battle that has not begun, and what is done in it
+-- a battle before its first update, and what is done in it
 pub record Asked (A : Type 0) : Type 0 where
   pub state : State
   pub items : List A
@@ -23,12 +23,12 @@ pub record Asked (A : Type 0) : Type 0 where
 abbrev pub begins : BattleData → State
 begins battle = first_state (record { rules = battle.rules; limit = battle.limit }) (team_of battle.one) (team_of battle.two) battle.seed
 
--- the fault of a side's team, if it is refused, in the place of what is asked
+-- the error of a side's team, if it is refused, in place of the request
 abbrev pub unless : {T : Type 0} → ℕ → Option TeamRefusal → Result T ToolFault → Result T ToolFault
 unless side (Some refusal) asked = Err (Team side (place_of refusal) (number_of refusal))
 unless side None asked = asked
 
--- side 1's team is tested whole before side 2's
+-- side 1's team is tested completely before side 2's
 abbrev pub asked_by : {A : Type 0} → Result (BattleData × List A) JsonFault → Result (Asked A) ToolFault
 asked_by (Err fault) = Err (Json fault)
 asked_by (Ok sheet) = unless 1 (team_refusal sheet.0.one) (unless 2 (team_refusal sheet.0.two) (Ok (record { state = begins sheet.0; items = sheet.1 })))
@@ -39,7 +39,7 @@ input_limit = 1048576
 unfoldable pub asked_of : {A : Type 0} → Key → (Data → Result A Misfit) → List ℕ → Result (Asked A) ToolFault
 asked_of key meaning input = if nat_lt input_limit (length input) then Err TooLong else asked_by (input_of (sheet_of key meaning) input)
 
--- pairs of choices are asked for, or submissions to a room
+-- the request has pairs of choices, or submissions to a room
 
 abbrev pub asked_to_run : List ℕ → Result (Asked (ℕ × ℕ)) ToolFault
 asked_to_run = asked_of Choices pair_of

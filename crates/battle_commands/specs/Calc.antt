@@ -1,4 +1,4 @@
--- What is due from `calc` for an input, and what it has written and answers (docs/PROGRAM.md, "calc").
+-- What `calc` is to write and return for an input, and what it has written and returns (docs/PROGRAM.md, "calc").
 use Rattle.std.specs.Prelude.{Err, List, Ok, Option, Result, [], if◌then◌else◌, length, nat_lt, ok_or, ℕ, ◌∷◌, ◌≡◌}
 use Rattle.std.specs.Io.KnownBytes.{Appends}
 use Rattle.gen1_stats.specs.Teams.{member_of as begun_of, team_refusal}
@@ -18,7 +18,7 @@ use Rattle.battle_input.specs.declared.fault.JsonFault.{JsonFault}
 use Rattle.battle_commands.specs.declared.fault.ToolFault.{ToolFault}
 use Rattle.battle_commands.specs.declared.fault.ToolFault.TheVariants.{Calc, Json, Memory, Read, TooLong, Write}
 
--- the damage at each factor from 217 to 255, of the attacker's move against the defender; none where the divisor is 0
+-- the damage at each factor from 217 to 255, of the attacker's move against the defender; none if the divisor is 0
 unfoldable pub damages_of : CalcSheet → Option (List ℕ)
 damages_of s = damages (numbers_in One (move_at s.id) s.critical (duel (begun_of s.attacker) (begun_of s.defender)))
 
@@ -30,11 +30,11 @@ due_by (Ok s) =
     (unless 2 (team_refusal (s.defender ∷ []))
     (if has_usual_damage (move_at s.id) then ok_or (damages_of s) Calc else Err Calc))
 
--- the damage numbers that are due for an input, or the fault that is answered instead
+-- the damage numbers for an input, or the error that is returned instead
 unfoldable pub damages_due : List ℕ → Result (List ℕ) ToolFault
 damages_due input = if nat_lt input_limit (length input) then Err TooLong else due_by (input_of calc_sheet_of input)
 
--- The line is written, or a front of it where a write fails. With any other fault nothing is.
+-- The line is written, or a prefix of it if a write fails. With any other error nothing is written.
 abbrev pub PrintsDamages : {T : Type 0} → Result (List ℕ) ToolFault → Option (List ℕ) → Option (List ℕ) → Result T ToolFault → Type 0
 PrintsDamages due old new (Ok done) = (numbers : List ℕ) × (due ≡ Ok numbers) × Appends old new (number_line numbers)
 PrintsDamages due old new (Err Write) = (numbers : List ℕ) × (due ≡ Ok numbers) × AppendsFront old new (number_line numbers)

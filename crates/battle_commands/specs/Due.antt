@@ -1,4 +1,4 @@
--- What is due for an input: the text to print, and the fault to answer after it (docs/PROGRAM.md, "run", "Output", "log").
+-- What an input asks for: the text to print, and the error to return after it (docs/PROGRAM.md, "run", "Output", "log").
 use Rattle.std.specs.Prelude.{ℕ, ◌+◌, List, [], ◌∷◌, ◌++◌, Option, Some, None, Result, Ok, Err}
 use Rattle.gen1_machine.specs.declared.event.Event.{Event}
 use Rattle.gen1_machine.specs.Lines.{lines}
@@ -27,22 +27,22 @@ only text = record { text = text; fault = None }
 abbrev pub after : List ℕ → Due → Due
 after text due = record { text = text ++ due.text; fault = due.fault }
 
--- a refused pair ends it; an accepted one has what tells its events, and what is due behind them
+-- a refused pair ends it; an accepted one has the text of its events, and then what comes after it
 abbrev pub due_by : (List Event → List ℕ) → ℕ → Answer → Due → Due
 due_by tell number (Refused why) rest = refused (Pair number (refusal_number (refusal_of why)))
 due_by tell number (Accepted events) rest = after (tell events) rest
 
--- from a state and the number of a pair on: what tells the events of the machine's run, up to the first pair that it refuses
+-- from a state and the number of a pair on: the text of the events of the machine's run, up to the first pair that it refuses
 unfoldable pub due_from : (List Event → List ℕ) → ℕ → State → List (ℕ × ℕ) → Due
 due_from tell number s [] = done
 due_from tell number s (pair ∷ pairs) = due_by tell number (step_by_bytes s pair).answer (due_from tell (number + 1) (step_by_bytes s pair).state pairs)
 
--- what is due for what was asked
+-- the text and error of a request
 abbrev pub due_if : {A : Type 0} → (State → List A → Due) → Result (Asked A) ToolFault → Due
 due_if due (Err fault) = refused fault
 due_if due (Ok asked) = due asked.state asked.items
 
--- what is due for an input of `run`: lines
+-- the text and error of an input of `run`: lines
 abbrev pub run_due : List ℕ → Due
 run_due input = due_if (due_from lines 0) (asked_to_run input)
 

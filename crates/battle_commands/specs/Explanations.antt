@@ -1,4 +1,4 @@
--- What is told of a fault behind its line, where an explanation is asked for (docs/PROGRAM.md, "Explanations").
+-- What is written after the line of an error, if an explanation is asked for (docs/PROGRAM.md, "Explanations").
 use Rattle.std.specs.Prelude.{Bool, List, [], codes, decimal, if◌then◌else◌, ℕ, ◌++◌, ◌==◌}
 use Rattle.battle_input.specs.Misfits.{expected_text, path_text}
 use Rattle.battle_input.specs.declared.fault.JsonFault.{JsonFault}
@@ -8,11 +8,11 @@ use Rattle.battle_commands.specs.Faults.{error_line}
 use Rattle.battle_commands.specs.declared.fault.ToolFault.{ToolFault}
 use Rattle.battle_commands.specs.declared.fault.ToolFault.TheVariants.{Calc, Json, Log, Memory, Pair, Read, Team, TooLong, Write}
 
--- the way to a value, and what is expected there
+-- the path to a value, and what is expected there
 abbrev pub misfit_words : Misfit → List ℕ
 misfit_words m = codes "at " ++ path_text m.path ++ codes ": expected " ++ expected_text m.expected ++ codes "\n"
 
--- the place of the first byte that JSON has not there
+-- the place of the first byte that JSON does not allow there
 abbrev pub text_words : ℕ → ℕ → List ℕ
 text_words line column = codes "at line " ++ decimal line ++ codes " column " ++ decimal column ++ codes ": expected JSON\n"
 
@@ -33,7 +33,7 @@ team_words n =
     else if n == 8 then codes "a move stands twice"
     else codes "a move has more than three PP ups"
 
--- the member, unless the team as a whole is at fault
+-- the member, unless the error is of the team as a whole
 abbrev pub at_member : ℕ → List ℕ
 at_member place = if place == 0 then [] else (codes ", member " ++ decimal place)
 
@@ -49,7 +49,7 @@ why_words n =
 abbrev pub pair_words : ℕ → ℕ → List ℕ
 pair_words number refusal = codes "at .choices[" ++ decimal number ++ codes "]: " ++ why_words refusal
 
--- by the number of the fault
+-- by the number of the error
 abbrev pub log_words : ℕ → List ℕ
 log_words n =
     if n == 1 then codes "a byte in a tag's place is no tag"
@@ -68,6 +68,6 @@ explanation Read = codes "the input could not be opened or read" ++ codes "\n"
 explanation Write = codes "the output could not be written" ++ codes "\n"
 explanation Memory = codes "memory was refused" ++ codes "\n"
 
--- the line of a fault, and its explanation behind it where one is asked for
+-- the line of an error, and its explanation after it if one is asked for
 abbrev pub told_of : Bool → ToolFault → List ℕ
 told_of explains fault = if explains then (error_line fault ++ explanation fault) else error_line fault

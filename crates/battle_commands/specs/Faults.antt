@@ -1,4 +1,4 @@
--- The exit status of each fault, and what standard error has of it (docs/PROGRAM.md, "Faults and statuses").
+-- The exit status of each error, and what standard error gets of it (docs/PROGRAM.md, "Faults and statuses").
 use Rattle.std.specs.Prelude.{List, [], codes, decimal, ℕ, ◌++◌, ◌∷◌}
 use Rattle.gen1_machine.specs.Lines.{joined}
 use Rattle.battle_commands.specs.declared.fault.ToolFault.{ToolFault}

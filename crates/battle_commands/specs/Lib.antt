@@ -1,4 +1,4 @@
--- What each subcommand has to print and to answer.
+-- What each subcommand has to print and to return.
 pub mod Duel
 pub mod NumberLine
 pub mod Calc

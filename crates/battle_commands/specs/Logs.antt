@@ -1,4 +1,4 @@
--- What `print` has written and answers for the bytes of a log (docs/PROGRAM.md, "print").
+-- What `print` has written and returns for the bytes of a log (docs/PROGRAM.md, "print").
 use Rattle.std.specs.Prelude.{◌≡◌, ℕ, ◌<◌, ◌≤◌, List, [], length, Option, Result, Ok, Err}
 use Rattle.std.specs.Io.KnownBytes.{Appends}
 use Rattle.gen1_machine.specs.Lines.{lines}
@@ -12,8 +12,8 @@ use Rattle.battle_commands.specs.Asked.{input_limit}
 use Rattle.battle_commands.specs.declared.fault.ToolFault.{ToolFault}
 use Rattle.battle_commands.specs.declared.fault.ToolFault.TheVariants.{TooLong, Log, Read, Write, Memory}
 
--- The lines of the log's reading are written, or a front of them where a write fails. Of a log with a fault, of
--- an input that is too long, and where a read fails or memory is refused, nothing is.
+-- The lines of the log's events are written, or a prefix of them if a write fails. Nothing is written if the log has an error, the
+-- input is too long, a read fails, or memory runs out.
 abbrev pub PrintsLog : {T : Type 0} → List ℕ → Option (List ℕ) → Option (List ℕ) → Result T ToolFault → Type 0
 PrintsLog log old new (Ok done) = (events : List Event) × (length log ≤ input_limit) × IsReading log events × Appends old new (lines events)
 PrintsLog log old new (Err Write) = (events : List Event) × (length log ≤ input_limit) × IsReading log events × AppendsFront old new (lines events)

@@ -1,4 +1,4 @@
--- What is due for an input of `room`: the lines of the start, and what each submission is answered (docs/PROGRAM.md, "room").
+-- What `room` prints for an input: the lines of the start, and the reply to each submission (docs/PROGRAM.md, "room").
 use Rattle.std.specs.Prelude.{ℕ, List, [], ◌∷◌, ◌++◌, codes, decimal}
 use Rattle.gen1_machine.specs.declared.side.Side.{Side}
 use Rattle.gen1_machine.specs.declared.event.Event.{Event}
@@ -9,7 +9,7 @@ use Rattle.gen1_room.specs.Rooms.{submission_at}
 use Rattle.battle_commands.specs.Asked.{asked_of_room}
 use Rattle.battle_commands.specs.Due.{Due, after, done, due_if}
 
--- the number of a refusal, and behind that of a stale submission the current pair's
+-- the number of a refusal, and after that of a stale submission the current pair's
 abbrev pub pieces_of_refusal : RoomRefusal → List (List ℕ)
 pieces_of_refusal RoomOver = codes "1" ∷ []
 pieces_of_refusal (Stale current) = codes "2|" ∷ decimal current ∷ []
@@ -28,7 +28,7 @@ replies_due c [] = done
 replies_due c (submission ∷ more) =
     let d = follows c (submission_at submission) in after (text_of_reply (reply_to c (submission_at submission)) d.events) (replies_due d more)
 
--- behind the lines of the start, where the battle is started with its room
+-- after the lines of the start, if the battle is started with its room
 abbrev pub submissions_due : State → List (Side × ℕ × ℕ) → Due
 submissions_due s submissions = after (lines (room_of s).events) (replies_due (room_of s) submissions)
 

@@ -1,4 +1,4 @@
--- What the program has written and answers for a subcommand and what it is given (docs/PROGRAM.md, "The program battle_tool").
+-- What the program has written and returns for a subcommand and its input (docs/PROGRAM.md, "The program battle_tool").
 use Rattle.std.specs.Prelude.{Bool, Err, IfSome, List, None, Ok, Option, Result, Some, codes, false, true, ℕ, ◌≡◌, ◌⊎◌}
 use Rattle.clap.specs.Matches.{first_value, found_of, one_text}
 use Rattle.clap.specs.Walk.{Row, rows_of}
@@ -13,12 +13,12 @@ use Rattle.battle_commands.specs.Rooms.{room_due}
 use Rattle.battle_commands.specs.declared.fault.ToolFault.{ToolFault}
 use Rattle.battle_commands.specs.declared.fault.ToolFault.TheVariants.{Memory}
 
--- the bytes that a subcommand is given, where they are known: those of the FILE that is named, and else those of standard input
+-- the bytes of a subcommand's input, if they are known: those of the FILE that is named, or else those of standard input
 abbrev pub given : Option (List ℕ) → (List ℕ → Option (List ℕ)) → Option (List ℕ) → Option (List ℕ)
 given None named standard = standard
 given (Some file) named standard = named file
 
--- what a subcommand prints and answers for an input is what is due, by its name
+-- what a subcommand prints and returns for an input is what its name asks for
 pub record Serves (name input : List ℕ) (old new : Option (List ℕ)) (result : Result (Unit {0}) ToolFault) : Type 0 where
   pub print : name ≡ codes "print" → PrintsLog input old new result
   pub calc : name ≡ codes "calc" → PrintsDamages (damages_due input) old new result
@@ -26,7 +26,7 @@ pub record Serves (name input : List ℕ) (old new : Option (List ℕ)) (result 
   pub log : name ≡ codes "log" → Answers (log_due input) old new result
   pub run : name ≡ codes "run" → Answers (run_due input) old new result
 
--- nothing is told where all was done, and else the line of the fault, with its explanation where one is asked for
+-- nothing is reported if all was done, and otherwise the line of the error, with its explanation if one is asked for
 abbrev pub TellsEnd : Bool → Option (List ℕ) → Option (List ℕ) → Bool → Bool → Result (Unit {0}) ToolFault → Type 0
 TellsEnd explains old new failed fails (Ok done) = (new ≡ old) × (fails ≡ failed)
 TellsEnd explains old new failed fails (Err fault) = Tells old new failed fails (told_of explains fault)
@@ -37,19 +37,19 @@ pub record IsAskedFor (explains : Bool) (value : Option (List ℕ)) : Type 0 whe
   pub unasked : value ≡ Some (codes "false") → explains ≡ false
   pub none : value ≡ None → explains ≡ false
 
--- 0 where all was done, and else the status of the fault
+-- 0 if all was done, and otherwise the status of the error
 abbrev pub status_after : Result (Unit {0}) ToolFault → ℕ
 status_after (Ok done) = 0
 status_after (Err fault) = status_of fault
 
--- no read and no write has failed in a call, and nothing was told
+-- no read and no write has failed in a call, and no error was reported
 pub record IsUndisturbed (read reads written writes told tells : Bool) (old new : Option (List ℕ)) : Type 0 where
   pub read_well : reads ≡ read
   pub written_well : writes ≡ written
   pub told_well : tells ≡ told
   pub nothing_told : new ≡ old
 
--- a subcommand that was asked for by these matches is served to its end, and its fault told
+-- a subcommand that these matches ask for is served to its end, and its error reported
 pub record IsServed (name : List ℕ) (matches : ArgMatches) (named : List ℕ → Option (List ℕ)) (standard old new told tells : Option (List ℕ)) (failed fails : Bool) (status : ℕ) : Type 0 where
   pub end : Result (Unit {0}) ToolFault
   pub explains : Bool
@@ -58,12 +58,12 @@ pub record IsServed (name : List ℕ) (matches : ArgMatches) (named : List ℕ �
   pub ends : TellsEnd explains told tells failed fails end
   pub asked : IsAskedFor explains (one_text (found_of matches) (codes "explain"))
 
--- memory was refused before the words were understood, which is told
+-- memory ran out before the words were understood, which is reported
 pub record IsUnheld (told tells : Option (List ℕ)) (failed fails : Bool) (status : ℕ) : Type 0 where
   pub status_is : status ≡ status_of Memory
   pub line : Tells told tells failed fails (error_line Memory)
 
--- one of both, by the name of the subcommand and what was found behind it
+-- one of both, by the name of the subcommand and what was found after it
 abbrev pub Ends : List ℕ → List Row → (List ℕ → Option (List ℕ)) → Option (List ℕ) → Option (List ℕ) → Option (List ℕ) → Option (List ℕ) → Option (List ℕ) → Bool → Bool → ℕ → Type 0
 Ends name rows named standard old new told tells failed fails status =
     ((matches : ArgMatches) × (rows_of (found_of matches) ≡ rows) × IsServed name matches named standard old new told tells failed fails status)

@@ -1,4 +1,4 @@
-//! The battle that an input asks for, and what is done in it (docs/PROGRAM.md, "What is tested, in this order").
+//! The battle of an input, and what is done in it (docs/PROGRAM.md, "What is tested, in this order").
 ghost use Rattle.std.specs.Prelude.{◌+◌, ◌≡◌, ◌≤◌, ◌||◌, IfSome, false, length};
 ghost use Rattle.gen1_machine.specs.Input.{TakesAtMost};
 ghost use Rattle.battle_commands.specs.Answers.{is_read_fault, is_write_fault};
@@ -13,29 +13,29 @@ use gen1_machine::Source;
 use gen1_stats::Team;
 use std::alloc::Global;
 
-/// A battle that was asked for, and what is done in it: pairs of choices, or submissions to a room.
+/// A battle as requested, and what is done in it: pairs of choices, or submissions to a room.
 #[derive(Drop)]
 pub struct Bout<T> {
     pub battle: Battle,
     pub items: Vec<T>,
 }
 
-/// Reads an input whole, and opens the battle that it asks for, with the list under a key.
+/// Reads an input completely, and opens the battle that it asks for, with the list under a key.
 ///
-/// The sheet comes first, then side 1's team, then side 2's.
+/// The sheet is tested first, then side 1's team, then side 2's.
 pub fn read_bout<T: Item + Drop, R: Source>(
     alloc: Global,
     reader: &mut R,
     key: Key,
 ) -> Result<Bout<T>, ToolFault>
-    // Where the source tells its bytes, they are the input.
+    // If the source reports its bytes, they are the input.
     ensures opens { IfSome (R.remaining reader.old)
         (λ input. Opens result (asked_of key T.meaning input)) }
 
-    // No more than the limit and one byte is taken from the source.
+    // At most one byte beyond the limit is taken from the source.
     ensures taken { TakesAtMost (R.remaining reader.old) (R.remaining reader.new) (INPUT_LIMIT + 1) }
 
-    // A read fault is answered exactly where the source has failed in this call, and never a write fault.
+    // It returns a read error exactly if the source has failed in this call, and never a write error.
     ensures read { R.has_failed reader.new ≡ (R.has_failed reader.old || is_read_fault result) }
     ensures write { is_write_fault result ≡ false }
 {
@@ -46,7 +46,7 @@ pub fn read_bout<T: Item + Drop, R: Source>(
     open_bout(alloc, input.as_slice(), key)
 }
 
-/// The battle that an input asks for, with the list under a key.
+/// Opens the battle of an input, with the list under a key.
 #[tactic(auto, unfolding(crate::specs::Asked::asked_of))]
 fn open_bout<T: Item + Drop>(alloc: Global, input: &[u8], key: Key) -> Result<Bout<T>, ToolFault>
     requires { length input.now ≤ INPUT_LIMIT }

@@ -18,24 +18,23 @@ use gen1_machine::{Device, Event, EventList, Sink, Source, send};
 use gen1_printer::print_line;
 use std::alloc::{AllocError, Allocator, Global};
 
-/// Reads what `run` is asked for, and writes the lines of each pair (docs/PROGRAM.md, "run", "Output").
+/// Reads the input of `run`, and writes the lines of each pair (docs/PROGRAM.md, "run", "Output").
 ///
-/// The input is read whole, then its sheet, then side 1's team, then side 2's, and then the pairs
-/// are played, up to the first that is refused. Where a fault is answered the lines before it are
-/// written, and those of a pair are sent together.
+/// The whole input is read; then its sheet, side 1's team and side 2's are tested; then the pairs are played, up to the first that
+/// is refused. If an error is returned, the lines before it are written. The lines of a pair are sent together.
 pub fn play<A: AllocGlobal, R: Source, W: Sink>(
     rt: &A,
     reader: &mut R,
     writer: &mut W,
 ) -> Result<(), ToolFault>
-    // Where the source tells its bytes, what is due for them is written and answered.
+    // If the source reports its bytes, what they ask for is written and returned.
     ensures answers { IfSome (R.remaining reader.old)
         (λ input. Answers (run_due input) (W.contents writer.old) (W.contents writer.new) result) }
 
-    // No more than the limit and one byte is taken from the source.
+    // At most one byte beyond the limit is taken from the source.
     ensures taken { TakesAtMost (R.remaining reader.old) (R.remaining reader.new) (INPUT_LIMIT + 1) }
 
-    // A fault of a device is answered exactly where that device has failed in this call.
+    // It returns a device's error exactly if that device has failed in this call.
     ensures read { R.has_failed reader.new ≡ (R.has_failed reader.old || is_read_fault result) }
     ensures write { W.has_failed writer.new ≡ (W.has_failed writer.old || is_write_fault result) }
 {
@@ -79,23 +78,23 @@ fn play_pairs<W: Sink>(
     Ok(())
 }
 
-/// Reads what `log` is asked for, and writes the log bytes of each pair (docs/PROGRAM.md, "log").
+/// Reads the input of `log`, and writes the log bytes of each pair (docs/PROGRAM.md, "log").
 ///
-/// What is tested, and in which order, is as for `run`. The bytes of a pair are sent together, and
-/// where a fault is answered those before it are written. No memory is taken once the battle stands.
+/// The tests and their order are those of `run`. The bytes of a pair are sent together, and if an error is returned, those before
+/// it are written. No memory is allocated once the battle is made.
 pub fn play_log<A: AllocGlobal, R: Source, W: Sink>(
     rt: &A,
     reader: &mut R,
     writer: &mut W,
 ) -> Result<(), ToolFault>
-    // Where the source tells its bytes, what is due for them is written and answered.
+    // If the source reports its bytes, what they ask for is written and returned.
     ensures answers { IfSome (R.remaining reader.old)
         (λ input. Answers (log_due input) (W.contents writer.old) (W.contents writer.new) result) }
 
-    // No more than the limit and one byte is taken from the source.
+    // At most one byte beyond the limit is taken from the source.
     ensures taken { TakesAtMost (R.remaining reader.old) (R.remaining reader.new) (INPUT_LIMIT + 1) }
 
-    // A fault of a device is answered exactly where that device has failed in this call.
+    // It returns a device's error exactly if that device has failed in this call.
     ensures read { R.has_failed reader.new ≡ (R.has_failed reader.old || is_read_fault result) }
     ensures write { W.has_failed writer.new ≡ (W.has_failed writer.old || is_write_fault result) }
 {
@@ -147,7 +146,7 @@ pub fn text_of<A: Allocator>(alloc: A, events: &[Event]) -> Result<Vec<u8, A>, A
     for event in events {
         match print_line(event, &mut text) {
             Ok(()) => {}
-            // A vector refuses a write for want of memory alone.
+            // A vector refuses a write only when memory runs out.
             Err(_) => return Err(AllocError),
         }
     }

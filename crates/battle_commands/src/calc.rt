@@ -18,25 +18,24 @@ use gen1_machine::{Sink, Source, send};
 use gen1_stats::Team;
 use std::alloc::Global;
 
-/// Reads what `calc` is asked for, and writes the damage numbers in one line (docs/PROGRAM.md, "calc").
+/// Reads the input of `calc`, and writes the damage numbers in one line (docs/PROGRAM.md, "calc").
 ///
-/// The input is read whole, then its sheet, then the attacker's team is tested, then the
-/// defender's, and then the move. The line is sent in one call, and with any fault but that of this
-/// call nothing is written.
+/// The whole input is read; then its sheet, the attacker's team, the defender's team and the move are tested. The line is sent in
+/// one call. If any other error than that of this call is returned, nothing is written.
 pub fn play_calc<A: AllocGlobal, R: Source, W: Sink>(
     rt: &A,
     reader: &mut R,
     writer: &mut W,
 ) -> Result<(), ToolFault>
-    // Where the source tells its bytes, what is due for them is written and answered.
+    // If the source reports its bytes, what they ask for is written and returned.
     ensures answers { IfSome (R.remaining reader.old)
         (λ input. PrintsDamages (damages_due input) (W.contents writer.old) (W.contents writer.new)
         result) }
 
-    // No more than the limit and one byte is taken from the source.
+    // At most one byte beyond the limit is taken from the source.
     ensures taken { TakesAtMost (R.remaining reader.old) (R.remaining reader.new) (INPUT_LIMIT + 1) }
 
-    // A fault of a device is answered exactly where that device has failed in this call.
+    // It returns a device's error exactly if that device has failed in this call.
     ensures read { R.has_failed reader.new ≡ (R.has_failed reader.old || is_read_fault result) }
     ensures write { W.has_failed writer.new ≡ (W.has_failed writer.old || is_write_fault result) }
 {

@@ -27,7 +27,7 @@ use gen1_machine::{DeviceFault, Sink, Source, send, send_all};
 use std::alloc::{AllocError, Global};
 use std::convert::AsStr;
 
-/// The status where the command line asks for nothing that can be run.
+/// The exit status if the command line does not ask for anything that can be run.
 pub const COMMAND_LINE_REFUSED: u8 = 2;
 
 const ABOUT: &str = "Runs link battles of the first generation";
@@ -64,7 +64,7 @@ const EXPLAIN_HELP: &str = "Says where a fault is and what was expected, behind 
 
 const FILE_HELP: &str = "The input; without FILE it is standard input";
 
-/// A subcommand that reads a FILE, or standard input where none is named.
+/// A subcommand that reads a FILE, or standard input if none is named.
 fn reading<'a>(
     alloc: Global,
     name: &'a str,
@@ -109,8 +109,8 @@ fn command<'a>(alloc: Global) -> Result<Command<'a>, AllocError>
     Ok(with_room)
 }
 
-/// Tells a fault on standard error, with its explanation where `explains`, and answers its status, from 1 to 4. A fault of
-/// that stream changes nothing. No memory is taken (docs/PROGRAM.md, "Faults and statuses", "Explanations").
+/// Writes an error to standard error, with its explanation if `explains`, and returns its status, 1 to 4. If that stream fails,
+/// this changes nothing. No memory is allocated (docs/PROGRAM.md, "Faults and statuses", "Explanations").
 pub fn report<E: Sink>(fault: &ToolFault, explains: bool, err: &mut E) -> u8
     ensures status { result ≡ status_of fault.now }
     ensures most { result ≤ 4 }
@@ -121,7 +121,7 @@ pub fn report<E: Sink>(fault: &ToolFault, explains: bool, err: &mut E) -> u8
     fault.status()
 }
 
-/// Sends the line of a fault, with its explanation where `explains`.
+/// Sends the line of an error, with its explanation if `explains`.
 fn tell<E: Sink>(fault: &ToolFault, explains: bool, err: &mut E) -> Result<(), DeviceFault>
     ensures { Sends (E.contents err.old) (E.contents err.new) (E.has_failed err.old)
         (E.has_failed err.new) (told_of explains fault.now) result }
@@ -134,8 +134,8 @@ fn tell<E: Sink>(fault: &ToolFault, explains: bool, err: &mut E) -> Result<(), D
     send_all(err, &[line.as_str().as_bytes(), behind.as_str().as_bytes()])
 }
 
-/// Writes what clap answers to words that ask for nothing to run: help that was asked for to
-/// standard output, and what is wrong with the words to standard error.
+/// Writes clap's reply to words that do not ask for anything to run: requested help to standard output, and what is wrong with the
+/// words to standard error.
 fn answer_words<O: Sink, E: Sink>(alloc: Global, error: &Error, out: &mut O, err: &mut E) -> u8
     ensures most { result ≤ 4 }
     ensures unheld { kind_of error.now ≡ ErrorKind.OutOfMemory
@@ -196,7 +196,7 @@ fn run_named<A: AllocGlobal, I: Source, O: Sink>(
     }
 }
 
-/// Runs a subcommand on its FILE, or on `input`, which is left alone where a FILE is named.
+/// Runs a subcommand on its FILE, or on `input`, which is not read if a FILE is named.
 fn run<A: AllocGlobal, F: Folder, I: Source, O: Sink>(
     rt: &A,
     folder: &F,
@@ -223,8 +223,8 @@ fn run<A: AllocGlobal, F: Folder, I: Source, O: Sink>(
     }
 }
 
-/// Runs a subcommand on its FILE, or on `input`, and tells its fault, with its explanation where one is asked for: the status
-/// is 0 where all was done.
+/// Runs a subcommand on its FILE, or on `input`, and reports its error, with an explanation if one is asked for. The status is 0 if
+/// all was done.
 fn run_and_tell<A: AllocGlobal, F: Folder, I: Source, O: Sink, E: Sink>(
     rt: &A,
     folder: &F,
@@ -250,9 +250,9 @@ fn run_and_tell<A: AllocGlobal, F: Folder, I: Source, O: Sink, E: Sink>(
     }
 }
 
-/// Runs the words of a command line, the program's name first, and answers the exit status, from 0 to 4
-/// (docs/PROGRAM.md, "The program battle_tool"). It reads the FILE of `folder` that the words name, or `input` where they name
-/// none, prints to `out`, and tells what is wrong on `err`.
+/// Runs the words of a command line, the program's name first, and returns the exit status, 0 to 4 (docs/PROGRAM.md, "The program
+/// battle_tool"). It reads the FILE of `folder` that the words name, or `input` if they name none, prints to `out`, and reports
+/// errors to `err`.
 pub fn tool<A: AllocGlobal, F: Folder, S: AsStr, I: Source, O: Sink, E: Sink>(
     rt: &A,
     folder: &F,
@@ -262,14 +262,14 @@ pub fn tool<A: AllocGlobal, F: Folder, S: AsStr, I: Source, O: Sink, E: Sink>(
     err: &mut E,
 ) -> u8
     ensures most { result ≤ 4 }
-    // Where the command line takes the words, the subcommand that they ask for is served.
+    // If the command line accepts the words, the subcommand that they ask for is served.
     ensures ends { (asked : List ℕ × List Row)
         → takes tool_app (map S.text words.now) ≡ true
         → subcommand_of tool_app (map S.text words.now) ≡ Some asked
         → Ends asked.0 asked.1 (F.named folder.now) (I.remaining input.old) (O.contents out.old)
         (O.contents out.new) (E.contents err.old) (E.contents err.new) (E.has_failed err.old)
         (E.has_failed err.new) result }
-    // No read and no write has failed, and nothing was told.
+    // No read and no write has failed, and no error was reported.
     ensures undisturbed { result ≡ 0
         → IsUndisturbed (I.has_failed input.old) (I.has_failed input.new) (O.has_failed out.old)
         (O.has_failed out.new) (E.has_failed err.old) (E.has_failed err.new) (E.contents err.old)

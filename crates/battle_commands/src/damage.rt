@@ -10,9 +10,8 @@ use gen1_machine::Side;
 use gen1_stats::Team;
 use gen1_tables::MoveId;
 
-/// The damage of a move at each factor from 217 to 255, between the members of two teams of one
-/// (docs/MECHANICS.md, "Damage numbers" to "Factors"): both are just sent out, and the first one
-/// uses it. `None` where the divisor is 0.
+/// Returns the damage of a move at each factor from 217 to 255, between the members of two teams of one (docs/MECHANICS.md, "Damage
+/// numbers" to "Factors"). Both are just sent out, and the first one uses the move. `None` if the divisor is 0.
 pub fn damages(one: &Team, two: &Team, id: MoveId, critical: bool) -> Option<[u16; 39]>
     ensures { (a b : MemberSheet) → one.now ≡ team_of (a ∷ []) → two.now ≡ team_of (b ∷ [])
         → result ≡ damages_of

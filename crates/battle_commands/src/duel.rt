@@ -10,7 +10,7 @@ use gen1_machine::EventList;
 use gen1_requests::send_both_first;
 use gen1_stats::Team;
 
-/// A battle of two teams of one, whose members are both out (docs/MECHANICS.md, "Switching in").
+/// Makes a battle of two teams of one, whose members are both out (docs/MECHANICS.md, "Switching in").
 pub fn begin_duel(one: &Team, two: &Team) -> Packed
     ensures { (a b : MemberSheet) → one.now ≡ team_of (a ∷ []) → two.now ≡ team_of (b ∷ [])
         → (g : Setting) × Within g result (duel (member_of a) (member_of b)) }

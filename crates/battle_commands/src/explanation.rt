@@ -1,4 +1,4 @@
-//! What is told of a fault behind its line, where an explanation is asked for (docs/PROGRAM.md, "Explanations").
+//! What is written after the line of an error, if an explanation is asked for (docs/PROGRAM.md, "Explanations").
 ghost use Rattle.std.specs.Prelude.{codes, length, ◌++◌, ◌≡◌, ◌≤◌};
 ghost use Rattle.battle_commands.specs.Explanations.{explanation, log_words, misfit_words, pair_words, refused_words, team_words, text_words};
 
@@ -7,13 +7,13 @@ use arrayvec::ArrayString;
 use battle_input::{EXPECTED_LENGTH, JsonFault, Misfit, PATH_LENGTH};
 use itoa::Buffer;
 
-/// The most bytes of an explanation: `at `, a way, `: expected `, what is expected, and the line feed.
+/// The most bytes of an explanation: `at `, a path, `: expected `, what is expected, and the line feed.
 pub const EXPLANATION_LENGTH: usize = PATH_LENGTH + EXPECTED_LENGTH + 15;
 
 type Text = ArrayString<EXPLANATION_LENGTH>;
 
 impl ToolFault {
-    /// What is wrong, as a line: where it is and what was expected there, or why it was refused.
+    /// Returns what is wrong, as a line: where it is and what was expected there, or why it was refused.
     pub fn explanation(&self) -> ArrayString<EXPLANATION_LENGTH>
         ensures { result.bytes ≡ explanation self.now }
     {
@@ -88,7 +88,7 @@ fn explain_team(side: u8, place: u8, refusal: u8) -> Text
     text
 }
 
-/// What a team's refusal says (docs/MECHANICS.md, "Teams").
+/// The words of a team's refusal (docs/MECHANICS.md, "Teams").
 fn team_words(refusal: u8) -> &'static str
     ensures value { result.now ≡ team_words refusal }
     ensures short { length result.now ≤ 40 }
@@ -122,7 +122,7 @@ fn explain_pair(number: usize, refusal: u8) -> Text
     text
 }
 
-/// What a log's fault says (docs/MECHANICS.md, "Log bytes").
+/// The words of a log's error (docs/MECHANICS.md, "Log bytes").
 fn log_words(number: u8) -> &'static str
     ensures value { result.now ≡ log_words number }
     ensures short { length result.now ≤ 60 }

@@ -1,4 +1,4 @@
-//! Why the program did not do all that it was asked (docs/PROGRAM.md, "Faults and statuses").
+//! Why the program did not do all that was asked (docs/PROGRAM.md, "Faults and statuses").
 ghost use Rattle.std.specs.Prelude.{◌≡◌, ◌≤◌, Some};
 ghost use Rattle.gen1_machine.specs.Lines.{joined};
 ghost use Rattle.battle_commands.specs.Faults.{error_line, pieces_of};
@@ -10,35 +10,35 @@ use itoa::Buffer;
 use std::error::Error;
 use std::fmt;
 
-/// The most bytes of a fault's words: those of a pair, whose number may have 20 digits and whose refusal three.
+/// The most bytes of an error's words: those of a pair, whose number may have 20 digits and whose refusal three.
 const WORDS_LENGTH: usize = 37;
 
-/// The same with `error: ` before and the line feed behind.
+/// The same with `error: ` before it and the line feed after it.
 const LINE_LENGTH: usize = 45;
 
-/// Why the program did not do all that it was asked. Each is shown as standard error tells it,
-/// after `error: ` (docs/PROGRAM.md, "Faults and statuses").
+/// Why the program did not do all that was asked. Each is shown as it is on standard error, after `error: ` (docs/PROGRAM.md,
+/// "Faults and statuses").
 #[derive(Clone, Debug, PartialEq, Eq, Drop)]
 pub enum ToolFault {
-    /// The input is no JSON, or a value in it is not as it should be.
+    /// The input is not JSON, or a value in it is not as expected.
     Json(JsonFault),
     /// The input is longer than `INPUT_LIMIT` bytes.
     TooLong,
-    /// A side's team is refused. `side` is 1 or 2, `place` that of the member at fault, or 0 for
-    /// the team as a whole, and `refusal` the number of the `TeamRefusal`.
+    /// A side's team is refused. `side` is 1 or 2, `place` that of the member with the error, or 0 for the team as a whole, and
+    /// `refusal` the number of the `TeamRefusal`.
     Team { side: u8, place: u8, refusal: u8 },
-    /// A pair of choices is refused. `number` counts the pairs from 0, and `refusal` is 1 where
-    /// the battle is over, 2 and 3 where side 1 or 2 was not offered its choice.
+    /// A pair of choices is refused. `number` counts the pairs from 0. `refusal` is 1 if the battle is over, 2 or 3 if side 1 or 2
+    /// was not offered its choice.
     Pair { number: usize, refusal: u8 },
-    /// The bytes are no log, by the number of the `LogFault`, 1 to 3.
+    /// The bytes are not a log, with the number of the `LogFault`, 1 to 3.
     Log(u8),
-    /// Damage numbers were asked for a move that has none.
+    /// Damage numbers were requested for a move that has none.
     Calc,
     /// The input could not be read.
     Read,
     /// The lines could not be written.
     Write,
-    /// Memory was refused.
+    /// Out of memory.
     Memory,
 }
 
@@ -46,7 +46,7 @@ impl ToolFault {
     ghost use Rattle.gen1_stats.specs.Refusals.{number_of, place_of};
     ghost use Rattle.battle_commands.specs.Faults.{status_of};
 
-    /// The fault of a side, 1 or 2, whose team is refused.
+    /// Makes the error of a side, 1 or 2, whose team is refused.
     pub fn of_team(side: u8, refusal: TeamRefusal) -> ToolFault
         ensures { result ≡ ToolFault.Team side (place_of refusal) (number_of refusal) }
     {
@@ -57,8 +57,7 @@ impl ToolFault {
         }
     }
 
-    /// The exit status: 1 where the input is refused, 3 where a read or a write failed, 4 where
-    /// memory was refused.
+    /// Returns the exit status: 1 if the input is refused, 3 if a read or a write failed, 4 if memory ran out.
     pub fn status(&self) -> u8
         ensures value { result ≡ status_of self.now }
         ensures most { result ≤ 4 }
@@ -75,7 +74,7 @@ impl ToolFault {
         }
     }
 
-    /// The line that standard error has of it (docs/PROGRAM.md, "Faults and statuses").
+    /// Returns the line that is written to standard error (docs/PROGRAM.md, "Faults and statuses").
     pub fn line(&self) -> ArrayString<LINE_LENGTH>
         ensures { result.bytes ≡ error_line self.now }
     {

@@ -5,32 +5,32 @@ use gen1_machine::{Device, DeviceFault, Source};
 use std::fs;
 use std::rt::Files;
 
-/// Where inputs are opened by name.
+/// Opens inputs by name.
 pub trait Folder {
     /// An input that was opened.
     type Input: Source + Drop;
 
-    // The bytes of the input of a name, where the folder tells them.
+    // The bytes of the input with a name, if the folder reports them.
     ghost named: { Self → List ℕ → Option (List ℕ) } = { λ _ _. None };
 
-    /// Opens the input of a name, at its beginning.
+    /// Opens the input with a name, at its start.
     ///
     /// # Errors
     ///
-    /// There is none of this name, or it may not be read.
+    /// There is none with this name, or it may not be read.
     fn open(&self, name: &str) -> Result<Self::Input, DeviceFault>
         ensures { IfOk result (λ input. IfSome (named self.now name.now)
             (λ bytes. Self.Input.remaining input ≡ Some bytes)) };
 }
 
-/// The file system of a runtime. It tells no bytes, as no contract can say what a file has.
+/// The file system of a runtime. It reports no bytes, as no contract can say what a file contains.
 #[derive(Drop)]
 pub struct Disk<'a, R> {
     files: &'a R,
 }
 
 impl<'a, R> Disk<'a, R> {
-    /// The file system of this runtime.
+    /// Makes the file system of this runtime.
     pub fn new(files: &'a R) -> Self {
         Disk { files }
     }

@@ -10,8 +10,8 @@ use std::alloc::Global;
 /// The greatest length of an input, in bytes.
 pub const INPUT_LIMIT: usize = 1_048_576;
 
-/// Reads an input whole: `Read` where the source failed, `TooLong` past the limit, `Memory` where there is too little. One byte
-/// past the limit is taken from the source at the most.
+/// Reads an input completely. Returns `Read` if the source failed, `TooLong` past the limit, `Memory` if memory ran out. At most
+/// one byte past the limit is taken from the source.
 pub fn read_input<R: Source>(alloc: Global, reader: &mut R) -> Result<Vec<u8>, ToolFault>
     ensures whole { IfOk result (λ v. IfSome (R.remaining reader.old) (λ input. v.items ≡ input)) }
     ensures fits { IfOk result (λ v. vec_len v ≤ INPUT_LIMIT) }

@@ -1,9 +1,9 @@
-//! The subcommands of `battle_tool` (docs/PROGRAM.md): each reads an input, prints what is due for it, and answers its fault.
+//! The subcommands of `battle_tool` (docs/PROGRAM.md). Each reads an input, prints what it asks for, and returns its error.
 //!
 //! - `commands`: the command line: which subcommand runs on what, and the exit status
 //! - `folder`: inputs that are opened by name
-//! - `input`: an input, read whole
-//! - `asked_battle`: the battle that an input asks for
+//! - `input`: an input, read completely
+//! - `asked_battle`: the battle of an input
 //! - `battles`: `run` and `log`
 //! - `rooms`: `room`
 //! - `logs`: `print`
@@ -11,8 +11,8 @@
 //! - `duel`: two members, just sent out, for `calc`
 //! - `damage`: the damage between two members, for `calc`
 //! - `number_line`: the 39 numbers that `calc` prints
-//! - `fault`: the faults, with their statuses and lines
-//! - `explanation`: what is told of a fault behind its line
+//! - `fault`: the errors, with their statuses and lines
+//! - `explanation`: what is written after the line of an error
 #![tactic(auto)]
 
 mod asked_battle;

@@ -11,20 +11,20 @@ use gen1_printer::{PrintFault, print_log};
 
 /// Reads the bytes of a log, and writes the lines of its events (docs/PROGRAM.md, "print").
 ///
-/// The input is read whole before anything is written, and of bytes that are no log nothing is.
+/// The whole input is read before anything is written. If the bytes are not a log, nothing is written.
 pub fn play_print<A: AllocGlobal, R: Source, W: Sink>(
     rt: &A,
     reader: &mut R,
     writer: &mut W,
 ) -> Result<(), ToolFault>
-    // Where the source tells its bytes, they are the log that is printed.
+    // If the source reports its bytes, they are the log that is printed.
     ensures answers { IfSome (R.remaining reader.old)
         (λ log. PrintsLog log (W.contents writer.old) (W.contents writer.new) result) }
 
-    // No more than the limit and one byte is taken from the source.
+    // At most one byte beyond the limit is taken from the source.
     ensures taken { TakesAtMost (R.remaining reader.old) (R.remaining reader.new) (INPUT_LIMIT + 1) }
 
-    // A fault of a device is answered exactly where that device has failed in this call.
+    // It returns a device's error exactly if that device has failed in this call.
     ensures read { R.has_failed reader.new ≡ (R.has_failed reader.old || is_read_fault result) }
     ensures write { W.has_failed writer.new ≡ (W.has_failed writer.old || is_write_fault result) }
 {

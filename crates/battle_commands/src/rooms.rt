@@ -1,4 +1,4 @@
-//! Two players' submissions to a room, and what each is answered (docs/PROGRAM.md, "room").
+//! Two players' submissions to a room, and the reply to each (docs/PROGRAM.md, "room").
 ghost use Rattle.std.specs.Prelude.{◌+◌, List, [], ◌++◌, ◌∷◌, ◌≡◌, ◌||◌, IfSome, codes, false};
 ghost use Rattle.gen1_machine.specs.Input.{TakesAtMost};
 ghost use Rattle.gen1_machine.specs.Lines.{joined, lines};
@@ -21,27 +21,25 @@ use gen1_room::{Room, RoomRefusal, Submitted};
 use itoa::Buffer;
 use std::alloc::Global;
 
-/// The most bytes of a refusal's line, of which ten are the digits of the current pair's number.
+/// The most bytes of a refusal's line, ten of which are the digits of the current pair's number.
 const REFUSAL_LENGTH: usize = 27;
 
-/// Reads what `room` is asked for, and writes the lines of the start and what each submission is
-/// answered (docs/PROGRAM.md, "room").
+/// Reads the input of `room`, and writes the lines of the start and the reply to each submission (docs/PROGRAM.md, "room").
 ///
-/// The input is read whole, then its sheet, then side 1's team, then side 2's, and then the
-/// submissions are handed in.
+/// The whole input is read; then its sheet, side 1's team and side 2's are tested; then the submissions are passed to the room.
 pub fn play_room<A: AllocGlobal, R: Source, W: Sink>(
     rt: &A,
     reader: &mut R,
     writer: &mut W,
 ) -> Result<(), ToolFault>
-    // Where the source tells its bytes, what is due for them is written and answered.
+    // If the source reports its bytes, what they ask for is written and returned.
     ensures answers { IfSome (R.remaining reader.old)
         (λ input. Answers (room_due input) (W.contents writer.old) (W.contents writer.new) result) }
 
-    // No more than the limit and one byte is taken from the source.
+    // At most one byte beyond the limit is taken from the source.
     ensures taken { TakesAtMost (R.remaining reader.old) (R.remaining reader.new) (INPUT_LIMIT + 1) }
 
-    // A fault of a device is answered exactly where that device has failed in this call.
+    // It returns a device's error exactly if that device has failed in this call.
     ensures read { R.has_failed reader.new ≡ (R.has_failed reader.old || is_read_fault result) }
     ensures write { W.has_failed writer.new ≡ (W.has_failed writer.old || is_write_fault result) }
 {
@@ -57,7 +55,7 @@ pub fn play_room<A: AllocGlobal, R: Source, W: Sink>(
     hand_in_all(rt.alloc(), &mut room, bout.items.as_slice(), writer)
 }
 
-/// Hands in submissions, and tells what each is answered.
+/// Passes submissions to the room, and writes the reply to each.
 fn hand_in_all<W: Sink>(
     alloc: Global,
     room: &mut Room,
@@ -79,7 +77,7 @@ fn hand_in_all<W: Sink>(
     Ok(())
 }
 
-/// Hands in a submission, and tells what it is answered, with the lines of the pair that it ended.
+/// Passes a submission to the room, and writes the reply, with the lines of the pair that it ended.
 fn hand_in<W: Sink>(
     alloc: Global,
     room: &mut Room,
@@ -103,7 +101,7 @@ fn hand_in<W: Sink>(
     }
 }
 
-/// Sends a text, and the lines of a log behind it.
+/// Sends a text, and the lines of a log after it.
 fn send_lines<W: Sink>(alloc: Global, text: &str, log: &[u8], sink: &mut W) -> Result<(), ToolFault>
     ensures answers { (events : List Told) → IsReading log.now events
         → Answers (only (text.now ++ lines events)) (W.contents sink.old) (W.contents sink.new)

@@ -1,10 +1,10 @@
--- Where a value is not as it should be, and what is expected there.
+-- Where a value is not as expected, and what is expected there.
 pub mod Misfits
--- What is wrong with bytes that are no JSON.
+-- Where bytes are not JSON.
 pub mod NoJson
 -- What a JSON value asks for.
 pub mod Sheets
 -- A calculation that is asked for.
 pub mod CalcSheets
--- What was asked for, as the code holds it.
+-- A request as the code holds it.
 pub mod SheetViews

@@ -1,4 +1,4 @@
--- Where a value is not as it should be, and what is expected there (docs/PROGRAM.md, "Explanations").
+-- Where a value is not as expected, and what is expected there (docs/PROGRAM.md, "Explanations").
 use Rattle.std.specs.Prelude.{Err, List, Ok, Result, [], codes, decimal, length, ℕ, ◌++◌, ◌∷◌, ◌≤◌}
 use Rattle.std.specs.List.{flat_map}
 use Rattle.battle_input.specs.declared.misfit.Key.{Key}
@@ -27,16 +27,16 @@ name_of keys.Dvs = codes "dvs"
 name_of keys.Exp = codes "exp"
 name_of keys.Moves = codes "moves"
 
--- the value itself is other than expected
+-- the value itself is not as expected
 abbrev pub expects : Expected → Misfit
 expects e = record { path = []; expected = e }
 
--- what is wrong in a value, seen from the value that a step leads out of
+-- what is wrong in a value, seen from the value that a step goes into
 abbrev pub inside : {A : Type 0} → Step → Result A Misfit → Result A Misfit
 inside step (Ok x) = Ok x
 inside step (Err m) = Err (record { path = step ∷ m.path; expected = m.expected })
 
--- what is made of what was read, where nothing is wrong with it
+-- a function of what was read, if nothing is wrong with it
 
 abbrev pub and_then : {A B E : Type 0} → (A → Result B E) → Result A E → Result B E
 and_then f (Ok x) = f x
@@ -46,7 +46,7 @@ abbrev pub mapped : {A B E : Type 0} → (A → B) → Result A E → Result B E
 mapped f (Ok x) = Ok (f x)
 mapped f (Err e) = Err e
 
--- a way of so many steps at most
+-- a path of at most this many steps
 abbrev pub IsShort : {A : Type 0} → ℕ → Result A Misfit → Type 0
 IsShort n (Ok x) = Unit {0}
 IsShort n (Err m) = length m.path ≤ n
@@ -55,7 +55,7 @@ abbrev pub step_text : Step → List ℕ
 step_text (Of key) = codes "." ++ name_of key
 step_text (At number) = codes "[" ++ decimal number ++ codes "]"
 
--- as `.one[2].moves[1][0]`
+-- such as `.one[2].moves[1][0]`
 abbrev pub path_text : List Step → List ℕ
 path_text [] = codes "."
 path_text (step ∷ steps) = flat_map step_text (step ∷ steps)

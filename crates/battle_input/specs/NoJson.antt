@@ -14,11 +14,11 @@ is_digit b = nat_le 48 b && nat_le b 57
 abbrev pub is_hex : ℕ → Bool
 is_hex b = is_digit b || (nat_le 65 b && nat_le b 70 || nat_le 97 b && nat_le b 102)
 
--- what is open stays as it is
+-- the open lists and objects stay as they are
 abbrev pub go_on : Option Stand → ℕ → Option (Stand × ℕ)
 go_on stand nest = option_map (λ s. (s, nest)) stand
 
--- into a list (0) or an object (1): 127 of them at most, below which there is a 1
+-- into a list (0) or an object (1); at most 127 of them are open, with a 1 below them
 abbrev pub enter : Stand → ℕ → ℕ → Option (Stand × ℕ)
 enter stand nest kind = if nat_lt nest (2 ^ 127) then Some (stand, nest * 2 + kind) else None
 
@@ -29,7 +29,7 @@ close nest kind = if nat_lt 1 nest && nest % 2 == kind then Some (Behind, nest /
 abbrev pub after_comma : ℕ → Option Stand
 after_comma nest = if nat_le nest 1 then None else if nest % 2 == 0 then Some Value else Some Key
 
--- behind a value: blank, `,`, `]` or `}`
+-- after a value: blank, `,`, `]` or `}`
 abbrev pub pass : ℕ → ℕ → Option (Stand × ℕ)
 pass nest b =
     if is_blank b then Some (Behind, nest)
@@ -38,7 +38,7 @@ pass nest b =
     else if b == 125 then close nest 1
     else None
 
--- behind what may be the end of a number
+-- after what may be the end of a number
 abbrev pub number : Option Stand → ℕ → ℕ → Option (Stand × ℕ)
 number None nest b = pass nest b
 number (Some stand) nest b = Some (stand, nest)
@@ -53,11 +53,11 @@ behind_minus b = if b == 48 then Some Zero else digit Whole b
 abbrev pub behind_fraction : ℕ → Option Stand
 behind_fraction b = if b == 101 || b == 69 then Some Mark else None
 
--- `.`, or as behind a fraction
+-- `.`, or as after a fraction
 abbrev pub behind_whole : ℕ → Option Stand
 behind_whole b = if b == 46 then Some Point else behind_fraction b
 
--- a value that holds no other begins by `"`, `t`, `f`, `n`, `-` or a digit
+-- a value that holds no other begins with `"`, `t`, `f`, `n`, `-` or a digit
 abbrev pub first : ℕ → Option Stand
 first b =
     if b == 34 then Some (Text false)
@@ -67,7 +67,7 @@ first b =
     else if b == 45 then Some Minus
     else behind_minus b
 
--- any by `[` or `{` too
+-- any value, so also with `[` or `{`
 abbrev pub begin : Stand → ℕ → ℕ → Option (Stand × ℕ)
 begin stand nest b =
     if is_blank b then Some (stand, nest)
@@ -87,7 +87,7 @@ lead is_key b =
     else if nat_lt b 245 then Some (Many is_key 3)
     else None
 
--- `"`, a backslash, any character that is no control
+-- `"`, a backslash, any character that is not a control
 abbrev pub in_text : Bool → ℕ → Option Stand
 in_text is_key b =
     if b == 34 then Some (if is_key then Colon else Behind)
@@ -115,7 +115,7 @@ in_hex is_key left b =
     else if nat_lt 1 left then Some (Hex is_key (left - 1))
     else Some (Text is_key)
 
--- of `rue`, `alse` without its end, and `ull`
+-- a letter of `rue`, of `alse` without its end, or of `ull`
 abbrev pub letter : ℕ → ℕ
 letter n =
     if n == 1 then 114 else if n == 2 then 117 else if n == 3 then 101
@@ -130,7 +130,7 @@ in_word n b =
     else if nat_lt n 9 then Some (Word (n + 1))
     else None
 
--- what may come behind a byte, if it may stand there
+-- what may come after a byte, if the byte is allowed
 abbrev pub next : Stand → ℕ → ℕ → Option (Stand × ℕ)
 next Value nest b = begin Value nest b
 next FirstItem nest b = if b == 93 then close nest 0 else begin FirstItem nest b
@@ -152,14 +152,14 @@ next Mark nest b = if b == 43 || b == 45 then Some (Sign, nest) else go_on (digi
 next Sign nest b = go_on (digit Power b) nest
 next Power nest b = if is_digit b then Some (Power, nest) else pass nest b
 
--- the line and the column behind a byte
+-- the line and the column after a byte
 abbrev pub line_after : ℕ → ℕ → ℕ
 line_after line b = if b == 10 then line + 1 else line
 
 abbrev pub column_after : ℕ → ℕ → ℕ
 column_after column b = if b == 10 then 1 else column + 1
 
--- the first byte that may not stand where it does, or the end
+-- the first byte that is not allowed where it is, or the end
 abbrev pub stop_at : ℕ → ℕ → Option (Stand × ℕ) → (Stand × ℕ → JsonFault) → JsonFault
 stop_at line column None rest = faults.Text line column
 stop_at line column (Some place) rest = rest place

@@ -1,6 +1,6 @@
 -- What a JSON value asks for: a battle (a seed, two lists of members, rules and a turn limit), and what is done in it (pairs of
--- choices, or submissions to a room); or the first place at which it is not as it should be (docs/PROGRAM.md, "Input", "JSON, to
--- the letter", "Explanations").
+-- choices, or submissions to a room); or the first place at which it is not as expected (docs/PROGRAM.md, "Input", "JSON, to the
+-- letter", "Explanations").
 use Rattle.std.specs.Prelude.{Err, List, None, Ok, Option, Result, Some, [], if◌then◌else◌, nat_le, nat_lt, ok_or, option_and_then, ℕ, ◌&&◌, ◌+◌, ◌==◌, ◌∷◌}
 use Rattle.std.specs.Str.{is_utf8}
 use Rattle.serde_json.specs.Data.{Data, Items, no_items, item}
@@ -29,11 +29,11 @@ pub record BattleData : Type 0 where
   pub rules : Rules
   pub limit : ℕ
 
--- what there is, or that it is not as expected
+-- the value, or that it is not as expected
 abbrev pub or_expected : {A : Type 0} → Expected → Option A → Result A Misfit
 or_expected e found = ok_or found (expects e)
 
--- what each item is, numbered from n, up to the first that is no such thing
+-- each item, numbered from n, up to the first that is not as expected
 abbrev pub each_from : {A : Type 0} → ℕ → (Data → Result A Misfit) → Items → Result (List A) Misfit
 each_from n f no_items = Ok []
 each_from n f (item d ds) = and_then (λ x. mapped (λ xs. x ∷ xs) (each_from (n + 1) f ds)) (inside (At n) (f d))
@@ -58,12 +58,12 @@ word_of d = or_expected expectations.Word (number_below 65536 d)
 abbrev pub long_of : Data → Result ℕ Misfit
 long_of d = or_expected expectations.Long (number_below 4294967296 d)
 
--- a list of so many numbers
+-- a list of this many numbers
 abbrev pub numbers_of : (Data → Result ℕ Misfit) → ℕ → Data → Result (List ℕ) Misfit
 numbers_of f n d =
     and_then (each_from 0 f) (or_expected (expectations.Items n) (option_and_then (λ ds. if count_of ds == n then Some ds else None) (as_array d)))
 
--- what the two items of an array are
+-- the two items of an array
 abbrev pub both_of : {A B : Type 0} → (Data → Result A Misfit) → (Data → Result B Misfit) → Items → Result (A × B) Misfit
 both_of f g (item d (item e no_items)) = and_then (λ x. mapped (λ y. (x, y)) (inside (At 1) (g e))) (inside (At 0) (f d))
 both_of f g ds = Err (expects (expectations.Items 2))
@@ -77,13 +77,13 @@ side_numbered n = if n == 1 then Some One else if n == 2 then Some Two else None
 abbrev pub side_of : Data → Result Side Misfit
 side_of d = or_expected expectations.Side (option_and_then side_numbered (number_below 256 d))
 
--- what the three items of an array are
+-- the three items of an array
 abbrev pub three_of : {A B C : Type 0} → (Data → Result A Misfit) → (Data → Result B Misfit) → (Data → Result C Misfit) → Items → Result (A × B × C) Misfit
 three_of f g h (item d (item e (item i no_items))) =
     and_then (λ x. and_then (λ y. mapped (λ z. (x, y, z)) (inside (At 2) (h i))) (inside (At 1) (g e))) (inside (At 0) (f d))
 three_of f g h ds = Err (expects (expectations.Items 3))
 
--- a side, the number of the pair that is meant, and a byte for its choice
+-- a side, the number of the pair, and the byte of a choice
 abbrev pub submission_of : Data → Result (Side × ℕ × ℕ) Misfit
 submission_of d = and_then (three_of side_of long_of byte_of) (or_expected (expectations.Items 3) (as_array d))
 
@@ -101,11 +101,11 @@ abbrev pub moves_of : Data → Result (List (ℕ × ℕ)) Misfit
 moves_of d =
     and_then (each_from 0 move_of) (or_expected expectations.FewMoves (option_and_then (λ ds. if nat_le (count_of ds) 4 then Some ds else None) (as_array d)))
 
--- the member of an object, under f
+-- the value under f in an object
 abbrev pub field_of : {A : Type 0} → Key → (Data → Result A Misfit) → Data → Result A Misfit
 field_of key f d = and_then (λ e. inside (Of key) (f e)) (or_expected (expectations.With key) (get (name_of key) d))
 
--- a key that may be absent, and what is meant where it is
+-- a key that may be absent, and its default
 abbrev pub unless_absent : {A : Type 0} → Key → A → (Data → Result A Misfit) → Option Data → Result A Misfit
 unless_absent key default f None = Ok default
 unless_absent key default f (Some d) = inside (Of key) (f d)
@@ -114,7 +114,7 @@ unless_absent key default f (Some d) = inside (Of key) (f d)
 abbrev pub rules_numbered : Data → Result Rules Misfit
 rules_numbered d = or_expected expectations.Rules (option_and_then (λ n. if nat_le n 3 then Some (rules_of_bits n) else None) (number_below 256 d))
 
--- neither where it is absent
+-- none of both if it is absent
 abbrev pub rules_of : Data → Result Rules Misfit
 rules_of d = unless_absent keys.Rules no_rules rules_numbered (get (name_of keys.Rules) d)
 
@@ -122,7 +122,7 @@ rules_of d = unless_absent keys.Rules no_rules rules_numbered (get (name_of keys
 abbrev pub limit_numbered : Data → Result ℕ Misfit
 limit_numbered d = or_expected expectations.Limit (option_and_then (λ n. if nat_le 1 n && nat_le n 9999 then Some n else None) (number_below 65536 d))
 
--- 1,000 where it is absent
+-- 1,000 if it is absent
 abbrev pub limit_of : Data → Result ℕ Misfit
 limit_of d = unless_absent keys.Limit 1000 limit_numbered (get (name_of keys.Limit) d)
 
@@ -145,7 +145,7 @@ battle_of d =
 abbrev pub sheet_of : {A : Type 0} → Key → (Data → Result A Misfit) → Data → Result (BattleData × List A) Misfit
 sheet_of key meaning d = and_then (λ battle. mapped (λ items. (battle, items)) (field_of key (list_of meaning) d)) (battle_of d)
 
--- the JSON value that the bytes are, or that they are none
+-- the JSON value of the bytes, or that they are not JSON
 abbrev pub json_of : List ℕ → Result Data JsonFault
 json_of bytes = if is_utf8 bytes then ok_or (read bytes) (no_json bytes) else Err (no_json bytes)
 
@@ -154,6 +154,6 @@ abbrev pub of_value : {A : Type 0} → Result A Misfit → Result A JsonFault
 of_value (Ok x) = Ok x
 of_value (Err m) = Err (Value m)
 
--- what a JSON input is, by what its value is
+-- what a JSON input asks for, by its value
 abbrev pub input_of : {A : Type 0} → (Data → Result A Misfit) → List ℕ → Result A JsonFault
 input_of f bytes = and_then (λ d. of_value (f d)) (json_of bytes)

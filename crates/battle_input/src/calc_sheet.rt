@@ -19,8 +19,12 @@ pub struct CalcSheet {
     pub critical: bool,
 }
 
-/// The sheet that a JSON value stands for, or the first place at which it is not as it should be: a key is missing, a member
-/// has not its shape, a name is unknown, or `critical` is no truth value.
+/// Reads the sheet of a JSON value.
+///
+/// # Errors
+///
+/// The first place at which the value is not as expected: a key is missing, a member does not have its shape, a name is unknown, or
+/// `critical` is not a truth value.
 pub fn read_calc_sheet(value: &Value) -> Result<CalcSheet, Misfit>
     ensures { result ≡ calc_sheet_of (view value.now) }
 {

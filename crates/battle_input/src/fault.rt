@@ -1,22 +1,22 @@
-//! Why an input is not what is asked for (docs/PROGRAM.md, "Faults and statuses").
+//! Why an input is not as expected (docs/PROGRAM.md, "Faults and statuses").
 use crate::misfit::Misfit;
 use std::alloc::AllocError;
 
-/// Why an input is not the JSON that is asked for.
+/// Why an input is not the expected JSON.
 #[derive(Clone, Debug, PartialEq, Eq, Drop)]
 pub enum JsonFault {
-    /// The bytes are no JSON: at this line and column, each from 1, a byte stands that JSON has not there, or they end.
+    /// The bytes are not JSON: at this line and column, each from 1, is a byte that JSON does not allow there, or they end.
     Text { line: usize, column: usize },
-    /// A value is not as it should be.
+    /// A value is not as expected.
     Value(Misfit),
 }
 
 /// Why there is no sheet.
 #[derive(Clone, Debug, PartialEq, Eq, Drop)]
 pub enum SheetFault {
-    /// The input is not the JSON that is asked for.
+    /// The input is not the expected JSON.
     Json(JsonFault),
-    /// Memory was refused.
+    /// Out of memory.
     Memory,
 }
 

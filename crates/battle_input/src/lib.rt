@@ -1,10 +1,10 @@
-//! What programs are asked for, as JSON (docs/PROGRAM.md): battles with what is done in them, and calculations. Nothing is
-//! tested of it here but its shape: whether a team is one, is for the teams to say.
+//! Requests to the programs, as JSON (docs/PROGRAM.md): battles with what is done in them, and calculations. Only their shape is
+//! tested here; the rules of teams are not.
 //!
 //! - `sheet`: battles, with pairs of choices or submissions to a room
 //! - `calc_sheet`: calculations
-//! - `misfit`: where a value is not as it should be, and what is expected there
-//! - `no_json`: where bytes stop being JSON
+//! - `misfit`: where a value is not as expected, and what is expected there
+//! - `no_json`: where bytes are not JSON
 //! - `fault`: why there is no sheet
 #![tactic(auto)]
 

@@ -1,4 +1,4 @@
-//! Where a value of an input is not as it should be, and what is expected there (docs/PROGRAM.md, "Explanations").
+//! Where a value of an input is not as expected, and what is expected there (docs/PROGRAM.md, "Explanations").
 ghost use Rattle.std.specs.Prelude.{length, ℕ, ◌+◌, ◌++◌, ◌∷◌, ◌≡◌, ◌≤◌};
 ghost use Rattle.battle_input.specs.Misfits.{IsShort, expects, expected_text, inside, name_of, path_text, step_text};
 
@@ -6,13 +6,13 @@ use arrayvec::{ArrayString, ArrayVec};
 use itoa::Buffer;
 use std::marker::Model;
 
-/// The most steps of a way: `.one[2].moves[1][0]` has five.
+/// The most steps of a path: `.one[2].moves[1][0]` has five.
 const STEPS: usize = 5;
 
-/// The most bytes of a way as text: a step has 22 at most, two brackets and the 20 digits of a number.
+/// The most bytes of a path as text. A step has at most 22: two brackets and the 20 digits of a number.
 pub const PATH_LENGTH: usize = 110;
 
-/// The most bytes of what is expected, as text.
+/// The most bytes of the text of an `Expected`.
 pub const EXPECTED_LENGTH: usize = 48;
 
 /// A key of an input's objects.
@@ -37,7 +37,7 @@ pub enum Key {
 }
 
 impl Key {
-    /// The key as it stands in the input.
+    /// Returns the key as it is written in the input.
     pub fn name(self) -> &'static str
         ensures value { result.now ≡ name_of self }
         ensures short { length result.now ≤ 11 }
@@ -63,10 +63,10 @@ impl Key {
     }
 }
 
-/// A step into a value: of an object to what stands under a key, or of a list to an item.
+/// A step into a value: to the value under a key of an object, or to an item of a list.
 #[derive(Clone, Copy, Debug, PartialEq, Eq)]
 pub enum Step {
-    /// What stands under a key.
+    /// The value under a key.
     Of(Key),
     /// The item of this number, from 0.
     At(usize),
@@ -79,7 +79,7 @@ impl Default for Step {
     }
 }
 
-/// The way from the whole input to a value in it, from outside in.
+/// The path from the whole input to a value in it, from the outside in.
 #[derive(Clone, Debug, PartialEq, Eq, Drop)]
 pub struct Path {
     steps: ArrayVec<Step, STEPS>,
@@ -97,7 +97,7 @@ impl Model for Path {
 }
 
 impl Path {
-    /// The way as text, as jq takes it: `.one[2].moves[1][0]`, or `.` for the whole input.
+    /// Returns the path as text, as jq takes it: `.one[2].moves[1][0]`, or `.` for the whole input.
     pub fn text(&self) -> ArrayString<PATH_LENGTH>
         ensures { result.bytes ≡ path_text self.now }
     {
@@ -139,9 +139,9 @@ pub enum Expected {
     With(Key),
     /// A list.
     List,
-    /// A list of so many items.
+    /// A list of this many items.
     Items(usize),
-    /// A list of four moves at most.
+    /// A list of at most four moves.
     FewMoves,
     /// A whole number from 0 to 255.
     Byte,
@@ -164,7 +164,7 @@ pub enum Expected {
 }
 
 impl Expected {
-    /// What is expected, as text.
+    /// Returns what is expected, as text.
     pub fn text(self) -> ArrayString<EXPECTED_LENGTH>
         ensures { result.bytes ≡ expected_text self }
     {
@@ -197,16 +197,16 @@ impl Expected {
     }
 }
 
-/// A value that is not as it should be.
+/// A value that is not as expected.
 #[derive(Clone, Debug, PartialEq, Eq, Drop)]
 pub struct Misfit {
-    /// The way to it.
+    /// The path to it.
     pub path: Path,
     pub expected: Expected,
 }
 
 impl Misfit {
-    /// The value itself is other than expected.
+    /// The value itself is not as expected.
     pub(crate) fn here(expected: Expected) -> Misfit
         ensures { result ≡ expects expected }
     {
@@ -216,7 +216,7 @@ impl Misfit {
         Misfit { path, expected }
     }
 
-    // The same, seen from the value that a step leads out of.
+    // The same, seen from the value that a step goes into.
     fn behind(self, step: Step) -> Misfit
         requires { length self.path ≤ 4 }
         ensures { result ≡ record { path = step ∷ self.path; expected = self.expected } }
@@ -231,7 +231,7 @@ impl Misfit {
     }
 }
 
-/// What was read of a value that a step leads to: a misfit in it has the step before its way.
+/// What was read from the value at a step. If that has a misfit, the step comes before its path.
 pub(crate) fn behind<T: Drop>(step: Step, read: Result<T, Misfit>) -> Result<T, Misfit>
     requires { IsShort 4 read }
     ensures value { result ≡ inside step read }

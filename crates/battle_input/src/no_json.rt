@@ -1,10 +1,10 @@
-//! Where bytes stop being JSON (docs/PROGRAM.md, "Explanations"): a walk over them that knows after each byte what may come next.
+//! Where bytes are not JSON (docs/PROGRAM.md, "Explanations"): a scan that knows after each byte what may come next.
 ghost use Rattle.std.specs.Prelude.{◌≡◌, ◌≤◌};
 ghost use Rattle.battle_input.specs.NoJson.{after_comma, begin, behind_fraction, behind_minus, behind_whole, close, digit, enter, first, go_on, in_escape, in_hex, in_many, in_text, in_word, is_blank, is_digit, is_hex, lead, letter, next, no_json, number, pass, wait_for};
 
 use crate::fault::JsonFault;
 
-/// The most of what is open: 127 lists and objects, one in another, and the mark below them.
+/// The most open lists and objects: 127, one in another, and the mark below them.
 const FULL: u128 = 1 << 127;
 
 /// What may come next in a JSON text. `true` is for the text of a key.
@@ -20,42 +20,42 @@ pub(crate) enum Stand {
     Key,
     /// A colon.
     Colon,
-    /// What stands behind a value.
+    /// What comes after a value.
     Behind,
     /// More of a text.
     Text(bool),
     /// What is escaped in a text.
     Escape(bool),
-    /// So many hexadecimal digits.
+    /// This many hexadecimal digits.
     Hex(bool, u8),
-    /// So many bytes of a character of several bytes.
+    /// This many bytes of a character of several bytes.
     Many(bool, u8),
     /// A letter of `true`, `false` or `null`, by its number in `letter`.
     Word(u8),
-    /// The digits of a number, behind its minus.
+    /// The digits of a number, after its minus.
     Minus,
-    /// What stands behind a zero.
+    /// What comes after a zero.
     Zero,
     /// More digits.
     Whole,
-    /// The first digit behind a point.
+    /// The first digit after a point.
     Point,
     /// More of these.
     Fraction,
-    /// What stands behind an `e`.
+    /// What comes after an `e`.
     Mark,
-    /// The first digit of a power, behind its sign.
+    /// The first digit of a power, after its sign.
     Sign,
     /// More of these.
     Power,
 }
 
-/// Where a text stands: what may come next, and what is open. That is a number in base two: a 1, and behind it a 1 for each
-/// object and a 0 for each list, from outside in.
+/// The state within a text: what may come next, and what is open. The latter is a binary number: a 1, and after it, from the
+/// outside in, a 1 for each open object and a 0 for each open list.
 type Place = (Stand, u128);
 
-/// The place of the first byte that no JSON has there, by its line and its column in bytes, each from 1; or of the end of the
-/// bytes, where each could be JSON. Nothing is said of numbers beyond a double's range, or of half a surrogate pair.
+/// Returns the line and column in bytes, each from 1, of the first byte that JSON does not allow where it is; or of the end of the
+/// bytes, if it allows each of them. Numbers beyond the range of a double, and half surrogate pairs, are not looked for.
 #[tactic(auto, using(crate::proofs::Stops::stops_here, crate::proofs::Stops::stops_end, crate::proofs::Stops::stops_on))]
 pub(crate) fn no_json(input: &[u8]) -> JsonFault
     ensures { result ≡ no_json input.now }
@@ -78,7 +78,7 @@ pub(crate) fn no_json(input: &[u8]) -> JsonFault
     JsonFault::Text { line, column }
 }
 
-// What may come behind a byte, if it may stand there.
+// What may come after a byte, if the byte is allowed.
 fn next(stand: Stand, nest: u128, byte: u8) -> Option<Place>
     ensures { result ≡ next stand nest byte }
 {
@@ -118,7 +118,7 @@ fn go_on(stand: Option<Stand>, nest: u128) -> Option<Place>
     }
 }
 
-// Behind the digits of a number, unless it goes on.
+// After the digits of a number, if it does not continue.
 fn number(stand: Option<Stand>, nest: u128, byte: u8) -> Option<Place>
     ensures { result ≡ number stand nest byte }
 {
@@ -239,7 +239,7 @@ fn close(nest: u128, kind: u8) -> Option<Place>
     }
 }
 
-// Behind a value.
+// After a value.
 fn pass(nest: u128, byte: u8) -> Option<Place>
     ensures { result ≡ pass nest byte }
 {
@@ -339,7 +339,7 @@ fn is_hex(byte: u8) -> bool
     is_digit(byte) || 65 <= byte && byte <= 70 || 97 <= byte && byte <= 102
 }
 
-// In `true` (1 to 3), `false` (4 to 6, then 3) or `null` (7 to 9), by the letter that is due.
+// In `true` (1 to 3), `false` (4 to 6, then 3) or `null` (7 to 9), by the expected letter.
 fn in_word(number: u8, byte: u8) -> Option<Stand>
     ensures { result ≡ in_word number byte }
 {

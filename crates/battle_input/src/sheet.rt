@@ -1,4 +1,4 @@
-//! The battle that an input asks for, and what is done in it, as JSON (docs/PROGRAM.md, "Input", "JSON, to the letter").
+//! The battle of an input, and what is done in it, as JSON (docs/PROGRAM.md, "Input", "JSON, to the letter").
 ghost use Rattle.std.specs.Prelude.{IfOk, Result, ◌≡◌};
 ghost use Rattle.serde_json.specs.Data.{Data};
 ghost use Rattle.serde_json.specs.Find.{get};
@@ -20,7 +20,7 @@ use gen1_tables::{MoveId, Species};
 use serde_json::Value;
 use std::alloc::{AllocError, Global};
 
-/// A battle that is asked for, before any test of the teams.
+/// A battle as requested, before any test of the teams.
 #[derive(Debug, Drop)]
 pub struct BattleSheet {
     pub seed: [u8; 10],
@@ -37,7 +37,7 @@ pub struct Sheet<T> {
     pub items: Vec<T>,
 }
 
-/// The JSON value of an input. `Text` where it is no text, or no JSON.
+/// The JSON value of an input; `Text` if it is not UTF-8, or not JSON.
 #[tactic(auto, using(crate::proofs::JsonLemmas::json_some, crate::proofs::JsonLemmas::json_none))]
 pub fn value_in(alloc: Global, input: &[u8]) -> Result<Value, SheetFault>
     ensures { Gives view result (json_of input.now) }
@@ -266,7 +266,7 @@ pub(crate) fn value_at(value: &Value, key: Key) -> Result<&Value, Misfit>
     }
 }
 
-/// The member that a JSON value stands for, before any test of its team.
+/// Reads the member of a JSON value, before any test of its team.
 pub fn read_member(value: &Value) -> Result<MemberSpec, Misfit>
     ensures value { result ≡ member_of (view value.now) }
     ensures short { IsShort 3 result }
@@ -290,12 +290,12 @@ pub fn read_member(value: &Value) -> Result<MemberSpec, Misfit>
     })
 }
 
-/// What stands in a list of an input.
+/// An item of a list of an input.
 pub trait Item: Sized {
-    // What a value stands for, or where it is not as it should be.
+    // The item of a value, or where the value is not as expected.
     ghost meaning: { Data → Result Self AMisfit };
 
-    /// The item that a value stands for. A misfit in it has a way of three steps at most.
+    /// Reads the item of a value. A misfit in it has a path of at most three steps.
     fn read(value: &Value) -> Result<Self, Misfit>
         ensures value { result ≡ meaning (view value.now) }
         ensures short { IsShort 3 result };
@@ -318,7 +318,7 @@ impl Item for (u8, u8) {
     }
 }
 
-/// A submission to a room: a side, the number of the pair that it is meant for, and a choice as a byte.
+/// A submission to a room: a side, the number of the pair, and a choice as a byte.
 impl Item for (Side, u32, u8) {
     ghost meaning = { submission_of };
 
@@ -349,11 +349,11 @@ fn read_list<T: Item + Drop>(
     Ok(Ok(items))
 }
 
-/// The list that stands under a key, or where it is not as it should be.
+/// Reads the list under a key, or returns where it is not as expected.
 ///
 /// # Errors
 ///
-/// Memory was refused.
+/// Out of memory.
 pub fn read_list_at<T: Item + Drop>(
     alloc: Global,
     value: &Value,
@@ -421,9 +421,8 @@ fn read_limit_number(value: &Value) -> Result<TurnLimit, Misfit>
     }
 }
 
-/// The battle that a JSON value asks for, or the first place at which it is not as it should be: a key that is
-/// asked for is missing, a list is of another length, a number is no whole one or out of range, or a name is
-/// unknown.
+/// Reads the battle of a JSON value, or returns the first place at which the value is not as expected: a required key is missing, a
+/// list has another length, a number is not whole or out of range, or a name is unknown.
 pub fn read_battle(alloc: Global, value: &Value) -> Result<BattleSheet, SheetFault>
     ensures { Gives battle_view result (of_value (battle_of (view value.now))) }
 {
@@ -441,7 +440,7 @@ pub fn read_battle(alloc: Global, value: &Value) -> Result<BattleSheet, SheetFau
     })
 }
 
-/// The sheet of an input that is JSON, with the list that stands under a key.
+/// The sheet of an input that is JSON, with the list under a key.
 #[tactic(auto, using(crate::proofs::Reading::no_battle))]
 pub fn read_sheet<T: Item + Drop>(
     alloc: Global,

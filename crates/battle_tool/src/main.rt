@@ -1,4 +1,4 @@
-//! The program: hands its words and its streams to the command line (docs/PROGRAM.md, "The program battle_tool").
+//! The program: passes its words and its streams to the command line (docs/PROGRAM.md, "The program battle_tool").
 #![tactic(auto)]
 
 use battle_commands::{COMMAND_LINE_REFUSED, Disk, ToolFault, report, tool};
@@ -7,7 +7,7 @@ use std::alloc::AllocError;
 use std::process::ExitCode;
 use std::{env, io};
 
-/// What is told where a word of the command line is no text.
+/// What is written if a word of the command line is not UTF-8.
 const NO_TEXT: &str = "error: a word is no UTF-8\n";
 
 fn main(rt: HostRuntime) -> ExitCode {

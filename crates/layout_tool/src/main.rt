@@ -1,5 +1,5 @@
-//! Reads strings of bytes in hex, one a line, and prints what reading each as a battle answers
-//! (docs/LAYOUT.md, "Loading"): 0 and the bytes in the form of version 3, or the fault's number.
+//! Reads strings of bytes in hex, one on each line, and prints the result of loading each as a battle (docs/LAYOUT.md, "Loading"):
+//! 0 and the bytes in the form of version 3, or the number of the failed test.
 #![tactic(auto)]
 
 use anyhow::Result;

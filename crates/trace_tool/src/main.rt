@@ -1,6 +1,6 @@
-//! Plays battles, each a line of JSON as `battle_tool run` takes it, and prints a line for each pair of choices: the number of
-//! its refusal, or `-`; the codes of outcome and requests, or `-`; what each side is then offered, by its bytes; how many draws
-//! the pair took; its log, and all 384 bytes, in hex. An empty list or log is `-`.
+//! Plays battles, each a line of JSON as `battle_tool run` takes it, and prints a line for each pair of choices. A line has the
+//! number of the refusal, or `-`; the codes of outcome and requests, or `-`; the bytes of the choices that each side is offered
+//! afterwards; how many draws the pair took; and its log and all 384 bytes in hex. An empty list or log is `-`.
 #![tactic(auto)]
 
 use anyhow::{Result, anyhow};
@@ -58,7 +58,7 @@ fn play<W: Write>(alloc: Global, sheet: &Sheet<(u8, u8)>, out: &mut W) -> Result
     Ok(())
 }
 
-/// The codes of docs/LAYOUT.md: of the outcome, and of what each side is asked.
+/// Writes the codes of docs/LAYOUT.md for the outcome and for the request to each side.
 fn write_result<W: Write>(now: BattleResult, out: &mut W) -> Result<()> {
     let outcome = outcome_code(now.outcome);
     let one = request_code(now.request_one);

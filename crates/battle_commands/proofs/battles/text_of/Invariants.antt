@@ -1,4 +1,4 @@
--- The lines of the events so far are there.
+-- The lines of the events so far are written.
 use Rattle.std.proofs.Common.{◌≡◌, take}
 use Rattle.gen1_machine.specs.DeviceViews.{device_inner}
 use Rattle.gen1_machine.specs.Lines.{lines}

@@ -3,7 +3,7 @@ use Rattle.std.specs.List.{flat_map}
 use Rattle.battle_commands.specs.NumberLine.{behind_space, number_line}
 use Rattle.battle_commands.proofs.number_line.number_line.Goals as goal
 
--- after all that follow the first number
+-- after all numbers that follow the first one
 all_written : (numbers rest bytes : List ℕ) (i : ℕ) → length numbers ≡ 39 → rest ≡ take 38 (drop 1 numbers) → length rest ≤ i
     → bytes ≡ decimal (get_or numbers 0 0) ++ flat_map behind_space (take i rest) → bytes ++ codes "\n" ≡ number_line numbers
 all_written [] rest bytes i long is end written = absurd (omega arith)

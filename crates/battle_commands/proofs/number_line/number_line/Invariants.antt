@@ -1,4 +1,4 @@
--- The numbers so far are there, each with five digits at most and the space before it.
+-- The numbers so far are written, each with at most five digits and the space before it.
 use Rattle.std.proofs.Common.{decimal, get_or, length, take, ◌*◌, ◌++◌, ◌+◌, ◌≡◌, ◌≤◌}
 use Rattle.std.specs.List.{flat_map}
 use Rattle.battle_commands.specs.NumberLine.{behind_space}

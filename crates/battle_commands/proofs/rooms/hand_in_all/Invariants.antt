@@ -1,4 +1,4 @@
--- What the submissions before one were answered was written.
+-- The replies to the submissions before one were written.
 use Rattle.std.proofs.Common.{◌≡◌}
 use Rattle.gen1_machine.specs.Room.{Course}
 use Rattle.gen1_room.specs.Rooms.{Holds}

@@ -1,4 +1,4 @@
--- The bytes so far may stand where they do.
+-- The bytes so far are allowed where they are.
 use Rattle.std.proofs.Common.{drop, ◌+◌, ◌≡◌, ◌≤◌}
 use Rattle.battle_input.specs.NoJson.{no_json, stops}
 use Rattle.battle_input.proofs.no_json.no_json.Given as goal

@@ -1,4 +1,4 @@
--- The steps so far are there, each in 22 bytes at most.
+-- The steps so far are written, each in at most 22 bytes.
 use Rattle.std.proofs.Common.{length, take, ◌*◌, ◌≡◌, ◌≤◌}
 use Rattle.std.specs.List.{flat_map}
 use Rattle.battle_input.specs.Misfits.{step_text}
