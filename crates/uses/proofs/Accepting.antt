@@ -17,7 +17,7 @@ use Rattle.gen1_engine.specs.declared.result.Refusal.{Refusal}
 use Rattle.gen1_engine.specs.Update.{Answers, AnswersAs}
 use Rattle.gen1_engine.proofs.Making.{goes_on}
 
--- so many pairs were accepted from s, and the battle stands where they lead
+-- that many pairs were accepted from s, and the battle represents the state that they lead to
 pub record Accepts (s : State) (count : ℕ) (battle : Parts) : Type 0 where
   pub pairs : List (Choice × Choice)
   pub stands : Stands battle (run s pairs).state

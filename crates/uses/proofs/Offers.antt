@@ -1,4 +1,4 @@
--- While a battle goes on, something is offered to each side.
+-- While a battle goes on, each side is offered something.
 use Rattle.std.proofs.Common.{Bool, List, [], ap, arith, false, get_or, inl, inr, length, length-append, not, refl, subst, suc, sym, true, zero, ℕ, ◌&&◌, ◌++◌, ◌+◌, ◌-◌, ◌<◌, ◌==◌, ◌||◌, ◌∙◌, ◌∷◌, ◌≡◌, ◌≢◌, ◌≤◌, ◌⊎◌}
 use Rattle.std.specs.Prelude.{if◌then◌else◌}
 use Rattle.std.proofs.lemmas.Bool.{false≢true}
@@ -38,7 +38,7 @@ moves-some s f =
     (some-append (moves_offered s f) (switches_offered s f)
     (some-if (has_no_slot_in s f) (choices.Move 0 ∷ []) _ (omega arith) (some-struggle (usable_from 1 (conditions_in s f).disabled (member_in s f).moves))))
 
--- a replacement for the fallen, where somebody lives
+-- a replacement for the fallen member, if another one lives
 
 order : (a b : ℕ) → (b < a + 1) ⊎ (a < b)
 order a b = grind arith
@@ -47,7 +47,7 @@ or-rest : (a b : Bool) → (a || b) ≡ true → a ≡ false → b ≡ true
 or-rest true b h e = absurd (false≢true (sym e))
 or-rest false b h e = h
 
--- one that lives and is not out comes first, or else there is some other
+-- either a living member that is not out comes first, or there is another one after it
 first-or-rest : (lives away : Bool) (first : Choice) (rest : List Choice) → ((lives ≡ true) × (away ≡ true)) ⊎ (1 ≤ length rest)
     → 1 ≤ length (if lives && away then first ∷ rest else rest)
 first-or-rest true true first rest h = omega arith
@@ -56,7 +56,7 @@ first-or-rest true false first rest (inr h) = h
 first-or-rest false away first rest (inl h) = absurd (false≢true h.0)
 first-or-rest false away first rest (inr h) = h
 
--- the member that is out has fallen, where it is still to come
+-- the active member has fallen, if it is still to come
 abbrev Fell : ℕ → ℕ → List Member → Type 0
 Fell place out ms = (out < place) ⊎ (is_living (get_or ms (out - place) nobody) ≡ false)
 
@@ -140,7 +140,7 @@ offers-some s t valid going =
       | inr started ↦ started-asks s t.terms t.field (is-ongoing t.field.outcome going) started
     ]))
 
--- an element of a list is among it
+-- an element of a list is one of its elements
 
 same-itself : (c : Choice) → same_choice c c ≡ true
 same-itself choices.Pass = refl
@@ -159,7 +159,7 @@ among-at (x ∷ xs) (suc k) d inside = or-yes (same_choice (get_or xs k d) x) (a
     or-yes true h = refl
     or-yes false h = h
 
--- so what is picked among what is offered is offered
+-- so a choice picked among the offered choices is offered
 pub picked : (side : Side) (s : State) (items : List Choice) (c : Choice) → IsState s → is_over s.field.outcome ≡ false → items ≡ offered side s.field
     → (1 ≤ length items → is_among c items ≡ true) → offers s side c ≡ true
 picked side s items c valid going e among =

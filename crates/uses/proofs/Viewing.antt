@@ -29,7 +29,7 @@ none_waits (part held) after event h = absurd cc
 none_waits (waiting found) after event h = h.1
 none_waits (failed fault) after event h = absurd cc
 
--- an event became whole, and was shown
+-- an event became complete, and was shown
 shown_event : (reader next after : Reading) (rest : List ℕ) (n : ℕ) (event : Event) (view view' : View) (out out' : Option (List ℕ))
     → Feeds reader rest (Ok n) next → Hands next (Some event) after → view' ≡ sees event view → Appends out out' (line event)
     → ShowsMore (take n rest) reader view out after view' out'
@@ -42,7 +42,7 @@ shown_event reader next after rest n event view view' out out' f h t p = λ take
   printed = subst (Appends before out') (sym (lines_more s.events event)) (Appends-trans before out out' (lines s.events) (line event) s.printed p);
 }
 
--- what is still to be shown is what remains of all the bytes
+-- the events still to be shown are those of the remaining bytes
 abbrev pub Remains : List ℕ → Reading → View → Option (List ℕ) → List ℕ → Reading → View → Option (List ℕ) → Type 0
 Remains rest reader view out bytes reader' view' out' =
     (last : Reading) (shown : View) (written : Option (List ℕ))

@@ -1,4 +1,4 @@
--- What a move comes to as a battle stands, in the machine's words.
+-- The damage and odds of a move in the present state of a battle, in the machine's terms.
 use Rattle.std.specs.Prelude.{Bool, List, Option, [], count_by, nat_le, option_map, replicate, ℕ, ◌∷◌}
 use Rattle.gen1_stats.specs.Sheets.{Sheet}
 use Rattle.gen1_stats.specs.Teams.{team_of}
@@ -19,11 +19,11 @@ abbrev pub faced_off : Sheet → Sheet → State
 faced_off attacker defender =
     (step (first_state usual_terms (team_of (attacker ∷ [])) (team_of (defender ∷ [])) (replicate 10 0)) Pass Pass).state
 
--- how many of these damages take as many HP as there are
+-- how many of these damages are at least the remaining HP
 abbrev pub taking_all : ℕ → List ℕ → ℕ
 taking_all hp = count_by (λ damage. nat_le hp damage)
 
--- what a list of damages comes to, beside hits and critical hits
+-- the calculation for a list of damages, with hits and critical hits
 abbrev pub calculation_of : Side → Move → Field → List ℕ → Calculation
 calculation_of s move f list = record {
   damages = list;
@@ -32,6 +32,6 @@ calculation_of s move f list = record {
   criticals = critical_bound_in s move f;
 }
 
--- none where the damage is divided by 0
+-- none if the damage is divided by 0
 unfoldable pub calculation_in : Side → Move → Bool → Field → Option Calculation
 calculation_in s move critical f = option_map (calculation_of s move f) (damages (numbers_in s move critical f))

@@ -1,4 +1,4 @@
--- What a move comes to.
+-- The damage and odds of a move.
 pub mod Calculations
 -- A battle that was played to its end.
 pub mod Playing

@@ -1,4 +1,4 @@
--- What a player does next, by what a room answers (docs/MECHANICS.md, "Rooms").
+-- What a player does next, by a room's reply (docs/MECHANICS.md, "Rooms").
 use Rattle.gen1_machine.specs.Room.{Advanced, AlreadyChosen, ChoiceNotOffered, Reply, RoomOver, Stale, TurnedAway, Waiting}
 use Rattle.uses.specs.declared.two_players.choice.Next.{Next}
 use Rattle.uses.specs.declared.two_players.choice.Next.TheVariants.{Choose, Leave, Look, Wait}

@@ -8,7 +8,7 @@ use Rattle.gen1_layout.specs.Within.{Stands}
 use Rattle.gen1_engine.specs.declared.result.BattleResult.{BattleResult}
 use Rattle.gen1_engine.specs.Update.{result_of}
 
--- from s, by some pairs of choices: it stands as the machine's run by them does, and that is over
+-- from s, by some pairs of choices: the battle represents the state that the machine's run by them leads to, and that is over
 pub record PlayedOut (s : State) (battle : Parts) (result : BattleResult) : Type 0 where
   pub pairs : List (Choice × Choice)
   pub stands : Stands battle (run s pairs).state

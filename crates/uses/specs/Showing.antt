@@ -1,4 +1,4 @@
--- What a viewer shows of the member that is out (docs/MECHANICS.md, "Spectator's view").
+-- What a viewer shows of the active member (docs/MECHANICS.md, "Spectator's view").
 use Rattle.std.specs.Prelude.{if◌then◌else◌, List, None, Option, ◌-◌, ◌==◌}
 use Rattle.std.specs.List.{slice_get}
 use Rattle.std.specs.Option.{option_map}
@@ -6,7 +6,7 @@ use Rattle.gen1_stats.specs.Members.{Member}
 use Rattle.gen1_machine.specs.View.{shown_at, SideView}
 use Rattle.uses.specs.declared.viewer.shown.Shown.{Shown}
 
--- HP and status are as the view has them, species and highest HP as the team has them; nobody is at place 0
+-- HP and status are those of the view, species and maximum HP those of the team; there is no member at place 0
 abbrev pub shown_of : SideView → List Member → Option Shown
 shown_of x team =
     if x.place == 0 then None else option_map (λ (m : Member). record {

@@ -7,8 +7,8 @@ use Rattle.gen1_machine.specs.View.{sees_all, View}
 use Rattle.gen1_events.specs.Reader.{part, Reading}
 use Rattle.gen1_events.specs.Splits.{IsReading, Reads}
 
--- A new reader that took these bytes handed out events, of which the view was told, and whose lines were written. It holds the
--- bytes behind them, and no event waits.
+-- A new reader that took these bytes returned events, which the view has applied and whose lines were written. It holds the bytes
+-- after them, and no event waits.
 pub record HasShown (taken : List ℕ) (reader : Reading) (first now : View) (before after : Option (List ℕ)) : Type 0 where
   pub events : List Event
   pub held : List ℕ
@@ -17,7 +17,7 @@ pub record HasShown (taken : List ℕ) (reader : Reading) (first now : View) (be
   pub told : now ≡ sees_all events first
   pub printed : Appends before after (lines events)
 
--- what was shown of the bytes so far is then shown of these too
+-- if the bytes so far were shown, then these are shown too
 abbrev pub ShowsMore : List ℕ → Reading → View → Option (List ℕ) → Reading → View → Option (List ℕ) → Type 0
 ShowsMore bytes reader view out reader' view' out' =
     (taken : List ℕ) (first : View) (before : Option (List ℕ))

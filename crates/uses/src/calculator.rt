@@ -1,4 +1,4 @@
-//! A damage calculator: how much a move does, how often it knocks out, how often it hits, and how often it is critical.
+//! A damage calculator: how much damage a move deals, how often it knocks out, how often it hits, and how often it is critical.
 // calling: gen1_hits
 ghost use Rattle.std.specs.Prelude.{IfOk, ◌≡◌};
 ghost use Rattle.gen1_layout.specs.Within.{Stands};
@@ -12,20 +12,20 @@ use gen1_requests::start;
 use gen1_stats::{MemberSpec, Team, TeamRefusal};
 use gen1_tables::MoveId;
 
-/// What a move of one side's member on the other's comes to, as a battle stands.
+/// What a move of one side's active member does to the other's, in the present state of a battle.
 #[derive(Clone, Copy, Debug, PartialEq, Eq, Drop)]
 pub struct Calculation {
     /// The damage at each factor from 217 to 255, the lowest first.
     pub damages: [u16; 39],
-    /// How many of the 39 take all HP of a foe without a Substitute.
+    /// How many of the 39 are at least the HP of a foe without a Substitute.
     pub knock_outs: usize,
-    /// How many of the 256 bytes that a hit test may draw hit.
+    /// How many of the 256 bytes that a hit test may draw pass it.
     pub hits: u8,
-    /// How many of the 256 bytes that may be drawn for it make the hit critical.
+    /// How many of the 256 bytes that may be drawn make the hit critical.
     pub criticals: u8,
 }
 
-/// A battle of two members, both just sent out.
+/// Makes a battle of two members, both just sent out.
 ///
 /// # Errors
 ///
@@ -40,7 +40,7 @@ pub fn face_off(attacker: MemberSpec, defender: MemberSpec) -> Result<Packed, Te
     Ok(battle)
 }
 
-/// What a move of `side` comes to where its hit is critical, or where it is not. `None` where the damage is divided by 0.
+/// Calculates a move of `side`, for a critical hit or for a normal one. `None` if the damage is divided by 0.
 pub fn calculate(battle: &Packed, side: Side, id: MoveId, critical: bool) -> Option<Calculation>
     ensures { Reads battle.now result (calculation_in side (move_at id) critical) }
 {
@@ -90,7 +90,7 @@ mod tests {
         })
     }
 
-    // As an independent program has it. Oddish has 151 HP; 90 of 100 are 229 of 255; Dugtrio's base Speed is 120.
+    // From an independent program. Oddish has 151 HP; 90 of 100 are 229 of 255; Dugtrio's base Speed is 120.
     #[test]
     fn dugtrio_uses_blizzard(rt: HostRuntime) -> Result<(), Fail> {
         let blizzard = named("Blizzard")?;

@@ -1,4 +1,4 @@
-//! What callers of the libraries write, whole and proved: each CALLING.md shows parts of these files.
+//! Programs as callers of the libraries write them, complete and proved. Each CALLING.md shows parts of these files.
 //!
 //! - `calculator`: a damage calculator
 //! - `player`: a random player

@@ -10,8 +10,8 @@ use gen1_engine::{Battle, BattleResult, Choices, Refusal};
 use gen1_machine::{Choice, EventList, Side};
 use gen1_rolls::Rolls;
 
-/// Plays a battle to its end, by choices that are drawn at random among those that are offered, and tells how it ended. The
-/// events of the last update are left in `events`. What is offered is never refused, so there is always an answer.
+/// Plays a battle to its end, by random choices among those offered, and returns how it ended. The events of the last update are
+/// left in `events`. Offered choices are never refused, so it always returns `Ok`.
 pub fn play_at_random<R: Rolls>(
     battle: &mut Battle,
     random: &mut R,
@@ -70,7 +70,7 @@ mod tests {
     }
 
     // calling: ten_lines
-    /// The battle of two teams in which each side takes the first choice that it is offered: how it ends.
+    /// Plays a battle of two teams in which each side takes the first choice that it is offered, and returns how it ended.
     fn first_choices(one: &Team, two: &Team, seed: [u8; 10]) -> Result<Outcome, Refusal> {
         let mut battle = Battle::new(one, two, seed);
         let mut events = EventList::new();
@@ -88,7 +88,7 @@ mod tests {
     }
     // end
 
-    // As an independent program played it: side 1 wins on turn 5.
+    // From an independent program: side 1 wins on turn 5.
     #[test]
     fn one_choice_at_a_time(rt: HostRuntime) -> Result<(), Fail> {
         let team = seaking()?;

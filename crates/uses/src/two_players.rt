@@ -1,4 +1,4 @@
-//! Two players of a battle who choose apart from each other, in a room.
+//! Two players of a battle who submit their choices separately, in a room.
 mod choice;
 mod restored_room;
 

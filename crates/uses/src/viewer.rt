@@ -1,4 +1,5 @@
-//! A replay viewer: the log of a battle comes in pieces, each event is printed as soon as it is whole, and a view says what shows.
+//! A replay viewer: the log of a battle comes in pieces, each event is printed as soon as it is complete, and a view holds what it
+//! shows.
 mod lines;
 mod pieces;
 mod shown;
@@ -48,7 +49,7 @@ mod tests {
         })
     }
 
-    // The log says that they have 422 HP and 276.
+    // The log shows that they have 422 HP and 276.
     fn vaporeon() -> Result<Team, Fail> {
         Ok(Team::new(&[member("Vaporeon", 43264)?])?)
     }

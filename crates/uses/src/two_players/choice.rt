@@ -1,4 +1,4 @@
-//! A player of a room, who chooses when a choice is due.
+//! A player of a room, who chooses when a choice is missing.
 // calling: gen1_room
 ghost use Rattle.std.specs.Prelude.{◌≡◌};
 ghost use Rattle.gen1_machine.specs.Room.{Course, after, reply_to};
@@ -10,7 +10,7 @@ use gen1_engine::BattleResult;
 use gen1_machine::Side;
 use gen1_room::{Room, RoomRefusal, Submitted};
 
-/// A player of a room, who chooses for the pair of this number.
+/// A player of a room, who chooses for the pair with this number.
 #[derive(Clone, Copy, Debug, PartialEq, Eq, Drop)]
 pub struct Player {
     pub side: Side,
@@ -22,7 +22,7 @@ pub struct Player {
 pub enum Next {
     /// Wait for the other player's choice.
     Wait,
-    /// Look at the log. The battle was updated, and stands as this says.
+    /// Look at the log. The battle was updated, with this result.
     Look(BattleResult),
     /// Choose again. The room is as it was.
     Choose,
@@ -48,12 +48,12 @@ pub fn choose(player: &mut Player, byte: u8, room: &mut Room) -> Next
             Next::Choose
         }
         Err(RoomRefusal::AlreadyChosen) => Next::Wait,
-        // What is offered is `room.battle().choices(player.side)`.
+        // The offered choices are `room.battle().choices(player.side)`.
         Err(RoomRefusal::NotOffered) => Next::Choose,
     }
 }
 
-/// The log bytes of the last pair, for either player. The player goes on to the pair that is current.
+/// Returns the log bytes of the last pair, for either player. The player goes on to the current pair.
 pub fn look<'a>(player: &mut Player, room: &'a Room) -> &'a [u8]
     ensures log { (c : Course) → Holds room.now c → IsReading result.now c.events }
     ensures current { (c : Course) → Holds room.now c → player.new.number ≡ c.number }

@@ -1,4 +1,4 @@
-//! A room that is made again of its battle and of all that was submitted to it.
+//! A room that is restored from its battle and from all that was submitted to it.
 ghost use Rattle.std.specs.Prelude.{IfSome, map, ◌≡◌};
 ghost use Rattle.gen1_machine.specs.Room.{course_of, replies_of, room_of};
 ghost use Rattle.gen1_machine.specs.State.{State};
@@ -9,8 +9,8 @@ use gen1_engine::Battle;
 use gen1_machine::Side;
 use gen1_room::{Reply, Room};
 
-/// A room as it was, of the battle that it was made for and all that was submitted to it. `None` where there are not as many
-/// places for replies as there are submissions.
+/// Restores a room from the battle that it was made for and all that was submitted to it. `None` if there are not as many places
+/// for replies as submissions.
 pub fn restored(
     battle: Battle,
     submissions: &[(Side, u32, u8)],

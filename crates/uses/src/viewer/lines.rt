@@ -9,11 +9,11 @@ use gen1_machine::{Event, Sink};
 use gen1_printer::{PrintFault, print_line};
 use gen1_spectator::View;
 
-/// Shows an event: its line is written, and the view is told of it.
+/// Shows an event: writes its line, and applies it to the view.
 ///
 /// # Errors
 ///
-/// A write that failed.
+/// A write failed.
 pub fn show_event<W: Sink>(event: &Event, view: &mut View, out: &mut W) -> Result<(), PrintFault>
     ensures told { OnOk result (view.new ≡ sees event.now view.old) }
     ensures printed { OnOk result

@@ -1,4 +1,4 @@
-//! A log that comes in pieces, whose events are shown as soon as they are whole.
+//! A log that comes in pieces, whose events are shown as soon as they are complete.
 // calling: gen1_events
 ghost use Rattle.std.specs.Prelude.{OnOk};
 ghost use Rattle.uses.specs.Viewing.{ShowsMore};
@@ -9,11 +9,11 @@ use gen1_machine::Sink;
 use gen1_printer::PrintFault;
 use gen1_spectator::View;
 
-/// Shows the next bytes of a log. They may be cut anywhere: the part of an event that they end with stays in the reader.
+/// Shows the next bytes of a log. They may be cut anywhere: the part of an event at their end stays in the reader.
 ///
 /// # Errors
 ///
-/// The fault of the log, or a write that failed. The events before it were shown.
+/// The error of the log, or a write that failed. The events before it were shown.
 pub fn show_piece<W: Sink>(
     reader: &mut LogReader,
     bytes: &[u8],

@@ -14,11 +14,11 @@ use gen1_spectator::View;
 use gen1_stats::Team;
 use gen1_tables::Species;
 
-/// Shows the log of a battle of two teams from its start, and answers what a watcher knows at its end.
+/// Shows the log of a battle of two teams from its start, and returns what a spectator knows at its end.
 ///
 /// # Errors
 ///
-/// The fault of the log, which may not end within an event, or a write that failed.
+/// The error of the log, which may not end within an event, or a write that failed.
 pub fn show_log<W: Sink>(
     one: &Team,
     two: &Team,
@@ -40,7 +40,7 @@ pub fn show_log<W: Sink>(
     }
 }
 
-/// What shows of a side: the member that is out, its HP and its status.
+/// What a side shows: its active member, with HP and status.
 #[derive(Clone, Copy, Debug, PartialEq, Eq, Drop)]
 pub struct Shown {
     pub species: Species,
@@ -49,7 +49,7 @@ pub struct Shown {
     pub status: Option<Kind>,
 }
 
-/// What shows of the side that has this team; `None` before its first member came out.
+/// Returns what the side with this team shows; `None` before its first member came out.
 pub fn what_shows(view: &View, side: Side, team: &Team) -> Option<Shown>
     ensures { result ≡ shown_of (side_view side view.now) team.now }
 {

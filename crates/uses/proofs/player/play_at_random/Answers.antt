@@ -25,7 +25,7 @@ returns-then-is_over-clause-ended g c s h =
       over = ap (λ (r : BattleResult). is_over r.outcome) (sym tells) ∙ sym c.is_over.ensures ∙ c.if-is_over.true;
     }
 
--- what was picked was offered
+-- the picked choice was offered
 pub returns-in_err-update_events : goal.returns-in_err-update_events
 returns-in_err-update_events g c =
     let some = c.result-now.ensures.valid in

@@ -1,4 +1,4 @@
--- What is still to be shown is what remains of all the bytes.
+-- The events still to be shown are those of the remaining bytes.
 use Rattle.std.proofs.Common.{length, ◌+◌}
 use Rattle.gen1_spectator.proofs.Following.{waits}
 use Rattle.uses.proofs.Viewing.{Remains}
