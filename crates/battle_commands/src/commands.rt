@@ -33,36 +33,36 @@ pub const COMMAND_LINE_REFUSED: u8 = 2;
 const ABOUT: &str = "Runs link battles of the first generation";
 
 const STATUSES: &str =
-    "Status: 0 all was printed, 1 the input is refused, 2 the command line is refused, 3 a read or a write failed, 4 memory was refused. Standard error says why.";
+    "Status: 0 all was printed, 1 the input was refused, 2 the command line was refused, 3 a read or a write failed, 4 out of memory. Standard error says why.";
 
 const RUN_ABOUT: &str = "Runs a battle and prints its lines";
 
 const RUN_INPUT: &str =
-    "Reads {\"seed\":[10 bytes],\"one\":[member],\"two\":[member],\"choices\":[[byte,byte],..]}, and the keys \"rules\" and \"limit\" where they are there. A member is {\"species\":name,\"level\":n,\"dvs\":[4],\"exp\":[5],\"moves\":[[name,ups],..]}. Prints a line for each event, pair by pair.";
+    "Reads {\"seed\":[10 bytes],\"one\":[member],\"two\":[member],\"choices\":[[byte,byte],..]}, and optionally the keys \"rules\" and \"limit\". A member is {\"species\":name,\"level\":n,\"dvs\":[4],\"exp\":[5],\"moves\":[[name,ups],..]}. Prints a line for each event, pair by pair.";
 
 const LOG_ABOUT: &str = "Runs a battle and writes its log";
 
 const LOG_INPUT: &str =
-    "Reads the object of run. Writes the log bytes of each pair, which print reads.";
+    "Reads the same object as run. Writes the log bytes of each pair, for print to read.";
 
 const PRINT_ABOUT: &str = "Prints the lines of a log";
 
 const PRINT_INPUT: &str =
-    "Reads the log bytes of updates, one after the other. Prints a line for each event; of bytes that are no log it prints nothing.";
+    "Reads the log bytes of updates, one after the other. Prints a line for each event, and nothing if the bytes are not a log.";
 
 const CALC_ABOUT: &str = "Prints the damage numbers of a move";
 
 const CALC_INPUT: &str =
-    "Reads {\"attacker\":member,\"defender\":member,\"move\":name,\"critical\":true or false}, with members as in run. Prints the damage at each factor from 217 to 255 in one line, of the move that the attacker uses on the defender, both just sent out. Of a move without the usual damage it prints nothing.";
+    "Reads {\"attacker\":member,\"defender\":member,\"move\":name,\"critical\":true or false}, with members as in run. Prints in one line the damage at each factor from 217 to 255, of the attacker's move against the defender, both just sent out. Prints nothing for a move without the usual damage.";
 
-const ROOM_ABOUT: &str = "Runs a room of two players and prints what each is answered";
+const ROOM_ABOUT: &str = "Runs a room of two players and prints the reply to each submission";
 
 const ROOM_INPUT: &str =
-    "Reads the object of run with \"submissions\":[[side,number,byte],..] in place of choices: the side, 1 or 2, the number of the pair that is meant, from 0, and the choice. Prints the lines of the start, and for each submission |room|waiting, |room|advanced with the lines of the pair, or |room|refused|N.";
+    "Reads the object of run with \"submissions\":[[side,number,byte],..] in place of choices: the side, 1 or 2, the number of its pair, from 0, and the choice. Prints the lines of the start, and for each submission |room|waiting, |room|advanced with the lines of the pair, or |room|refused|N.";
 
-const EXPLAIN_HELP: &str = "Says where a fault is and what was expected, behind its line";
+const EXPLAIN_HELP: &str = "Says where the error is and what was expected, after its line";
 
-const FILE_HELP: &str = "The input; without FILE it is standard input";
+const FILE_HELP: &str = "The input (default: standard input)";
 
 /// A subcommand that reads a FILE, or standard input if none is named.
 fn reading<'a>(
