@@ -1,4 +1,4 @@
--- The bytes that stand for choices (docs/MECHANICS.md, "Offered choices").
+-- Choices as bytes (docs/MECHANICS.md, "Offered choices").
 use Rattle.std.specs.Prelude.{ℕ, ◌+◌, ◌-◌, ◌==◌, ◌&&◌, nat_le, if◌then◌else◌, Option, Some, None}
 use Rattle.gen1_machine.specs.declared.choice.Choice.{Choice}
 use Rattle.gen1_machine.specs.declared.choice.Choice.TheVariants.{Pass, Move, Switch}
@@ -8,7 +8,7 @@ byte_of_choice Pass = 0x00
 byte_of_choice (Move slot) = 0x10 + slot
 byte_of_choice (Switch place) = 0x20 + place
 
--- the choice that a byte stands for: slots are 0 to 4, places 1 to 6
+-- The choice that a byte represents. Slots are 0 to 4, places 1 to 6.
 abbrev pub choice_at : ℕ → Option Choice
 choice_at byte =
     if byte == 0x00

@@ -1,14 +1,14 @@
--- What can be on for a member that is out (docs/MECHANICS.md, "Conditions"): each condition with its own numbers, and each
--- way in which one changes.
+-- The conditions of a member that is out (docs/MECHANICS.md, "Conditions"). Each condition has its own numbers, and
+-- each change has its own function.
 use Rattle.std.specs.Prelude.{Bool, None, Option, Some, false, min, true, ℕ, ◌%◌, ◌+◌, ◌-◌}
 use Rattle.gen1_machine.specs.declared.picks.DisabledSlot.{DisabledSlot}
 
--- Bide: for how many turns more it stores, and what it has stored
+-- Bide: how many more turns it stores, and the energy stored so far.
 pub record Storing : Type 0 where
   pub turns : ℕ
   pub energy : ℕ
 
--- what belongs to the current move, of which one at most is on
+-- The conditions that belong to the current move. At most one of them is on.
 pub record Underway : Type 0 where
   pub bide : Option Storing
   pub thrash : Option ℕ  -- turns left
@@ -50,9 +50,9 @@ no_conditions = record {
   disabled = None;
 }
 
--- the changes: each is a function of the conditions that it overwrites
+-- The changes. Each is a function of the conditions that it overwrites.
 
--- a count goes down by one, to 0 at least
+-- A count goes down by one, but not below 0.
 abbrev pub one_less : Option ℕ → Option ℕ
 one_less None = None
 one_less (Some n) = Some (n - 1)
@@ -62,7 +62,7 @@ one_less (Some n) = Some (n - 1)
 unfoldable pub with_bide : ℕ → ActiveConditions → ActiveConditions
 with_bide turns c = record c { underway = record c.underway { bide = Some (record { turns = turns; energy = 0 }) } }
 
--- what is stored is a number of 16 bits, which starts again from 0
+-- The energy is a number of 16 bits, and wraps to 0.
 abbrev pub energy_with : ℕ → Storing → ℕ
 energy_with damage b = (b.energy + damage) % 65536
 
@@ -76,7 +76,7 @@ with_bide_storing damage c = record c { underway = record c.underway { bide = st
 unfoldable pub without_bide : ActiveConditions → ActiveConditions
 without_bide c = record c { underway = record c.underway { bide = None } }
 
--- thrashing
+-- Thrashing
 
 unfoldable pub with_thrash : ℕ → ActiveConditions → ActiveConditions
 with_thrash turns c = record c { underway = record c.underway { thrash = Some turns } }
@@ -87,7 +87,7 @@ with_thrash_one_less c = record c { underway = record c.underway { thrash = one_
 unfoldable pub without_thrash : ActiveConditions → ActiveConditions
 without_thrash c = record c { underway = record c.underway { thrash = None } }
 
--- trapping
+-- Trapping
 
 unfoldable pub with_trapping : ℕ → ActiveConditions → ActiveConditions
 with_trapping turns c = record c { underway = record c.underway { trapping = Some turns } }
@@ -98,7 +98,7 @@ with_trapping_one_less c = record c { underway = record c.underway { trapping = 
 unfoldable pub without_trapping : ActiveConditions → ActiveConditions
 without_trapping c = record c { underway = record c.underway { trapping = None } }
 
--- charging, and the flight or the hole that hides its user meanwhile
+-- Charging, and the flight or the hole that hides its user until it strikes
 
 unfoldable pub with_charging : ActiveConditions → ActiveConditions
 with_charging c = record c { underway = record c.underway { charging = true } }
@@ -112,7 +112,7 @@ with_invulnerability c = record c { invulnerable = true }
 unfoldable pub without_invulnerability : ActiveConditions → ActiveConditions
 without_invulnerability c = record c { invulnerable = false }
 
--- recharging and rage
+-- Recharging and rage
 
 unfoldable pub with_recharge : ActiveConditions → ActiveConditions
 with_recharge c = record c { underway = record c.underway { recharge = true } }
@@ -123,11 +123,11 @@ without_recharge c = record c { underway = record c.underway { recharge = false 
 unfoldable pub with_rage : ActiveConditions → ActiveConditions
 with_rage c = record c { underway = record c.underway { rage = true } }
 
--- what full paralysis and a hit on itself break off: all that goes on by itself but recharging and rage
+-- Full paralysis and a hit on itself end Bide, thrashing, trapping and charging. They don't end recharging or rage.
 unfoldable pub broken_off : ActiveConditions → ActiveConditions
 broken_off c = record c { underway = record c.underway { bide = None; thrash = None; trapping = None; charging = false } }
 
--- flinching
+-- Flinching
 
 unfoldable pub with_flinch : ActiveConditions → ActiveConditions
 with_flinch c = record c { flinch = true }
@@ -135,7 +135,7 @@ with_flinch c = record c { flinch = true }
 unfoldable pub without_flinch : ActiveConditions → ActiveConditions
 without_flinch c = record c { flinch = false }
 
--- confusion
+-- Confusion
 
 unfoldable pub with_confusion : ℕ → ActiveConditions → ActiveConditions
 with_confusion turns c = record c { confused = Some turns }
@@ -146,7 +146,7 @@ with_confusion_one_less c = record c { confused = one_less c.confused }
 unfoldable pub without_confusion : ActiveConditions → ActiveConditions
 without_confusion c = record c { confused = None }
 
--- what stays up
+-- Mist, Focus Energy and the screens
 
 unfoldable pub with_mist : ActiveConditions → ActiveConditions
 with_mist c = record c { mist = true }
@@ -160,7 +160,7 @@ with_light_screen c = record c { light_screen = true }
 unfoldable pub with_reflect : ActiveConditions → ActiveConditions
 with_reflect c = record c { reflect = true }
 
--- a substitute
+-- Substitute
 
 unfoldable pub with_substitute : ℕ → ActiveConditions → ActiveConditions
 with_substitute hp c = record c { substitute = Some hp }

@@ -1,4 +1,4 @@
--- Counter (docs/MECHANICS.md, "Counter"): gives the last damage back twice over.
+-- Counter (docs/MECHANICS.md, "Counter") deals twice the last damage.
 use Rattle.std.specs.Prelude.{Bool, min, nat_lt, not, true, ℕ, ◌&&◌, ◌*◌, ◌==◌, ◌||◌}
 use Rattle.gen1_tables.specs.declared.element.Element.TheVariants.{Normal, Fighting}
 use Rattle.gen1_machine.specs.declared.side.Side.{Side}
@@ -15,7 +15,7 @@ can_be_countered move =
     not (move.number == 0) && not (move.number == counter_move) && nat_lt 0 move.power
     && (same_type move.kind Normal || same_type move.kind Fighting)
 
--- what counts is the move that the foe picked, and that there is a last damage
+-- Counter depends on the move that the foe picked, and needs a last damage above 0.
 abbrev pub can_counter : Side → Progress → Bool
 can_counter s p = can_be_countered (move_at (picked_move_in (other s) p.field)) && nat_lt 0 (last_damage p)
 

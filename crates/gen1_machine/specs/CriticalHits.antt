@@ -1,4 +1,4 @@
--- Critical hits (docs/MECHANICS.md, "Critical hits"): they depend on base Speed, Focus Energy and the move.
+-- Critical hits (docs/MECHANICS.md, "Critical hits"). Their chance depends on base Speed, Focus Energy and the move.
 use Rattle.std.specs.Prelude.{Bool, if◌then◌else◌, min, nat_lt, ℕ, ◌%◌, ◌*◌, ◌+◌, ◌/◌}
 use Rattle.gen1_machine.specs.declared.side.Side.{Side}
 use Rattle.gen1_tables.specs.Species.{species_row}
@@ -6,11 +6,11 @@ use Rattle.gen1_machine.specs.State.{conditions_in, member_in, Field}
 use Rattle.gen1_machine.specs.Moves.{is_often_critical, Move}
 use Rattle.gen1_machine.specs.Progress.{Phase, given, draw, on_action}
 
--- the bits of a byte rotated to the left by 3
+-- The bits of a byte, rotated to the left by 3.
 abbrev pub rotated_left_3 : ℕ → ℕ
 rotated_left_3 b = b * 8 % 256 + b / 32
 
--- a rotated draw below this is critical; Focus Energy makes it less likely, as the game does
+-- A rotated draw below this bound is a critical hit. Focus Energy makes the bound smaller, as the game does.
 abbrev pub critical_bound : ℕ → Bool → Bool → ℕ
 critical_bound base_speed focused often =
     let b = if focused then base_speed / 2 / 2 else min 255 (2 * (base_speed / 2)) in

@@ -1,4 +1,4 @@
--- The stats of a member that is out, as they stand (docs/MECHANICS.md, "Stages", "Penalties"): its own stats at their
+-- The current stats of a member that is out (docs/MECHANICS.md, "Stages", "Penalties"): its own stats at their
 -- stages, with the penalties of its status.
 use Rattle.std.specs.Prelude.{Bool, false, true, ℕ, ◌+◌}
 use Rattle.gen1_tables.specs.declared.effect.Stat.{Stat}
@@ -27,7 +27,7 @@ with_stage Special n s = record s { special = n }
 with_stage Accuracy n s = record s { accuracy = n }
 with_stage Evasion n s = record s { evasion = n }
 
--- a member's own stat; accuracy and evasion are stages alone
+-- A member's own stat. Accuracy and evasion have stages only.
 abbrev pub unmodified : Stat → Member → ℕ
 unmodified Attack m = m.attack
 unmodified Defense m = m.defense
@@ -40,22 +40,22 @@ has_number Accuracy = false
 has_number Evasion = false
 has_number _ = true
 
--- how often a stat was halved or quartered since it was last recomputed
+-- How many times a stat has been halved or quartered since it was last recomputed.
 abbrev pub penalties_of : Stat → Active → ℕ
 penalties_of Attack a = a.attack_penalties
 penalties_of Speed a = a.speed_penalties
 penalties_of _ a = 0
 
--- a stat as it stands
+-- A current stat.
 abbrev pub now : Stat → Member → Active → ℕ
 now stat m a = now_at (unmodified stat m) (stage_of stat a.stages) stat (penalties_of stat a)
 
 abbrev pub now_in : Stat → Side → Field → ℕ
 now_in stat s f = now stat (member_in s f) (active_in s f)
 
--- the changes
+-- The changes
 
--- a stat recomputed forgets its penalties
+-- Recomputing a stat drops its penalties.
 abbrev pub without_penalties : Stat → Active → Active
 without_penalties Attack a = record a { attack_penalties = 0 }
 without_penalties Speed a = record a { speed_penalties = 0 }
@@ -67,7 +67,7 @@ at_new_stage stat n a = record a { stages = with_stage stat n a.stages }
 unfoldable pub recomputed_at : Stat → ℕ → Active → Active
 recomputed_at stat n a = without_penalties stat (record a { stages = with_stage stat n a.stages })
 
--- paralysis quarters Speed and a burn halves Attack, once more
+-- Paralysis quarters Speed once more, and a burn halves Attack once more.
 unfoldable pub with_penalty_of : Status → Active → Active
 with_penalty_of Paralysed a = record a { speed_penalties = a.speed_penalties + 1 }
 with_penalty_of Burned a = record a { attack_penalties = a.attack_penalties + 1 }

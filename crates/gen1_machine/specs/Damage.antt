@@ -1,5 +1,5 @@
--- Damage (docs/MECHANICS.md, "Damage numbers", "Damage formula", "Types", "Factors"): its numbers, its formula, the types and the
--- factor.
+-- Damage (docs/MECHANICS.md, "Damage numbers", "Damage formula", "Types", "Factors"): its numbers, its formula, the
+-- types and the factor.
 use Rattle.std.specs.Prelude.{Bool, List, None, Option, Some, [], count_by, false, if◌then◌else◌, max, min, nat_le, nat_lt, suc, true, zero, ℕ, ◌%◌, ◌*◌, ◌+◌, ◌/◌, ◌==◌, ◌||◌, ◌∷◌}
 use Rattle.gen1_tables.specs.declared.element.Element.{Element}
 use Rattle.gen1_tables.specs.declared.effect.Stat.{Stat}
@@ -14,7 +14,7 @@ use Rattle.gen1_tables.specs.Effects.{explodes}
 use Rattle.gen1_machine.specs.Moves.{Move}
 use Rattle.gen1_machine.specs.Progress.{Phase, ◌▸◌, choose, given, draw_until, set_last_damage, on_action, set_missed, fault, Progress}
 
--- what the formula takes
+-- The inputs of the formula.
 pub record DamageNumbers : Type 0 where
   pub level : ℕ
   pub power : ℕ
@@ -27,13 +27,13 @@ pub record DamageNumbers : Type 0 where
   pub foe_second : Element
   pub halved : Bool  -- an explosion halves the defense
 
--- the numbers (docs/MECHANICS.md, "Damage numbers")
+-- The numbers (docs/MECHANICS.md, "Damage numbers")
 
--- two numbers that don't both fit a byte are divided by 4
+-- If one of the two numbers doesn't fit a byte, both are divided by 4.
 abbrev pub quartered : ℕ → ℕ → ℕ → ℕ
 quartered attack defense n = if nat_lt 255 (max attack defense) then n / 4 else n
 
--- their low bytes; an attack of 0 becomes 1 first
+-- The formula takes their low bytes. An attack of 0 becomes 1 first.
 abbrev pub fitted_attack : ℕ → ℕ → ℕ
 fitted_attack attack defense = max 1 (quartered attack defense attack) % 256
 
@@ -66,7 +66,7 @@ numbers_from s critical move attack defense f = record {
   halved = explodes move.effect;
 }
 
--- a critical hit takes no stages, no penalties and no screens
+-- A critical hit ignores stages, penalties and screens.
 abbrev pub critical_numbers : Side → Move → Field → DamageNumbers
 critical_numbers s move f =
     numbers_from s true move (unmodified (attacking move.kind) (member_in s f))
@@ -83,22 +83,22 @@ numbers_in s move critical f = if critical then critical_numbers s move f else p
 abbrev pub numbers : Side → Move → Progress → DamageNumbers
 numbers s move p = numbers_in s move p.action.critical p.field
 
--- the formula (docs/MECHANICS.md, "Damage formula")
+-- The formula (docs/MECHANICS.md, "Damage formula")
 
 abbrev pub divided : ℕ → ℕ → ℕ → ℕ → Option ℕ
 divided level power attack zero = None
 divided level power attack (suc d) = Some (min 997 ((2 * level / 5 + 2) * power * attack / suc d / 50) + 2)
 
--- damage before types; none where the divisor is 0
+-- The damage before types. There is none where the divisor is 0.
 abbrev pub before_types : DamageNumbers → Option ℕ
 before_types n = divided n.level n.power n.attack (if n.halved then max 1 (n.defense / 2) else n.defense)
 
--- the types (docs/MECHANICS.md, "Types")
+-- The types (docs/MECHANICS.md, "Types")
 
 abbrev pub rows_for : DamageNumbers → List TypeRow
 rows_for n = rows_against n.kind n.foe_first n.foe_second
 
--- row by row, rounded down each time
+-- The rows apply one by one. Each rounds down.
 abbrev pub by_rows : List TypeRow → ℕ → ℕ
 by_rows [] d = d
 by_rows (row ∷ rows) d = by_rows rows (d * row.tenths / 10)
@@ -106,14 +106,14 @@ by_rows (row ∷ rows) d = by_rows rows (d * row.tenths / 10)
 abbrev pub is_own_type : DamageNumbers → Bool
 is_own_type n = same_type n.kind n.user_first || same_type n.kind n.user_second
 
--- a half more for a type of the user's, then each row that applies
+-- A move of one of the user's types does half as much again. Then each row that applies has its effect.
 abbrev pub type_steps : ℕ → DamageNumbers → ℕ
 type_steps d n = by_rows (rows_for n) (if is_own_type n then d + d / 2 else d)
 
 abbrev pub rows_of : ℕ → DamageNumbers → ℕ
 rows_of tenths n = count_by (λ row. row.tenths == tenths) (rows_for n)
 
--- the factor (docs/MECHANICS.md, "Factors")
+-- The factor (docs/MECHANICS.md, "Factors")
 
 abbrev pub rotated_right_1 : ℕ → ℕ
 rotated_right_1 b = b / 2 + b % 2 * 128
@@ -127,16 +127,16 @@ times_factor factor d = d * factor / 255
 unfoldable pub varied_by : ℕ → ℕ → Phase
 varied_by d b = set_last_damage (times_factor (rotated_right_1 b) d)
 
--- damage 0 and 1 are kept without a draw
+-- Damage of 0 or 1 stays as it is, without a draw.
 unfoldable pub vary : ℕ → Phase
 vary d = choose (λ _. nat_le d 1) (set_last_damage d) (draw_until is_factor (varied_by d))
 
--- the whole
+-- The whole
 
 unfoldable pub set_through_types : Phase
 set_through_types = on_action λ a. record a { through_types = true }
 
--- damage 0 marks a miss
+-- Damage of 0 counts as a miss.
 unfoldable pub damage_from : DamageNumbers → Option ℕ → Phase
 damage_from n None = fault 1
 damage_from n (Some d) = set_through_types ▸ set_missed (type_steps d n == 0) ▸ vary (type_steps d n)

@@ -1,4 +1,4 @@
--- What a device holds (docs/PROGRAM.md, "Faults and statuses").
+-- The state of a device (docs/PROGRAM.md, "Faults and statuses").
 use Rattle.std.specs.Prelude.{Bool}
 use Rattle.gen1_machine.specs.declared.device.Device.{Device}
 

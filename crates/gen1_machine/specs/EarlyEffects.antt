@@ -22,7 +22,7 @@ use Rattle.gen1_machine.specs.Progress.{Phase, stay, ◌▸◌, choose, only, gi
 use Rattle.gen1_machine.specs.HitTest.{must_hit}
 use Rattle.gen1_stats.specs.Members.{sleeps_or_freezes}
 
--- confusion for two to five turns
+-- Confusion lasts two to five turns.
 
 unfoldable pub confused_by : Side → ℕ → Phase
 confused_by s b = starts s volatiles.Confusion (with_confusion (low_bits 2 b + 2))
@@ -30,13 +30,13 @@ confused_by s b = starts s volatiles.Confusion (with_confusion (low_bits 2 b + 2
 unfoldable pub confuse : Side → Phase
 confuse s = draw (confused_by s)
 
--- whether the foe is confused already is asked after the hit test
+-- Whether the foe is confused already is tested after the hit test.
 unfoldable pub confuse_foe : Side → Move → Phase
 confuse_foe s move =
     fails_if s (has_substitute (other s)) ▸ must_hit s move
     ▸ fails_if s (is_confused (other s)) ▸ confuse (other s)
 
--- Conversion takes the foe's types
+-- Conversion copies the foe's types.
 
 unfoldable pub take_types : Side → Active → Phase
 take_types s foe =
@@ -45,7 +45,7 @@ take_types s foe =
 unfoldable pub convert : Side → Phase
 convert s = fails_if s (is_invulnerable (other s)) ▸ given (active (other s)) (take_types s)
 
--- what stays up fails where it is up already
+-- Mist, Focus Energy and the screens fail if they are up already.
 
 unfoldable pub set_mist : Side → Phase
 set_mist s = fails_if s (λ p. (conditions s p).mist) ▸ starts s volatiles.Mist with_mist
@@ -62,7 +62,8 @@ set_reflect s = fails_if s (λ p. (conditions s p).reflect) ▸ starts s volatil
 unfoldable pub set_screen : Side → Move → Phase
 set_screen s move = choose (λ _. move.number == light_screen_move) (set_light_screen s) (set_reflect s)
 
--- Haze clears both sides, and cures the foe; a foe that it found asleep or frozen acts no more this turn
+-- Haze clears the conditions of both sides and cures the foe. A foe that was asleep or frozen doesn't act any more
+-- this turn.
 
 unfoldable pub with_levelled_stats : Active → Active
 with_levelled_stats a = record a { stages = level_stages; attack_penalties = 0; speed_penalties = 0 }
@@ -85,16 +86,16 @@ haze s =
     clear_side One ▸ clear_side Two ▸ note (λ f. events.ClearAll)
     ▸ given (status_of (other s)) (haze_cures (other s))
 
--- healing
+-- Healing
 
--- losses of HP that can't be healed, whatever the maximum
+-- Healing fails at these losses of HP, whatever the maximum is.
 abbrev pub resists_healing : ℕ → Bool
 resists_healing lost = lost == 0 || lost == 255 || lost == 511
 
 abbrev pub cannot_heal : Side → Progress → Bool
 cannot_heal s p = resists_healing ((member s p).max - (member s p).hp)
 
--- Rest heals all, and its sleep replaces the status; penalties stay
+-- Rest restores all HP, and its sleep replaces the status. Penalties stay.
 unfoldable pub rest_up : Side → Phase
 rest_up s =
     told (changed_member s (with_status (Asleep 2 false))) (λ f. events.Status (who_in s f) kinds.Sleep)
@@ -106,28 +107,28 @@ recover s = given (member s) λ m. gain_hp s (m.max / 2)
 unfoldable pub heal : Side → Move → Phase
 heal s move = fails_if s (cannot_heal s) ▸ choose (λ _. move.number == rest) (rest_up s) (recover s)
 
--- poison, of which Toxic's is bad
+-- Poison. Toxic's is bad poison.
 unfoldable pub poison_foe : Side → Move → Phase
 poison_foe s move =
     fails_if s (has_substitute (other s)) ▸ fails_if s (has_status (other s)) ▸ fails_if s (is_of (other s) Poison)
     ▸ must_hit s move ▸ inflict (other s) Poisoned kinds.Poison
     ▸ only (move.number == toxic) (on_conditions (other s) with_bad_poison)
 
--- paralysis, which passes a substitute; an Electric move does not paralyse a Ground type
+-- Paralysis passes a substitute. An Electric move doesn't paralyze a Ground type.
 unfoldable pub paralyse_foe : Side → Move → Phase
 paralyse_foe s move =
     fails_if s (has_status (other s))
     ▸ fails_if s (λ p. same_type move.kind Electric && is_of (other s) Ground p)
     ▸ must_hit s move ▸ inflict (other s) Paralysed kinds.Paralysis
 
--- Leech Seed, which passes a substitute
+-- Leech Seed passes a substitute.
 unfoldable pub seed_foe : Side → Move → Phase
 seed_foe s move =
     must_hit s move
     ▸ fails_if s (λ p. (conditions (other s) p).seeded || is_of (other s) Grass p)
     ▸ starts (other s) volatiles.LeechSeed with_seed
 
--- a substitute costs a quarter of the maximum, also where nothing else is left
+-- A substitute costs a quarter of the maximum HP, even if that is all the HP that is left.
 
 unfoldable pub pay_for_substitute : Side → ℕ → Phase
 pay_for_substitute s cost = starts s volatiles.Substitute (with_substitute cost) ▸ lose_hp s sources.Direct cost
@@ -137,11 +138,11 @@ make_substitute s =
     fails_if s (has_substitute s) ▸ fails_if s (λ p. nat_lt (member s p).hp ((member s p).max / 4))
     ▸ given (λ p. (member s p).max / 4) (pay_for_substitute s)
 
--- Splash does nothing
+-- Splash does nothing.
 unfoldable pub splash : Side → Phase
 splash s = note λ f. events.Activate (who_in s f) volatiles.Splash
 
--- by the effect of the move
+-- By the effect of the move
 
 abbrev pub is_early : Effect → Bool
 is_early effects.AlwaysFails = true

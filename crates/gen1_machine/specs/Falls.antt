@@ -1,4 +1,5 @@
--- The end of an update (docs/MECHANICS.md, "Falls and requests"): who has fallen, who has won, and what is asked for next.
+-- The end of an update (docs/MECHANICS.md, "Falls and requests"): who has fallen, who has won, and what is asked for
+-- next.
 use Rattle.std.specs.Prelude.{Bool, false, nat_le, not, true, ◌&&◌, ◌||◌}
 use Rattle.gen1_machine.specs.declared.side.Side.{Side}
 use Rattle.gen1_machine.specs.declared.side.Side.TheVariants.{One, Two}
@@ -15,7 +16,7 @@ use Rattle.gen1_machine.specs.State.{party, who_in, changed_member, with_outcome
 use Rattle.gen1_machine.specs.Progress.{Phase, ◌▸◌, choose, when, given, stop, on_field, note, told, has_fallen, Progress}
 use Rattle.gen1_machine.specs.Ruling.{Ruling}
 
--- the fallen faint, the last actor's foe first
+-- Fallen members faint. The last actor's foe is first.
 
 unfoldable pub faint_if_fallen : Side → Phase
 faint_if_fallen s = when (has_fallen s) (told (changed_member s fallen) λ f. events.Faint (who_in s f))
@@ -26,7 +27,7 @@ faint_in_order actor = faint_if_fallen (other actor) ▸ faint_if_fallen actor
 unfoldable pub the_fallen_faint : Phase
 the_fallen_faint = given (λ p. p.action.side) faint_in_order
 
--- the battle is over, and nothing is asked for any more
+-- The battle is over, and nothing more is asked for.
 
 unfoldable pub ask_nothing : Phase
 ask_nothing = on_field (with_requests requests.Pass requests.Pass)
@@ -37,7 +38,7 @@ battle_ends outcome event = on_field (with_outcome outcome) ▸ ask_nothing ▸ 
 abbrev pub has_living : Side → Progress → Bool
 has_living s p = any is_living (party s p.field).members
 
--- a last turn without a winner is a tie, also where a switch would be due (docs/MECHANICS.md, "Turn limit")
+-- A last turn without a winner is a tie, even if a switch would be due (docs/MECHANICS.md, "Turn limit").
 unfoldable pub end_if_decided : Ruling → Phase
 end_if_decided r =
     when (λ p. not (has_living One p) && not (has_living Two p)) (battle_ends outcomes.Tie events.Tie)
@@ -45,7 +46,7 @@ end_if_decided r =
     ▸ when (λ p. not (has_living Two p)) (battle_ends outcomes.WinOne (events.Win One))
     ▸ when (λ p. nat_le r.last_turn p.field.turn) (battle_ends outcomes.Tie events.Tie)
 
--- the battle goes on: with a switch for each that has fallen, else with the next turn
+-- The battle goes on. It asks for a switch where a member has fallen, and for moves of the next turn otherwise.
 
 abbrev pub switch_if : Bool → Request
 switch_if true = requests.Switch
@@ -62,7 +63,7 @@ ask_for_moves =
 unfoldable pub settle : Ruling → Phase
 settle r = end_if_decided r ▸ choose (λ p. has_fallen One p || has_fallen Two p) ask_for_switches ask_for_moves
 
--- a fault ends a battle at once, with no other event
+-- A fault ends a battle at once, with no further event.
 unfoldable pub close : Ruling → Outcome → Phase
 close r (outcomes.Fault n) = ask_nothing ▸ note λ f. events.Fault n
 close r _ = the_fallen_faint ▸ settle r

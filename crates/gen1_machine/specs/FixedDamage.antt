@@ -1,4 +1,4 @@
--- Moves of a fixed damage, and moves that knock out (docs/MECHANICS.md, "Fixed damage and one-hit moves").
+-- Moves of fixed damage, and one-hit moves (docs/MECHANICS.md, "Fixed damage and one-hit moves").
 use Rattle.std.specs.Prelude.{Bool, max, nat_le, nat_lt, true, ℕ, ◌&&◌, ◌*◌, ◌/◌, ◌==◌}
 use Rattle.gen1_tables.specs.declared.effect.Stat.TheVariants.{Speed}
 use Rattle.gen1_machine.specs.declared.side.Side.{Side}
@@ -10,7 +10,8 @@ use Rattle.gen1_machine.specs.CriticalHits.{roll_critical}
 use Rattle.gen1_machine.specs.Damage.{is_factor}
 use Rattle.gen1_machine.specs.HitTest.{hit_or_miss, is_immune}
 
--- Psywave draws below one and a half times the level; at level 1 no draw would do
+-- Psywave draws a number from 1 to below one and a half times the level. At level 1 no draw would meet that, and the
+-- battle ends with a fault.
 
 abbrev pub is_psywave : ℕ → ℕ → Bool
 is_psywave level b = nat_lt 0 b && nat_lt b (level * 3 / 2)
@@ -18,7 +19,7 @@ is_psywave level b = nat_lt 0 b && nat_lt b (level * 3 / 2)
 unfoldable pub psywave : ℕ → Phase
 psywave level = choose (λ _. nat_le level 1) (fault 2) (draw_until (is_psywave level) set_last_damage)
 
--- the damage by the move: Super Fang halves the foe's HP, moves not named here deal the user's level
+-- The damage by the move. Super Fang halves the foe's HP. A move that isn't named here deals the user's level.
 
 abbrev pub half_hp : Member → ℕ
 half_hp m = max 1 (m.hp / 2)
@@ -31,11 +32,11 @@ deal_fixed s move =
     (choose (λ _. move == super_fang) (given (member (other s)) λ m. set_last_damage (half_hp m))
     (given (member s) λ m. set_last_damage m.level))))
 
--- the hit test alone, then the damage
+-- The hit test comes first, then the damage.
 unfoldable pub fixed_damage : Side → Move → Phase
 fixed_damage s move = hit_or_miss s move ▸ unless has_missed (deal_fixed s move.number)
 
--- a move that knocks out misses where its user is slower; its damage takes the draws of a factor, unused
+-- A one-hit move misses if its user is slower. It draws a factor, which its damage doesn't use.
 
 unfoldable pub deal_everything : ℕ → Phase
 deal_everything b = set_last_damage 65535

@@ -1,4 +1,5 @@
--- What can keep a member from acting (docs/MECHANICS.md, "Gate"): tests in their order, the first that stops decides.
+-- The gate: what can keep a member from acting (docs/MECHANICS.md, "Gate"). The tests run in order, and the first
+-- that stops decides.
 use Rattle.std.specs.Prelude.{None, Option, Some, nat_le, nat_lt, ℕ}
 use Rattle.gen1_stats.specs.declared.status.Status.{Status}
 use Rattle.gen1_stats.specs.declared.status.Status.TheVariants.{Asleep}
@@ -21,7 +22,7 @@ use Rattle.gen1_machine.specs.HitOnItself.{hurt_itself}
 unfoldable pub cant : Side → CantReason → Phase
 cant s why = note (λ f. events.Cant (who_in s f) why) ▸ stop
 
--- sleep: a turn of it is over, and who wakes up does nothing either
+-- A turn of sleep is over. A member that wakes up doesn't act this turn either.
 
 unfoldable pub wake : Side → Phase
 wake s = told (changed_member s with_sleep_one_less) (λ f. events.Cure (who_in s f) kinds.Sleep) ▸ stop
@@ -33,7 +34,7 @@ unfoldable pub sleep_test : Side → Status → Phase
 sleep_test s (Asleep turns marked) = choose (λ _. nat_le turns 1) (wake s) (sleep_on s)
 sleep_test s _ = stay
 
--- the tests that need no count
+-- The tests without a count
 
 unfoldable pub frozen_test : Side → Phase
 frozen_test s = when (λ p. is_frozen (status_of s p)) (cant s reasons.Frozen)
@@ -47,13 +48,13 @@ flinch_test s = when (λ p. (conditions s p).flinch) (on_conditions s without_fl
 unfoldable pub recharge_test : Side → Phase
 recharge_test s = when (λ p. (underway s p).recharge) (on_conditions s without_recharge ▸ cant s reasons.Recharging)
 
--- Disable counts down, and ends at 0
+-- Disable counts down, and ends at 0.
 unfoldable pub disable_count : Side → Option DisabledSlot → Phase
 disable_count s None = stay
 disable_count s (Some d) =
     choose (λ _. nat_le d.turns 1) (ends s volatiles.Disable without_disable) (on_conditions s with_disable_one_less)
 
--- confusion counts down, and ends at 0; else the member hits itself, one time in two
+-- Confusion counts down, and ends at 0. Until then the member hits itself one time in two.
 
 unfoldable pub may_hurt_itself : Side → ℕ → Phase
 may_hurt_itself s b = choose (λ _. nat_le 128 b) (hurt_itself s) stay
@@ -65,12 +66,12 @@ confusion_test s (Some turns) =
     (ends s volatiles.Confusion without_confusion)
     (lasts s volatiles.Confusion with_confusion_one_less ▸ draw (may_hurt_itself s))
 
--- a move that is disabled isn't used, and its charge is lost
+-- A disabled move isn't used. If it was charging, the charge is lost.
 unfoldable pub disabled_test : Side → Pick → Phase
 disabled_test s pick =
     when (λ p. is_disabled_in s pick p.field) (on_conditions s without_charging ▸ cant s reasons.Disabled)
 
--- full paralysis, one time in four
+-- Full paralysis occurs about one time in four.
 
 unfoldable pub may_be_paralysed : Side → ℕ → Phase
 may_be_paralysed s b = choose (λ _. nat_lt b 63) (on_conditions s broken_off ▸ cant s reasons.Paralysed) stay
@@ -78,7 +79,7 @@ may_be_paralysed s b = choose (λ _. nat_lt b 63) (on_conditions s broken_off �
 unfoldable pub paralysis_test : Side → Phase
 paralysis_test s = when (λ p. is_paralysed (status_of s p)) (draw (may_be_paralysed s))
 
--- in three parts: what rules out any action, what is to be waited for, what rules out this one
+-- The gate has three parts: what rules out any action, what has to pass first, and what rules out this action.
 
 unfoldable pub gate_of_status : Side → Phase
 gate_of_status s = given (status_of s) (sleep_test s) ▸ frozen_test s ▸ trapped_test s
@@ -86,7 +87,7 @@ gate_of_status s = given (status_of s) (sleep_test s) ▸ frozen_test s ▸ trap
 unfoldable pub gate_of_turn : Side → Phase
 gate_of_turn s = flinch_test s ▸ recharge_test s ▸ given (λ p. (conditions s p).disabled) (disable_count s)
 
--- who was asleep or frozen as the turn began, and is not any more, has picked nothing
+-- A member that was asleep or frozen as the turn began picked nothing. It does nothing if it has been cured since.
 unfoldable pub gate_of_move : Side → Pick → Phase
 gate_of_move s pick =
     given (λ p. (conditions s p).confused) (confusion_test s)

@@ -1,4 +1,4 @@
--- Moves that go on over turns by themselves (docs/MECHANICS.md, "Going on"): trapping, thrashing and Bide.
+-- Moves that go on over several turns (docs/MECHANICS.md, "Going on"): trapping, thrashing and Bide.
 use Rattle.std.specs.Prelude.{None, Option, Some, nat_le, true, ℕ, ◌%◌, ◌*◌, ◌+◌, ◌==◌}
 use Rattle.gen1_machine.specs.declared.side.Side.{Side}
 use Rattle.gen1_machine.specs.declared.event.Volatile.TheVariants as volatiles
@@ -10,7 +10,7 @@ use Rattle.gen1_machine.specs.Moves.{accuracy_byte, Move}
 use Rattle.gen1_machine.specs.Progress.{Phase, stay, ◌▸◌, choose, given, stop, draw, on_active, on_conditions, set_last_damage, lasts, ends, on_action, set_missed, goes_on_now, last_damage, underway}
 use Rattle.gen1_machine.specs.EarlyEffects.{confuse}
 
--- how often a move hits or holds: of two to five, few are the most
+-- How many times a move hits or holds: two to five, where the small counts are more likely.
 
 unfoldable pub count_again : (ℕ → Phase) → ℕ → Phase
 count_again f c = f (low_bits 2 c)
@@ -18,11 +18,11 @@ count_again f c = f (low_bits 2 c)
 unfoldable pub count_by_draw : (ℕ → Phase) → ℕ → Phase
 count_by_draw f b = choose (λ _. nat_le (low_bits 2 b) 1) (f (low_bits 2 b)) (draw (count_again f))
 
--- two less than the count, from 0 to 3
+-- A number from 0 to 3, which is the count less two.
 unfoldable pub draw_count : (ℕ → Phase) → Phase
 draw_count f = draw (count_by_draw f)
 
--- trapping: for two to five turns the foe can do nothing
+-- Trapping keeps the foe from acting for two to five turns.
 
 unfoldable pub trap_for : Side → ℕ → Phase
 trap_for s n = on_conditions s (with_trapping (n + 1))
@@ -32,7 +32,7 @@ trap s = choose goes_on_now
     (on_conditions s with_trapping_one_less)
     (on_conditions (other s) without_recharge ▸ draw_count (trap_for s))
 
--- thrashing: for two or three turns more; who is done is confused
+-- Thrashing goes on for two or three more turns. Then its user is confused.
 
 unfoldable pub thrash_less : Side → Option ℕ → Phase
 thrash_less s None = stay
@@ -41,7 +41,7 @@ thrash_less s (Some turns) =
     (on_conditions s without_thrash ▸ confuse s)
     (on_conditions s with_thrash_one_less)
 
--- the first turn's accuracy is kept for the others
+-- The accuracy of the first turn is kept for the other turns.
 unfoldable pub thrash_for : Side → Move → ℕ → Phase
 thrash_for s move b =
     on_conditions s (with_thrash (low_bits 1 b + 2)) ▸ on_active s (with_kept_accuracy (accuracy_byte move))
@@ -51,7 +51,7 @@ thrash_about s move = choose goes_on_now
     (given (λ p. (underway s p).thrash) (thrash_less s))
     (draw (thrash_for s move))
 
--- Bide: stores the last damage turn by turn, and in the end lets it out twice over
+-- Bide stores the last damage turn by turn. At the end it lets out twice the sum.
 
 abbrev pub let_out : ℕ → ℕ
 let_out energy = 2 * energy % 65536
@@ -59,7 +59,7 @@ let_out energy = 2 * energy % 65536
 unfoldable pub set_letting_go : Phase
 set_letting_go = on_action λ a. record a { letting_go = true }
 
--- an energy of 0 is a miss
+-- An energy of 0 is a miss.
 unfoldable pub let_energy_go : Side → ℕ → Phase
 let_energy_go s energy =
     ends s volatiles.Bide without_bide ▸ set_last_damage (let_out energy)

@@ -14,21 +14,21 @@ use Rattle.gen1_machine.specs.Progress.{Phase, stay, ◌▸◌, choose, given, s
 use Rattle.gen1_machine.specs.Damage.{doubled_if, numbers_from, before_types, DamageNumbers}
 use Rattle.gen1_machine.specs.Landing.{land_on_substitute, land_on_hp}
 
--- what it has the strength of: a move of power 40, of no effect
+-- The hit has the strength of a move of power 40 without an effect.
 abbrev pub own_hit : Move
 own_hit = record { number = 0; kind = Normal; power = 40; accuracy = 100; effect = effects.DamageOnly }
 
--- the user's own Attack against its own Defense; the foe's Reflect doubles that
+-- The user's own Attack works against its own Defense. The foe's Reflect doubles that Defense.
 abbrev pub own_numbers_in : Side → Field → DamageNumbers
 own_numbers_in s f =
     numbers_from s false own_hit (now_in Attack s f) (doubled_if (conditions_in (other s) f).reflect (now_in Defense s f)) f
 
--- the foe's substitute takes it, if there is one
+-- The foe's substitute takes the damage, if there is one.
 unfoldable pub land_on_foes_substitute : Side → ℕ → Option ℕ → Phase
 land_on_foes_substitute s damage None = stay
 land_on_foes_substitute s damage (Some hp) = land_on_substitute (other s) damage hp
 
--- behind a substitute of its own the user is not hurt
+-- A user with a substitute of its own isn't hurt.
 unfoldable pub hurt_itself_by : Side → Option ℕ → Phase
 hurt_itself_by s None = fault 1
 hurt_itself_by s (Some damage) =
@@ -36,7 +36,7 @@ hurt_itself_by s (Some damage) =
     (given (λ p. (conditions (other s) p).substitute) (land_on_foes_substitute s damage))
     (land_on_hp s sources.Confusion damage)
 
--- no critical hit, no types, no factor, no hit test
+-- There is no critical hit, no type, no factor and no hit test.
 unfoldable pub hurt_itself : Side → Phase
 hurt_itself s =
     on_conditions s broken_off ▸ on_conditions s without_flinch ▸ on_conditions s without_invulnerability

@@ -29,7 +29,7 @@ abbrev pub never_misses : Effect → Bool
 never_misses effects.NeverMisses = true
 never_misses _ = false
 
--- what settles a hit test without a draw: whether it hits
+-- Some hit tests are settled without a draw. This says whether such a test hits.
 abbrev pub settled_hit : Effect → Status → ActiveConditions → Option Bool
 settled_hit effect foe_status foe =
     if eats_dreams effect && not (is_asleep foe_status) then Some false
@@ -41,7 +41,7 @@ settled_hit effect foe_status foe =
 abbrev pub settled_hit_in : Side → Move → Field → Option Bool
 settled_hit_in s move f = settled_hit move.effect (status_in (other s) f) (conditions_in (other s) f)
 
--- the accuracy byte between the user's accuracy and the foe's evasion
+-- The accuracy byte at the user's accuracy and the foe's evasion.
 abbrev pub scaled : ℕ → Stages → Stages → ℕ
 scaled base user foe =
     let aimed = max 1 (base * percent_at user.accuracy / 100) in
@@ -50,14 +50,14 @@ scaled base user foe =
 abbrev pub scaled_in : Side → ℕ → Field → ℕ
 scaled_in s base f = scaled base (active_in s f).stages (active_in (other s) f).stages
 
--- a miss leaves no last damage, and ends the user's trapping
+-- A miss sets the last damage to 0, and ends the user's trapping.
 unfoldable pub miss : Side → Phase
 miss s = set_missed true ▸ set_last_damage 0 ▸ on_conditions s without_trapping
 
 unfoldable pub set_tested : ℕ → Phase
 set_tested byte = on_action λ a. record a { accuracy_tested = Some byte }
 
--- a draw below the byte hits
+-- A draw below the byte hits.
 unfoldable pub hits_below : Side → ℕ → ℕ → Phase
 hits_below s byte b = choose (λ _. nat_lt b byte) stay (miss s)
 
@@ -69,14 +69,14 @@ test_by s base None = given (λ p. scaled_in s base p.field) λ byte. set_tested
 unfoldable pub hit_test : Side → Move → ℕ → Phase
 hit_test s move base = given (λ p. settled_hit_in s move p.field) (test_by s base)
 
--- what goes on is tested with the byte that was kept
+-- A move that goes on is tested with the byte that was kept.
 abbrev pub base_of : Side → Move → Progress → ℕ
 base_of s move p = if p.action.going_on then (active s p).kept_accuracy else accuracy_byte move
 
 unfoldable pub hit_or_miss : Side → Move → Phase
 hit_or_miss s move = given (base_of s move) (hit_test s move)
 
--- how a miss is told: a foe whose type has no effect is immune
+-- A miss is reported as immunity if the foe has a type that the move has no effect on.
 abbrev pub is_immune : Element → Active → Bool
 is_immune t foe = any (λ row. row.tenths == 0) (rows_against t foe.first_type foe.second_type)
 
@@ -87,6 +87,6 @@ miss_event s move f =
 unfoldable pub note_miss : Side → Move → Phase
 note_miss s move = note (miss_event s move)
 
--- a hit test whose miss ends the action
+-- A hit test whose miss ends the action.
 unfoldable pub must_hit : Side → Move → Phase
 must_hit s move = hit_or_miss s move ▸ when has_missed (note_miss s move ▸ stop)

@@ -15,7 +15,7 @@ use Rattle.gen1_machine.specs.HitTest.{must_hit}
 use Rattle.gen1_machine.specs.StageShift.{raise_stage, lower_stage}
 use Rattle.gen1_machine.specs.Ruling.{Ruling}
 
--- a foe that must recharge need not any more, and falls asleep without any other test
+-- A foe that has to recharge loses its recharging. It falls asleep without any other test.
 
 unfoldable pub ready_to_sleep : Side → Move → Phase
 ready_to_sleep s move =
@@ -26,13 +26,13 @@ ready_to_sleep s move =
 unfoldable pub put_to_sleep : Ruling → Side → Move → Phase
 put_to_sleep r s move = ready_to_sleep s move ▸ r.sleeps s
 
--- a stage of the foe's falls
+-- One of the foe's stages falls.
 unfoldable pub lower_foes_stat : Side → Move → Stat → ℕ → Phase
 lower_foes_stat s move stat by =
     fails_if s (has_substitute (other s)) ▸ must_hit s move
     ▸ fails_if s (is_invulnerable (other s)) ▸ lower_stage s (other s) stat by (fail s)
 
--- Bide stores energy for two or three turns
+-- Bide stores energy for two or three turns.
 
 unfoldable pub bide_for : Side → ℕ → Phase
 bide_for s b = starts s volatiles.Bide (with_bide (low_bits 1 b + 2))
@@ -40,7 +40,7 @@ bide_for s b = starts s volatiles.Bide (with_bide (low_bits 1 b + 2))
 unfoldable pub start_bide : Side → Phase
 start_bide s = draw (bide_for s)
 
--- by the effect of the move
+-- By the effect of the move
 
 abbrev pub is_late : Effect → Bool
 is_late (effects.StatUp stat n) = true

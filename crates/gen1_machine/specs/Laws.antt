@@ -9,24 +9,24 @@ use Rattle.gen1_machine.specs.Room.{accepted_pairs, course_of, Submission, Cours
 use Rattle.gen1_machine.specs.Layout.{bytes_of}
 use Rattle.gen1_machine.specs.Valid.{IsField, IsState, IsTerms, IsUnstarted}
 
--- once a battle is over, every pair of choices is refused as that, and nothing changes
+-- Once a battle is over, every pair of choices is refused for that reason, and nothing changes.
 abbrev pub OverStaysOver : Type 0
 OverStaysOver = (s : State) (pairs : List (Choice × Choice))
     → is_over s.field.outcome ≡ true
     → run s pairs ≡ record { answers = map (λ pair. Refused Over) pairs; state = s }
 
--- a refused pair leaves the state, and has no events
+-- A refused pair leaves the state as it is, and has no events.
 abbrev pub RefusalChangesNothing : Type 0
 RefusalChangesNothing = (s : State) (one two : Choice) (why : Refusal)
     → (step s one two).answer ≡ Refused why
     → (events_of (step s one two).answer ≡ []) × ((step s one two).state ≡ s)
 
--- no pair changes the terms of a battle, nor its seed
+-- No pair changes the terms of a battle or its seed.
 abbrev pub TermsStay : Type 0
 TermsStay = (s : State) (one two : Choice)
     → ((step s one two).state.terms ≡ s.terms) × ((step s one two).state.seed ≡ s.seed)
 
--- a run over two lists, one after the other, is the run over the first, and then over the second
+-- A run over one list and then another is the run over the first list, followed by the run over the second.
 abbrev pub RunsAppend : Type 0
 RunsAppend = (s : State) (pairs more : List (Choice × Choice))
     → run s (pairs ++ more) ≡ record {
@@ -34,32 +34,33 @@ RunsAppend = (s : State) (pairs more : List (Choice × Choice))
       state = (run (run s pairs).state more).state;
     }
 
--- without rules, and with the usual limit, every run is the run by the step that knew neither
+-- Without rules and with the usual limit, every run is the run by the step that had neither rules nor a limit to
+-- choose.
 abbrev pub SameAsBeforeRules : Type 0
 SameAsBeforeRules = (s : State) (pairs : List (Choice × Choice))
     → s.terms ≡ usual_terms → run s pairs ≡ run_by step_before s pairs
 
--- with the usual limit every run is the run by the step that knew no other
+-- With the usual limit, every run is the run by the step that had no limit to choose.
 abbrev pub SameAsFixedLimit : Type 0
 SameAsFixedLimit = (s : State) (pairs : List (Choice × Choice))
     → s.terms.limit ≡ 1000 → run s pairs ≡ run_by step_two s pairs
 
--- a room's battle is the run over the pairs that its submissions ended
+-- A room's battle is the run over the pairs that its submissions completed.
 abbrev pub RoomRuns : Type 0
 RoomRuns = (c : Course) (submissions : List Submission)
     → (course_of c submissions).state ≡ (run c.state (accepted_pairs c submissions)).state
 
--- what `first` finds is the least place whose byte meets the test, and stands within a span
+-- The result of `first` is the least place whose byte passes the test. It is within one span.
 abbrev pub FirstIsLeast : Type 0
 FirstIsLeast = (s : Stream) (n : ℕ) (test : ℕ → Bool) (m : ℕ)
     → first s n test ≡ Some m → IsFirst s n test m × (m < n + span s)
 
--- it finds a place wherever some byte meets the test
+-- `first` finds a place if any byte passes the test.
 abbrev pub FirstExists : Type 0
 FirstExists = (s : Stream) → IsStream s → (n : ℕ) (test : ℕ → Bool) (b : ℕ)
     → b < 256 → IsTrue (test b) → (m : ℕ) × (first s n test ≡ Some m)
 
--- a battle of two teams is a valid one before its first update
+-- A battle of two teams is valid before its first update.
 abbrev pub FirstStatesAreValid : Type 0
 FirstStatesAreValid = (terms : Terms) (one two : List Member) (seed : List ℕ)
     → IsTerms terms → IsTeam one → IsTeam two → IsStream (Link seed) → IsState (first_state terms one two seed)
@@ -68,28 +69,28 @@ abbrev pub is_accepted : Answer → Bool
 is_accepted (Refused why) = false
 is_accepted (Accepted events) = true
 
--- how many pairs of choices a run accepts
+-- How many pairs of choices a run accepts.
 abbrev pub accepted_in : State → List (Choice × Choice) → ℕ
 accepted_in s pairs = count_by is_accepted (run s pairs).answers
 
--- from any valid state no more pairs are accepted than turns may come, and eleven: the start, and a replacement for each member
--- but one of each side. Where so many were, the battle is over
+-- A run from a valid state accepts at most as many pairs as turns may still come, and eleven more. The eleven are the
+-- start, and one replacement for each member but one of each side. After that many pairs the battle is over.
 abbrev pub RunsEnd : Type 0
 RunsEnd = (s : State) (pairs : List (Choice × Choice))
     → IsState s
     → (accepted_in s pairs ≤ s.terms.limit + 11)
     × (accepted_in s pairs ≡ s.terms.limit + 11 → is_over (run s pairs).state.field.outcome ≡ true)
 
--- after any run from a valid state the battle has not begun, or every number of its field is in its range, and what is underway
--- belongs to the current move
+-- After any run from a valid state the battle has not begun, or its field is valid: each number is in its range, and
+-- what is underway belongs to the current move.
 abbrev pub FieldsStayValid : Type 0
 FieldsStayValid = (s : State) (pairs : List (Choice × Choice))
     → IsState s → IsUnstarted s.terms (run s pairs).state.field ⊎ IsField s.terms (run s pairs).state.field
 
--- no update leaves the valid states: after any run from one the state is one
+-- Every run from a valid state ends in a valid state.
 abbrev pub StatesStayValid : Type 0
 StatesStayValid = (s : State) (pairs : List (Choice × Choice)) → IsState s → IsState (run s pairs).state
 
--- every number of a valid state fits its bytes
+-- Each number of a valid state fits its bytes.
 abbrev pub StatesFit : Type 0
 StatesFit = (s : State) → IsState s → All (λ b. b < 256) (bytes_of s)

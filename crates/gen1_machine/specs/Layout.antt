@@ -1,5 +1,5 @@
--- The 384 bytes of a battle (docs/LAYOUT.md, "The 384 bytes of a battle"): a header of 24, then for each side six members of
--- 24 and an active block of 36.
+-- The 384 bytes of a battle (docs/LAYOUT.md, "The 384 bytes of a battle"): a header of 24 bytes, then for each side
+-- six members of 24 bytes and an active block of 36.
 use Rattle.std.specs.Prelude.{Bool, List, None, Option, Some, [], flat_map, if◌then◌else◌, is_some, map, replicate, slice_index, take, unwrap_or, ℕ, ◌%◌, ◌*◌, ◌++◌, ◌+◌, ◌/◌, ◌==◌, ◌∷◌}
 use Rattle.gen1_tables.specs.declared.effect.Stat.TheVariants.{Attack, Defense, Speed, Special}
 use Rattle.gen1_stats.specs.declared.status.Status.{Status}
@@ -25,7 +25,7 @@ low_byte n = n % 256
 abbrev pub high_byte : ℕ → ℕ
 high_byte n = n / 256 % 256
 
--- the header
+-- The header
 
 abbrev pub outcome_byte : Outcome → ℕ
 outcome_byte outcomes.Ongoing = 0
@@ -39,11 +39,11 @@ request_byte requests.Pass = 0
 request_byte requests.Move = 1
 request_byte requests.Switch = 2
 
--- the j-th of the nine numbers in use, after so many draws
+-- The j-th of the nine numbers in use, after this many draws.
 abbrev pub number_at : List ℕ → ℕ → ℕ → ℕ
 number_at seed drawn j = byte_at (Link seed) (9 * (drawn / 9) + j)
 
--- the tenth number is never drawn
+-- The tenth number is never drawn.
 abbrev pub header_block : State → List ℕ
 header_block s =
     3 ∷ low_byte s.field.turn ∷ high_byte s.field.turn ∷ low_byte s.field.last_damage ∷ high_byte s.field.last_damage ∷ s.drawn % 9
@@ -53,7 +53,7 @@ header_block s =
     ∷ outcome_byte s.field.outcome ∷ request_byte s.field.request_one ∷ request_byte s.field.request_two
     ∷ bits_of_rules s.terms.rules ∷ low_byte s.terms.limit ∷ high_byte s.terms.limit ∷ 0 ∷ 0 ∷ []
 
--- a member
+-- A member
 
 abbrev pub status_byte : Status → ℕ
 status_byte Healthy = 0
@@ -63,7 +63,7 @@ status_byte Burned = 16
 status_byte Frozen = 32
 status_byte Paralysed = 64
 
--- the last byte is the mark of who sleeps by the foe's move under the sleep clause
+-- The last byte is the mark of a member that the foe's move put to sleep under the sleep clause.
 abbrev pub member_block : Member → List ℕ
 member_block m =
     m.species ∷ m.level ∷ low_byte m.max ∷ high_byte m.max ∷ low_byte m.hp ∷ high_byte m.hp
@@ -73,9 +73,9 @@ member_block m =
     ∷ (known_in 1 m.moves).pp ∷ (known_in 2 m.moves).pp ∷ (known_in 3 m.moves).pp ∷ (known_in 4 m.moves).pp
     ∷ bit_of (is_marked m.status) ∷ []
 
--- an active
+-- An active block
 
--- the conditions from the lowest bit on
+-- The conditions, from the lowest bit up.
 abbrev pub condition_bits : ActiveConditions → List Bool
 condition_bits c =
     is_some c.underway.bide ∷ is_some c.underway.thrash ∷ is_some c.underway.trapping ∷ c.flinch ∷ c.underway.charging
@@ -106,7 +106,7 @@ abbrev pub energy_of : Option Storing → ℕ
 energy_of None = 0
 energy_of (Some b) = b.energy
 
--- one byte holds the turns of what can't be on at once: Bide, thrashing, trapping
+-- Bide, thrashing and trapping can't be on at once, so their turns share one byte.
 abbrev pub turns_byte : Option Storing → Option ℕ → Option ℕ → ℕ
 turns_byte (Some bide) thrash trapping = bide.turns
 turns_byte None (Some turns) trapping = turns
@@ -129,13 +129,13 @@ active_block m a =
     ∷ low_byte (energy_of a.conditions.underway.bide) ∷ high_byte (energy_of a.conditions.underway.bide)
     ∷ used_byte a.current_move ∷ used_byte a.picked_move ∷ a.kept_accuracy ∷ 0 ∷ 0 ∷ 0 ∷ 0 ∷ []
 
--- the whole
+-- The whole
 
--- where nobody is out there are zeros
+-- If no member is out, the block is zeros.
 abbrev pub active_block_of : Party → List ℕ
 active_block_of t = if t.active.place == 0 then replicate 36 0 else active_block (member_at t.active.place t) t.active
 
--- the blocks of the members, and zeros for places without one
+-- The blocks of the members, and zeros for places without a member.
 abbrev pub member_blocks : List Member → List (List ℕ)
 member_blocks members = take 6 (map member_block members ++ replicate 6 (replicate 24 0))
 

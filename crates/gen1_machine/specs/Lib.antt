@@ -4,25 +4,25 @@ pub mod Health
 pub mod Numbers
 pub mod Choices
 pub mod Rules
--- What an event is in a log, and on a line.
+-- An event in a log, and as a line.
 pub mod LogBytes
 pub mod Lines
 -- A stat at its stage.
 pub mod Stages
--- What sinks, sources and devices tell.
+-- Sinks, sources and devices.
 pub mod Devices
 pub mod DeviceViews
 pub mod Output
 pub mod Input
--- A battle, from small to large. Who wants the whole first begins at the end, with `Step`.
+-- A battle, from its parts up to the whole. To start with the whole, read the list from its end, at `Step`.
 
--- What there is.
+-- The state of a battle.
 pub mod Conditions
 pub mod State
 pub mod CurrentStats
 pub mod Moves
 pub mod Progress
--- What an action is made of.
+-- The parts of an action.
 pub mod CriticalHits
 pub mod Damage
 pub mod HitTest
@@ -43,21 +43,21 @@ pub mod Counter
 pub mod HitEffects
 pub mod ManyHits
 pub mod Action
--- What an update is made of.
+-- The parts of an update.
 pub mod SwitchingIn
 pub mod TurnOrder
 pub mod Turn
 pub mod Falls
 pub mod OfferedChoices
 pub mod Step
--- What is made of events and states.
+-- What is derived from events and states.
 pub mod View
 pub mod Room
 pub mod Layout
 -- Which states are valid, and what the sides plan in a turn.
 pub mod Valid
 pub mod Plans
--- Laws over steps and whole runs.
+-- Laws of steps and of whole runs.
 pub mod Laws
 pub mod Bounds
 pub mod Spectator

@@ -1,4 +1,4 @@
--- The hits of a move, one after the other (docs/MECHANICS.md, "Many hits"), and what a miss costs.
+-- The hits of a move, one after another (docs/MECHANICS.md, "Many hits"), and the cost of a miss.
 use Rattle.std.specs.Prelude.{Bool, is_some, nat_lt, suc, unwrap_or, zero, ℕ, ◌+◌, ◌-◌, ◌||◌}
 use Rattle.gen1_tables.specs.declared.effect.Stat.TheVariants.{Attack}
 use Rattle.gen1_machine.specs.declared.side.Side.{Side}
@@ -15,7 +15,7 @@ use Rattle.gen1_machine.specs.Landing.{land}
 use Rattle.gen1_machine.specs.StageShift.{raise_stage}
 use Rattle.gen1_machine.specs.HitEffects.{explode, hit_effect}
 
--- a crash costs 1 HP, and an explosion its user
+-- A crash costs its user 1 HP. An explosion that misses still makes its user fall.
 
 unfoldable pub crash : Side → Phase
 crash s = lose_hp s sources.Direct 1 ▸ set_last_damage 1
@@ -24,7 +24,7 @@ unfoldable pub missed_move : Side → Move → Phase
 missed_move s move =
     note_miss s move ▸ only (crashes move.effect) (crash s) ▸ only (explodes move.effect) (explode s) ▸ stop
 
--- the first hit says how well it did, where it went through the types
+-- The first hit reports its effectiveness if its damage went through the types.
 
 unfoldable pub note_effectiveness : Side → DamageNumbers → Phase
 note_effectiveness target n =
@@ -38,7 +38,7 @@ unfoldable pub note_first_hit : Side → Move → Phase
 note_first_hit s move = when (λ p. p.action.through_types)
     (note_critical (other s) ▸ given (numbers s move) (note_effectiveness (other s)))
 
--- one hit: the damage lands, then what comes with it, and the rage of who was hit builds
+-- One hit: the damage lands, its effect follows, and the rage of a member that was hit builds.
 
 unfoldable pub count_hit : Phase
 count_hit = on_action λ a. record a { hits_made = a.hits_made + 1 }
@@ -52,7 +52,7 @@ hit_once s move =
     ▸ unless broke_substitute (hit_effect s move move.effect)
     ▸ unless (has_fallen (other s)) (build_rage (other s))
 
--- a broken substitute or a fall ends the hits
+-- A broken substitute or a fall ends the hits.
 abbrev pub hits_end : Side → Progress → Bool
 hits_end s p = p.action.broke || has_fallen (other s) p
 
@@ -66,7 +66,7 @@ hits_left p = unwrap_or p.action.hits_planned 1 - 1
 unfoldable pub note_hit_count : Side → ℕ → Phase
 note_hit_count target hits = note λ f. events.HitCount (who_in target f) hits
 
--- the other hits of a move that may make several, and their number
+-- The other hits of a move that may make several, and their number.
 unfoldable pub other_hits : Side → Move → Phase
 other_hits s move =
     given hits_left (λ k. hit_again k s move)

@@ -1,10 +1,10 @@
--- Moves by their number (docs/TABLES.md, "Moves"): what their row says, and the few that a rule names.
+-- Moves by their number (docs/TABLES.md, "Moves"): their rows, and the few moves that a rule names.
 use Rattle.std.specs.Prelude.{Bool, ℕ, ◌*◌, ◌/◌, ◌==◌, ◌||◌}
 use Rattle.gen1_tables.specs.declared.element.Element.{Element}
 use Rattle.gen1_tables.specs.declared.effect.Effect.{Effect}
 use Rattle.gen1_tables.specs.Moves.{move_row, MoveRow}
 
--- a move: its number, and its row of the table
+-- A move: its number, and its row of the table.
 pub record Move : Type 0 where
   pub number : ℕ
   pub kind : Element
@@ -60,6 +60,6 @@ super_fang = 162
 abbrev pub slash : ℕ
 slash = 163
 
--- moves that are critical more often
+-- Moves with a high critical-hit chance.
 abbrev pub is_often_critical : ℕ → Bool
 is_often_critical move = move == karate_chop || move == razor_leaf || move == crabhammer || move == slash

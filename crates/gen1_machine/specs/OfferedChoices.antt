@@ -12,17 +12,17 @@ use Rattle.gen1_machine.specs.Sides.{other}
 use Rattle.gen1_machine.specs.Conditions.{Underway}
 use Rattle.gen1_machine.specs.State.{party, request_of, active_in, conditions_in, underway_in, member_in, status_in, is_over, Field}
 
--- what leaves a member no choice at all
+-- A committed member has no choice but to continue.
 abbrev pub is_committed : Underway → Bool
 is_committed u = u.recharge || u.rage || is_some u.thrash || u.charging
 
--- what leaves no slot to pick, but lets the member be switched
+-- A member with no slot to pick can still be switched.
 abbrev pub has_no_slot_in : Side → Field → Bool
 has_no_slot_in s f =
     sleeps_or_freezes (status_in s f) || is_some (underway_in s f).bide
     || is_some (underway_in s f).trapping || is_some (underway_in (other s) f).trapping
 
--- slots with PP that are not disabled, from a slot on
+-- The slots that have PP and aren't disabled, from slot k on.
 
 abbrev pub bars_slot : Option DisabledSlot → ℕ → Bool
 bars_slot None k = false
@@ -35,7 +35,7 @@ usable_from k disabled (m ∷ ms) =
     then choices.Move k ∷ usable_from (k + 1) disabled ms
     else usable_from (k + 1) disabled ms
 
--- who can use no slot can struggle
+-- A member without a usable slot can use Struggle.
 abbrev pub or_struggle : List Choice → List Choice
 or_struggle [] = choices.Move 0 ∷ []
 or_struggle (c ∷ cs) = c ∷ cs
@@ -45,7 +45,7 @@ moves_offered s f =
     if has_no_slot_in s f then choices.Move 0 ∷ []
     else or_struggle (usable_from 1 (conditions_in s f).disabled (member_in s f).moves)
 
--- switches to the living that are not out, from a place on
+-- Switches to the living members that aren't out, from a place on.
 
 abbrev pub others_living_from : ℕ → ℕ → List Member → List Choice
 others_living_from place out [] = []
@@ -57,13 +57,13 @@ others_living_from place out (m ∷ ms) =
 abbrev pub switches_offered : Side → Field → List Choice
 switches_offered s f = others_living_from 1 (active_in s f).place (party s f).members
 
--- by what is asked for
+-- By the request.
 abbrev pub offered_for : Request → Side → Field → List Choice
 offered_for requests.Pass s f = choices.Pass ∷ []
 offered_for requests.Switch s f = switches_offered s f
 offered_for requests.Move s f =
     if is_committed (underway_in s f) then choices.Move 0 ∷ [] else moves_offered s f ++ switches_offered s f
 
--- in rising codes; once the battle is over nothing is offered
+-- Choices come in rising codes. Once the battle is over, none is offered.
 unfoldable pub offered : Side → Field → List Choice
 offered s f = if is_over f.outcome then [] else offered_for (request_of s f) s f

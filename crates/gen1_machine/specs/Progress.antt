@@ -1,4 +1,4 @@
--- A battle in the middle of an update, and the phases that move it on, with the ways to put them together.
+-- A battle in the middle of an update, the phases that move it on, and the ways to combine phases.
 use Rattle.std.specs.Prelude.{Bool, List, None, Option, Some, [], false, is_some, nat_lt, not, true, ℕ, ◌&&◌, ◌++◌, ◌+◌, ◌∷◌}
 use Rattle.gen1_tables.specs.declared.element.Element.{Element}
 use Rattle.gen1_tables.specs.declared.effect.Stat.{Stat}
@@ -18,17 +18,17 @@ use Rattle.gen1_machine.specs.Conditions.{Underway, ActiveConditions}
 use Rattle.gen1_machine.specs.State.{active_in, conditions_in, underway_in, member_in, status_in, has_fallen_in, who_in, health_in, changed_active, changed_conditions, changed_member, with_last_damage, with_outcome, with_status, hurt_by, healed_by, has_type, Active, Field}
 use Rattle.gen1_machine.specs.CurrentStats.{now_in, with_penalty_of}
 
--- what is known of the action that is being taken
+-- What is known of the action in progress.
 pub record Action : Type 0 where
   pub side : Side  -- who acts
-  pub going_on : Bool  -- it goes on, and was not picked anew
+  pub going_on : Bool  -- it goes on from an earlier turn
   pub letting_go : Bool  -- it lets out the energy of Bide
   pub missed : Bool
   pub critical : Bool
   pub through_types : Bool  -- its damage went through the type rows
   pub broke : Bool  -- it broke a substitute
   pub hits_made : ℕ
-  pub hits_planned : Option ℕ  -- hits to make, where the move makes several
+  pub hits_planned : Option ℕ  -- hits to make, if the move makes several
   pub accuracy_tested : Option ℕ  -- the accuracy byte of its hit test
 
 abbrev pub new_action : Side → Action
@@ -50,29 +50,29 @@ pub record Progress : Type 0 where
   pub stream : Stream
   pub drawn : ℕ
   pub events : List Event  -- in their order
-  pub stopped : Bool  -- the rest of what is being done falls away
-  pub skips : Bool  -- Haze met a sleeper, who acts no more this turn
+  pub stopped : Bool  -- the remaining phases are skipped
+  pub skips : Bool  -- Haze met a sleeping or frozen foe, which acts no more this turn
   pub action : Action
 
--- what moves a battle on
+-- A phase moves a battle on.
 abbrev pub Phase : Type 0
 Phase = Progress → Progress
 
--- ways to put phases together
+-- Ways to combine phases
 
--- nothing happens
+-- Nothing happens.
 unfoldable pub stay : Phase
 stay p = p
 
 unfoldable pub unless_stopped : Phase → Phase
 unless_stopped f p = elim p.stopped [ true ↦ p | false ↦ f p ]
 
--- one phase, then the next, unless the first stopped
+-- One phase and then the next, unless the first stopped.
 infixr 20 ◌▸◌
 unfoldable pub ◌▸◌ : Phase → Phase → Phase
 (f ▸ g) p = unless_stopped g (f p)
 
--- one phase or another
+-- One phase or another, by a test.
 unfoldable pub choose : (Progress → Bool) → Phase → Phase → Phase
 choose test f g p = elim (test p) [ true ↦ f p | false ↦ g p ]
 
@@ -82,41 +82,41 @@ when test f = choose test f stay
 abbrev pub unless : (Progress → Bool) → Phase → Phase
 unless test f = choose test stay f
 
--- a phase that only some moves have
+-- A phase that applies only to some moves.
 abbrev pub only : Bool → Phase → Phase
 only holds f = when (λ _. holds) f
 
--- a phase that depends on what there is
+-- A phase that depends on a value of the battle.
 unfoldable pub given : {A : Type 0} → (Progress → A) → (A → Phase) → Phase
 given read f p = f (read p) p
 
--- the rest falls away
+-- The remaining phases are skipped.
 unfoldable pub stop : Phase
 stop p = record p { stopped = true }
 
--- draws
+-- Draws
 
--- the next byte, and what it leads to
+-- The next byte, and what follows from it.
 unfoldable pub draw : (ℕ → Phase) → Phase
 draw f p = f (byte_at p.stream p.drawn) (record p { drawn = p.drawn + 1 })
 
--- draws until a byte meets the test; where none does, all of the stream's numbers were drawn
+-- Draws until a byte passes the test. If none does, all numbers of the stream are drawn.
 unfoldable pub draw_until : (ℕ → Bool) → (ℕ → Phase) → Phase
 draw_until test f p = elim (first p.stream p.drawn test) [
   | Some m ↦ f (byte_at p.stream m) (record p { drawn = m + 1 })
   | None ↦ record p { drawn = p.drawn + span p.stream }
 ]
 
--- writes and events
+-- Writes and events
 
 unfoldable pub on_field : (Field → Field) → Phase
 on_field change p = record p { field = change p.field }
 
--- an event is written
+-- An event is written.
 unfoldable pub note : (Field → Event) → Phase
 note event p = record p { events = p.events ++ event p.field ∷ [] }
 
--- a change, and the event that tells of it
+-- A change, and then the event that reports it.
 unfoldable pub told : (Field → Field) → (Field → Event) → Phase
 told change event p = record p { field = change p.field; events = p.events ++ event (change p.field) ∷ [] }
 
@@ -132,7 +132,7 @@ on_member s change = on_field (changed_member s change)
 unfoldable pub set_last_damage : ℕ → Phase
 set_last_damage damage = on_field (with_last_damage damage)
 
--- a condition begins, goes on or ends, and the event says so
+-- A condition begins, goes on or ends, and an event reports it.
 
 unfoldable pub starts : Side → Volatile → (ActiveConditions → ActiveConditions) → Phase
 starts s what change = told (changed_conditions s change) λ f. events.Start (who_in s f) what
@@ -143,7 +143,7 @@ lasts s what change = told (changed_conditions s change) λ f. events.Activate (
 unfoldable pub ends : Side → Volatile → (ActiveConditions → ActiveConditions) → Phase
 ends s what change = told (changed_conditions s change) λ f. events.End (who_in s f) what
 
--- what is known of the action
+-- What is known of the action
 
 unfoldable pub on_action : (Action → Action) → Phase
 on_action change p = record p { action = change p.action }
@@ -160,7 +160,7 @@ has_missed p = p.action.missed
 abbrev pub broke_substitute : Progress → Bool
 broke_substitute p = p.action.broke
 
--- what there is
+-- The values of the battle
 
 abbrev pub last_damage : Progress → ℕ
 last_damage p = p.field.last_damage
@@ -204,38 +204,39 @@ is_trapping s p = is_some (underway s p).trapping
 abbrev pub is_of : Side → Element → Progress → Bool
 is_of s t p = has_type t (active s p)
 
--- what many rules share
+-- Rules that others share
 
--- what can't go on ends the battle
+-- A battle that can't go on ends with a fault.
 unfoldable pub fault : ℕ → Phase
 fault n = on_field (with_outcome (outcomes.Fault n)) ▸ stop
 
--- the user's move fails
+-- The user's move fails.
 unfoldable pub fail : Side → Phase
 fail s = note (λ f. events.Fail (who_in s f)) ▸ stop
 
 unfoldable pub fails_if : Side → (Progress → Bool) → Phase
 fails_if s test = when test (fail s)
 
--- a member loses HP, as much as there is; the event is written where that changes something (docs/MECHANICS.md, "Order of
--- events")
+-- A member loses HP, at most what it has. The event is written if there is an amount and the member is alive
+-- (docs/MECHANICS.md, "Order of events").
 unfoldable pub lose_hp : Side → DamageSource → ℕ → Phase
 lose_hp s source amount =
     when (λ p. nat_lt 0 amount && is_living (member s p))
     (told (changed_member s (hurt_by amount)) λ f. events.Damage (who_in s f) (health_in s f) source)
 
--- a member gains HP, up to its most (docs/MECHANICS.md, "Order of events")
+-- A member gains HP, up to its maximum. The event is written if that changes its HP (docs/MECHANICS.md, "Order of
+-- events").
 unfoldable pub gain_hp : Side → ℕ → Phase
 gain_hp s amount =
     when (λ p. nat_lt 0 amount && nat_lt (member s p).hp (member s p).max)
     (told (changed_member s (healed_by amount)) λ f. events.Heal (who_in s f) (health_in s f))
 
--- a status is set, and its penalty taken (docs/MECHANICS.md, "Penalties")
+-- A status is set, and its penalty applies (docs/MECHANICS.md, "Penalties").
 unfoldable pub inflict : Side → Status → Kind → Phase
 inflict s status kind =
     on_member s (with_status status)
     ▸ told (changed_active s (with_penalty_of status)) λ f. events.Status (who_in s f) kind
 
--- a status is gone; its penalties stay
+-- A status is removed. Its penalties stay.
 unfoldable pub cure : Side → Kind → Phase
 cure s kind = told (changed_member s (with_status Healthy)) λ f. events.Cure (who_in s f) kind

@@ -1,4 +1,4 @@
--- What poison, a burn and Leech Seed take after an action (docs/MECHANICS.md, "Residual damage").
+-- The damage of poison, a burn and Leech Seed after an action (docs/MECHANICS.md, "Residual damage").
 use Rattle.std.specs.Prelude.{None, Option, Some, max, ℕ, ◌*◌, ◌/◌}
 use Rattle.gen1_stats.specs.declared.status.Status.{Status}
 use Rattle.gen1_stats.specs.declared.status.Status.TheVariants.{Poisoned, Burned}
@@ -11,7 +11,7 @@ use Rattle.gen1_machine.specs.Conditions.{with_worse_poison}
 use Rattle.gen1_machine.specs.State.{conditions_in, member_in, Field}
 use Rattle.gen1_machine.specs.Progress.{Phase, stay, ◌▸◌, when, given, on_conditions, conditions, member, status_of, lose_hp, gain_hp}
 
--- a badly poisoned member loses once as much the first time, twice the second, and so on
+-- A badly poisoned member loses one portion the first time, two the second time, and so on.
 abbrev pub times_poisoned : Option ℕ → ℕ
 times_poisoned None = 1
 times_poisoned (Some times) = times
@@ -25,7 +25,7 @@ worsen s = on_conditions s with_worse_poison
 unfoldable pub suffer : Side → DamageSource → Phase
 suffer s source = worsen s ▸ given (λ p. residual_in s p.field) (lose_hp s source)
 
--- the foe heals as much, also where less was left to take
+-- The foe heals by the whole amount, even if the member had less HP left.
 unfoldable pub drained_by : Side → ℕ → Phase
 drained_by s amount = lose_hp s sources.LeechSeed amount ▸ gain_hp (other s) amount
 
@@ -37,7 +37,7 @@ suffer_status s Poisoned = suffer s sources.Poison
 suffer_status s Burned = suffer s sources.Burn
 suffer_status s _ = stay
 
--- who has fallen before is spared
+-- A member that has fallen already is spared.
 unfoldable pub residual : Side → Phase
 residual s = when (λ p. is_living (member s p))
     (given (status_of s) (suffer_status s) ▸ when (λ p. (conditions s p).seeded) (suffer_seed s))

@@ -1,4 +1,4 @@
--- A room (docs/MECHANICS.md, "Rooms"): two players who submit their choices apart from each other.
+-- A room (docs/MECHANICS.md, "Rooms"): two players who submit their choices independently.
 use Rattle.std.specs.Prelude.{Bool, List, None, Option, Some, [], if◌then◌else◌, is_none, is_some, not, ℕ, ◌&&◌, ◌++◌, ◌+◌, ◌==◌, ◌∷◌}
 use Rattle.gen1_machine.specs.declared.side.Side.{Side}
 use Rattle.gen1_machine.specs.declared.side.Side.TheVariants.{One, Two}
@@ -12,13 +12,13 @@ use Rattle.gen1_machine.specs.State.{same_side, request_of, is_over, is_pass, St
 use Rattle.gen1_machine.specs.OfferedChoices.{offered}
 use Rattle.gen1_machine.specs.Step.{events_of, step, Stepped, Accepted}
 
--- a submission names the pair that it is meant for; its choice is a byte, which may be none
+-- A submission names the pair that it is meant for. Its choice is a byte, which may not be a choice at all.
 pub record Submission : Type 0 where
   pub side : Side
   pub number : ℕ
   pub byte : ℕ
 
--- the battle after the ended pairs, their number, the last one's events, and what was submitted since then
+-- The battle after the completed pairs, their number, the events of the last one, and the submissions since then.
 pub record Course : Type 0 where
   pub state : State
   pub number : ℕ
@@ -29,7 +29,7 @@ abbrev pub choice_by_byte : ℕ → List Choice → Option Choice
 choice_by_byte b [] = None
 choice_by_byte b (c ∷ cs) = if byte_of_choice c == b then Some c else choice_by_byte b cs
 
--- the choice that a submission makes for a side in the current pair, if it makes one
+-- The choice that a submission makes for a side in the current pair, if it makes one.
 abbrev pub choice_made : Side → Course → Submission → Option Choice
 choice_made s c submission =
     if same_side submission.side s && submission.number == c.number
@@ -42,7 +42,8 @@ first_made s c (submission ∷ more) = elim (choice_made s c submission) [ Some 
 abbrev pub is_asked_to_pass : Side → Course → Bool
 is_asked_to_pass s c = is_pass (request_of s c.state.field)
 
--- a side's choice for the current pair: Pass where nothing else is asked for, else the first that was offered
+-- A side's choice for the current pair: Pass if nothing else is asked for, otherwise its first submitted choice that
+-- was offered.
 abbrev pub chosen : Side → Course → Option Choice
 chosen s c = if is_asked_to_pass s c then Some choices.Pass else first_made s c c.since
 
@@ -60,7 +61,7 @@ pub data Reply : Type 0 where
 abbrev pub advanced_to : State → Reply
 advanced_to s = Advanced s.field.outcome s.field.request_one s.field.request_two
 
--- a pair ends where both choices are there
+-- A pair is complete when both choices are there.
 abbrev pub ended_by : Course → Option Choice → Option Choice → Course
 ended_by c (Some one) (Some two) = let next = step c.state one two in
     record { state = next.state; number = c.number + 1; events = events_of next.answer; since = [] }
@@ -69,13 +70,13 @@ ended_by c _ _ = c
 abbrev pub with_submission : Course → Submission → Course
 with_submission c submission = record c { since = c.since ++ submission ∷ [] }
 
--- nothing is current once the battle is over
+-- Once the battle is over, submissions change nothing.
 unfoldable pub after : Course → Submission → Course
 after c submission =
     if is_over c.state.field.outcome then c
     else let d = with_submission c submission in ended_by d (chosen One d) (chosen Two d)
 
--- the reply to a submission that made a choice: whether a pair ended by it
+-- The reply to a submission that made a choice. It says whether that completed the pair.
 abbrev pub reply_to_choice : Course → Course → Reply
 reply_to_choice c d = if d.number == c.number then Waiting else advanced_to d.state
 
@@ -87,14 +88,14 @@ reply_to c submission =
     else if is_none (choice_made submission.side c submission) then TurnedAway ChoiceNotOffered
     else reply_to_choice c (after c submission)
 
--- a battle that has not begun begins with its room
+-- A battle that has not begun begins when its room is made.
 abbrev pub begun : State → Stepped
 begun s = if s.field.turn == 0 then step s choices.Pass choices.Pass else record { answer = Accepted []; state = s }
 
 unfoldable pub room_of : State → Course
 room_of s = record { state = (begun s).state; number = 0; events = events_of (begun s).answer; since = [] }
 
--- the pairs that the submissions ended
+-- The pairs that the submissions complete.
 abbrev pub pair_of : Option Choice → Option Choice → List (Choice × Choice)
 pair_of (Some one) (Some two) = (one, two) ∷ []
 pair_of _ _ = []

@@ -1,4 +1,4 @@
--- The clauses that a battle is fought under (docs/MECHANICS.md, "Rules (sleep clause, freeze clause)").
+-- The clauses of a battle (docs/MECHANICS.md, "Rules (sleep clause, freeze clause)").
 use Rattle.std.specs.Prelude.{ℕ, ◌+◌, ◌*◌, ◌/◌, ◌%◌, ◌==◌, Bool, true, false}
 
 pub record Rules : Type 0 where
@@ -8,7 +8,7 @@ pub record Rules : Type 0 where
 abbrev pub no_rules : Rules
 no_rules = record { sleep_clause = false; freeze_clause = false }
 
--- the rules with these bits: the lowest is the sleep clause, the next the freeze clause
+-- The rules for these bits. The lowest bit is the sleep clause, the next is the freeze clause.
 abbrev pub rules_of : ℕ → Rules
 rules_of bits = record { sleep_clause = bits % 2 == 1; freeze_clause = bits / 2 % 2 == 1 }
 

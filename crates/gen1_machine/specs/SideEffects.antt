@@ -1,4 +1,4 @@
--- What a move may do besides its damage (docs/MECHANICS.md, "Side effects").
+-- What a move may do in addition to its damage (docs/MECHANICS.md, "Side effects").
 use Rattle.std.specs.Prelude.{Bool, List, is_some, length, nat_lt, not, sum_by, ℕ, ◌&&◌, ◌+◌, ◌||◌}
 use Rattle.gen1_tables.specs.declared.element.Element.TheVariants.{Poison, Fire}
 use Rattle.gen1_tables.specs.declared.effect.Effect.{Effect}
@@ -23,7 +23,7 @@ use Rattle.gen1_machine.specs.StageShift.{lower_stage}
 use Rattle.gen1_machine.specs.Ruling.{Ruling}
 use Rattle.gen1_machine.specs.EarlyEffects.{confuse}
 
--- by chance: where a draw is below a number
+-- An effect by chance happens if a draw is below a number.
 
 unfoldable pub happens_below : ℕ → Phase → ℕ → Phase
 happens_below bound f b = choose (λ _. nat_lt b bound) f stay
@@ -31,31 +31,31 @@ happens_below bound f b = choose (λ _. nat_lt b bound) f stay
 unfoldable pub by_chance : ℕ → Phase → Phase
 by_chance bound f = draw (happens_below bound f)
 
--- a Fire move thaws a frozen foe
+-- A Fire move thaws a frozen foe.
 unfoldable pub thaw : Side → Move → Phase
 thaw s move =
     when (λ p. same_type move.kind Fire && is_frozen (status_of (other s) p)) (cure (other s) kinds.Freeze)
 
--- a burn, a freeze, paralysis: without a draw where the foe has a status or the move's type
+-- A burn, a freeze or paralysis. There is no draw if the foe has a status, or has the move's type.
 unfoldable pub may_inflict : Side → Move → ℕ → Phase → Phase
 may_inflict s move bound f =
     choose (has_status (other s)) (thaw s move) (unless (is_of (other s) move.kind) (by_chance bound f))
 
--- poison: without a draw where the foe has a status or is a Poison type
+-- Poison. There is no draw if the foe has a status, or is a Poison type.
 unfoldable pub may_poison : Side → ℕ → Phase
 may_poison s bound =
     unless (λ p. has_status (other s) p || is_of (other s) Poison p)
     (by_chance bound (inflict (other s) Poisoned kinds.Poison))
 
--- confusion: the draw comes first
+-- Confusion. The draw comes before the tests.
 unfoldable pub may_confuse : Side → ℕ → Phase
 may_confuse s bound = by_chance bound (unless (is_confused (other s)) (confuse (other s)))
 
--- a flinch also spares the foe its recharging
+-- A foe that flinches also loses its recharging.
 unfoldable pub flinch : Side → Phase
 flinch s = on_conditions s with_flinch ▸ on_conditions s without_recharge
 
--- what a substitute of the foe's keeps away
+-- A substitute of the foe keeps these effects away.
 unfoldable pub kept_away_effect : Ruling → Side → Move → Effect → Phase
 kept_away_effect r s move (effects.PoisonChance n) = may_poison s n
 kept_away_effect r s move effects.Twineedle = may_poison s 52
@@ -66,12 +66,12 @@ kept_away_effect r s move (effects.FlinchChance n) = by_chance n (flinch (other 
 kept_away_effect r s move (effects.StatDownChance stat) = by_chance 85 (lower_stage s (other s) stat 1 stay)
 kept_away_effect r s move _ = stay
 
--- Disable draws a slot, then for how many turns
+-- Disable draws a slot, and then a number of turns.
 
 abbrev pub has_pp : List KnownMove → Bool
 has_pp moves = nat_lt 0 (sum_by (λ (k : KnownMove). k.pp) moves)
 
--- a drawn slot has to hold a move, with PP where any move has PP
+-- A drawn slot has to hold a move. If any move has PP, that move must have PP.
 abbrev pub names_slot : List KnownMove → ℕ → Bool
 names_slot moves b =
     nat_lt (low_bits 2 b) (length moves) && (not (has_pp moves) || nat_lt 0 (known_in (low_bits 2 b + 1) moves).pp)
@@ -79,7 +79,7 @@ names_slot moves b =
 unfoldable pub disable_for : Side → ℕ → ℕ → Phase
 disable_for s b c = starts s volatiles.Disable (with_disabled (low_bits 2 b + 1) (low_bits 3 c + 1))
 
--- with no PP at all it fails between the two draws
+-- If no move has PP, Disable fails between the two draws.
 unfoldable pub disable_slot : Side → List KnownMove → ℕ → Phase
 disable_slot s moves b = fails_if s (λ _. not (has_pp moves)) ▸ draw (disable_for (other s) b)
 
@@ -88,11 +88,11 @@ disable s move =
     must_hit s move ▸ fails_if s (λ p. is_some (conditions (other s) p).disabled)
     ▸ given (λ p. (member (other s) p).moves) λ moves. draw_until (names_slot moves) (disable_slot s moves)
 
--- a turn of recharging is due
+-- The user has to recharge next turn.
 unfoldable pub must_recharge : Side → Phase
 must_recharge s = told (changed_conditions s with_recharge) λ f. events.MustRecharge (who_in s f)
 
--- by the effect of the move
+-- By the effect of the move.
 unfoldable pub side_effect : Ruling → Side → Move → Effect → Phase
 side_effect r s move (effects.ConfusionChance n) = may_confuse s n
 side_effect r s move effects.Disable = disable s move

@@ -2,7 +2,7 @@
 use Rattle.gen1_machine.specs.declared.side.Side.{Side}
 use Rattle.gen1_machine.specs.declared.side.Side.TheVariants.{One, Two}
 
--- the side that a side battles
+-- The foe of a side.
 abbrev pub other : Side → Side
 other One = Two
 other Two = One

@@ -1,4 +1,4 @@
--- What a battle is: two sides with their members, what is between them, and under which terms it is fought.
+-- The state of a battle: two sides with their members, what is between them, and the terms of the battle.
 use Rattle.std.specs.Prelude.{Bool, List, None, Option, Some, false, if◌then◌else◌, min, nat_le, not, slice_index_or, slice_set, true, ℕ, ◌&&◌, ◌+◌, ◌-◌, ◌==◌, ◌||◌}
 use Rattle.gen1_tables.specs.declared.element.Element.{Element}
 use Rattle.gen1_tables.specs.declared.element.Element.TheVariants.{Normal}
@@ -22,7 +22,7 @@ use Rattle.gen1_machine.specs.Health.{Health}
 use Rattle.gen1_machine.specs.Rules.{no_rules, Rules}
 use Rattle.gen1_machine.specs.Conditions.{no_conditions, Underway, ActiveConditions}
 
--- stages from 0 to 12, of which 6 is the middle
+-- Stages from 0 to 12. The middle is 6.
 pub record Stages : Type 0 where
   pub attack : ℕ
   pub defense : ℕ
@@ -31,25 +31,25 @@ pub record Stages : Type 0 where
   pub accuracy : ℕ
   pub evasion : ℕ
 
--- a member that is out
+-- A member that is out.
 pub record Active : Type 0 where
-  pub place : ℕ  -- from 1, or 0 where nobody is out
+  pub place : ℕ  -- from 1, or 0 if no member is out
   pub first_type : Element
   pub second_type : Element
   pub stages : Stages
-  pub attack_penalties : ℕ  -- how often since it was last recomputed
-  pub speed_penalties : ℕ  -- likewise
+  pub attack_penalties : ℕ  -- how many since Attack was last recomputed
+  pub speed_penalties : ℕ  -- how many since Speed was last recomputed
   pub current_move : UsedMove  -- the move that was used last
   pub picked_move : UsedMove  -- the move that was picked last
   pub kept_accuracy : ℕ  -- the accuracy byte that is kept for a move that goes on
   pub conditions : ActiveConditions
 
--- one side: its members, and who of them is out
+-- One side: its members, and which of them is out.
 pub record Party : Type 0 where
   pub members : List Member
   pub active : Active
 
--- a battle without its terms and its random numbers
+-- A battle without its terms and its random numbers.
 pub record Field : Type 0 where
   pub one : Party
   pub two : Party
@@ -59,19 +59,19 @@ pub record Field : Type 0 where
   pub request_one : Request
   pub request_two : Request
 
--- what a battle is begun under, and no update changes
+-- The terms of a battle. No update changes them.
 pub record Terms : Type 0 where
   pub rules : Rules
   pub limit : ℕ  -- the last turn
 
--- a battle between two updates: its terms, the field, the ten seed bytes, and how many draws were made
+-- A battle between two updates: its terms, the field, the ten seed bytes, and the number of draws so far.
 pub record State : Type 0 where
   pub terms : Terms
   pub field : Field
   pub seed : List ℕ
   pub drawn : ℕ
 
--- the sides
+-- The sides
 
 abbrev pub same_side : Side → Side → Bool
 same_side One One = true
@@ -90,9 +90,9 @@ abbrev pub request_of : Side → Field → Request
 request_of One f = f.request_one
 request_of Two f = f.request_two
 
--- what stands in a field
+-- The contents of a field
 
--- the member at a place, counted from 1
+-- The member at a place, counted from 1.
 abbrev pub member_at : ℕ → Party → Member
 member_at place t = slice_index_or t.members (place - 1) nobody
 
@@ -108,7 +108,7 @@ conditions_in s f = (active_in s f).conditions
 abbrev pub underway_in : Side → Field → Underway
 underway_in s f = (conditions_in s f).underway
 
--- the member that is out
+-- The member that is out.
 abbrev pub member_in : Side → Field → Member
 member_in s f = member_at (active_in s f).place (party s f)
 
@@ -118,7 +118,7 @@ status_in s f = (member_in s f).status
 abbrev pub has_fallen_in : Side → Field → Bool
 has_fallen_in s f = not (is_living (member_in s f))
 
--- how events name a side's member, and its HP
+-- How events name a side's member, and its HP
 
 abbrev pub who_in : Side → Field → Who
 who_in s f = record { side = s; species = (member_in s f).species }
@@ -137,7 +137,7 @@ health_of m = record { hp = m.hp; max = m.max; kind = kind_of m.status }
 abbrev pub health_in : Side → Field → Health
 health_in s f = health_of (member_in s f)
 
--- a field with a part changed
+-- A field with one part changed
 
 unfoldable pub changed_active : Side → (Active → Active) → Field → Field
 changed_active s change f = with_party s (record (party s f) { active = change (active_in s f) }) f
@@ -157,11 +157,11 @@ with_outcome outcome f = record f { outcome = outcome }
 unfoldable pub with_requests : Request → Request → Field → Field
 with_requests one two f = record f { request_one = one; request_two = two }
 
--- the next turn (docs/MECHANICS.md, "Falls and requests")
+-- The next turn (docs/MECHANICS.md, "Falls and requests").
 unfoldable pub with_next_turn : Field → Field
 with_next_turn f = record f { turn = f.turn + 1 }
 
--- changes of a member
+-- Changes of a member
 
 unfoldable pub with_status : Status → Member → Member
 with_status status m = record m { status = status }
@@ -172,11 +172,11 @@ hurt_by amount m = record m { hp = m.hp - amount }
 unfoldable pub healed_by : ℕ → Member → Member
 healed_by amount m = record m { hp = min m.max (m.hp + amount) }
 
--- who falls is ill no more (docs/MECHANICS.md, "Falls and requests")
+-- A member that falls loses its status (docs/MECHANICS.md, "Falls and requests").
 unfoldable pub fallen : Member → Member
 fallen m = record m { hp = 0; status = Healthy }
 
--- one turn of sleep is over; who has slept enough is awake (docs/MECHANICS.md, "Gate")
+-- One turn of sleep is over. A member without turns left is awake (docs/MECHANICS.md, "Gate").
 abbrev pub one_turn_less_asleep : Status → Status
 one_turn_less_asleep (Asleep turns marked) = if nat_le turns 1 then Healthy else Asleep (turns - 1) marked
 one_turn_less_asleep status = status
@@ -184,15 +184,15 @@ one_turn_less_asleep status = status
 unfoldable pub with_sleep_one_less : Member → Member
 with_sleep_one_less m = record m { status = one_turn_less_asleep m.status }
 
--- PP falls by one, and from 0 to 63 (docs/MECHANICS.md, "Action")
+-- PP falls by one, and wraps from 0 to 63 (docs/MECHANICS.md, "Action").
 abbrev pub with_less_pp : KnownMove → KnownMove
 with_less_pp k = record k { pp = if k.pp == 0 then 63 else k.pp - 1 }
 
--- the move in a slot, counted from 1
+-- The move in a slot, counted from 1.
 abbrev pub known_in : ℕ → List KnownMove → KnownMove
 known_in slot moves = slice_index_or moves (slot - 1) nothing_known
 
--- Struggle has no PP
+-- Struggle has no PP.
 abbrev pub after_use : UsedMove → List KnownMove → List KnownMove
 after_use (Slot k) moves = slice_set moves (k - 1) (with_less_pp (known_in k moves))
 after_use _ moves = moves
@@ -200,7 +200,7 @@ after_use _ moves = moves
 unfoldable pub with_pp_spent : UsedMove → Member → Member
 with_pp_spent used m = record m { moves = after_use used m.moves }
 
--- changes of a member that is out
+-- Changes of a member that is out
 
 unfoldable pub with_types_of : Active → Active → Active
 with_types_of foe a = record a { first_type = foe.first_type; second_type = foe.second_type }
@@ -214,7 +214,7 @@ with_picked_move used a = record a { picked_move = used }
 unfoldable pub with_kept_accuracy : ℕ → Active → Active
 with_kept_accuracy byte a = record a { kept_accuracy = byte }
 
--- what is asked of a state (docs/MECHANICS.md, "Falls and requests")
+-- Properties of a state (docs/MECHANICS.md, "Falls and requests")
 
 abbrev pub has_type : Element → Active → Bool
 has_type t a = same_type t a.first_type || same_type t a.second_type
@@ -227,11 +227,11 @@ abbrev pub is_pass : Request → Bool
 is_pass requests.Pass = true
 is_pass _ = false
 
--- whether a living member of a side meets a test
+-- Whether a living member of a side passes a test.
 abbrev pub any_living : (Member → Bool) → Party → Bool
 any_living test t = any (λ m. is_living m && test m) t.members
 
--- the beginning of a battle (docs/MECHANICS.md, "Teams")
+-- The beginning of a battle (docs/MECHANICS.md, "Teams")
 
 abbrev pub level_stages : Stages
 level_stages = record { attack = 6; defense = 6; speed = 6; special = 6; accuracy = 6; evasion = 6 }
@@ -256,7 +256,7 @@ not_sent_out members = record { members = members; active = nobody_out }
 abbrev pub usual_terms : Terms
 usual_terms = record { rules = no_rules; limit = 1000 }
 
--- a battle before its first update
+-- A battle before its first update.
 abbrev pub first_state : Terms → List Member → List Member → List ℕ → State
 first_state terms one two seed = record {
   terms = terms;

@@ -1,4 +1,5 @@
--- One update of a battle by a pair of choices, and runs of many (docs/MECHANICS.md, "Offered choices", "Falls and requests").
+-- One update of a battle by a pair of choices, and runs of many (docs/MECHANICS.md, "Offered choices", "Falls and
+-- requests").
 use Rattle.std.specs.Prelude.{Bool, List, [], false, true, ◌==◌, ◌∷◌}
 use Rattle.gen1_machine.specs.declared.side.Side.{Side}
 use Rattle.gen1_machine.specs.declared.side.Side.TheVariants.{One, Two}
@@ -17,7 +18,7 @@ use Rattle.gen1_machine.specs.Turn.{turn}
 use Rattle.gen1_machine.specs.Falls.{close}
 use Rattle.gen1_machine.specs.OfferedChoices.{offered}
 
--- choices are compared by what they are
+-- Choices are equal if they have the same form and the same number.
 abbrev pub same_choice : Choice → Choice → Bool
 same_choice choices.Pass choices.Pass = true
 same_choice (choices.Move j) (choices.Move k) = j == k
@@ -27,7 +28,7 @@ same_choice _ _ = false
 abbrev pub is_among : Choice → List Choice → Bool
 is_among c offered = any (same_choice c) offered
 
--- what an update is begun with
+-- The progress at the start of an update
 
 abbrev pub opened : State → Progress
 opened s = record {
@@ -40,7 +41,7 @@ opened s = record {
   action = new_action One;
 }
 
--- what an update does, by what was asked for
+-- What an update does, by its requests.
 unfoldable pub update_for : Ruling → Request → Request → Choice → Choice → Phase
 update_for r requests.Move requests.Move one two = turn r one two
 update_for r requests.Pass requests.Pass one two = start
@@ -52,7 +53,7 @@ close_update r p = close r p.field.outcome (record p { stopped = false })
 unfoldable pub update : Ruling → Choice → Choice → Phase
 update r one two p = close_update r (update_for r p.field.request_one p.field.request_two one two p)
 
--- what an update answers
+-- What an update returns
 
 pub data Refusal : Type 0 where
   Over : Refusal
@@ -70,7 +71,7 @@ pub record Stepped : Type 0 where
   pub answer : Answer
   pub state : State
 
--- a refused pair leaves the state, an accepted one its terms and seed
+-- A refused pair leaves the whole state. An accepted pair leaves its terms and its seed.
 
 abbrev pub refused : State → Refusal → Stepped
 refused s why = record { answer = Refused why; state = s }
@@ -78,7 +79,7 @@ refused s why = record { answer = Refused why; state = s }
 abbrev pub accepted : State → Progress → Stepped
 accepted s p = record { answer = Accepted p.events; state = record s { field = p.field; drawn = p.drawn } }
 
--- by whether the battle is over, and whether each choice is offered; and what the update makes
+-- The result, by whether the battle is over, whether each choice is offered, and where the update leads.
 unfoldable pub answered : State → Bool → Bool → Bool → Progress → Stepped
 answered s true _ _ p = refused s Over
 answered s false false _ p = refused s (NotOffered One)
@@ -95,15 +96,15 @@ step_by ruling s one two =
 unfoldable pub step : State → Choice → Choice → Stepped
 step = step_by ruling_of
 
--- the step before there were clauses
+-- The step without clauses, with a fixed limit.
 unfoldable pub step_before : State → Choice → Choice → Stepped
 step_before = step_by λ terms. ruling_without_clauses
 
--- the step before the last turn could be chosen
+-- The step with clauses, and with a fixed limit.
 unfoldable pub step_two : State → Choice → Choice → Stepped
 step_two = step_by λ terms. ruling_with_clauses terms.rules
 
--- runs: pair by pair
+-- Runs, pair by pair
 
 pub record Ran : Type 0 where
   pub answers : List Answer

@@ -1,4 +1,4 @@
--- Members sent out (docs/MECHANICS.md, "Switching in").
+-- How members are sent out (docs/MECHANICS.md, "Switching in").
 use Rattle.std.specs.Prelude.{ℕ}
 use Rattle.gen1_machine.specs.declared.side.Side.{Side}
 use Rattle.gen1_machine.specs.declared.side.Side.TheVariants.{One, Two}
@@ -14,7 +14,7 @@ use Rattle.gen1_machine.specs.State.{party, member_at, member_in, who_in, health
 use Rattle.gen1_machine.specs.CurrentStats.{with_penalty_of}
 use Rattle.gen1_machine.specs.Progress.{Phase, stay, ◌▸◌, given, note, on_active, on_conditions}
 
--- the penalty of its status comes with it, nothing else
+-- A member brings the penalty of its status, and nothing else.
 abbrev pub sent_out : ℕ → Member → Active
 sent_out place m = with_penalty_of m.status (record nobody_out {
   place = place;
@@ -28,7 +28,7 @@ with_sent_out place m a = sent_out place m
 abbrev pub switch_event : Side → ℕ → Field → Event
 switch_event s place f = events.Switch (who_in s f) place (member_in s f).level (health_in s f)
 
--- the foe's trapping ends
+-- The foe's trapping ends.
 unfoldable pub send_out : Side → ℕ → Phase
 send_out s place =
     given (λ p. member_at place (party s p.field)) (λ m. on_active s (with_sent_out place m))
@@ -39,10 +39,10 @@ unfoldable pub send_if_chosen : Side → Choice → Phase
 send_if_chosen s (choices.Switch place) = send_out s place
 send_if_chosen s _ = stay
 
--- replacements for the fallen
+-- Replacements for fallen members.
 unfoldable pub replace : Choice → Choice → Phase
 replace one two = send_if_chosen One one ▸ send_if_chosen Two two
 
--- the first members
+-- The first members of both sides.
 unfoldable pub start : Phase
 start = send_out One 1 ▸ send_out Two 1

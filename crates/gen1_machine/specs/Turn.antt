@@ -1,4 +1,4 @@
--- A turn (docs/MECHANICS.md, "Order of a turn"): its parts, each followed by what its side suffers.
+-- A turn (docs/MECHANICS.md, "Order of a turn"): its parts, and the residual damage after each.
 use Rattle.std.specs.Prelude.{Bool, List, None, Option, Some, [], false, ℕ, ◌==◌, ◌||◌, ◌∷◌}
 use Rattle.gen1_machine.specs.declared.side.Side.{Side}
 use Rattle.gen1_machine.specs.declared.side.Side.TheVariants.{One, Two}
@@ -27,11 +27,11 @@ do_part r (Sends s place) = begin s ▸ send_out s place
 do_part r (Acts s pick) = begin s ▸ unless (λ p. p.skips) (act r s pick)
 do_part r (Suffers s) = residual s
 
--- an active has fallen, or the battle can't go on
+-- An active member has fallen, or the battle can't go on.
 abbrev pub is_cut : Progress → Bool
 is_cut p = has_fallen One p || has_fallen Two p || is_over p.field.outcome
 
--- trapping with a count of 0 ends with a whole turn
+-- Trapping with a count of 0 ends when a turn is played to its end.
 
 abbrev pub is_spent : Option ℕ → Bool
 is_spent None = false
@@ -43,12 +43,12 @@ end_spent_trapping s = when (λ p. is_spent (underway s p).trapping) (on_conditi
 unfoldable pub end_turn : Phase
 end_turn = end_spent_trapping One ▸ end_spent_trapping Two
 
--- the rest of a turn falls away where an active has fallen
+-- The rest of a turn is skipped if an active member has fallen.
 unfoldable pub do_parts : Ruling → List Part → Phase
 do_parts r [] = end_turn
 do_parts r (part ∷ rest) = do_part r part ▸ unless is_cut (do_parts r rest)
 
--- both use a move
+-- Both sides use a move.
 
 abbrev pub of_side : Side → Pick → Pick → Pick
 of_side One one two = one
@@ -64,7 +64,7 @@ set_picked s pick = given (active s) λ a. on_active s (with_picked_move (picked
 unfoldable pub both_pick : Ruling → Pick → Pick → Phase
 both_pick r one two = set_picked One one ▸ set_picked Two two ▸ in_order λ s. do_parts r (both_act one two s)
 
--- one side uses a move; the other switches first
+-- One side uses a move. The other switches first.
 
 abbrev pub switch_then_act : Side → Pick → ℕ → List Part
 switch_then_act s pick place = Sends (other s) place ∷ Suffers (other s) ∷ Acts s pick ∷ Suffers s ∷ []
@@ -72,11 +72,11 @@ switch_then_act s pick place = Sends (other s) place ∷ Suffers (other s) ∷ A
 unfoldable pub one_picks : Ruling → Side → Pick → ℕ → Phase
 one_picks r s pick place = set_picked s pick ▸ do_parts r (switch_then_act s pick place)
 
--- both switch, side 1 first
+-- Both sides switch, side 1 first.
 abbrev pub both_switch : ℕ → ℕ → List Part
 both_switch one two = Sends One one ∷ Suffers One ∷ Sends Two two ∷ Suffers Two ∷ []
 
--- picks are fixed before anybody switches
+-- Picks are settled before any switch.
 unfoldable pub play_turn : Ruling → Choice → Choice → Phase
 play_turn r (choices.Move j) (choices.Move k) =
     given (λ p. pick_in j One p.field) λ one. given (λ p. pick_in k Two p.field) λ two. both_pick r one two
@@ -85,7 +85,7 @@ play_turn r (choices.Switch place) (choices.Move k) = given (λ p. pick_in k Two
 play_turn r (choices.Switch one) (choices.Switch two) = do_parts r (both_switch one two)
 play_turn r _ _ = stay
 
--- a flinch lasts no longer than to the next turn
+-- A flinch lasts until the next turn at most.
 unfoldable pub turn : Ruling → Choice → Choice → Phase
 turn r one two =
     on_conditions One without_flinch ▸ on_conditions Two without_flinch ▸ play_turn r one two

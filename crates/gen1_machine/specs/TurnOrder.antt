@@ -8,7 +8,7 @@ use Rattle.gen1_machine.specs.Moves.{counter_move, quick_attack}
 use Rattle.gen1_machine.specs.Progress.{Phase, choose, given, draw, stat_now}
 use Rattle.gen1_machine.specs.Picks.{picked_move_in}
 
--- Quick Attack comes before other moves, Counter after them
+-- Quick Attack comes before other moves, and Counter after them.
 abbrev pub rank : ℕ → ℕ
 rank move = if move == quick_attack then 0 else if move == counter_move then 2 else 1
 
@@ -28,7 +28,7 @@ in_order_of_rank one two begins =
 abbrev pub rank_in : Side → Field → ℕ
 rank_in s f = rank (picked_move_in s f)
 
--- what the side that begins leads to
+-- Runs the phase of the side that goes first.
 unfoldable pub in_order : (Side → Phase) → Phase
 in_order begins =
     given (λ p. rank_in One p.field) λ one. given (λ p. rank_in Two p.field) λ two. in_order_of_rank one two begins

@@ -1,13 +1,15 @@
--- Which states are valid (docs/LAYOUT.md, "Loading"): `IsState`, a battle between two updates, and the weaker `IsField`, which
--- holds inside an update as well, while both sides have a member out. Three ties hold between two updates alone: the fallen are
--- healthy, what accuracy is kept belongs to rage or thrashing, and turn, outcome and requests fit together.
+-- Which states are valid (docs/LAYOUT.md, "Loading"). `IsState` is about a battle between two updates. `IsField` is
+-- weaker: it also holds inside an update, while both sides have a member out.
 --
--- What "Loading" tests on bytes is here, test by test:
---   Header   `IsTerms`; `last_damage`, `turn` and `outcome` of `IsField`; at turn 0 `last_damage` of `IsUnstarted`; `seed` of `IsState`
---   Member   `IsMembersUnder` and `FallenAreHealthy`
---   Active   `place` and `active` of `IsParty`, and `KeepsAccuracy`; at turn 0 `nobody_out`
---   Stat     nothing: the stats of the bytes are computed of a stage and the penalties (`now`), and any penalties are valid
---   Request  `StandsAs`; at turn 0 `first_one`, `first_two`, `outcome` and `requests` of `IsUnstarted`
+-- Three properties hold only between two updates. Fallen members have no status, a kept accuracy belongs to rage or
+-- thrashing, and turn, outcome and requests fit together.
+--
+-- "Loading" tests the bytes. Its tests are here as follows:
+--     Header   `IsTerms`; `last_damage`, `turn` and `outcome` of `IsField`; at turn 0 `last_damage` of `IsUnstarted`; `seed` of `IsState`
+--     Member   `IsMembersUnder` and `FallenAreHealthy`
+--     Active   `place` and `active` of `IsParty`, and `KeepsAccuracy`; at turn 0 `nobody_out`
+--     Stat     nothing: the stats of the bytes are computed from a stage and the penalties (`now`), and any penalties are valid
+--     Request  `StandsAs`; at turn 0 `first_one`, `first_two`, `outcome` and `requests` of `IsUnstarted`
 use Rattle.std.specs.Prelude.{All, Bool, List, None, Option, Some, false, is_some, length, true, ℕ, ◌<◌, ◌||◌, ◌≡◌, ◌≤◌, ◌⊎◌}
 use Rattle.gen1_tables.specs.declared.effect.Effect.{Effect}
 use Rattle.gen1_tables.specs.Types.{any}
@@ -32,7 +34,7 @@ use Rattle.gen1_machine.specs.Moves.{move_at}
 use Rattle.gen1_machine.specs.Picks.{number_in}
 use Rattle.gen1_machine.specs.Falls.{switch_if}
 
--- the terms, and what else stands in the header: any rules are valid, since each clause holds or does not
+-- The terms, and the rest of the header. Any rules are valid, since each clause holds or doesn't hold.
 
 pub record IsTerms (terms : Terms) : Type 0 where
   pub limit : IsBetween 1 9999 terms.limit
@@ -41,13 +43,13 @@ abbrev pub IsOutcome : Outcome → Type 0
 IsOutcome (outcomes.Fault n) = IsBetween 1 2 n
 IsOutcome _ = Unit {0}
 
--- a member
+-- A member
 
--- what stands only where something else explains it
+-- The first holds only together with the second.
 abbrev pub OnlyWith : Bool → Bool → Type 0
 OnlyWith explained stands = stands ≡ true → explained ≡ true
 
--- sleep for 1 to 7 turns, and only the sleep clause marks a sleeper
+-- Sleep has 1 to 7 turns left. Only the sleep clause marks a sleeper.
 abbrev pub IsStatus : Rules → Status → Type 0
 IsStatus rules (Asleep turns marked) = IsBetween 1 7 turns × OnlyWith rules.sleep_clause marked
 IsStatus rules _ = Unit {0}
@@ -62,7 +64,7 @@ pub record IsMembersUnder (rules : Rules) (members : List Member) : Type 0 where
   pub size : IsBetween 1 6 (length members)
   pub each : All (IsMemberUnder rules) members
 
--- a member that is out
+-- A member that is out
 
 pub record IsStages (s : Stages) : Type 0 where
   pub attack : s.attack ≤ 12
@@ -72,12 +74,12 @@ pub record IsStages (s : Stages) : Type 0 where
   pub accuracy : s.accuracy ≤ 12
   pub evasion : s.evasion ≤ 12
 
--- a move that was used, by a member that knows so many
+-- A move that was used, by a member that knows this many moves.
 abbrev pub IsUsedMove : ℕ → UsedMove → Type 0
 IsUsedMove count (Slot k) = IsBetween 1 count k
 IsUsedMove count _ = Unit {0}
 
--- a count of a range, where there is one
+-- A count in a range, if there is one.
 abbrev pub IsCount : ℕ → ℕ → Option ℕ → Type 0
 IsCount low high None = Unit {0}
 IsCount low high (Some n) = IsBetween low high n
@@ -90,7 +92,7 @@ abbrev pub IsStoring : Option Storing → Type 0
 IsStoring None = Unit {0}
 IsStoring (Some b) = IsBetween 1 3 b.turns × (b.energy ≤ 65535)
 
--- what is underway belongs to a current move with this effect: so one thing at most is
+-- What is underway belongs to a current move with this effect. So at most one thing is underway.
 pub record IsUnderway (current : Effect) (u : Underway) : Type 0 where
   pub bide : IsStoring u.bide
   pub thrash : IsCount 1 3 u.thrash
@@ -102,7 +104,8 @@ pub record IsUnderway (current : Effect) (u : Underway) : Type 0 where
   pub recharge_tied : OnlyWith (recharges current) u.recharge
   pub rage_tied : OnlyWith (rages current) u.rage
 
--- beside a current move with this effect, for a member that knows so many; the other conditions are tied to nothing
+-- The conditions that fit a current move with this effect, for a member that knows this many moves. Conditions that
+-- aren't named here may have any value.
 pub record IsConditions (current : Effect) (count : ℕ) (c : ActiveConditions) : Type 0 where
   pub underway : IsUnderway current c.underway
   pub confused : IsCount 1 5 c.confused
@@ -110,11 +113,12 @@ pub record IsConditions (current : Effect) (count : ℕ) (c : ActiveConditions) 
   pub bad_poison : IsCount 0 64 c.bad_poison
   pub disabled : IsDisabled count c.disabled
 
--- the effect of a move, by where it comes from
+-- The effect of a move, by where the move comes from.
 abbrev pub effect_of : UsedMove → List KnownMove → Effect
 effect_of used moves = (move_at (number_in used moves)).effect
 
--- beside the moves of its member. Any types are valid, and any number of penalties: the stats of the bytes are made of them
+-- An active block that fits the moves of its member. Any types are valid, and any number of penalties, since the
+-- stats of the bytes are computed from them.
 pub record IsActive (moves : List KnownMove) (a : Active) : Type 0 where
   pub stages : IsStages a.stages
   pub current_move : IsUsedMove (length moves) a.current_move
@@ -122,7 +126,7 @@ pub record IsActive (moves : List KnownMove) (a : Active) : Type 0 where
   pub kept_accuracy : a.kept_accuracy ≤ 255
   pub conditions : IsConditions (effect_of a.current_move moves) (length moves) a.conditions
 
--- inside an update
+-- Inside an update
 
 pub record IsParty (rules : Rules) (t : Party) : Type 0 where
   pub members : IsMembersUnder rules t.members
@@ -136,12 +140,12 @@ pub record IsField (terms : Terms) (f : Field) : Type 0 where
   pub turn : f.turn ≤ terms.limit
   pub outcome : IsOutcome f.outcome
 
--- between two updates: what is tied beside
+-- Between two updates: the further properties
 
 abbrev pub FallenAreHealthy : List Member → Type 0
 FallenAreHealthy members = All (λ (m : Member). m.hp ≡ 0 → m.status ≡ Healthy) members
 
--- by whether rage or thrashing is on
+-- By whether rage or thrashing is on.
 abbrev pub IsKept : Bool → ℕ → Type 0
 IsKept true byte = 1 ≤ byte
 IsKept false byte = byte ≡ 0
@@ -152,7 +156,7 @@ keeps_accuracy u = u.rage || is_some u.thrash
 abbrev pub KeepsAccuracy : Active → Type 0
 KeepsAccuracy a = IsKept (keeps_accuracy a.conditions.underway) a.kept_accuracy
 
--- turn, outcome and requests
+-- Turn, outcome and requests
 
 abbrev pub lives_in : Side → Field → Bool
 lives_in s f = any is_living (party s f).members
@@ -161,7 +165,7 @@ pub record AsksNothing (f : Field) : Type 0 where
   pub one : f.request_one ≡ requests.Pass
   pub two : f.request_two ≡ requests.Pass
 
--- by whether the active of each side has fallen: a replacement is asked for before the last turn alone
+-- By whether the active member of each side has fallen. A replacement is asked for only before the last turn.
 abbrev pub IsAsked : Bool → Bool → Terms → Field → Type 0
 IsAsked false false terms f = (f.request_one ≡ requests.Move) × (f.request_two ≡ requests.Move)
 IsAsked one two terms f = (f.request_one ≡ switch_if one) × (f.request_two ≡ switch_if two) × (f.turn < terms.limit)
@@ -179,7 +183,7 @@ StandsAs outcomes.WinTwo terms f = AsksNothing f × (lives_in One f ≡ false) �
 StandsAs outcomes.Tie terms f = AsksNothing f × IsTie terms f
 StandsAs (outcomes.Fault n) terms f = AsksNothing f
 
--- before the first update, at turn 0, nobody is out
+-- Before the first update, at turn 0, no member is out.
 pub record IsUnstarted (terms : Terms) (f : Field) : Type 0 where
   pub members_one : IsMembersUnder terms.rules f.one.members
   pub members_two : IsMembersUnder terms.rules f.two.members
@@ -194,7 +198,7 @@ pub record IsUnstarted (terms : Terms) (f : Field) : Type 0 where
   pub outcome : f.outcome ≡ outcomes.Ongoing
   pub requests : AsksNothing f
 
--- from turn 1 on
+-- From turn 1 on.
 pub record IsStarted (terms : Terms) (f : Field) : Type 0 where
   pub field : IsField terms f
   pub turn : 1 ≤ f.turn
@@ -204,7 +208,7 @@ pub record IsStarted (terms : Terms) (f : Field) : Type 0 where
   pub accuracy_two : KeepsAccuracy f.two.active
   pub requests : StandsAs f.outcome terms f
 
--- a battle between two updates: any number of draws is valid, of which the bytes keep the index and the numbers in use
+-- A battle between two updates. Any number of draws is valid. The bytes keep the index and the numbers in use.
 pub record IsState (s : State) : Type 0 where
   pub terms : IsTerms s.terms
   pub seed : IsStream (Link s.seed)

@@ -1,4 +1,4 @@
--- What a watcher knows (docs/MECHANICS.md, "Spectator's view"): made of the events alone.
+-- What a spectator knows (docs/MECHANICS.md, "Spectator's view"). It is made from the events alone.
 use Rattle.std.specs.Prelude.{Bool, List, None, Option, Some, [], false, if◌then◌else◌, is_some, length, map, min, nat_le, slice_index_or, slice_set, true, ℕ, ◌&&◌, ◌+◌, ◌-◌, ◌==◌, ◌∷◌}
 use Rattle.gen1_tables.specs.declared.effect.Stat.{Stat}
 use Rattle.gen1_machine.specs.declared.side.Side.{Side}
@@ -17,7 +17,7 @@ use Rattle.gen1_machine.specs.Health.{Health}
 use Rattle.gen1_machine.specs.State.{kind_of, level_stages, Stages, Party, Field}
 use Rattle.gen1_machine.specs.CurrentStats.{stage_of, with_stage}
 
--- a member, as far as it shows
+-- The visible part of a member.
 pub record Shown : Type 0 where
   pub hp : ℕ
   pub kind : Option Kind
@@ -51,7 +51,7 @@ not_shown = record { hp = 0; kind = None }
 abbrev pub shown_at : ℕ → SideView → Shown
 shown_at place x = slice_index_or x.members (place - 1) not_shown
 
--- before the battle: the members are known, and nobody is out
+-- Before the battle the members are known, and none is out.
 abbrev pub first_side_view : List Member → SideView
 first_side_view members = record {
   place = 0;
@@ -66,7 +66,7 @@ first_side_view members = record {
 abbrev pub first_view : List Member → List Member → View
 first_view one two = record { one = first_side_view one; two = first_side_view two; turn = 0; outcome = outcomes.Ongoing }
 
--- events change the side that they name, and nothing while nobody is out there
+-- An event changes the side that it names. It changes nothing while no member of that side is out.
 abbrev pub if_out : (SideView → SideView) → SideView → SideView
 if_out f x = if x.place == 0 then x else f x
 
@@ -127,7 +127,7 @@ unfoldable pub sees_all : List Event → View → View
 sees_all [] v = v
 sees_all (event ∷ more) v = sees_all more (sees event v)
 
--- what a watcher should know of a battle, by its field
+-- What a spectator should know about a battle, computed from its field.
 abbrev pub shown : Member → Shown
 shown m = record { hp = m.hp; kind = kind_of m.status }
 

@@ -6,11 +6,11 @@ use crate::{MoveSlot, Place};
 /// What a side chooses for an update (docs/MECHANICS.md, "Offered choices").
 #[derive(Clone, Copy, Debug, PartialEq, Eq, Drop)]
 pub enum Choice {
-    /// Nothing is asked of the side.
+    /// No decision: nothing is asked of the side.
     Pass,
-    /// The move in a slot, or with slot 0 what is left where no slot can be chosen.
+    /// The move in a slot, 1 to 4. Slot 0 is the one move that is left if no slot can be chosen.
     Move(MoveSlot),
-    /// The member at a place comes out.
+    /// The member at a place comes out, 1 to 6.
     Switch(Place),
 }
 
@@ -25,8 +25,10 @@ impl Default for Choice {
 impl Choice {
     ghost use Rattle.gen1_machine.specs.Choices.{byte_of_choice, choice_at};
 
-    /// The choice that a byte stands for: 0x00 Pass, 0x10 to 0x14 Move with its slot, 0x21 to 0x26
-    /// Switch with its place. `None` for any other byte.
+    /// The choice that a byte encodes: 0x00 for Pass, 0x10 to 0x14 for Move with its slot, 0x21 to 0x26 for Switch
+    /// with its place.
+    ///
+    /// Returns `None` for any other byte.
     pub fn from_byte(byte: u8) -> Option<Self>
         ensures value { result ≡ choice_at byte }
         ensures undone { IfSome result (λ choice. byte_of_choice choice ≡ byte) }
@@ -39,7 +41,7 @@ impl Choice {
         }
     }
 
-    /// The byte that stands for the choice, as `from_byte` reads it.
+    /// The byte that encodes the choice. `from_byte` is its inverse.
     pub fn byte(self) -> u8
         ensures value { result ≡ byte_of_choice self }
         ensures undone { choice_at result ≡ Some self }

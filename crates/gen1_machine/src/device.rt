@@ -1,4 +1,5 @@
-//! Sinks and sources over std's writers and readers, with the faults that these tell (docs/PROGRAM.md, "Faults and statuses").
+//! Sinks and sources over std's writers and readers. They remember whether a read or write has failed
+//! (docs/PROGRAM.md, "Faults and statuses").
 ghost use Rattle.std.specs.Prelude.{◌≡◌, false};
 ghost use Rattle.gen1_machine.specs.DeviceViews.{device_failed, device_inner};
 
@@ -24,14 +25,14 @@ impl<T> Device<T> {
         }
     }
 
-    /// The writer or reader.
+    /// Borrows the writer or reader.
     pub fn get_ref(&self) -> &T
         ensures { result.now ≡ device_inner self.now }
     {
         &self.inner
     }
 
-    /// The writer or reader, given back.
+    /// Returns the writer or reader.
     pub fn into_inner(self) -> T
         ensures { result ≡ device_inner self }
     {

@@ -7,8 +7,7 @@ ghost use Rattle.gen1_machine.specs.Stages.{stage_number, percent_at, at_stage, 
 use gen1_rolls::renew;
 use gen1_tables::Stat;
 
-/// The n-th byte, from 0, that a battle draws whose generator began with this seed
-/// (docs/MECHANICS.md, "Link numbers").
+/// The n-th byte that a battle with this seed draws, counted from 0 (docs/MECHANICS.md, "Link numbers").
 #[tactic(auto, unfolding(gen1_rolls::specs::Streams::byte_at))]
 pub fn link(seed: &[u8; 10], n: u32) -> u8
     ensures { result ≡ byte_at (Link seed.now) n }
@@ -20,11 +19,11 @@ pub fn link(seed: &[u8; 10], n: u32) -> u8
     number
 }
 
-/// A stat as it stands at a stage, after so many penalties since it was last recomputed
-/// (docs/MECHANICS.md, "Stages" and "Penalties").
+/// A current stat: the stat at a stage, after this many penalties since it was last recomputed (docs/MECHANICS.md,
+/// "Stages" and "Penalties").
 ///
-/// A stage below -6 counts as -6, and one above 6 as 6. A penalty halves Attack (a burn) or
-/// quarters Speed (paralysis), and leaves at least 1; other stats have none.
+/// A stage below -6 counts as -6, and one above 6 as 6. A penalty halves Attack (a burn) or quarters Speed
+/// (paralysis), and leaves at least 1. Other stats have no penalty.
 pub fn now(unmodified: u16, stage: i8, stat: Stat, penalties: u8) -> u16
     ensures { result ≡ now_at unmodified (stage_number stage) stat penalties }
 {
@@ -43,7 +42,7 @@ fn at_stage(stat: u16, stage: i8) -> u16
     (stat as u32 * percent(stage) as u32 / 100).clamp(1, 999) as u16
 }
 
-/// What a stage makes of a stat, in percent.
+/// The percentage of a stat at a stage.
 fn percent(stage: i8) -> u16
     ensures { result ≡ percent_at (stage_number stage) }
 {
@@ -64,7 +63,7 @@ fn percent(stage: i8) -> u16
     }
 }
 
-/// A stat divided so many times, each time to at least 1.
+/// A stat divided this many times. Each division gives at least 1.
 fn divided(stat: u16, divisor: u16, times: u8) -> u16
     requires { 0 < divisor }
     ensures { result ≡ divided_times divisor times stat }

@@ -1,25 +1,25 @@
-//! An input that is read whole, up to a limit (docs/PROGRAM.md, "What is tested, in this order").
+//! Reading a whole input, up to a limit (docs/PROGRAM.md, "What is tested, in this order").
 ghost use Rattle.std.specs.Prelude.{◌≡◌, ◌||◌, ◌+◌, ◌<◌, ◌≤◌, ◌^◌, IfOk, IfSome, IsErrOf, length, vec_len};
 ghost use Rattle.gen1_machine.specs.Input.{device_refused, TakesAtMost, TakesSome};
 
 use crate::{DeviceFault, Source};
 use std::alloc::Allocator;
 
-/// Why an input was not read whole.
+/// Why an input couldn't be read whole.
 #[derive(Clone, Copy, Debug, PartialEq, Eq, Drop)]
 pub enum InputFault {
     /// A read failed.
     Device,
     /// There are more bytes than the limit.
     TooLong,
-    /// A growth of the list of bytes was refused.
+    /// There wasn't enough memory for the bytes.
     Memory,
 }
 
-/// Reads all bytes that are left. They may be `limit` at most, which is below 2^32.
+/// Reads all bytes that are left. At most `limit` bytes are allowed, and `limit` is below 2^32.
 ///
-/// Whatever the answer, at most one byte above the limit is gone from the source. After a fault
-/// the bytes that were read are lost. No byte past the limit asks for memory.
+/// In any case it takes at most one byte above the limit from the source. After an error, the bytes that were read
+/// are lost. No memory is requested for bytes past the limit.
 pub fn read_whole<R: Source, A: Allocator>(
     alloc: A,
     source: &mut R,
@@ -31,7 +31,7 @@ pub fn read_whole<R: Source, A: Allocator>(
     ensures too_long { IsErrOf result InputFault.TooLong
         → IfSome (R.remaining source.old) (λ bytes. limit < length bytes) }
     ensures taken { TakesAtMost (R.remaining source.old) (R.remaining source.new) (limit + 1) }
-    // Memory is asked for only to keep what was read, none of it past the limit.
+    // Memory is requested only to keep what was read, and never for bytes past the limit.
     ensures memory { IsErrOf result InputFault.Memory
         → TakesSome (R.remaining source.old) (R.remaining source.new) limit }
     ensures fault { R.has_failed source.new ≡ (R.has_failed source.old || device_refused result) }

@@ -1,4 +1,5 @@
-//! Where bytes are written and read: sinks, sources, and the fault of either (docs/PROGRAM.md, "Faults and statuses").
+//! Sinks, which bytes are written to, sources, which bytes are read from, and their error (docs/PROGRAM.md, "Faults
+//! and statuses").
 ghost use Rattle.std.specs.Prelude.{◌≡◌, ◌||◌, ℕ, List, Bool, Option, None, is_err};
 ghost use Rattle.std.specs.Io.{ReadsAtMost, WritesAtMost};
 ghost use Rattle.std.specs.Io.KnownBytes.{ReadConsumes, WriteAppends};
@@ -8,17 +9,17 @@ ghost use Rattle.gen1_machine.specs.Devices.{write_fails};
 #[derive(Clone, Copy, Debug, PartialEq, Eq, Drop)]
 pub struct DeviceFault;
 
-/// Where bytes are written.
+/// A destination for bytes.
 pub trait Sink {
-    // The bytes that were written so far, where the sink tells them.
+    // The bytes that were written so far, if the sink reports them.
     ghost contents: { Self → Option (List ℕ) } = { λ _. None };
 
-    // Some write has failed.
+    // Whether some write has failed.
     ghost has_failed: { Self → Bool };
 
-    /// Writes a front of the bytes, and answers how many.
+    /// Writes a prefix of the bytes, and returns its length.
     ///
-    /// A write fails by an error, or by an answer of 0 where there were bytes to write.
+    /// A write fails by an error, or by returning 0 when there were bytes to write.
     fn write(&mut self, bytes: &[u8]) -> Result<usize, DeviceFault>
         ensures bound { WritesAtMost result bytes.now }
         ensures bytes { WriteAppends (contents self.old) (contents self.new) result bytes.now }
@@ -29,16 +30,16 @@ pub trait Sink {
         ensures { result ≡ has_failed self.now };
 }
 
-/// Where bytes are read.
+/// An origin of bytes.
 pub trait Source {
-    // The bytes that are left, where the source tells them.
+    // The bytes that are left, if the source reports them.
     ghost remaining: { Self → Option (List ℕ) } = { λ _. None };
 
-    // Some read has failed.
+    // Whether some read has failed.
     ghost has_failed: { Self → Bool };
 
-    /// Reads into the front of the slice, and answers how many bytes: 0 at the end alone, or where
-    /// the slice is empty.
+    /// Reads bytes into the beginning of the slice, and returns how many. The result is 0 only at the end of the
+    /// source, or if the slice is empty.
     ///
     /// A read fails by an error.
     fn read(&mut self, bytes: &mut [u8]) -> Result<usize, DeviceFault>

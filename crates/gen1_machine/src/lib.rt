@@ -1,8 +1,8 @@
-//! The public types of a link battle: its events, choices, terms and outcomes. Beside them stand the places where bytes go and
-//! come from, and two of the battle's numbers as plain functions.
+//! The public types of a link battle: its events, choices, terms and outcomes. The crate also has the traits for
+//! reading and writing bytes, and two of the battle's numbers as plain functions.
 //!
 //! - `event`: what happens in a battle
-//! - `health`: whom an event is about, and the HP and status that it tells
+//! - `health`: the member that an event is about, and the HP and status that it reports
 //! - `side`: the two sides
 //! - `ranges`: numbers that keep to a range
 //! - `choice`: what a side chooses
@@ -10,10 +10,10 @@
 //! - `terms`: outcomes, requests, rules and the turn limit
 //! - `formulas`: a link number, and a stat at its stage
 //! - `io`: sinks and sources
-//! - `device`: those over std's writers and readers
+//! - `device`: sinks and sources over std's writers and readers
 //! - `output`: writing all of some bytes
-//! - `input`: reading an input whole
-//! - `laws`: what holds of every battle
+//! - `input`: reading a whole input
+//! - `laws`: what holds for every battle
 #![tactic(auto)]
 
 mod choice;

@@ -1,5 +1,4 @@
-//! Bytes that are written in as many writes as a sink needs; at a fault a front of them was (docs/PROGRAM.md, "Faults and
-//! statuses").
+//! Writing all of some bytes, in as many writes as a sink needs (docs/PROGRAM.md, "Faults and statuses").
 ghost use Rattle.std.specs.List.{flat_map};
 ghost use Rattle.gen1_machine.specs.Output.{Sends};
 
@@ -7,7 +6,7 @@ use crate::{DeviceFault, Sink};
 
 /// Writes all of the bytes, in as many writes as the sink needs.
 ///
-/// At the first write that fails it stops with the fault, and a front of the bytes was written.
+/// It stops at the first write that fails, and returns the error. A prefix of the bytes was written then.
 pub fn send<W: Sink>(sink: &mut W, bytes: &[u8]) -> Result<(), DeviceFault>
     ensures { Sends (W.contents sink.old) (W.contents sink.new)
         (W.has_failed sink.old) (W.has_failed sink.new) bytes.now result }
@@ -23,10 +22,9 @@ pub fn send<W: Sink>(sink: &mut W, bytes: &[u8]) -> Result<(), DeviceFault>
     Ok(())
 }
 
-/// Writes all pieces in their order.
+/// Writes all pieces in order.
 ///
-/// At the first write that fails it stops with the fault, and a front of the pieces' bytes was
-/// written.
+/// It stops at the first write that fails, and returns the error. A prefix of the pieces' bytes was written then.
 pub fn send_all<W: Sink>(sink: &mut W, pieces: &[&[u8]]) -> Result<(), DeviceFault>
     ensures { Sends (W.contents sink.old) (W.contents sink.new)
         (W.has_failed sink.old) (W.has_failed sink.new) (flat_map (λ p. p.now) pieces.now) result }

@@ -14,9 +14,9 @@ pub enum UsedMove {
 /// What a side's choice of a move comes to as the turn begins (docs/MECHANICS.md, "Picks").
 #[derive(Debug, Clone, Copy, PartialEq, Eq)]
 pub enum Pick {
-    /// A move that is picked anew.
+    /// A move that is picked for this turn.
     Use(UsedMove),
-    /// The current move, which the member is in the middle of.
+    /// The current move, which goes on.
     Continue,
     /// Nothing, since the member is asleep or frozen.
     Idle,
@@ -24,7 +24,7 @@ pub enum Pick {
     Held,
 }
 
-/// The slot that Disable bars, from 1 to 4, and for how many turns more, from 1 to 8.
+/// The slot that Disable bars, 1 to 4, and the number of turns left, 1 to 8 (docs/MECHANICS.md, "Picks").
 #[derive(Debug, Clone, Copy, PartialEq, Eq)]
 pub struct DisabledSlot {
     pub slot: u8,

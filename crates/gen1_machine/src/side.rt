@@ -12,7 +12,7 @@ impl Side {
     ghost use Rattle.gen1_machine.specs.Sides.{other};
     ghost use Rattle.gen1_machine.specs.Numbers.{side_number};
 
-    /// The side that this one battles.
+    /// The foe's side.
     pub fn other(self) -> Self
         ensures { result ≡ other self }
     {
@@ -29,7 +29,7 @@ impl Side {
         self as u8
     }
 
-    /// The side with a number. `None` if it is neither 1 nor 2.
+    /// The side with a number. Returns `None` if the number is neither 1 nor 2.
     pub fn from_number(number: u8) -> Option<Self>
         ensures numbered { IsSome result ↔ ((1 ≤ number) × (number ≤ 2)) }
         ensures exact { IfSome result (λ side. side_number side ≡ number) }

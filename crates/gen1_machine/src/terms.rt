@@ -1,4 +1,4 @@
-//! How a battle stands, what is asked of each side, and the rules and the turn limit that it is fought under
+//! The outcome of a battle, what is asked of each side, and the battle's terms: its rules and its turn limit
 //! (docs/MECHANICS.md, "Falls and requests", "Rules (sleep clause, freeze clause)", "Turn limit").
 ghost use Rattle.std.specs.Prelude.{◌≡◌, ◌≤◌, ℕ, nat_le, ◌&&◌, if◌then◌else◌};
 ghost use Rattle.gen1_machine.specs.Rules.{no_rules, rules_of, bits_of_rules};
@@ -6,15 +6,15 @@ ghost use Rattle.gen1_machine.specs.State.{is_over};
 
 use std::marker::Model;
 
-/// How a battle stands (docs/MECHANICS.md, "Falls and requests").
+/// The outcome of a battle so far (docs/MECHANICS.md, "Falls and requests").
 #[derive(Clone, Copy, Debug, PartialEq, Eq, Drop)]
 pub enum Outcome {
-    /// Choices are still asked for.
+    /// The battle goes on, and choices are asked for.
     Ongoing,
     WinOne,
     WinTwo,
     Tie,
-    /// The battle could not go on, by the code of its `Event::Fault`.
+    /// The battle could not go on. The code is that of its `Event::Fault`, 1 or 2.
     Fault(u8),
 }
 
@@ -30,16 +30,15 @@ impl Outcome {
 /// What is asked of a side for the next update (docs/MECHANICS.md, "Falls and requests").
 #[derive(Clone, Copy, Debug, PartialEq, Eq, Drop)]
 pub enum Request {
-    /// Nothing: it passes.
+    /// Nothing. The side passes.
     Pass,
-    /// A move, or a switch in place of one.
+    /// A move, or a switch instead of one.
     Move,
     /// A replacement for its fallen member.
     Switch,
 }
 
-/// The clauses that a battle is fought under (docs/MECHANICS.md, "Rules (sleep clause, freeze
-/// clause)").
+/// The clauses of a battle (docs/MECHANICS.md, "Rules (sleep clause, freeze clause)").
 #[derive(Clone, Copy, Debug, PartialEq, Eq, Drop)]
 pub struct Rules {
     sleep_clause: bool,
@@ -72,8 +71,9 @@ impl Default for Rules {
 }
 
 impl Rules {
-    /// The rules with these bits: bit 0 is the sleep clause, bit 1 the freeze clause. `None` if
-    /// another bit is set.
+    /// The rules with these bits: bit 0 is the sleep clause, bit 1 the freeze clause.
+    ///
+    /// Returns `None` if another bit is set.
     pub fn new(bits: u8) -> Option<Self>
         ensures { result ≡ (if nat_le bits 3 then Some (rules_of bits) else None) }
     {
@@ -87,7 +87,7 @@ impl Rules {
         }
     }
 
-    /// The bits of the rules, as `new` takes them.
+    /// The bits of the rules, as `new` accepts them.
     pub fn bits(self) -> u8
         ensures value { result ≡ bits_of_rules self }
         ensures undone { rules_of result ≡ self }
@@ -96,15 +96,15 @@ impl Rules {
         self.sleep_clause as u8 + 2 * self.freeze_clause as u8
     }
 
-    /// Whether a sleep move fails while an earlier one keeps a living member of the foe's side
-    /// asleep.
+    /// Whether the sleep clause holds: a sleep move fails while an earlier one keeps a living member of the foe's
+    /// side asleep.
     pub fn sleep_clause(self) -> bool
         ensures { result ≡ self.sleep_clause }
     {
         self.sleep_clause
     }
 
-    /// Whether a freeze does nothing while a living member of the foe's side is frozen.
+    /// Whether the freeze clause holds: a freeze does nothing while a living member of the foe's side is frozen.
     pub fn freeze_clause(self) -> bool
         ensures { result ≡ self.freeze_clause }
     {
@@ -112,8 +112,8 @@ impl Rules {
     }
 }
 
-/// The last turn of a battle, 1 to 9,999. A battle that has no winner by its end is a tie
-/// (docs/MECHANICS.md, "Turn limit").
+/// The last turn of a battle, 1 to 9,999. A battle without a winner by its end is a tie (docs/MECHANICS.md, "Turn
+/// limit").
 #[derive(Clone, Copy, Debug, PartialEq, Eq, Drop)]
 pub struct TurnLimit {
     number: u16,
@@ -139,7 +139,7 @@ impl Default for TurnLimit {
 }
 
 impl TurnLimit {
-    /// `None` if the number is out of range.
+    /// A turn limit. Returns `None` if the number is out of range.
     pub fn new(number: u16) -> Option<Self>
         ensures { result ≡ (if nat_le 1 number && nat_le number 9999 then Some number else None) }
     {
