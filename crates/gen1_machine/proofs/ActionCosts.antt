@@ -31,7 +31,7 @@ use Rattle.gen1_machine.proofs.EffectCosts.{loops_late, RulingCosts, raise-costs
 use Rattle.gen1_machine.proofs.QuietMoves.{late-quiet}
 
 module _ {limit : ℕ} where
-  -- what comes before any damage
+  -- Before any damage
 
   going-costs : (going_on : Bool) → Costs limit (set_going_on going_on) (goes 0 0 0)
   unfolding set_going_on
@@ -94,7 +94,7 @@ module _ {limit : ℕ} where
   unfolding use_move
   use_move-costs s pick move = current-costs s pick ⊳ choose-costs _ stay-costs (spend-costs s) ⊳ choose-costs _ (note-costs _ 6 (λ f. lit≤ tt)) stay-costs
 
-  -- a count of hits or of turns takes two draws at most
+  -- A count of hits or of turns takes two draws at most.
 
   count_again-costs : (f : ℕ → Phase) → ((x : ℕ) → Costs limit (f (low_bits 2 x)) (goes 0 0 0)) → (c : ℕ) → Costs limit (count_again f c) (goes 0 0 0)
   unfolding count_again
@@ -139,7 +139,7 @@ module _ {limit : ℕ} where
       ⊳ choose-costs _ (early_effect-costs s move move.effect ⊳ stop-costs) stay-costs
       ⊳ prelude-costs s move
 
-  -- damage: one loop at most
+  -- Damage has one loop at most.
 
   set_critical-costs : (critical : Bool) → Costs limit (set_critical critical) (goes 0 0 0)
   unfolding set_critical
@@ -220,14 +220,14 @@ module _ {limit : ℕ} where
   damage_of-costs s move effects.OneHitKnockOut = knock_out-costs s move
   damage_of-costs s move _ = more (choose-costs _ (usual-costs s move) (damage-costs 0)) refl
 
-  -- none where the loop comes late
+  -- An action whose loop comes late has none in its damage.
   pub damage_of-late : (s : Side) (move : Move) (e : Effect) → move.power ≡ 0 → loops_late e ≡ true → Costs limit (damage_of s move e) (goes 0 0 0)
   unfolding damage_of
   damage_of-late s move effects.InflictSleep z h = unchosen-costs _ (nat_lt 0 move.power) (ap (λ n. nat_lt 0 n) z) (damage-costs 0)
   damage_of-late s move effects.Disable z h = unchosen-costs _ (nat_lt 0 move.power) (ap (λ n. nat_lt 0 n) z) (damage-costs 0)
   damage_of-late s move _ z h = absurd (true≢false (sym h))
 
-  -- what comes with a hit
+  -- After a hit
 
   pub recoil-costs : (s : Side) (move : Move) → Costs limit (recoil s move) (goes 0 1 9)
   unfolding recoil
@@ -257,7 +257,7 @@ module _ {limit : ℕ} where
   unfolding count_hit
   count_hit-costs = action_else-costs _ (λ a. refl)
 
-  -- a miss, and what the first hit says
+  -- A miss, and the reports of the first hit
 
   crash-costs : (s : Side) → Costs limit (crash s) (goes 0 1 9)
   unfolding crash
@@ -283,7 +283,7 @@ module _ {limit : ℕ} where
   unfolding note_hit_count
   hit_count-costs target made = note-costs _ 4 (λ f. lit≤ tt)
 
--- five hits are planned at most
+-- At most five hits are planned.
 
 planned-few : (x : ℕ) → low_bits 2 x + 2 ≤ 5
 planned-few x = let h : x % 4 < 4 = mod-lt x (lit≤ tt) in omega (arith, h)
@@ -312,7 +312,7 @@ hit_effect-costs s move effects.Rage = more (rage-costs s) refl
 hit_effect-costs s move effects.Explode = more (explode-costs s) refl
 hit_effect-costs s move _ = more stay-costs refl
 
--- a move that knocks out has no other effect with its hit
+-- A one-hit move has no other effect after its hit.
 hit_with-costs : (s : Side) (move : Move) (e : Effect) → Costs 5 (land (other s) ▸ only (knocks_out e) (note λ f. events.OneHitKnockOut) ▸ count_hit
     ▸ unless broke_substitute (hit_effect s move e)
     ▸ unless (has_fallen (other s)) (build_rage (other s))) (goes 2 3 23)
@@ -326,7 +326,7 @@ hit_once-costs : (s : Side) (move : Move) → Costs 5 (hit_once s move) (goes 2 
 unfolding hit_once
 hit_once-costs s move = hit_with-costs s move move.effect
 
--- a move of several hits has no other event with them
+-- A move of several hits has no other event after them.
 
 several-effect : (s : Side) (move : Move) (e : Effect) → hits_more e ≡ true → Costs 5 (hit_effect s move e) (goes 2 0 0)
 unfolding hit_effect
@@ -380,7 +380,7 @@ hits-costs s move = by (hits_more move.effect) refl
     by true e = more (first_hit-costs s move ⊳ several-costs s move e ⊳ choose-costs _ (other_hits-costs s move e) stay-costs) refl
     by false e = more (first_hit-costs s move ⊳ hit_once-costs s move ⊳ unchosen-costs _ (hits_more move.effect) e stay-costs) refl
 
--- an action has one loop at most
+-- An action has one loop at most.
 
 strike-costs : (r : Ruling) → RulingCosts 5 r → (s : Side) (move : Move) → loops_late move.effect ≡ false → Costs 5 (strike r s move) (both 12 14 85)
 unfolding strike
@@ -421,7 +421,7 @@ parts-costs : (r : Ruling) → RulingCosts 5 r → (s : Side) (pick : Pick) → 
 unfolding action_parts
 parts-costs r h s pick = more (gate_or_held-costs s pick ⊳ see_if-costs s pick ⊳ taken-costs r h s pick) refl
 
--- a new action plans nothing, whatever was planned before
+-- A new action plans no hits, whatever was planned before.
 pub act-reached : (r : Ruling) → RulingCosts 5 r → (s : Side) (pick : Pick) (p : Progress) → p.stopped ≡ false → span p.stream ≤ 2304
     → Reached 5 p (act r s pick p) 2323 19 107
 unfolding act resume keep_accuracy begin given on_action on_active on_field

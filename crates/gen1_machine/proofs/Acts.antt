@@ -32,7 +32,7 @@ use Rattle.gen1_machine.proofs.SoundFacts.{is-move, IsMove}
 use Rattle.gen1_machine.proofs.SoundWalk.{conditions-spared, early_effect-sound, gate_or_held-sound, ruling-sound, see_if_going_on-sound}
 use Rattle.gen1_machine.proofs.Explained.{bide_goes_on-keeps, charging-on, prelude-keeps, strikes-keeps}
 
--- PP are spent
+-- Spending PP
 
 in-range : (moves : List KnownMove) (i : ℕ) (a b : KnownMove) → i < length moves → get_or moves i a ≡ get_or moves i b
 in-range [] i a b l = absurd (omega arith)
@@ -65,7 +65,7 @@ spent-known (m ∷ moves) zero h (suc k) d l = h (suc k) d (omega arith)
 spent-known (m ∷ moves) (suc j) h zero d l = h 0 d (omega arith)
 spent-known (m ∷ moves) (suc j) h (suc k) d l = spent-known moves j (λ i e n. h (suc i) e (omega arith)) k d (omega arith)
 
--- the same ids, in range
+-- The same move numbers, in range.
 same-id : (before after : List KnownMove) → SameMoves before after → (i : ℕ) (d : KnownMove) → i < length after → (get_or after i d).id ≡ (get_or before i d).id
 same-id before after same i d l =
     ap (λ (m : KnownMove). m.id) (in-range after i d nothing_known l) ∙ same.ids i
@@ -99,7 +99,7 @@ pp-tame {rules} (Slot k) = record { moves = λ m. spent-same m.moves (k - 1); va
 pp-tame Nothing = record { moves = λ m. record { count = refl; ids = λ i. refl }; valid = λ m h. h }
 pp-tame Struggle = record { moves = λ m. record { count = refl; ids = λ i. refl }; valid = λ m h. h }
 
--- phases that lead to one fact, or where they stop what is being done, to another
+-- Phases that lead to one fact if they go on, and to another if they stop
 
 abbrev pub IfStopped : Bool → Type 0 → Type 0 → Type 0
 IfStopped true Stopped Going = Stopped
@@ -154,7 +154,7 @@ passes-leads {P} {R} {f} k = record { led = λ p h. by (f p).stopped (k.passed p
     by true h = h
     by false h = h
 
--- the current move goes on
+-- The current move goes on
 
 pub unchanged : (s : Side) (f : Field) → changed_active s (with_current_move (active_in s f).current_move) f ≡ f
 unfolding changed_active with_current_move
@@ -193,7 +193,7 @@ module _ (terms : Terms) (plan : Side → Plan) (s : Side) (move : Move) (is : I
   hidden : Keeps (IsPlanned terms plan) (choose (λ p. hides move.effect) (on_conditions s with_invulnerability) stay)
   hidden = choose-keeps _ (on_conditions-keeps s _ (conditions-spared (planned-sound terms plan) s _ with_invulnerability-tame)) stay-keeps
 
--- a side's plan is over
+-- A side's plan is done.
 pub forgotten : {terms : Terms} (plan : Side → Plan) (s : Side) (x : Plan) (f : Field) (a : Action) (w : Stream)
     → IsPlanned terms (with_plan s x plan) f a w → IsPlanned terms (with_plan s Any plan) f a w
 forgotten {terms} plan s x f a w h = record { field = h.field; tested = h.tested; stream = h.stream; holds = by s h.holds }
@@ -208,7 +208,7 @@ forgotten {terms} plan s x f a w h = record { field = h.field; tested = h.tested
 pub unplanned : {terms : Terms} {plan : Side → Plan} (s : Side) (f : Field) (a : Action) (w : Stream) → IsPlanned terms plan f a w → IsPlanned terms (with_plan s Any plan) f a w
 unplanned s f a w h = replanned s Any f a w tt h
 
--- where the current move stays
+-- The current move stays
 
 module _ (terms : Terms) (plan : Side → Plan) (s : Side) (move : Move) (is : IsMove move) (doing : plan s ≡ Doing move.effect)
     (pick : Pick) (stays : (used : UsedMove) → used_by pick used ≡ used) where
@@ -237,7 +237,7 @@ module _ (terms : Terms) (plan : Side → Plan) (s : Side) (move : Move) (is : I
   carry_out-keeps = then-keeps (bide_goes_on-keeps terms plan s) (then-keeps (choose-keeps _ stay-keeps lead_up-keeps)
       (strikes-keeps terms plan s move is doing (ruling_of terms) (ruling-sound (planned-sound terms plan))))
 
--- where a move is taken up that was planned
+-- A planned move is taken up
 
 abbrev pub Quiet : Terms → (Side → Plan) → Field → Action → Stream → Type 0
 Quiet terms plan f a w = IsPlanned terms plan f a w × (a.letting_go ≡ false)
@@ -321,7 +321,7 @@ module _ (terms : Terms) (plan : Side → Plan) (s : Side) (move : Move) (is : I
       })
       (leads-passes (leads-weaker (keeps-leads (strikes-keeps terms next s move is doing (ruling_of terms) (ruling-sound (planned-sound terms next)))) ends) (λ f a w h. h))))
 
--- the whole
+-- The whole
 
 module _ (terms : Terms) (plan : Side → Plan) (s : Side) where
   pub begin-quiet : Leads (IsPlanned terms plan) (Quiet terms plan) (begin s)
@@ -373,7 +373,7 @@ module _ (terms : Terms) (plan : Side → Plan) (s : Side) where
   unfolding act resume
   act-from pick k = record { led = λ p h. (keep_accuracy-keeps terms (with_plan s Any plan) s).kept _ (k.led _ (begin-quiet.led p h)) }
 
-  -- a move that is not picked anew, and one that was planned
+  -- A move that goes on, and a move that was planned.
   pub act-stays : (pick : Pick) → ((used : UsedMove) → used_by pick used ≡ used) → Leads (IsPlanned terms plan) (IsPlanned terms (with_plan s Any plan)) (act (ruling_of terms) s pick)
   act-stays pick stays = act-from pick (parts-stay pick stays)
 

@@ -1,5 +1,5 @@
--- How many members of a party live beside the one that is out, and what a change leaves of that: an action nothing, and a
--- member that is sent out one less where it comes for a fallen one.
+-- The bench: how many members of a party live in addition to the one that is out. An action leaves the bench as it
+-- is. A living member that replaces a fallen one makes it shorter by one.
 use Rattle.std.proofs.Common.{Bool, List, [], ap, arith, false, get_or, get_or-set_other, inl, inr, length, refl, set, suc, sym, true, zero, ℕ, ◌+◌, ◌-◌, ◌<◌, ◌∙◌, ◌∷◌, ◌≡◌, ◌≢◌, ◌≤◌, ◌⊎◌}
 use Rattle.std.proofs.lemmas.Bool.Decides.{eqb_tells}
 use Rattle.gen1_machine.specs.declared.side.Side.{Side}
@@ -18,7 +18,7 @@ unfoldable pub living : List Member → ℕ
 living [] = 0
 living (m ∷ members) = alive (is_living m) + living members
 
--- the living, but for the one at an index
+-- The living members, without the one at an index.
 unfoldable pub living_but : ℕ → List Member → ℕ
 living_but i [] = 0
 living_but zero (m ∷ members) = living members
@@ -63,7 +63,7 @@ bench-most i [] h = absurd (omega arith)
 bench-most zero (m ∷ members) h = omega (arith, living-most members)
 bench-most (suc i) (m ∷ members) h = omega (arith, alive-most (is_living m), bench-most i members (omega arith))
 
--- a living member leaves no more on the bench than any other, and one less than a fallen one
+-- With a living member out, the bench is no longer than with any other, and one shorter than with a fallen one
 
 lives-fewer : (members : List Member) (i j : ℕ) → is_living (get_or members j nobody) ≡ true → living_but j members ≤ living_but i members
 lives-fewer members i j lives =
@@ -86,13 +86,13 @@ comes-shorter members i j lives fell =
       alive-false (is_living (get_or members i nobody)) fell,
     )
 
--- facts of a party that no action touches
+-- Facts of a party that no action touches
 
 pub record FreeParty (B : Party → Type 0) : Type 0 where
   pub member : (t : Party) (m : Member) → B t → B (with_member t.active.place m t)
   pub active : (t : Party) (a : Active) → a.place ≡ t.active.place → B t → B (record t { active = a })
 
--- the same member is out, the same others stand by
+-- The same member is out, and the same other members are on the bench.
 pub record Alike (before t : Party) : Type 0 where
   pub place : t.active.place ≡ before.active.place
   pub bench : bench t ≡ bench before
@@ -114,7 +114,7 @@ alike-free before = record { member = by_member; active = by_active }
     by_active : (t : Party) (a : Active) → a.place ≡ t.active.place → Alike before t → Alike before (record t { active = a })
     by_active t a e h = record { place = e ∙ h.place; bench = rw e h.bench; others = h.others }
 
--- so many at most stand by
+-- At most this many members are on the bench.
 pub record AtMost (n : ℕ) (t : Party) : Type 0 where
   pub most : bench t ≤ n
 
@@ -127,7 +127,7 @@ most-free n = record {
 pub alike-most : (before t : Party) → Alike before t → AtMost (bench before) t
 alike-most before t h = record { most = omega (arith, h.bench) }
 
--- who may be sent out: who is out, or a living member
+-- A member that may be sent out is out already, or alive.
 abbrev pub MaySend : ℕ → Party → Type 0
 MaySend place t = ((place - 1) ≡ (t.active.place - 1)) ⊎ (is_living (member_at place t) ≡ true)
 
@@ -141,7 +141,7 @@ lives-still before t place h lives = by (same-or-not (place - 1) (before.active.
     by (inl same) = inl (rw h.place same)
     by (inr differs) = inr (ap is_living (h.others (place - 1) differs) ∙ lives)
 
--- with a member sent out in the place of the one that was
+-- The bench after a member is sent out.
 pub sent-most : (before t : Party) (a : Active) (place : ℕ) → a.place ≡ place → Alike before t → MaySend place before
     → AtMost (bench before) (record t { active = a })
 sent-most before t a place e h (inl same) =
@@ -152,17 +152,17 @@ sent-most before t a place e h (inr lives) = by (lives-still before t place h li
     by (inl same) = record { most = rw (e, same) (omega (arith, h.bench)) }
     by (inr still) = record { most = rw e (omega (arith, h.bench, lives-fewer t.members (t.active.place - 1) (place - 1) still)) }
 
--- and one less where it lives, and that one had fallen
+-- The bench is one shorter if that member lives and the one before it had fallen.
 pub sent-shorter : (t : Party) (a : Active) (place : ℕ) → a.place ≡ place → is_living (member_at place t) ≡ true
     → is_living (member_at t.active.place t) ≡ false → AtMost (bench t - 1) (record t { active = a })
 sent-shorter t a place e lives fell =
     record { most = rw e (omega (arith, comes-shorter t.members (t.active.place - 1) (place - 1) lives fell)) }
 
--- where somebody lives behind a fallen one, somebody stands by
+-- If a member lives while the one that is out has fallen, the bench isn't empty.
 pub lives-behind : (t : Party) (place : ℕ) → is_living (member_at place t) ≡ true → is_living (member_at t.active.place t) ≡ false → 1 ≤ bench t
 lives-behind t place lives fell = omega (arith, comes-shorter t.members (t.active.place - 1) (place - 1) lives fell)
 
--- a field at a turn, with a fact of each party
+-- A field at a turn, with a fact of each party
 
 pub record Between (A B : Party → Type 0) (turn : ℕ) (f : Field) (a : Action) (w : Stream) : Type 0 where
   pub turned : f.turn ≡ turn

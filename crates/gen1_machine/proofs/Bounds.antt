@@ -38,7 +38,7 @@ turn_is_bounded t one two =
 pub update_is_bounded : UpdateIsBounded
 update_is_bounded t = update-spends (ruling_of t) (ruling_of-costs t)
 
--- what an update makes of a state
+-- The update of a state keeps to the bounds.
 bounded : (s : State) (one two : Choice) → let p = update (ruling_of s.terms) one two (opened s) in Bounded s p.events (accepted s p).state
 bounded s one two =
     let w = update_is_bounded s.terms one two (opened s) refl (omega arith) in

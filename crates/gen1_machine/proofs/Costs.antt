@@ -1,4 +1,4 @@
--- What a phase costs at most: one bound where it goes on, and one where it stops.
+-- The cost of a phase: one bound for the case that it goes on, and one for the case that it stops.
 use Rattle.std.proofs.Common.{[], Bool, List, None, Option, Some, ap, append-nil, append_assoc, arith, false, length, length-append, max, nat_le, refl, subst, sym, true, true≢false, unwrap_or, ℕ, ◌&&◌, ◌++◌, ◌+◌, ◌∙◌, ◌∷◌, ◌≡◌, ◌≤◌}
 use Rattle.std.proofs.lemmas.Bool.{leb-true}
 use Rattle.gen1_rolls.specs.Streams.{byte_at, span, first}
@@ -12,7 +12,7 @@ use Rattle.gen1_machine.specs.State.{Active, Field}
 use Rattle.gen1_machine.specs.Progress.{Action, Phase, stay, unless_stopped, ◌▸◌, choose, given, draw, draw_until, stop, fault, note, told, on_field, on_action, set_last_damage, on_active, on_conditions, on_member, Progress}
 use Rattle.gen1_machine.specs.Bounds.{Spends}
 
--- draws, events and bytes of their code; a way that is never taken costs nothing
+-- Draws, events and bytes of their codes. A case that never occurs costs nothing.
 pub data Cost : Type 0 where
   Never : Cost
   At : (draws : ℕ) → (events : ℕ) → (bytes : ℕ) → Cost
@@ -36,12 +36,12 @@ pub record Bound : Type 0 where
   pub on : Cost
   pub off : Cost
 
--- one phase after another
+-- One phase after another.
 infixr 20 ◌⨟◌
 abbrev pub ◌⨟◌ : Bound → Bound → Bound
 ◌⨟◌ b c = record { on = plus b.on c.on; off = most b.off (plus b.on c.off) }
 
--- one phase or another
+-- One phase or another.
 abbrev pub either : Bound → Bound → Bound
 either b c = record { on = most b.on c.on; off = most b.off c.off }
 
@@ -60,7 +60,7 @@ both d e b = record { on = At d e b; off = At d e b }
 abbrev pub may_stop : (a b c x y z : ℕ) → Bound
 may_stop a b c x y z = record { on = At a b c; off = At x y z }
 
--- what a way spends
+-- What each case spends
 
 codes_of-append : (es fs : List Event) → codes_of (es ++ fs) ≡ codes_of es ++ codes_of fs
 codes_of-append [] fs = refl
@@ -86,7 +86,7 @@ spends-more h i j m = record {
   coded = omega (arith, j, m.coded);
 }
 
--- so many draws, and no event
+-- This many draws, and no event.
 pub spends-draws : (p q : Progress) (k : ℕ) → p.drawn ≤ q.drawn → q.drawn ≤ p.drawn + k → q.events ≡ p.events → Spends k 0 0 p q
 spends-draws p q k low high e = record {
   forward = low;
@@ -97,7 +97,7 @@ spends-draws p q k low high e = record {
   coded = omega arith;
 }
 
--- one event, and no draw
+-- One event, and no draw.
 spends-note : (p q : Progress) (event : Event) (n : ℕ) → q.drawn ≡ p.drawn → q.events ≡ p.events ++ event ∷ []
     → length (code event) ≤ n → Spends 0 1 n p q
 spends-note p q event n d e h = record {
@@ -109,20 +109,20 @@ spends-note p q event n d e h = record {
   coded = rw append-nil h;
 }
 
--- events only grow
+-- Events are only ever added.
 pub spends-grows : {p q : Progress} {d e b : ℕ} → Spends d e b p q → length p.events ≤ length q.events
 spends-grows w = rw w.appended (simp length-append (omega arith))
 
--- phases
+-- Phases
 
 abbrev pub hits_planned : Progress → ℕ
 hits_planned p = unwrap_or p.action.hits_planned 1
 
--- no more hits are planned than a limit, and a loop makes no more draws than in a link battle
+-- At most this many hits are planned, and no loop makes more draws than in a link battle.
 abbrev pub Limited : ℕ → Progress → Type 0
 Limited limit p = (hits_planned p ≤ limit) × (span p.stream ≤ 2304)
 
--- q comes of p at this cost or less, and is limited
+-- q is reached from p at this cost or less, and is limited.
 pub record Reached (limit : ℕ) (p q : Progress) (draws events bytes : ℕ) : Type 0 where
   pub spends : Spends draws events bytes p q
   pub limited : Limited limit q
@@ -135,7 +135,7 @@ pub data Ends (limit : ℕ) (p q : Progress) (b : Bound) : Type 0 where
   Goes : (running : q.stopped ≡ false) → (meets : Meets limit p q b.on) → Ends limit p q b
   Stops : (stopped : q.stopped ≡ true) → (meets : Meets limit p q b.off) → Ends limit p q b
 
--- where it is limited, a phase costs this, and leaves it so
+-- From a limited start, a phase costs this and stays limited.
 pub record Costs (limit : ℕ) (f : Phase) (b : Bound) : Type 0 where
   pub cost : (p : Progress) → p.stopped ≡ false → Limited limit p → Ends limit p (f p) b
 
@@ -150,7 +150,7 @@ and-right false b e = absurd (true≢false (sym e))
 reached-more : {limit : ℕ} {p q : Progress} {d e b x y z : ℕ} → d ≤ x → e ≤ y → b ≤ z → Reached limit p q d e b → Reached limit p q x y z
 reached-more h i j m = record { spends = spends-more h i j m.spends; limited = m.limited }
 
--- how costs add up
+-- How costs add up
 
 meets-limited : (limit : ℕ) (p q : Progress) (c : Cost) → Meets limit p q c → Limited limit q
 meets-limited limit p q Never m = absurd m
@@ -191,11 +191,11 @@ module _ {limit : ℕ} where
   ends-more p q b c e (Goes r m) = Goes r (meets-more limit p q b.on c.on (and-left (covers b.on c.on) (covers b.off c.off) e) m)
   ends-more p q b c e (Stops r m) = Stops r (meets-more limit p q b.off c.off (and-right (covers b.on c.on) (covers b.off c.off) e) m)
 
-  -- a bound that is no lower
+  -- A bound that is not lower.
   pub more : {f : Phase} {b : Bound} {c : Bound} → Costs limit f b → all_covered b c ≡ true → Costs limit f c
   more {f} {b} {c} h e = record { cost = λ p r i. ends-more p (f p) b c e (h.cost p r i) }
 
-  -- what a caller takes from a cost
+  -- What a caller learns from a cost
 
   pub ends-reached : (p q : Progress) (d e b : ℕ) → Ends limit p q (both d e b) → Reached limit p q d e b
   ends-reached p q d e b (Goes r m) = m
@@ -225,12 +225,12 @@ module _ {limit : ℕ} where
   ends-grows p q b (Goes r m) = meets-grows limit p q b.on m
   ends-grows p q b (Stops r m) = meets-grows limit p q b.off m
 
-  -- events only grow, so what is within the room at the end was so all along
+  -- Events are only ever added, so what fits at the end fitted all along.
   pub grows : {f : Phase} {b : Bound} → Costs limit f b
       → (p : Progress) → p.stopped ≡ false → Limited limit p → length p.events ≤ length (f p).events
   grows {f} {b} h p r i = ends-grows p (f p) b (h.cost p r i)
 
-  -- one phase after another
+  -- One phase after another
 
   after_first : (p q : Progress) (b c : Bound) (g : Phase) → Costs limit g c → Ends limit p q b → Ends limit p (unless_stopped g q) (b ⨟ c)
   unfolding unless_stopped
@@ -249,7 +249,7 @@ module _ {limit : ℕ} where
   unfolding ◌▸◌
   ▸-costs {f} {g} {b} {c} hf hg = record { cost = λ p r i. after_first p (f p) b c g hg (hf.cost p r i) }
 
-  -- what fits after both phases fits after the first
+  -- What fits after both phases fits after the first.
   pub fits-before : {f g : Phase} {b c : Bound} (room : ℕ) → Costs limit f b → Costs limit g c
       → (p : Progress) → p.stopped ≡ false → Limited limit p → length ((f ▸ g) p).events ≤ room → length (f p).events ≤ room
   unfolding ◌▸◌ unless_stopped
@@ -264,7 +264,7 @@ module _ {limit : ℕ} where
           let k : length (g q).events ≤ room = subst (λ x. length x.events ≤ room) e h in
           omega (arith, k, grows hg q r (meets-limited limit p q b.on m))
 
-  -- one phase or another
+  -- One phase or another
 
   ends-left : (p q : Progress) (b c : Bound) → Ends limit p q b → Ends limit p q (either b c)
   ends-left p q b c (Goes r m) = Goes r (meets-left limit p q b.on c.on m)
@@ -285,7 +285,7 @@ module _ {limit : ℕ} where
         ];
   }
 
-  -- a test that is known not to hold
+  -- A test that is known to fail.
   pub unchosen-costs : (f : Phase) {g : Phase} {c : Bound} (b : Bool) → b ≡ false → Costs limit g c → Costs limit (choose (λ _. b) f g) c
   unfolding choose
   unchosen-costs f {g} {c} b e hg = record {
@@ -297,7 +297,7 @@ module _ {limit : ℕ} where
   unfolding given
   given-costs read h = record { cost = λ p r i. (h (read p)).cost p r i }
 
-  -- what leaves draws and events
+  -- Phases without draws and events
 
   reached-draws : (p q : Progress) (k : ℕ) → p.drawn ≤ q.drawn → q.drawn ≤ p.drawn + k → q.events ≡ p.events → Limited limit q → Reached limit p q k 0 0
   reached-draws p q k low high e i = record { spends = spends-draws p q k low high e; limited = i }
@@ -313,7 +313,7 @@ module _ {limit : ℕ} where
   unfolding stop
   stop-costs = record { cost = λ p r i. Stops refl (reached-same p (stop p) refl refl i) }
 
-  -- what changes neither whether it stops nor the stream nor what is known of the action
+  -- A phase that changes neither the stop, nor the stream, nor what is known of the action.
   pub silent-costs : (f : Phase) → ((p : Progress) → ((f p).drawn ≡ p.drawn) × ((f p).events ≡ p.events) × ((f p).stopped ≡ p.stopped) × ((f p).action ≡ p.action) × ((f p).stream ≡ p.stream))
       → Costs limit f (goes 0 0 0)
   silent-costs f h = record {
@@ -346,7 +346,7 @@ module _ {limit : ℕ} where
   unfolding on_action
   action-costs change h = record { cost = λ p r i. Goes r (reached-same p (on_action change p) refl refl (h p.action i.0, i.1)) }
 
-  -- what leaves the number of hits planned
+  -- A phase that keeps the number of planned hits.
   pub action_else-costs : (change : Action → Action) → ((a : Action) → (change a).hits_planned ≡ a.hits_planned) → Costs limit (on_action change) (goes 0 0 0)
   action_else-costs change h = action-costs change (λ a i. rw (h a) i)
 
@@ -354,7 +354,7 @@ module _ {limit : ℕ} where
   unfolding fault
   fault-costs n = ▸-costs (field-costs _) stop-costs
 
-  -- draws
+  -- Draws
 
   drew : (p q x : Progress) (k : ℕ) (b : Bound) → Reached limit p q k 0 0 → Ends limit q x b → Ends limit p x (goes k 0 0 ⨟ b)
   drew p q x k b w (Goes r m) = Goes r (meets-plus limit p q x (At k 0 0) b.on w m)
@@ -372,7 +372,7 @@ module _ {limit : ℕ} where
         ((h (byte_at p.stream p.drawn)).cost q r i);
   }
 
-  -- a loop
+  -- Loops
 
   loop-costs : {f : ℕ → Phase} {b : Bound} (p : Progress) (test : ℕ → Bool) (o : Option ℕ) → first p.stream p.drawn test ≡ o
       → ((x : ℕ) → Costs limit (f x) b) → p.stopped ≡ false → Limited limit p
@@ -395,7 +395,7 @@ module _ {limit : ℕ} where
   unfolding draw_until
   until-costs test {f} {b} h = record { cost = λ p r i. loop-costs p test (first p.stream p.drawn test) refl h r i }
 
-  -- events
+  -- Events
 
   pub note-costs : (event : Field → Event) (n : ℕ) → ((f : Field) → length (code (event f)) ≤ n) → Costs limit (note event) (goes 0 1 n)
   unfolding note

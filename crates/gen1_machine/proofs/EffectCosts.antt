@@ -1,4 +1,4 @@
--- What moves cost besides damage.
+-- The costs of moves, except for their damage.
 use Rattle.std.proofs.Common.{Bool, None, Option, Some, false, lit≤, refl, true, true≢false, List, ℕ, ◌≡◌}
 use Rattle.gen1_tables.specs.declared.effect.Stat.{Stat}
 use Rattle.gen1_tables.specs.declared.effect.Effect.{Effect}
@@ -20,23 +20,23 @@ use Rattle.gen1_machine.specs.SideEffects.{happens_below, by_chance, thaw, may_i
 use Rattle.gen1_machine.proofs.Costs.{Bound, Costs, goes, both, may_stop, either, ◌⨟◌, ◌⊳◌, more, choose-costs, given-costs, stay-costs, silent-costs, active-costs, conditions-costs, draw-costs, until-costs, note-costs, told-costs}
 use Rattle.gen1_machine.proofs.GateCosts.{starts-costs, lose-costs, gain-costs, fail-costs, fails_if-costs, inflict-costs, cure-costs, must_hit-costs}
 
--- a stage that moves, or fails at some cost
+-- A stage that moves, or fails at some cost.
 abbrev pub shifted : Bound → Bound
 shifted b = either b (either (goes 0 0 0 ⨟ goes 0 1 5 ⨟ b) (goes 0 1 5))
 
--- effects whose loop comes where others deal damage
+-- The effects whose loop comes at the place of the damage.
 abbrev pub loops_late : Effect → Bool
 loops_late effects.InflictSleep = true
 loops_late effects.Disable = true
 loops_late _ = false
 
--- what falling asleep and freezing cost under a ruling
+-- The costs of falling asleep and of freezing under a ruling.
 pub record RulingCosts (limit : ℕ) (r : Ruling) : Type 0 where
   pub sleeps : (s : Side) → Costs limit (r.sleeps s) (may_stop 2304 1 4 0 1 3)
   pub freezes : (s : Side) → Costs limit (r.freezes s) (goes 0 1 4)
 
 module _ {limit : ℕ} where
-  -- stages of a stat
+  -- Stages of a stat
 
   pub boost-costs : (s : Side) (stat : Stat) (n : ℕ) → Costs limit (note_boost s stat n) (goes 0 1 5)
   unfolding note_boost
@@ -74,7 +74,7 @@ module _ {limit : ℕ} where
   unfolding lower_stage
   lower-costs user target stat by h = given-costs _ (λ n. given-costs _ (λ least. lower_from-costs user target stat by n least h))
 
-  -- the rulings
+  -- The rulings
 
   pub sleep_for-costs : (marked : Bool) (s : Side) (b : ℕ) → Costs limit (sleep_for marked s b) (goes 0 1 4)
   unfolding sleep_for
@@ -101,7 +101,7 @@ module _ {limit : ℕ} where
   pub ruling_of-costs : (t : Terms) → RulingCosts limit (ruling_of t)
   ruling_of-costs t = record { sleeps = sleeps_under-costs t.rules.sleep_clause; freezes = freezes_under-costs t.rules.freeze_clause }
 
-  -- before damage
+  -- Before damage
 
   pub confused_by-costs : (s : Side) (b : ℕ) → Costs limit (confused_by s b) (goes 0 1 4)
   unfolding confused_by
@@ -217,7 +217,7 @@ module _ {limit : ℕ} where
   early_effect-costs s move effects.Splash = more (splash-costs s) refl
   early_effect-costs s move _ = more (fail-costs s) refl
 
-  -- where others deal damage
+  -- At the place of the damage
 
   pub ready_to_sleep-costs : (s : Side) (move : Move) → Costs limit (ready_to_sleep s move) (may_stop 1 0 0 1 1 3)
   unfolding ready_to_sleep
@@ -255,7 +255,7 @@ module _ {limit : ℕ} where
   late_effect-loops r h s move effects.Bide = more (bide-costs s) refl
   late_effect-loops r h s move _ = more stay-costs refl
 
-  -- side effects
+  -- Side effects
 
   happens-costs : (bound : ℕ) {f : Phase} {b : Bound} → Costs limit f b → (x : ℕ) → Costs limit (happens_below bound f x) (either b (goes 0 0 0))
   unfolding happens_below

@@ -1,4 +1,4 @@
--- Phases of an action keep a valid field: those that touch what the current move explains.
+-- The phases of an action that touch what the current move explains keep a valid field.
 use Rattle.std.proofs.Common.{None, Option, Some, arith, false, is_some, nat_le, refl, subst, suc, sym, true, zero, ℕ, ◌-◌, ◌≡◌, ◌≤◌}
 use Rattle.std.proofs.lemmas.Bool.{leb-false}
 use Rattle.gen1_tables.specs.declared.effect.Effect.{Effect}
@@ -27,7 +27,7 @@ use Rattle.gen1_machine.proofs.Sound.{choose-leads_sees, choose-sees, told-leads
 use Rattle.gen1_machine.proofs.SoundFacts.{leads-from, on_conditions-leads, IsMove, LowersSome}
 use Rattle.gen1_machine.proofs.SoundWalk.{build_rage-sound, damage_of-sound, fail-sound, conditions-spared, confuse-sound, count_hit-sound, disable-sound, drain-sound, draw_count-sound, explode-sound, kept_away_effect-sound, land-sound, lower_foes_stat-sound, may_confuse-sound, missed-spared, missed_move-sound, note_first_hit-sound, note_hit_count-sound, plan_hits-sound, put_to_sleep-sound, raise_stage-sound, recoil-sound, set_planned-sound}
 
--- conditions beside a move that explains them
+-- Conditions that a move explains
 
 bide-on : (e : Effect) (n turns : ℕ) (c : ActiveConditions) → bides e ≡ true → IsBetween 1 3 turns → IsConditions e n c → IsConditions e n (with_bide turns c)
 unfolding with_bide
@@ -149,7 +149,7 @@ rage-on e n c tie h = record {
   disabled = h.disabled;
 }
 
--- what goes on, whatever the move
+-- What goes on, whatever the move is
 
 thrash-less : (e : Effect) (n turns : ℕ) (c : ActiveConditions) → c.underway.thrash ≡ Some turns → nat_le turns 1 ≡ false → IsConditions e n c → IsConditions e n (with_thrash_one_less c)
 unfolding with_thrash_one_less
@@ -205,7 +205,7 @@ bide-less e n damage b c is more h = record {
     tied None k = k
     tied (Some b) k = k
 
--- phases, while a side uses a move with this effect
+-- Phases while a side uses a move with this effect
 
 module _ (terms : Terms) (plan : Side → Plan) where
   planned : Sound terms (IsPlanned terms plan)
@@ -343,7 +343,7 @@ module _ (terms : Terms) (plan : Side → Plan) (s : Side) (move : Move) (is : I
   strike-keeps r ruling = then-keeps (choose-keeps _ (missed_move-sound valid s move is) stay-keeps)
       (then-keeps hits-keeps (choose-keeps _ stay-keeps (side_effect-keeps r move.effect ruling (λ t. t))))
 
-  -- what comes after the move is settled
+  -- After the move is settled.
   pub strikes-keeps : (r : Ruling) → KeepsRuling (IsPlanned terms plan) r
       → Keeps (IsPlanned terms plan) (unless (lands_at_once move) (damage_of s move move.effect)
       ▸ unless lets_energy_go (only (is_late move.effect) (late_effect r s move move.effect ▸ stop)) ▸ strike r s move)

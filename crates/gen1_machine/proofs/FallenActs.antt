@@ -1,4 +1,4 @@
--- What a turn leaves of health: who falls in it is seen to fall before anything else happens.
+-- Health in a turn: a member that falls is noticed before anything else happens.
 use Rattle.std.proofs.Common.{None, Option, Some, refl, subst, sym, ℕ, ◌+◌, ◌≡◌}
 use Rattle.gen1_tables.specs.declared.effect.Effect.{Effect}
 use Rattle.gen1_tables.specs.declared.effect.Effect.TheVariants as effects
@@ -40,7 +40,7 @@ module _ {P Q R : Field → Action → Stream → Type 0} where
   unfolding draw
   draw-passes k = record { passed = λ p h. (k (byte_at p.stream p.drawn)).passed (record p { drawn = p.drawn + 1 }) h }
 
--- a phase that hurts nobody, one that may hurt and stops, and one that may fault
+-- A phase that hurts no member, one that may hurt and stops, and one that may end in a fault
 
 abbrev Goes : Phase → Type 0
 Goes f = Passes Sturdy Sturdy Tired f
@@ -58,7 +58,7 @@ fault-ends : (n : ℕ) {Q : Field → Action → Stream → Type 0} → Passes S
 unfolding fault
 fault-ends n = passes-then (leads-passes (on_field-leads _ (faulted-tired n)) (λ f a w h. h)) (passes-stop (λ f a w h. h))
 
--- the gate
+-- The gate
 
 hurt_itself_by-ends : (s : Side) (o : Option ℕ) → Passes Sturdy Tired Tired (hurt_itself_by s o)
 unfolding hurt_itself_by
@@ -100,7 +100,7 @@ gate_or_held-goes s Continue = gate-goes s Continue
 gate_or_held-goes s Idle = gate-goes s Idle
 gate_or_held-goes s (Use used) = gate-goes s (Use used)
 
--- damage
+-- Damage
 
 damage_from-goes : (n : DamageNumbers) (o : Option ℕ) → Goes (damage_from n o)
 unfolding damage_from
@@ -140,7 +140,7 @@ damage_of-goes s move effects.SuperFang = fixed_damage-goes s move
 damage_of-goes s move effects.OneHitKnockOut = keeps-goes (knock_out-steady sturdy-steady s move sturdy-acts)
 damage_of-goes s move _ = passes-choose _ (usual_damage-goes s move) (dealt 0)
 
--- an action
+-- An action
 
 module _ (terms : Terms) (s : Side) where
   lead_up-goes : (pick : Pick) (move : Move) → Goes (lead_up s pick move)

@@ -1,4 +1,5 @@
--- An update leaves the fallen healthy, and asks for what fits: all of a valid state but the accuracy that is kept.
+-- After an update the fallen have no status, and the requests fit. That is all of a valid state but the kept
+-- accuracy.
 use Rattle.std.proofs.Common.{Bool, List, [], ap, arith, false, get_or, get_or-set_other, inl, inr, not, refl, set, subst, suc, sym, true, zero, ℕ, ◌-◌, ◌∙◌, ◌∷◌, ◌≡◌, ◌≢◌, ◌≤◌, ◌⊎◌}
 use Rattle.std.proofs.lemmas.Bool.{false≢true}
 use Rattle.std.proofs.lemmas.Bool.Decides.{eqb_tells}
@@ -34,7 +35,7 @@ use Rattle.gen1_machine.proofs.FallenHealthy.{soft-all, soft-at, sturdy-tired, w
 use Rattle.gen1_machine.proofs.FallenActs.{fallen-tied, send_out-sturdy}
 use Rattle.gen1_machine.proofs.ValidSteps.{opened-sure}
 
--- the fallen faint
+-- The fallen faint
 
 same-or-not : (i j : ℕ) → (i ≡ j) ⊎ (i ≢ j)
 same-or-not i j = elim (eqb_tells i j) [ inl e ↦ inl e.1 | inr e ↦ inr e.1 ]
@@ -55,7 +56,7 @@ fallen-soft t h i = by (same-or-not i (t.active.place - 1))
     by (inl e) = rw e (set-same t.members (t.active.place - 1) m (λ none. refl))
     by (inr differs) = rw (get_or-set_other t.members (t.active.place - 1) i m nobody differs) (h i differs)
 
--- one side after the other
+-- One side after the other
 
 abbrev Facts : (Party → Type 0) → (Party → Type 0) → Field → Action → Stream → Type 0
 Facts A B f a w = (f.outcome ≡ outcomes.Ongoing) × A f.one × B f.two
@@ -80,7 +81,7 @@ the_fallen-soft p going h = by p.action.side
     by Two = subst (λ q. Sturdy q.field q.action q.stream) (sym (then-goes (faint_if_fallen One) (faint_if_fallen Two) p ((faints-goes One).goes p going)))
         ((faint-two AllSoft).led _ ((faint-one OthersSoft).led p h))
 
--- what an update leaves
+-- After an update
 
 pub record Standing (terms : Terms) (f : Field) : Type 0 where
   pub turn : 1 ≤ f.turn
@@ -146,7 +147,7 @@ Begun terms f = (1 ≤ terms.limit) × (f.turn ≡ 0) × (is_living (member_at f
 not-fallen : (b : Bool) → b ≡ true → not b ≡ false
 not-fallen b e = rw e refl
 
--- where the turn is known to be one, or the first one comes
+-- From a known turn, or before the first one.
 pub close-standing : (terms : Terms) (p : Progress) → Tired p.field p.action p.stream → p.field.turn ≤ terms.limit
     → (1 ≤ p.field.turn) ⊎ ((p.field.outcome ≡ outcomes.Ongoing) × Begun terms p.field)
     → Standing terms (close_update (ruling_of terms) p).field
@@ -188,7 +189,7 @@ close-standing terms p h l turns = by p.field.outcome refl h
     by outcomes.WinTwo e k = absurd (subst (λ o. Ended o p.field) e k)
     by outcomes.Tie e k = absurd (subst (λ o. Ended o p.field) e k)
 
--- an update of a battle that has begun
+-- An update of a battle that has begun
 
 pub replace-keeps : {P : Field → Action → Stream → Type 0} → ((s : Side) (place : ℕ) → Keeps P (send_out s place)) → (x y : Choice) → Keeps P (replace x y)
 unfolding replace send_if_chosen
@@ -238,7 +239,7 @@ started-standing s x y seed h k ready o a b =
     close-standing s.terms _ (started-tired s x y f.request_one f.request_two seed h ready o a b (standing-sturdy s k o))
     (omega (arith, same, h.turn)) (inl (omega (arith, same, k.turn)))
 
--- the first update
+-- The first update
 
 start-begun : (s : State) → IsTerms s.terms → IsUnstarted s.terms s.field → let q : Progress = start (opened s) in Begun s.terms q.field × Sturdy q.field q.action q.stream
 unfolding start send_out given on_active on_conditions on_field changed_active changed_conditions with_sent_out note ◌▸◌ unless_stopped

@@ -1,5 +1,5 @@
--- The fallen are healthy, but for who falls within a turn: that one is made healthy as it faints. A fault comes before
--- anybody falls.
+-- The fallen have no status. A member that falls within a turn keeps its status until it faints. A fault comes before
+-- any member falls.
 use Rattle.std.proofs.Common.{Bool, List, [], arith, false, get_or, get_or-set_other, inl, inr, not, refl, set, suc, sym, true, zero, ℕ, ◌-◌, ◌||◌, ◌∷◌, ◌≡◌, ◌≢◌, ◌⊎◌}
 use Rattle.std.proofs.lemmas.Bool.{false≢true, ltb-true}
 use Rattle.std.proofs.lemmas.Bool.Decides.{eqb_tells}
@@ -16,7 +16,7 @@ use Rattle.gen1_machine.specs.Turn.{is_cut}
 use Rattle.gen1_machine.specs.Valid.{FallenAreHealthy}
 use Rattle.gen1_machine.proofs.Steady.{Acts, Breaks, Hurts, Own, Softens, Steady}
 
--- members
+-- Members
 
 abbrev pub Soft : Member → Type 0
 Soft m = m.hp ≡ 0 → m.status ≡ Healthy
@@ -24,7 +24,7 @@ Soft m = m.hp ≡ 0 → m.status ≡ Healthy
 abbrev pub AllSoft : Party → Type 0
 AllSoft t = (i : ℕ) → Soft (get_or t.members i nobody)
 
--- but for who is out
+-- All members but the one that is out.
 abbrev pub OthersSoft : Party → Type 0
 OthersSoft t = (i : ℕ) → i ≢ (t.active.place - 1) → Soft (get_or t.members i nobody)
 
@@ -47,7 +47,7 @@ others-soft t h i differs = h i
 lives-soft : (m : Member) → is_living m ≡ true → Soft m
 lives-soft m e none = absurd (omega (arith, ltb-true 0 m.hp e, none))
 
--- with who is out
+-- With the member that is out.
 pub whole-soft : (t : Party) → Soft (member_at t.active.place t) → OthersSoft t → AllSoft t
 whole-soft t m h i = by (same-or-not i (t.active.place - 1))
   where
@@ -69,13 +69,13 @@ member-soft t change soft h = set-soft t.members (t.active.place - 1) (change (m
 member-others : (t : Party) (m : Member) → OthersSoft t → OthersSoft (with_member t.active.place m t)
 member-others t m h i differs = rw (get_or-set_other t.members (t.active.place - 1) i m nobody differs) (h i differs)
 
--- fields
+-- Fields
 
--- as a part of a turn begins
+-- As a part of a turn begins.
 abbrev pub Sturdy : Field → Action → Stream → Type 0
 Sturdy f a w = (f.outcome ≡ outcomes.Ongoing) × AllSoft f.one × AllSoft f.two
 
--- while somebody may fall
+-- While a member may fall.
 abbrev pub Falling : Field → Action → Stream → Type 0
 Falling f a w = (f.outcome ≡ outcomes.Ongoing) × OthersSoft f.one × OthersSoft f.two
 
@@ -84,7 +84,7 @@ Ended outcomes.Ongoing f = OthersSoft f.one × OthersSoft f.two
 Ended (outcomes.Fault n) f = AllSoft f.one × AllSoft f.two
 Ended _ f = ⊥
 
--- as it ends
+-- As a part of a turn ends.
 abbrev pub Tired : Field → Action → Stream → Type 0
 Tired f a w = Ended f.outcome f
 
@@ -169,7 +169,7 @@ falling-own Two = record { conditions = λ change. record { spared = λ f a w h.
 pub falling-acts : Acts Falling
 falling-acts = record { action = λ change. record { spared = λ f a w h. h } }
 
--- where nobody has fallen and the battle goes on, the next part may begin
+-- If no member has fallen and the battle goes on, the next part may begin
 
 pub stands-soft : (t : Party) → not (is_living (member_at t.active.place t)) ≡ false → Soft (member_at t.active.place t)
 stands-soft t e = lives-soft (member_at t.active.place t) (by (is_living (member_at t.active.place t)) e)

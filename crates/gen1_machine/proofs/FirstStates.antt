@@ -1,4 +1,4 @@
--- A battle of two teams is a valid one before its first update.
+-- A battle of two teams is valid before its first update.
 use Rattle.std.proofs.Common.{List, arith, inl, length, refl, subst, sym, true, ◌<◌, ◌≡◌}
 use Rattle.std.proofs.lemmas.Bool.{lt-ltb}
 use Rattle.gen1_stats.specs.declared.status.Status.{Status}

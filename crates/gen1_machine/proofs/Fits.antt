@@ -1,4 +1,4 @@
--- The bytes of a valid state are bytes: every number fits its place in the 384 (docs/LAYOUT.md).
+-- The bytes of a valid state are bytes: each number fits its place in the 384 (docs/LAYOUT.md).
 use Rattle.std.proofs.Common.{All, Bool, List, None, Option, Some, [], arith, false, flat_map, get_or, if◌then◌else◌, inl, inr, length, map, replicate, suc, take, true, unwrap_or, zero, ℕ, ◌*◌, ◌++◌, ◌+◌, ◌-◌, ◌/◌, ◌<◌, ◌==◌, ◌∷◌, ◌≡◌, ◌≤◌, ◌⊎◌}
 use Rattle.std.proofs.lemmas.List.Elements.{All-get_or}
 use Rattle.gen1_tables.specs.declared.element.Element.{Element}
@@ -24,7 +24,7 @@ use Rattle.gen1_machine.specs.Layout.{active_block, active_block_of, bytes_of, d
 use Rattle.gen1_machine.specs.Valid.{IsActive, IsCount, IsDisabled, IsMembersUnder, IsMemberUnder, IsOutcome, IsParty, IsStarted, IsStatus, IsStoring, IsUnstarted, IsUsedMove}
 use Rattle.gen1_machine.specs.Laws.{StatesFit}
 
--- a list of bytes, part by part
+-- A list of bytes, part by part.
 abbrev Bytes : List ℕ → Type 0
 Bytes [] = Unit {0}
 Bytes (b ∷ bs) = (b < 256) × Bytes bs
@@ -42,7 +42,7 @@ zeros : (n : ℕ) → Bytes (replicate n 0)
 zeros zero = tt
 zeros (suc n) = (omega arith, zeros n)
 
--- the header
+-- The header
 
 bit-small : (b : Bool) → bit_of b ≤ 1
 bit-small true = omega arith
@@ -124,7 +124,7 @@ header-bytes s seed o =
       ),
     )
 
--- a member
+-- A member
 
 id-small : (moves : List KnownMove) (i : ℕ) → All (λ (k : KnownMove). (k.id < 256) × (k.pp < 256)) moves
     → ((get_or moves i nothing_known).id < 256) × ((get_or moves i nothing_known).pp < 256)
@@ -191,7 +191,7 @@ member-bytes rules m h =
       ),
     )
 
--- an active
+-- An active block
 
 type-small : (t : Element) → number_of t < 256
 type-small elements.Normal = omega arith
@@ -327,7 +327,7 @@ active-bytes m a count few place h =
       ),
     )
 
--- the parties
+-- The parties
 
 abbrev EachBytes : List (List ℕ) → Type 0
 EachBytes [] = Unit {0}

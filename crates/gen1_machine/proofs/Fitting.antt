@@ -1,4 +1,5 @@
--- What an offered choice promises of a valid field: a slot that is known while nothing is underway, or a place of the party.
+-- What an offered choice implies about a valid field: a slot that is known while nothing is underway, or a place of
+-- the party.
 use Rattle.std.proofs.Common.{Bool, List, Option, [], arith, false, get_or, if◌then◌else◌, inl, inr, is_some, length, nat_lt, not, refl, suc, sym, true, zero, ℕ, ◌&&◌, ◌++◌, ◌+◌, ◌<◌, ◌==◌, ◌||◌, ◌∙◌, ◌∷◌, ◌≡◌, ◌≢◌, ◌≤◌, ◌⊎◌}
 use Rattle.std.proofs.lemmas.Bool.{false≢true}
 use Rattle.std.proofs.lemmas.Bool.Decides.{eqb_tells}
@@ -25,7 +26,7 @@ Fits (choices.Move zero) s f = Unit {0}
 Fits (choices.Switch place) s f = IsBetween 1 (length (party s f).members) place
 Fits choices.Pass s f = Unit {0}
 
--- places
+-- Places
 
 lives-inside : (members : List Member) (i : ℕ) → is_living (get_or members i nobody) ≡ true → i < length members
 lives-inside [] i h = absurd (false≢true h)
@@ -38,7 +39,7 @@ offered-place s place f h =
     let lives = among-others 1 (active_in s f).place (choices.Switch place) (party s f).members h in
     (omega (arith, lives.1), omega (arith, lives.1, lives-inside (party s f).members lives.0 lives.2))
 
--- slots
+-- Slots
 
 not-zero : (k : ℕ) → is_among (choices.Move (suc k)) (choices.Move 0 ∷ []) ≡ true → ⊥
 not-zero k h = by (eqb_tells (suc k) 0)
@@ -72,7 +73,7 @@ four false false false false e = (refl, refl, refl, refl)
 never : {tie b : Bool} → b ≡ false → OnlyWith tie b
 never e on = absurd (false≢true (sym e ∙ on))
 
--- nothing is underway
+-- Nothing is underway.
 plain : {terms : Terms} (s : Side) (f : Field) → IsField terms f → (underway_in s f).recharge ≡ false → (underway_in s f).rage ≡ false → is_some (underway_in s f).thrash ≡ false
     → (underway_in s f).charging ≡ false → is_some (underway_in s f).bide ≡ false → is_some (underway_in s f).trapping ≡ false → IsUnderway effects.DamageOnly (underway_in s f)
 plain s f h recharge rage thrash charging bide trapping =
@@ -138,7 +139,7 @@ six false false false false true g h = absurd (false≢true (sym h))
 six false false false false false true h = absurd (false≢true (sym h))
 six false false false false false false h = (refl, refl, refl, refl, refl, refl)
 
--- who need not continue has nothing underway
+-- A member that need not continue has nothing underway.
 pub free-plain : {terms : Terms} (s : Side) (f : Field) → IsField terms f → must_continue (underway_in s f) ≡ false → IsUnderway effects.DamageOnly (underway_in s f)
 free-plain s f h e =
     let u = underway_in s f in

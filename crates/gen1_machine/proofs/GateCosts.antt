@@ -1,4 +1,4 @@
--- What the gate costs, the landing and the hit test.
+-- The costs of the gate, the landing and the hit test.
 use Rattle.std.proofs.Common.{Bool, None, Option, Some, false, if◌then◌else◌, length, lit≤, refl, true, ℕ, ◌≤◌}
 use Rattle.gen1_stats.specs.declared.status.Status.{Status}
 use Rattle.gen1_stats.specs.declared.status.Status.TheVariants.{Asleep}
@@ -29,7 +29,7 @@ one_of true v w = lit≤ tt
 one_of false v w = lit≤ tt
 
 module _ {limit : ℕ} where
-  -- a condition, a loss or a gain of HP, a failure, a status
+  -- A condition, a loss or a gain of HP, a failure, a status
 
   pub starts-costs : (s : Side) (what : Volatile) (change : ActiveConditions → ActiveConditions) → Costs limit (starts s what change) (goes 0 1 4)
   unfolding starts
@@ -75,7 +75,7 @@ module _ {limit : ℕ} where
   unfolding cant
   cant-costs s why = note-costs _ 4 (λ f. lit≤ tt) ⊳ stop-costs
 
-  -- the landing
+  -- The landing
 
   pub broke-costs : Costs limit set_broke (goes 0 0 0)
   unfolding set_broke
@@ -102,7 +102,7 @@ module _ {limit : ℕ} where
   unfolding land
   land-costs s = choose-costs _ (given-costs _ (land_damage-costs s)) stay-costs
 
-  -- the hit on itself
+  -- The hit on itself
 
   pub on_foes_substitute-costs : (s : Side) (damage : ℕ) (o : Option ℕ) → Costs limit (land_on_foes_substitute s damage o) (goes 0 1 4)
   unfolding land_on_foes_substitute
@@ -118,7 +118,7 @@ module _ {limit : ℕ} where
   unfolding hurt_itself
   hurt_itself-costs s = conditions-costs s _ ⊳ conditions-costs s _ ⊳ conditions-costs s _ ⊳ given-costs _ (λ n. hurt_itself_by-costs s (before_types n)) ⊳ stop-costs
 
-  -- the gate
+  -- The gate
 
   pub wake-costs : (s : Side) → Costs limit (wake s) (ends 0 1 4)
   unfolding wake
@@ -191,7 +191,7 @@ module _ {limit : ℕ} where
   unfolding gate
   gate-costs s pick = gate_of_status-costs s ⊳ gate_of_turn-costs s ⊳ gate_of_move-costs s pick
 
-  -- the hit test
+  -- The hit test
 
   pub miss-costs : (s : Side) → Costs limit (miss s) (goes 0 0 0)
   unfolding miss

@@ -1,5 +1,4 @@
--- What a phase keeps: the rules for the ways to put phases together, over any fact of the field, of the action
--- and of the stream.
+-- What a phase keeps: rules for the ways to combine phases, over any fact of the field, the action and the stream.
 use Rattle.std.proofs.Common.{Bool, None, Option, Some, false, true, ℕ, ◌+◌}
 use Rattle.gen1_machine.specs.declared.event.Event.{Event}
 use Rattle.gen1_machine.specs.declared.event.Volatile.{Volatile}
@@ -14,15 +13,15 @@ use Rattle.gen1_machine.specs.Ruling.{Ruling}
 pub record Keeps (P : Field → Action → Stream → Type 0) (f : Phase) : Type 0 where
   pub kept : (p : Progress) → P p.field p.action p.stream → P (f p).field (f p).action (f p).stream
 
--- a change of the field that a fact outlives
+-- A change of the field that keeps a fact.
 pub record Spares (P : Field → Action → Stream → Type 0) (change : Field → Field) : Type 0 where
   pub spared : (f : Field) (a : Action) (w : Stream) → P f a w → P (change f) a w
 
--- a change of what is known of the action, likewise
+-- A change of what is known of the action that keeps a fact.
 pub record SparesAction (P : Field → Action → Stream → Type 0) (change : Action → Action) : Type 0 where
   pub spared : (f : Field) (a : Action) (w : Stream) → P f a w → P f (change a) w
 
--- what falling asleep and freezing keep
+-- What falling asleep and freezing keep.
 pub record KeepsRuling (P : Field → Action → Stream → Type 0) (r : Ruling) : Type 0 where
   pub sleeps : (user : Side) → Keeps P (r.sleeps user)
   pub freezes : (user : Side) → Keeps P (r.freezes user)
@@ -83,7 +82,7 @@ module _ {P : Field → Action → Stream → Type 0} where
   unfolding set_missed
   set_missed-keeps missed k = on_action-keeps k
 
-  -- changes
+  -- Changes
 
   pub on_field-keeps : {change : Field → Field} → Spares P change → Keeps P (on_field change)
   unfolding on_field

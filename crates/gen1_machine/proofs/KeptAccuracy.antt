@@ -1,5 +1,5 @@
--- The accuracy that is kept stands with rage or thrashing alone: the foe's action leaves it, and the own one keeps that of its
--- hit test, which comes before rage.
+-- An accuracy is kept only with rage or thrashing. The foe's action leaves it as it is. A side's own action keeps the
+-- accuracy of its hit test, which comes before rage starts.
 use Rattle.std.proofs.Common.{Bool, List, None, Option, Some, [], ap, arith, false, get_or, if◌then◌else◌, is_some, nat_le, nat_lt, refl, subst, suc, sym, true, unwrap_or, zero, ℕ, ◌&&◌, ◌*◌, ◌+◌, ◌-◌, ◌/◌, ◌||◌, ◌∙◌, ◌∷◌, ◌≡◌, ◌≤◌}
 use Rattle.std.proofs.lemmas.Bool.{false≢true, leb-true}
 use Rattle.gen1_tables.specs.declared.effect.Effect.{Effect}
@@ -23,7 +23,7 @@ use Rattle.gen1_machine.proofs.Leads.{Leads}
 use Rattle.gen1_machine.proofs.Acts.{either, After, IfStopped, Passes}
 use Rattle.gen1_machine.proofs.Steady.{Breaks, Faults, Hurts, Leaves, Own, Steady}
 
--- facts of one side's active, and of the action
+-- Facts of one side's active block and of the action
 
 abbrev pub At : (Active → Action → Type 0) → Side → Field → Action → Stream → Type 0
 At B s f a w = B (active_in s f) a
@@ -31,7 +31,7 @@ At B s f a w = B (active_in s f) a
 abbrev pub On : Active → Bool
 On a = keeps_accuracy a.conditions.underway
 
--- that speak of rage, thrashing and their accuracy alone
+-- Facts that depend only on rage, thrashing and their accuracy.
 pub record Alone (B : Active → Action → Type 0) : Type 0 where
   pub same : (a b : Active) (x y : Action) → b.kept_accuracy ≡ a.kept_accuracy → On b ≡ On a → y.accuracy_tested ≡ x.accuracy_tested
       → y.going_on ≡ x.going_on → y.letting_go ≡ x.letting_go → B a x → B b y
@@ -80,7 +80,7 @@ module _ {B : Active → Action → Type 0} (alone : Alone B) (s : Side) where
   unfolding with_outcome
   at-faults = record { faulted = λ n. record { spared = λ f x w h. by-field s f (record f { outcome = outcomes.Fault n }) x refl refl h } }
 
-  -- the foe of who acts
+  -- The foe of the side that acts.
   pub foe-own : (u : Side) → other u ≡ s → Own (At B s) u
   unfolding changed_active changed_conditions
   foe-own u e = record {
@@ -92,7 +92,7 @@ module _ {B : Active → Action → Type 0} (alone : Alone B) (s : Side) where
       by One s e change f x h = subst (λ s. B (active_in s f) x → B (active_in s (changed_active One change f)) x) e (λ k. k) h
       by Two s e change f x h = subst (λ s. B (active_in s f) x → B (active_in s (changed_active Two change f)) x) e (λ k. k) h
 
--- the facts
+-- The facts
 
 abbrev pub Stands : Active → Action → Type 0
 Stands a x = KeepsAccuracy a
@@ -100,7 +100,7 @@ Stands a x = KeepsAccuracy a
 abbrev pub Off : Active → Action → Type 0
 Off a x = On a ≡ false
 
--- before a hit test
+-- Before a hit test.
 abbrev pub Fresh : Active → Action → Type 0
 Fresh a x = (x.accuracy_tested ≡ None) × (On a ≡ true → 1 ≤ a.kept_accuracy)
 
@@ -110,7 +110,7 @@ Ready a x = (x.accuracy_tested ≡ None) × (On a ≡ true → 1 ≤ a.kept_accu
 abbrev pub Tested : Active → Action → Type 0
 Tested a x = 1 ≤ unwrap_or x.accuracy_tested 0
 
--- as an action ends
+-- As an action ends.
 abbrev pub Keeps_on : Active → Action → Type 0
 Keeps_on a x = On a ≡ true → 1 ≤ unwrap_or x.accuracy_tested a.kept_accuracy
 
@@ -153,12 +153,12 @@ off-keeps a x h e = absurd (false≢true (sym h ∙ e))
 pub stands-fresh : (a : Active) (s : Side) → KeepsAccuracy a → On a ≡ true → 1 ≤ a.kept_accuracy
 stands-fresh a s h e = subst (λ b. IsKept b a.kept_accuracy) e h
 
--- as it is kept
+-- As the accuracy is kept.
 pub kept-stands : (b : Bool) (n : ℕ) → (b ≡ true → 1 ≤ n) → IsKept b (if b then n else 0)
 kept-stands true n h = h refl
 kept-stands false n h = refl
 
--- changes that turn rage and thrashing off at most
+-- Changes that can only turn rage and thrashing off
 
 pub quench : (s u : Side) (change : ActiveConditions → ActiveConditions) → ((c : ActiveConditions) → keeps_accuracy (change c).underway ≡ true → keeps_accuracy c.underway ≡ true)
     → Spares (At Fresh s) (changed_conditions u change)
@@ -191,7 +191,7 @@ less-leaves = record { left = λ c. by c.underway.rage c.underway.thrash }
 pub fresh-breaks : (s u : Side) → Breaks (At Fresh s) u
 fresh-breaks s u = record { broken = quench s u _ broken-quenches }
 
--- moves that thrash or rage have some power, and an accuracy
+-- Moves that thrash or rage have some power and an accuracy
 
 abbrev pub keeps_on : Effect → Bool
 keeps_on e = thrashes e || rages e
@@ -230,7 +230,7 @@ aimed n e =
     by true e h = h
     by false e h = absurd (false≢true e)
 
--- phases of what was not stopped
+-- Phases that weren't stopped
 
 pub record Runs (P Q R : Field → Action → Stream → Type 0) (f : Phase) : Type 0 where
   pub passed : (p : Progress) → p.stopped ≡ false → P p.field p.action p.stream → After Q R (f p)

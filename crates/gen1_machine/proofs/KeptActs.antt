@@ -1,4 +1,4 @@
--- An action leaves the accuracy that is kept with rage or thrashing alone.
+-- An action keeps an accuracy only with rage or thrashing.
 use Rattle.std.proofs.Common.{Bool, None, Option, Some, arith, false, if◌then◌else◌, nat_lt, refl, suc, subst, sym, true, zero, ℕ, ◌&&◌, ◌+◌, ◌||◌, ◌∙◌, ◌≡◌, ◌≤◌}
 use Rattle.std.proofs.lemmas.Bool.{false≢true}
 use Rattle.gen1_tables.specs.declared.effect.Effect.{Effect}
@@ -29,7 +29,7 @@ use Rattle.gen1_machine.proofs.Acts.{either, After}
 use Rattle.gen1_machine.proofs.Steady.{bide_goes_on-steady, build_rage-steady, charge-steady, confuse-steady, count_hit-steady, damage_of-steady, drain-steady, early_effect-steady, explode-steady, hits-steady, hits_below-steady, kept_away_effect-steady, land-steady, late_effect-steady, miss-steady, missed_move-steady, note_first_hit-steady, note_hit_count-steady, plan_hits-steady, recoil-steady, roll_critical-steady, roll_damage-steady, ruling-steady, set_planned-steady, side_effect-steady, trap-steady, use_move-steady, Acts, Hurts, Steady}
 use Rattle.gen1_machine.proofs.KeptAccuracy.{at-faults, at-hurts, at-steady, keeps_on, less-leaves, off-alone, quench-ready, ready-alone, ready-keeps, runs-choose, runs-draw, runs-given, runs-leads, runs-sees, runs-then, tested-alone, tested-keeps, tested-own, unthrash-quenches, At, Keeps_on, Off, Ready, Runs, Tested}
 
--- a move that neither rages nor thrashes turns neither on
+-- A move that neither rages nor thrashes turns neither on
 
 off-acts : (s : Side) → Acts (At Off s)
 off-acts s = record { action = λ change. record { spared = λ f x w h. h } }
@@ -86,7 +86,7 @@ module _ (terms : Terms) (s : Side) (move : Move) (thrashes_not : thrashes move.
       (then-keeps (choose-keeps _ stay-keeps (choose-keeps _ (then-keeps (late_effect-steady steady (ruling_of terms) s move move.effect (ruling-steady steady terms hurts) (off-acts s)) stop-keeps) stay-keeps))
       strike-off)))
 
--- the hit test of a move that rages or thrashes
+-- The hit test of a move that rages or thrashes
 
 tested : (P : Field → Action → Stream → Type 0) (s : Side) (byte : ℕ) → 1 ≤ byte → Leads P (At Tested s) (set_tested byte)
 unfolding set_tested on_action
@@ -112,7 +112,7 @@ hit_or_miss-tested s move l = record {
     by true kept h = h refl
     by false kept h = l
 
--- its effect
+-- The effect of such a move
 
 abbrev Plain : Effect → Type 0
 Plain e = (bides e ≡ false) × (traps e ≡ false) × (charges e ≡ false) × (is_early e ≡ false) × (is_late e ≡ false)

@@ -1,4 +1,4 @@
--- A turn leaves the accuracy that is kept with rage or thrashing alone.
+-- A turn keeps an accuracy only with rage or thrashing.
 use Rattle.std.proofs.Common.{Bool, None, Option, Some, false, is_some, not, refl, subst, sym, true, unwrap_or, ℕ, ◌&&◌, ◌||◌, ◌≡◌}
 use Rattle.std.proofs.lemmas.Bool.{false≢true}
 use Rattle.gen1_tables.specs.declared.effect.Effect.{Effect}
@@ -34,7 +34,7 @@ use Rattle.gen1_machine.proofs.ValidTurns.{both-keep}
 use Rattle.gen1_machine.proofs.KeptAccuracy.{active-at, aimed, at-faults, at-hurts, at-steady, foe-own, fresh-alone, fresh-breaks, fresh-keeps, kept-stands, keeps_on, off-keeps, stands-alone, stands-fresh, tested-keeps, then-runs, At, Fresh, Keeps_on, Off, On, Ready, Runs, Stands, Tested}
 use Rattle.gen1_machine.proofs.KeptActs.{carry_out-off, carry_out-runs}
 
--- what is seen as an action goes on
+-- What is noted as an action goes on
 
 abbrev Seen : Side → Pick → Field → Action → Stream → Type 0
 Seen s pick f x w = Fresh (active_in s f) x × (x.going_on ≡ true → (is_use pick ≡ false) × (keeps_going (underway_in s f) ≡ true))
@@ -47,7 +47,7 @@ see s pick = record { led = λ p h. (h, by (is_use pick) (keeps_going (underway_
     by false b e = (refl, e)
     by true b e = absurd (false≢true e)
 
--- what the current move explains, once it is settled
+-- What the current move explains after it is settled
 
 is-off : (r : Bool) (o : Option ℕ) → (r ≡ true → false ≡ true) → (is_some o ≡ true → false ≡ true) → (r || is_some o) ≡ false
 is-off true o k l = absurd (false≢true (k refl))
@@ -100,7 +100,7 @@ module _ (terms : Terms) (s : Side) (pick : Pick) where
           let k = off-keeps (active_in s q.field) q.action ((carry_out-off terms s (move_at n) no.0 no.1 pick).kept p off) in
           either q.stopped k k
 
-  -- the move that a pick uses explains what is underway
+  -- The move that a pick uses explains what is underway.
   explained : (plan : Side → Plan) (f : Field) (x : Action) (w : Stream) → FitsPick pick (plan s) → IsPlanned terms plan f x w → IsUnderway (move_taken_in s pick f).effect (underway_in s f)
   explained plan f x w fits h = by pick fits
     where
@@ -153,7 +153,7 @@ module _ (terms : Terms) (s : Side) (pick : Pick) where
   unfolding act resume
   act-own plan fits = record { led = λ p h. kept.led _ ((parts plan fits).led _ ((begins plan).led p h)) }
 
-  -- the foe's
+  -- The foe's action
 
   stands-settles : (v : Side) → steadies.Acts (At Stands v)
   stands-settles v = record { action = λ change. record { spared = λ f x w h. h } }
@@ -167,7 +167,7 @@ module _ (terms : Terms) (s : Side) (pick : Pick) where
       let hurts = at-hurts stands-alone (other s) in
       act-steady steady (ruling_of terms) s pick (ruling-steady steady terms hurts) hurts (at-faults stands-alone (other s)) (record { broken = foe.conditions _ }) foe (stands-settles (other s))
 
--- both sides
+-- Both sides
 
 abbrev pub Both : Field → Action → Stream → Type 0
 Both f x w = At Stands One f x w × At Stands Two f x w

@@ -1,4 +1,4 @@
--- What a phase makes of one fact of the field: another. And phases that never stop what is being done.
+-- Phases that lead from one fact of the field to another, and phases that never stop.
 use Rattle.std.proofs.Common.{Bool, ap, false, true, ◌≡◌}
 use Rattle.gen1_machine.specs.declared.event.Event.{Event}
 use Rattle.gen1_rolls.specs.Streams.{Stream}
@@ -15,7 +15,7 @@ keeps-leads k = record { led = λ p h. k.kept p h }
 pub leads-weaker : {P Q R : Field → Action → Stream → Type 0} {f : Phase} → Leads P Q f → ((x : Field) (a : Action) (w : Stream) → Q x a w → R x a w) → Leads P R f
 leads-weaker k w = record { led = λ p h. w _ _ _ (k.led p h) }
 
--- the second phase may fall away
+-- The second phase may be skipped.
 pub then-leads : {P Q R : Field → Action → Stream → Type 0} {f g : Phase} → Leads P Q f → Leads Q R g → ((x : Field) (a : Action) (w : Stream) → Q x a w → R x a w) → Leads P R (f ▸ g)
 unfolding ◌▸◌ unless_stopped
 then-leads {P} {Q} {R} {f} {g} k l w = record {
@@ -39,7 +39,7 @@ pub stay-leads : {P Q : Field → Action → Stream → Type 0} → ((x : Field)
 unfolding stay
 stay-leads w = record { led = λ p h. w p.field p.action p.stream h }
 
--- how phases run, where it is known what a test says or whether something stopped
+-- How phases run if the result of a test is known, or whether one stopped
 
 pub choose-true : (test : Progress → Bool) (f g : Phase) (p : Progress) → test p ≡ true → choose test f g p ≡ f p
 unfolding choose
@@ -61,7 +61,7 @@ pub when-false : (test : Progress → Bool) (f : Phase) (p : Progress) → test 
 unfolding stay
 when-false test f p e = choose-false test f stay p e
 
--- phases that never stop what is being done
+-- Phases that never stop
 
 pub record Goes (f : Phase) : Type 0 where
   pub goes : (p : Progress) → p.stopped ≡ false → (f p).stopped ≡ false

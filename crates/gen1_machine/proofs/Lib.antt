@@ -5,7 +5,7 @@ mod Rows
 pub mod Draws
 pub mod Runs
 pub mod Rooms
--- What an update costs at most.
+-- The highest cost of an update.
 pub mod Costs
 pub mod GateCosts
 pub mod EffectCosts
@@ -13,7 +13,7 @@ mod QuietMoves
 pub mod ActionCosts
 pub mod TurnCosts
 pub mod Bounds
--- What a watcher knows.
+-- What a spectator knows.
 pub mod Showing
 pub mod Watching
 pub mod WatchedGate

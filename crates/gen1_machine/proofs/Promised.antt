@@ -1,4 +1,4 @@
--- What a choice that was offered promises: a switch comes to a living member, and a replacement is one.
+-- What an offered choice implies: a switch leads to a living member, and so does a replacement.
 use Rattle.std.proofs.Common.{Bool, List, Option, [], arith, false, get_or, if◌then◌else◌, inl, inr, nat_lt, not, refl, suc, sym, true, ℕ, ◌&&◌, ◌++◌, ◌+◌, ◌-◌, ◌==◌, ◌||◌, ◌∙◌, ◌∷◌, ◌≡◌, ◌≢◌, ◌⊎◌}
 use Rattle.std.proofs.lemmas.Bool.{false≢true}
 use Rattle.std.proofs.lemmas.Bool.Decides.{eqb_tells}
@@ -14,7 +14,7 @@ use Rattle.gen1_machine.specs.OfferedChoices.{bars_slot, has_no_slot_in, is_comm
 use Rattle.gen1_machine.specs.Step.{is_among, same_choice}
 use Rattle.gen1_machine.proofs.Turns.{Promises}
 
--- a switch to a living member of a list whose places begin at j
+-- A switch to a living member of a list whose places begin at j.
 abbrev pub LivesFrom : ℕ → Choice → List Member → Type 0
 LivesFrom j (choices.Switch k) members = (i : ℕ) × (k ≡ j + i) × (is_living (get_or members i nobody) ≡ true)
 LivesFrom j _ members = ⊥
@@ -46,7 +46,7 @@ among-others j out c (m ∷ members) h =
     by true false e h k = k h
     by false n e h k = k h
 
--- a replacement comes to a living member
+-- A replacement leads to a living member.
 abbrev pub Replaces : Choice → Party → Type 0
 Replaces (choices.Switch place) t = is_living (member_at place t) ≡ true
 Replaces _ t = ⊥
@@ -64,7 +64,7 @@ replaces-promises (choices.Move k) t h = tt
 pub offered-replaces : (s : Side) (c : Choice) (f : Field) → is_among c (switches_offered s f) ≡ true → Replaces c (party s f)
 offered-replaces s c f h = lives-replaces c (party s f) (among-others 1 (active_in s f).place c (party s f).members h)
 
--- among moves no switch stands
+-- No switch is among the moves
 
 pub among-append : (c : Choice) (xs ys : List Choice) → is_among c (xs ++ ys) ≡ true → (is_among c xs ≡ true) ⊎ (is_among c ys ≡ true)
 among-append c [] ys h = inr h
@@ -113,7 +113,7 @@ offered-turn s (choices.Move k) f committed h = tt
 pub offered-promises : (s : Side) (c : Choice) (f : Field) → is_among c (offered_for requests.Move s f) ≡ true → Promises c (party s f)
 offered-promises s c f h = offered-turn s c f (is_committed (underway_in s f)) h
 
--- where nothing is asked for, only a pass is offered
+-- If nothing is asked for, only Pass is offered.
 abbrev pub Passes : Choice → Type 0
 Passes choices.Pass = Unit {0}
 Passes _ = ⊥

@@ -1,4 +1,4 @@
--- The moves whose loop comes late do no damage.
+-- Moves whose loop comes late deal no damage.
 use Rattle.std.proofs.Common.{[], arith, if◌then◌else◌, true≢false, Bool, List, false, refl, sym, true, suc, zero, ℕ, ◌&&◌, ◌-◌, ◌∷◌, ◌≡◌, nat_le}
 use Rattle.std.specs.Prelude.{slice_index_or}
 use Rattle.std.proofs.lemmas.Bool.{leb-true}

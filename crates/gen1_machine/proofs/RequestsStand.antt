@@ -1,4 +1,4 @@
--- Outcome, requests and turn fit together after every update.
+-- Outcome, requests and turn fit together after each update.
 use Rattle.std.proofs.Common.{Bool, List, [], ap, arith, false, get_or, inl, inr, refl, suc, sym, true, zero, ℕ, ◌<◌, ◌||◌, ◌∙◌, ◌∷◌, ◌≡◌, ◌≤◌}
 use Rattle.std.proofs.lemmas.Bool.{false≢true}
 use Rattle.gen1_tables.specs.Types.{any}
@@ -20,7 +20,7 @@ pub outcome-stays : (s : Side) (t : Party) (f : Field) → (with_party s t f).ou
 outcome-stays One t f = refl
 outcome-stays Two t f = refl
 
--- what a settled battle asks for
+-- The requests of a settled battle
 
 all_stand : (a b : Bool) (terms : Terms) (f : Field) → (a || b) ≡ true → f.request_one ≡ switch_if a → f.request_two ≡ switch_if b → f.turn < terms.limit → IsAsked a b terms f
 all_stand true true terms f some x y l = (x, y, l)
@@ -54,7 +54,7 @@ settled-turn limit f g (Done o d e) = rw e (omega arith)
 settled-turn limit f g (Due undecided a b x y some e) = rw e (omega arith)
 settled-turn limit f g (Next undecided none e) = rw e (omega arith)
 
--- as a battle begins, both have somebody out who lives: the first turn comes
+-- When a battle begins, both sides have a living member out, and the first turn comes
 
 pub lives-any : (members : List Member) (i : ℕ) → is_living (get_or members i nobody) ≡ true → any is_living members ≡ true
 lives-any [] i h = absurd (false≢true h)
@@ -81,7 +81,7 @@ first-turn limit f g l none one two x y (Done (outcomes.Fault n) d e) = absurd d
 first-turn limit f g l none one two x y (Due undecided a b u v some e) = none-due a b (sym u ∙ x) (sym v ∙ y) some
 first-turn limit f g l none one two x y (Next undecided nobody_fell e) = rw e (omega arith)
 
--- where nobody has fallen nobody faints
+-- If no member has fallen, none faints
 
 nobody-faints-one : (s : Side) (p : Progress) → has_fallen s p ≡ false → faint_if_fallen s p ≡ p
 unfolding faint_if_fallen

@@ -1,4 +1,4 @@
--- A room's battle is the run over the pairs that its submissions ended.
+-- A room's battle is the run over the pairs that its submissions completed.
 use Rattle.std.proofs.Common.{Bool, None, Option, Some, [], ap, false, if◌then◌else◌, refl, sym, true, ◌∙◌, ◌∷◌, ◌≡◌}
 use Rattle.gen1_machine.specs.declared.side.Side.TheVariants.{One, Two}
 use Rattle.gen1_machine.specs.declared.choice.Choice.{Choice}

@@ -22,7 +22,7 @@ tauros_two = record { side = Two; species = 128 }
 abbrev health_of : ℕ → Option Kind → Health
 health_of hp kind = record { hp = hp; max = 353; kind = kind }
 
--- the end of a battle (docs/MECHANICS.md, "Log bytes", "Lines"): a Strength that fells its foe by a critical hit
+-- The end of a battle (docs/MECHANICS.md, "Log bytes", "Lines"): a critical hit by Strength makes the foe fall.
 abbrev last_hit : List Event
 last_hit =
     events.Move tauros_one 70 tauros_two
@@ -32,7 +32,7 @@ last_hit =
     ∷ events.Win One
     ∷ []
 
--- how two members come out (docs/MECHANICS.md, "Lines", "Events")
+-- Two members come out (docs/MECHANICS.md, "Lines", "Events").
 abbrev coming_out : List Event
 coming_out =
     events.Switch tauros_one 1 100 (health_of 353 None)

@@ -8,7 +8,7 @@ use Rattle.gen1_machine.specs.Ruling.{sleeps_under, freezes_under, ruling_of, ru
 use Rattle.gen1_machine.specs.Step.{opened, update, events_of, refused, answered, offers, step_by, step, step_before, step_two, and_then_ran, run_by, run, Refusal, Stepped, Ran, Over, Refused}
 use Rattle.gen1_machine.specs.Laws.{OverStaysOver, RefusalChangesNothing, TermsStay, RunsAppend, SameAsBeforeRules, SameAsFixedLimit}
 
--- an update by a ruling, as `answered` takes it
+-- An update by a ruling, in the form that `answered` takes.
 abbrev made : Ruling → State → Choice → Choice → Progress
 made r s one two = update r one two (opened s)
 
@@ -62,7 +62,7 @@ runs_append s [] more = refl
 runs_append s (pair ∷ pairs) more =
     ap (λ (r : Ran). and_then_ran (step s pair.0 pair.1).answer r) (runs_append (step s pair.0 pair.1).state pairs more)
 
--- two steps that agree wherever something holds that the second keeps make the same runs there
+-- Two steps make the same runs if they agree wherever some fact holds that the second step keeps.
 runs-agree : (next before : State → Choice → Choice → Stepped) (Holds : State → Type 0)
     → ((s : State) (one two : Choice) → Holds s → next s one two ≡ before s one two)
     → ((s : State) (one two : Choice) → Holds s → Holds (before s one two).state)
@@ -74,7 +74,7 @@ runs-agree next before Holds agree keeps s (pair ∷ pairs) h =
     ∙ ap (λ (r : Ran). and_then_ran (before s pair.0 pair.1).answer r)
     (runs-agree next before Holds agree keeps (before s pair.0 pair.1).state pairs (keeps s pair.0 pair.1 h))
 
--- where two rulings are one, so are their steps
+-- If two rulings are equal, so are their steps.
 step_by-agree : (ruling before : Terms → Ruling) (s : State) (one two : Choice)
     → ruling s.terms ≡ before s.terms → step_by ruling s one two ≡ step_by before s one two
 unfolding step_by

@@ -1,4 +1,4 @@
--- A battle is over after at most as many accepted pairs as it may have turns, and eleven.
+-- At most as many pairs are accepted as turns may still come, and eleven more. Then the battle is over.
 use Rattle.std.proofs.Common.{Bool, List, [], ap, arith, cond, false, inl, inr, length, not, refl, subst, sym, true, ℕ, ◌+◌, ◌-◌, ◌<◌, ◌∙◌, ◌∷◌, ◌≡◌, ◌≤◌, ◌⊎◌}
 use Rattle.std.proofs.lemmas.Bool.{false≢true}
 use Rattle.std.proofs.lemmas.List.Sums.{sum_by-cons}
@@ -29,7 +29,7 @@ use Rattle.gen1_machine.proofs.Turns.{send_one, send_two, start-leads, the_falle
 use Rattle.gen1_machine.proofs.Promised.{offered-passes, offered-promises, offered-replaces, Replaces}
 use Rattle.gen1_machine.proofs.Settled.{settle-settles, Decides, Done, Due, Next, Settled}
 
--- what is asked for fits what stands there
+-- The requests fit the members that are out
 
 abbrev pub Fell : Party → Type 0
 Fell t = is_living (member_at t.active.place t) ≡ false
@@ -45,7 +45,7 @@ Waits _ _ limit f = ⊥
 abbrev pub Ready : ℕ → Field → Type 0
 Ready limit f = Waits f.request_one f.request_two limit f
 
--- what is left of a battle: its turns and its bench, and one more where no replacement is due
+-- What is left of a battle: its turns, its bench, and one more if no replacement is due
 
 abbrev pub due : Request → Request → ℕ
 due requests.Switch _ = 0
@@ -72,7 +72,7 @@ left-most : (b : Bool) (limit : ℕ) (f : Field) → left_by b limit f ≤ due f
 left-most true limit f = omega arith
 left-most false limit f = omega arith
 
--- what an update makes before it is closed
+-- An update before it is closed
 
 pub record Fewer (less n turn : ℕ) (f : Field) : Type 0 where
   pub turned : f.turn ≡ turn
@@ -97,7 +97,7 @@ starts s a b =
     fewer-of 0 (bench s.field.one) (bench s.field.two) _ _ _ _ _
     ((start-leads s.terms s.field.one s.field.two s.field.turn a b).led (opened s) (begins s)) (omega arith)
 
--- a replacement of a fallen one by a living one
+-- A living member replaces a fallen one
 
 comes : (before t : Party) (a : Active) (place : ℕ) → Replaces (choices.Switch place) before → Fell before → a.place ≡ place → t ≡ before
     → AtMost (bench before - 1) (record t { active = a })
@@ -140,7 +140,7 @@ two_replaces s y fell b =
     (record { turned = refl; one = alike-most one one (alike-itself one); two = refl }))
     (omega (arith, lives-behind two y b fell))
 
--- by what was asked for
+-- By the requests.
 pub update-fewer : (s : State) (x y : Choice) (q r : Request) → Waits q r s.terms.limit s.field → is_over s.field.outcome ≡ false
     → is_among x (offered_for q One s.field) ≡ true → is_among y (offered_for r Two s.field) ≡ true
     → Fewer (1 - due q r) (bench s.field.one + bench s.field.two) s.field.turn (update_for (ruling_of s.terms) q r x y (opened s)).field
@@ -167,7 +167,7 @@ update-fewer s (choices.Switch k) y requests.Pass r w o a b = absurd (offered-pa
 update-fewer s x (choices.Move k) q requests.Pass w o a b = absurd (offered-passes (choices.Move k) b)
 update-fewer s x (choices.Switch k) q requests.Pass w o a b = absurd (offered-passes (choices.Switch k) b)
 
--- what an update leaves
+-- After an update
 
 record Left (n limit : ℕ) (f : Field) : Type 0 where
   pub ready : Ready limit f
@@ -246,7 +246,7 @@ close-left terms a b turn p h = by p.field.outcome refl
     by outcomes.WinTwo e = usual
     by outcomes.Tie e = usual
 
--- an accepted pair leaves less
+-- An accepted pair leaves less
 
 update-left : (s : State) (x y : Choice) → Ready s.terms.limit s.field → is_over s.field.outcome ≡ false
     → is_among x (offered_for s.field.request_one One s.field) ≡ true → is_among y (offered_for s.field.request_two Two s.field) ≡ true
@@ -292,7 +292,7 @@ pub step-lower : (s : State) (x y : Choice) → Ready s.terms.limit s.field → 
 unfolding step step_by
 step-lower s x y ready = answered-lower s x y (is_over s.field.outcome) (offers s One x) (offers s Two y) ready refl refl refl
 
--- a run
+-- A run
 
 record Ends (s : State) (pairs : List (Choice × Choice)) : Type 0 where
   pub ready : Ready (run s pairs).state.terms.limit (run s pairs).state.field
@@ -316,7 +316,7 @@ run-ends s (pair ∷ pairs) ready =
     let more = run-ends (step s pair.0 pair.1).state pairs one.ready in
     record { ready = more.ready; lower = omega (arith, counted s pair pairs, left-after s pair pairs, one.lower, more.lower) }
 
--- where nothing is left the battle is over
+-- If nothing is left, the battle is over.
 nothing-left : (limit : ℕ) (f : Field) → Ready limit f → left_by (is_over f.outcome) limit f ≡ 0 → is_over f.outcome ≡ true
 nothing-left limit f ready none = by (is_over f.outcome) refl
   where
@@ -335,7 +335,7 @@ nothing-left limit f ready none = by (is_over f.outcome) refl
     by true e = e
     by false e = absurd (omega (arith, some f.request_one f.request_two ready, rw e at none))
 
--- a valid state is ready, and not more is left of it
+-- A valid state is ready, and no more is left of it
 
 started-ready : (terms : Terms) (f : Field) → IsStarted terms f → Ready terms.limit f
 started-ready terms f h = by f.outcome refl h.requests

@@ -1,4 +1,4 @@
--- Where an update leaves a battle: it is over, or replacements are due, or the next turn has come.
+-- After an update a battle is over, or replacements are due, or the next turn has come.
 use Rattle.std.proofs.Common.{Bool, ap, false, inl, inr, leb-false, not, refl, subst, sym, true, ℕ, ◌&&◌, ◌+◌, ◌<◌, ◌||◌, ◌∙◌, ◌≡◌, ◌≤◌, ◌⊎◌}
 use Rattle.std.proofs.lemmas.Bool.{false≢true, leb-true}
 use Rattle.gen1_machine.specs.declared.event.Event.{Event}
@@ -14,11 +14,11 @@ use Rattle.gen1_machine.specs.Falls.{ask_for_moves, ask_for_switches, ask_nothin
 use Rattle.gen1_machine.specs.Valid.{lives_in}
 use Rattle.gen1_machine.proofs.Leads.{choose-false, choose-true, then-goes, then-stops, when-false}
 
--- a field that is over, where nothing is asked for any more
+-- A field that is over and asks for nothing more.
 abbrev pub ended : Outcome → Field → Field
 ended o f = record f { outcome = o; request_one = requests.Pass; request_two = requests.Pass }
 
--- what decides a battle, but for a fault
+-- What decides a battle other than a fault.
 abbrev pub Decides : Outcome → ℕ → Field → Type 0
 Decides outcomes.WinOne limit f = (lives_in One f ≡ true) × (lives_in Two f ≡ false)
 Decides outcomes.WinTwo limit f = (lives_in One f ≡ false) × (lives_in Two f ≡ true)
@@ -27,7 +27,7 @@ Decides outcomes.Tie limit f =
     ⊎ ((limit ≤ f.turn) × (lives_in One f ≡ true) × (lives_in Two f ≡ true))
 Decides _ limit f = ⊥
 
--- tests one after the other: one has ended the battle, or all have failed and nothing has changed
+-- Tests one after another. Either one has ended the battle, or all have failed and nothing has changed.
 data Tested (Why : Outcome → Type 0) (Failed : Type 0) (p q : Progress) : Type 0 where
   Ended : (o : Outcome) → q.stopped ≡ true → q.field ≡ ended o p.field → Why o → Tested Why Failed p q
   Open : q ≡ p → Failed → Tested Why Failed p q
@@ -53,7 +53,7 @@ tested-all : {Why : Outcome → Type 0} {F G : Type 0} {p q : Progress} → (F �
 tested-all w (Ended o a b c) = Ended o a b c
 tested-all w (Open a t) = Open a (w t)
 
--- what the tests say of who lives
+-- What the tests say about living members
 
 neither : (a b : Bool) → (not a && not b) ≡ true → (a ≡ false) × (b ≡ false)
 neither true b e = absurd (false≢true e)

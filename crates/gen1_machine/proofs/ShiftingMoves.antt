@@ -1,4 +1,4 @@
--- The moves of the table that move a stage move it by one at least.
+-- The moves of the table that shift a stage shift it by at least one.
 use Rattle.std.proofs.Common.{[], Bool, List, refl, suc, true, zero, ℕ, ◌&&◌, ◌-◌, ◌∷◌, ◌≡◌}
 use Rattle.std.specs.Prelude.{slice_index_or}
 use Rattle.gen1_tables.specs.declared.element.Element.TheVariants.{Normal}

@@ -17,7 +17,7 @@ use Rattle.gen1_machine.specs.State.{party, member_at, member_in, with_member, c
 use Rattle.gen1_machine.specs.CurrentStats.{stage_of, with_stage, at_new_stage, recomputed_at, with_penalty_of}
 use Rattle.gen1_machine.specs.View.{on_side_view, shown_at, if_out, on_shown, shown, side_shows, shows, Shown, SideView}
 
--- somebody is out
+-- A member is out.
 pub record IsOut (t : Party) : Type 0 where
   pub placed : 1 ≤ t.active.place
   pub within : t.active.place ≤ length t.members
@@ -26,12 +26,12 @@ pub record BothOut (f : Field) : Type 0 where
   pub one : IsOut f.one
   pub two : IsOut f.two
 
--- a battle that goes on, with somebody out on both sides
+-- A battle that goes on, with a member out on both sides.
 pub record AllOut (f : Field) : Type 0 where
   pub both : BothOut f
   pub ongoing : f.outcome ≡ outcomes.Ongoing
 
--- what a watcher sees of conditions, and of a member that is out
+-- What a spectator sees of conditions, and of a member that is out
 
 pub record Visible : Type 0 where
   pub substitute : Bool
@@ -61,7 +61,7 @@ side_of members a = record {
   reflect = a.conditions.reflect;
 }
 
--- what keeps somebody out
+-- What keeps a member out
 
 pub record Keeps (change : Field → Field) : Type 0 where
   pub both : (f : Field) → BothOut f → BothOut (change f)
@@ -90,7 +90,7 @@ unfolding changed_member
 keeps-member One change = record { both = λ f o. record { one = out-member f.one _ o.one; two = o.two }; outcome = λ f. refl }
 keeps-member Two change = record { both = λ f o. record { one = o.one; two = out-member f.two _ o.two }; outcome = λ f. refl }
 
--- what doesn't show
+-- What doesn't show
 
 pub record Silent (change : Field → Field) : Type 0 where
   pub unseen : (f : Field) → shows (change f) ≡ shows f
@@ -131,7 +131,7 @@ penalty-unseen _ a = refl
 pub silent-penalty : (s : Side) (status : Status) → Silent (changed_active s (with_penalty_of status))
 silent-penalty s status = silent-active s (with_penalty_of status) (penalty-unseen status)
 
--- what an event tells of a member that is out
+-- What an event says about a member that is out
 
 is_0-placed : (n : ℕ) → 1 ≤ n → (n == 0) ≡ false
 is_0-placed n h = by (n == 0) refl
@@ -149,7 +149,7 @@ active-shown t = get_or-map shown t.members (t.active.place - 1) nobody
 pub member-after : (t : Party) (m : Member) → IsOut t → member_at t.active.place (with_member t.active.place m t) ≡ m
 member-after t m o = get_or-set_same t.members (t.active.place - 1) m nobody (omega (arith, o.placed, o.within))
 
--- an event sets what shows of the member, by the member as it then is
+-- An event sets what shows of a member to the values that the member has then.
 told-party : (t : Party) (m : Member) (g : Member → Shown → Shown) → IsOut t → g m (shown (member_at t.active.place t)) ≡ shown m
     → if_out (on_shown (g (member_at t.active.place (with_member t.active.place m t)))) (side_shows t) ≡ side_shows (with_member t.active.place m t)
 told-party t m g o h =
@@ -168,7 +168,7 @@ unfolding changed_member
 told-member One change g f o h = ap (λ (x : SideView). record (shows f) { one = x }) (told-party f.one (change (member_in One f)) g o.one h)
 told-member Two change g f o h = ap (λ (x : SideView). record (shows f) { two = x }) (told-party f.two (change (member_in Two f)) g o.two h)
 
--- an event that changes what shows beside the members
+-- An event that changes what shows apart from the members.
 pub told-active : (s : Side) (change : Active → Active) (g : SideView → SideView) (f : Field) → BothOut f
     → g (side_shows (party s f)) ≡ side_shows (record (party s f) { active = change (party s f).active })
     → on_side_view s (if_out g) (shows f) ≡ shows (changed_active s change f)
@@ -176,7 +176,7 @@ unfolding changed_active
 told-active One change g f o h = ap (λ (x : SideView). record (shows f) { one = x }) (out-shows g (side_shows f.one) o.one.placed ∙ h)
 told-active Two change g f o h = ap (λ (x : SideView). record (shows f) { two = x }) (out-shows g (side_shows f.two) o.two.placed ∙ h)
 
--- without an event yet: how a change of a member that is out would show
+-- How a change of a member that is out would show, before there is an event for it.
 pub changed-shows : (s : Side) (change : Active → Active) (g : SideView → SideView) (f : Field)
     → side_shows (record (party s f) { active = change (party s f).active }) ≡ g (side_shows (party s f))
     → shows (changed_active s change f) ≡ on_side_view s g (shows f)
@@ -184,7 +184,7 @@ unfolding changed_active
 changed-shows One change g f h = ap (λ (x : SideView). record (shows f) { one = x }) h
 changed-shows Two change g f h = ap (λ (x : SideView). record (shows f) { two = x }) h
 
--- stages
+-- Stages
 
 pub same-stage : (stat : Stat) (x : Stages) → with_stage stat (stage_of stat x) x ≡ x
 same-stage Attack x = refl

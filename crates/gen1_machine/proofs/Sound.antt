@@ -1,4 +1,4 @@
--- Facts that hold a valid field, and that outlive every tame change.
+-- Facts that include a valid field, and that each tame change keeps.
 use Rattle.std.proofs.Common.{Bool, List, None, Option, Some, ap, arith, false, get_or, get_or-set_other, get_or-set_same, inl, inr, length, length-set, refl, set, subst, sym, true, ℕ, ◌+◌, ◌-◌, ◌<◌, ◌==◌, ◌∙◌, ◌≡◌, ◌≢◌, ◌≤◌, ◌⊎◌}
 use Rattle.std.proofs.lemmas.Bool.{false≢true}
 use Rattle.std.proofs.lemmas.Bool.Decides.{eqb_tells}
@@ -27,7 +27,7 @@ use Rattle.gen1_machine.proofs.Keeps.{Keeps, Spares, SparesAction}
 use Rattle.gen1_machine.proofs.Leads.{Leads}
 use Rattle.gen1_machine.proofs.Tame.{SameMoves, TameActive, TameMember}
 
--- what is known of the action stays in its range, and whether Bide lets go stays
+-- What is known of the action stays in its range, and whether Bide lets go stays as it is.
 pub record TameAction (change : Action → Action) : Type 0 where
   pub tested : (a : Action) → IsCount 0 255 a.accuracy_tested → IsCount 0 255 (change a).accuracy_tested
   pub letting_go : (a : Action) → (change a).letting_go ≡ a.letting_go
@@ -45,7 +45,7 @@ pub record Sound (terms : Terms) (P : Field → Action → Stream → Type 0) : 
   pub outcome : (n : ℕ) → IsBetween 1 2 n → Spares P (with_outcome (outcomes.Fault n))
   pub action : (change : Action → Action) → TameAction change → SparesAction P change
 
--- a party of a valid field is valid, and may be put in the place of another
+-- A party of a valid field is valid, and may replace another valid party
 
 pub party-valid : {terms : Terms} (s : Side) (f : Field) → IsField terms f → IsParty terms.rules (party s f)
 party-valid One f h = h.one
@@ -55,12 +55,12 @@ pub with-party : {terms : Terms} (s : Side) (t : Party) (f : Field) → IsParty 
 with-party One t f k h = record { one = k; two = h.two; last_damage = h.last_damage; turn = h.turn; outcome = h.outcome }
 with-party Two t f k h = record { one = h.one; two = k; last_damage = h.last_damage; turn = h.turn; outcome = h.outcome }
 
--- what a side plans holds
+-- A side's plan holds.
 pub planned-holds : {terms : Terms} {plan : Side → Plan} {x : Plan} (s : Side) (f : Field) (a : Action) (w : Stream) → plan s ≡ x → IsPlanned terms plan f a w
     → HoldsPlan x (member_in s f).moves (active_in s f)
 planned-holds s f a w is h = subst (λ x. HoldsPlan x (member_in s f).moves (active_in s f)) is (h.holds s)
 
--- a change of the member that is out
+-- A change of the member that is out
 
 same-number : (used : UsedMove) (before after : List KnownMove) → SameMoves before after → number_in used after ≡ number_in used before
 same-number Nothing before after same = refl
@@ -130,7 +130,7 @@ active-changed rules t change tame h = record {
 conditioned : (moves : List KnownMove) (a : Active) (c : ActiveConditions) → IsConditions (effect_of a.current_move moves) (length moves) c → IsActive moves a → IsActive moves (record a { conditions = c })
 conditioned moves a c k h = record { stages = h.stages; current_move = h.current_move; picked_move = h.picked_move; kept_accuracy = h.kept_accuracy; conditions = k }
 
--- with other ties
+-- With another current effect.
 retied : (e x : Effect) (n : ℕ) (c : ActiveConditions) → IsUnderway x c.underway → IsConditions e n c → IsConditions x n c
 retied e x n c u h = record { underway = u; confused = h.confused; substitute = h.substitute; bad_poison = h.bad_poison; disabled = h.disabled }
 
@@ -225,7 +225,7 @@ module _ (terms : Terms) (plan : Side → Plan) where
       same f n h One = h One
       same f n h Two = h Two
 
-  -- what the current move explains
+  -- What the current move explains.
   pub planned-tied : (s : Side) (e : Effect) → plan s ≡ Doing e → (change : ActiveConditions → ActiveConditions) (f : Field) (a : Action) (w : Stream) → IsPlanned terms plan f a w
       → (IsConditions e (length (member_in s f).moves) (conditions_in s f) → IsConditions e (length (member_in s f).moves) (change (conditions_in s f)))
       → IsPlanned terms plan (changed_conditions s change f) a w
@@ -262,7 +262,8 @@ module _ (terms : Terms) (plan : Side → Plan) where
     };
   }
 
--- what the rules for phases need beside: what is read is in its range, draws are bytes, and a loop's last draw meets its test
+-- Further needs of the rules for phases: read values are in range, draws are bytes, and the last draw of a loop
+-- passes its test
 
 module _ {P : Field → Action → Stream → Type 0} where
   pub given-sees : {A : Type 0} (read : Progress → A) (Fact : A → Type 0) {f : A → Phase}
@@ -270,7 +271,7 @@ module _ {P : Field → Action → Stream → Type 0} where
   unfolding given
   given-sees read Fact see k = record { kept = λ p h. (k (read p) (see p h)).kept p h }
 
-  -- a test on plain numbers, with what it says
+  -- A test on plain numbers, with what it says.
   pub choose-sees : (b : Bool) {f g : Phase} → (b ≡ true → Keeps P f) → (b ≡ false → Keeps P g) → Keeps P (choose (λ p. b) f g)
   unfolding choose
   choose-sees true k l = record { kept = λ p h. (k refl).kept p h }
@@ -308,7 +309,7 @@ module _ {terms : Terms} {P : Field → Action → Stream → Type 0} (sound : S
       by p (Some m) e h = (k (byte_at p.stream m) (byte-small p.stream m (sound.stream _ _ _ h)) (first-finds p.stream p.drawn test m e).meets).kept (record p { drawn = m + 1 }) h
       by p None e h = h
 
--- a fact of one side's plan may be put in the place of another
+-- A fact of one side's plan may replace another.
 pub replanned : {terms : Terms} {plan : Side → Plan} (s : Side) (x : Plan) (f : Field) (a : Action) (w : Stream)
     → HoldsPlan x (member_in s f).moves (active_in s f) → IsPlanned terms plan f a w → IsPlanned terms (with_plan s x plan) f a w
 replanned {terms} {plan} s x f a w k h = record { field = h.field; tested = h.tested; stream = h.stream; holds = by s k }
@@ -323,7 +324,7 @@ pub with_plan-is : (s : Side) (x : Plan) (plan : Side → Plan) → with_plan s 
 with_plan-is One x plan = refl
 with_plan-is Two x plan = refl
 
--- the move that was planned becomes the current one
+-- The planned move becomes the current move
 
 pub untied : (e : Effect) (u : Underway) → IsUnderway effects.DamageOnly u → IsUnderway e u
 untied e u h = record {

@@ -28,7 +28,7 @@ use Rattle.gen1_machine.proofs.Keeps.{choose-keeps, note-keeps, stay-keeps, stop
 use Rattle.gen1_machine.proofs.Leads.{Leads}
 use Rattle.gen1_machine.proofs.Sound.{party-valid}
 
--- moves: an accuracy of at most 100, and what lowers a stage lowers it by one at least
+-- Moves: an accuracy is at most 100, and a move that lowers a stage lowers it by at least one
 
 abbrev pub LowersSome : Effect → Type 0
 LowersSome (effects.StatDown stat n) = 1 ≤ n
@@ -74,7 +74,7 @@ is-move n =
     let fine = both (nat_le (move_row n).accuracy 100) (lowers_some (move_row n).effect) (fine-row n) in
     record { accuracy = leb-true (move_row n).accuracy 100 fine.0; lowers = lowers-fine (move_row n).effect fine.1 }
 
--- damage
+-- Damage
 
 times-most : (d r c : ℕ) → r ≤ c → d * r ≤ d * c
 times-most d r c l = search (mul-le-mul_left, l)
@@ -91,7 +91,7 @@ divided-small level power attack (suc d) = (omega arith, omega arith)
 pub before_types-small : (n : DamageNumbers) → IsCount 0 999 (before_types n)
 before_types-small n = divided-small n.level n.power n.attack _
 
--- each row doubles a damage at most, and of a type's rows four do at most
+-- Each row at most doubles a damage, and at most four rows of a type apply
 
 doubles : Element → TypeRow → Bool
 doubles kind row = same_type row.attacker kind && not (nat_le row.tenths 10)
@@ -158,7 +158,7 @@ typed-small n d l =
     own true = omega (arith, l)
     own false = omega (arith, l)
 
--- bytes, stages and members
+-- Bytes, stages and members
 
 pub base-small : (s : Side) (move : Move) (p : Progress) → IsMove move → (active_in s p.field).kept_accuracy ≤ 255 → base_of s move p ≤ 255
 base-small s move p is kept = by p.action.going_on
@@ -181,7 +181,7 @@ stage-small Evasion s h = h.evasion
 pub risen-small : (by n : ℕ) → 1 ≤ by → n ≤ 12 → nat_le n 0 ≡ false → n - by + 1 ≤ 12
 risen-small by n some l e = omega (arith, leb-false n 0 e)
 
--- counts that go on
+-- Counts that go on
 
 pub confusion-less : (e : Effect) (n : ℕ) (c : ActiveConditions) (turns : ℕ) → c.confused ≡ Some turns → nat_le turns 1 ≡ false
     → IsConditions e n c → IsConditions e n (with_confusion_one_less c)
@@ -225,7 +225,7 @@ disabled-valid e n c b d l h = record {
 pub named : (moves : List KnownMove) (b : ℕ) → names_slot moves b ≡ true → low_bits 2 b < length moves
 named moves b e = ltb-true (low_bits 2 b) (length moves) (both (nat_lt (low_bits 2 b) (length moves)) _ e).0
 
--- phases that lead from one fact to another
+-- Phases that lead from one fact to another
 
 pub fails_if-plain : {P : Field → Action → Stream → Type 0} (s : Side) (test : Progress → Bool) → Keeps P (fails_if s test)
 unfolding fails_if fail

@@ -1,4 +1,5 @@
--- The spectator's law: after any run from the beginning, the view made of the events is what the battle shows.
+-- The spectator's law: after any run from the start of a battle, the view made from the events is what the battle
+-- shows.
 use Rattle.std.proofs.Common.{[], All, Bool, List, None, Option, ap, arith, false, flat_map, if◌then◌else◌, length, map, nat_lt, not, refl, sym, true, true≢false, ℕ, ◌&&◌, ◌++◌, ◌+◌, ◌==◌, ◌∙◌, ◌∷◌, ◌≡◌, ◌||◌, ◌≤◌}
 use Rattle.std.proofs.lemmas.Bool.{eqb-true}
 use Rattle.std.proofs.lemmas.List.Elements.{All-head, All-tail}
@@ -27,7 +28,7 @@ use Rattle.gen1_machine.proofs.WatchedEffects.{ruling_of-tells}
 use Rattle.gen1_machine.proofs.WatchedSwitches.{ChoiceFits, sized}
 use Rattle.gen1_machine.proofs.WatchedEnds.{Done, update-done, first-done}
 
--- a choice that is offered names a place of somebody
+-- An offered choice names a place that holds a member
 
 abbrev PlaceFits : ℕ → Choice → Type 0
 PlaceFits n (choices.Switch place) = (1 ≤ place) × (place ≤ n)
@@ -98,7 +99,7 @@ choice-fits v s n (choices.Switch place) e h = (h.0, omega (arith, e, h.1))
 choice-fits v s n (choices.Move k) e h = tt
 choice-fits v s n choices.Pass e h = tt
 
--- between two updates
+-- Between two updates
 
 pub data Ready (f : Field) : Type 0 where
   Begun : BothOut f → Ready f
@@ -152,7 +153,7 @@ run-knows v s (pair ∷ pairs) e r =
     sees_all-append (events_of next.answer) (flat_map events_of (run next.state pairs).answers) v
     ∙ run-knows (sees_all (events_of next.answer) v) next.state pairs k.agrees k.ready
 
--- before the battle
+-- Before the battle
 
 abbrev at_first : Member → Shown
 at_first m = record { hp = m.max; kind = None }

@@ -1,4 +1,4 @@
--- Changes that leave a valid member, or a valid member that is out, a valid one.
+-- Changes that keep a member valid, or an active block valid.
 use Rattle.std.proofs.Common.{Bool, List, None, Option, Some, arith, false, get_or, if◌then◌else◌, is_some, length, min, nat_le, refl, true, ℕ, ◌+◌, ◌-◌, ◌≡◌, ◌≤◌}
 use Rattle.std.proofs.lemmas.Bool.{false≢true}
 use Rattle.gen1_tables.specs.declared.effect.Effect.{Effect}
@@ -15,9 +15,9 @@ use Rattle.gen1_machine.specs.CurrentStats.{at_new_stage, recomputed_at, with_pe
 use Rattle.gen1_machine.specs.EarlyEffects.{with_levelled_stats}
 use Rattle.gen1_machine.specs.Valid.{IsActive, IsConditions, IsCount, IsMemberUnder, IsStages, IsStatus, OnlyWith}
 
--- members
+-- Members
 
--- the same moves, maybe with other PP
+-- The same moves, possibly with other PP.
 pub record SameMoves (before after : List KnownMove) : Type 0 where
   pub count : length after ≡ length before
   pub ids : (i : ℕ) → (get_or after i nothing_known).id ≡ (get_or before i nothing_known).id
@@ -107,7 +107,7 @@ sleep-tame {rules} = record { moves = λ m. same-moves m.moves; valid = λ m h. 
     by Frozen h = tt
     by Paralysed h = tt
 
--- a member that is out, but for its conditions
+-- The active block, without its conditions
 
 pub record TameActive (change : Active → Active) : Type 0 where
   pub place : (a : Active) → (change a).place ≡ a.place
@@ -206,7 +206,7 @@ levelled-tame = record {
   };
 }
 
--- conditions, beside any current move
+-- Conditions, for any current move
 
 pub record TameConditions (change : ActiveConditions → ActiveConditions) : Type 0 where
   pub valid : (e : Effect) (n : ℕ) (c : ActiveConditions) → IsConditions e n c → IsConditions e n (change c)

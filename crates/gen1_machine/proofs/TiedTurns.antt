@@ -1,4 +1,4 @@
--- A turn, with a fact that holds as each of its parts begins, and one that holds as each ends, beside a valid field.
+-- A turn of a valid field, with one fact that holds as each part begins and one that holds as each part ends.
 use Rattle.std.proofs.Common.{Bool, List, [], false, length, refl, subst, sym, true, ℕ, ◌∙◌, ◌∷◌, ◌≡◌}
 use Rattle.gen1_rolls.specs.Streams.{Stream}
 use Rattle.gen1_stats.specs.Members.{IsBetween}
@@ -27,7 +27,8 @@ use Rattle.gen1_machine.proofs.Tame.{without_flinch-tame}
 use Rattle.gen1_machine.proofs.Fitting.{Fits}
 use Rattle.gen1_machine.proofs.ValidTurns.{act_part, both-keep, both-plan_of, both-planned, both_plan, comes-kept, end_spent, fits-comes, pick-plan, range-kept, room-free, send_part, sends-room, set_picked-keeps, suffers_part, sure, Room, Sure}
 
--- what holds as a part begins, and what as it ends: where nobody has fallen and the battle goes on, the next part may begin
+-- A fact for the beginning of a part, and one for its end. If no member has fallen and the battle goes on, the next
+-- part may begin.
 pub record Tied (terms : Terms) (In Out : Field → Action → Stream → Type 0) : Type 0 where
   pub weaker : (f : Field) (a : Action) (w : Stream) → In f a w → Out f a w
   pub uncut : (p : Progress) → is_cut p ≡ false → Out p.field p.action p.stream → In p.field p.action p.stream
@@ -120,7 +121,7 @@ module _ (terms : Terms) {In Out : Field → Action → Stream → Type 0} (tied
   both_pick-leads plan one two fits_one fits_two = then-leads (keeps-leads (picked-inside plan One one fits_one))
       (then-leads (keeps-leads (picked-inside plan Two two fits_two)) (in_order-leads plan _ (both_act-leads plan one two fits_one fits_two)) (gone plan)) (gone plan)
 
-  -- one side uses a move, and the other switches
+  -- One side uses a move, and the other switches
 
   sends : (plan : Side → Plan) (s : Side) (place : ℕ) → plan s ≡ Any
       → Leads (λ f a w. Inside plan f a w × InRange s place f) (λ f a w. IsPlanned terms plan f a w × Out f a w) (do_part (ruling_of terms) (Sends s place))
@@ -138,7 +139,7 @@ module _ (terms : Terms) {In Out : Field → Action → Stream → Type 0} (tied
       (parts-then _ _ (sends plan (other s) place any) sure (parts-then _ _ (suffers plan (other s)) sure (act-end plan s pick fits)))
       (λ f a w h. gone plan f a w h.0)
 
-  -- both switch
+  -- Both switch
 
   abbrev Spacious : (Side → Plan) → ℕ → ℕ → ℕ → Field → Action → Stream → Type 0
   Spacious plan one two turn f a w = IsPlanned terms plan f a w × Between (Room one) (Room two) turn f a w
@@ -169,7 +170,7 @@ module _ (terms : Terms) {In Out : Field → Action → Stream → Type 0} (tied
       second : Leads (λ f a w. Spacious plan one two turn f a w × In f a w) (λ f a w. IsPlanned terms plan f a w × Out f a w) (do_part (ruling_of terms) (Sends Two y))
       second = record { led = λ p h. ((send_part terms plan Two y any_two).led p (h.0.0, rw h.0.1.two m), (tied.sends Two y).led p h.1) }
 
-  -- the turn, by what both choose
+  -- The turn, by both choices
 
   abbrev Chosen : (Side → Plan) → Choice → Choice → Field → Action → Stream → Type 0
   Chosen plan x y f a w = Inside plan f a w × Comes x One f × Comes y Two f

@@ -1,4 +1,4 @@
--- What a turn costs, and an update.
+-- The costs of a turn and of an update.
 use Rattle.std.proofs.Common.{[], Bool, List, arith, false, length, lit≤, nat_lt, refl, subst, sym, true, ℕ, ◌+◌, ◌∷◌, ◌≡◌, ◌≤◌}
 use Rattle.gen1_rolls.specs.Streams.{byte_at, span}
 use Rattle.gen1_stats.specs.declared.status.Status.{Status}
@@ -33,7 +33,7 @@ use Rattle.gen1_machine.proofs.EffectCosts.{RulingCosts}
 use Rattle.gen1_machine.proofs.ActionCosts.{act-reached}
 
 module _ {limit : ℕ} where
-  -- the residual
+  -- Residual damage
 
   worsen-costs : (s : Side) → Costs limit (worsen s) (goes 0 0 0)
   unfolding worsen
@@ -61,7 +61,7 @@ module _ {limit : ℕ} where
   unfolding residual
   residual-costs s = choose-costs _ (given-costs _ (suffer_status-costs s) ⊳ choose-costs _ (suffer_seed-costs s) stay-costs) stay-costs
 
-  -- switches
+  -- Switches
 
   pub send_out-costs : (s : Side) (place : ℕ) → Costs limit (send_out s place) (goes 0 1 10)
   unfolding send_out
@@ -80,7 +80,7 @@ module _ {limit : ℕ} where
   unfolding start
   start-costs = send_out-costs One 1 ⊳ send_out-costs Two 1
 
-  -- the end of an update
+  -- The end of an update
 
   faint-costs : (s : Side) → Costs limit (faint_if_fallen s) (goes 0 1 3)
   unfolding faint_if_fallen
@@ -126,7 +126,7 @@ module _ {limit : ℕ} where
   close-costs r (outcomes.Fault n) = more (ask_nothing-costs ⊳ note-costs _ 2 (λ f. lit≤ tt)) refl
   close-costs r _ = more (fallen-costs ⊳ settle-costs r) refl
 
--- the order: a side begins at once, or after one draw
+-- The order: a side begins at once, or after one draw
 
 pub data Begun (begins : Side → Phase) (p q : Progress) : Type 0 where
   AtOnce : (s : Side) → q ≡ begins s p → Begun begins p q
@@ -163,7 +163,7 @@ pub order-begun : (begins : Side → Phase) (p : Progress) → Begun begins p (i
 unfolding in_order given
 order-begun begins p = rank-begun (rank_in One p.field) (rank_in Two p.field) begins p
 
--- one draw more than what it leads to
+-- One draw more than what follows it
 
 one-drawn : (p : Progress) → Spends 1 0 0 p (record p { drawn = p.drawn + 1 })
 one-drawn p = spends-draws p (record p { drawn = p.drawn + 1 }) 1 (omega arith) (omega arith) refl
@@ -201,7 +201,7 @@ module _ {limit : ℕ} where
         (reached-order begins p (in_order begins p) h r i (order-begun begins p));
   }
 
--- the parts of a turn, where the limit of the hits planned is five or more
+-- The parts of a turn, for a limit of at least five planned hits
 
 abbrev part_bound : Part → Bound
 part_bound (Sends s place) = goes 0 1 10
@@ -275,7 +275,7 @@ module _ {limit : ℕ} where
   update_for-costs r h five requests.Pass requests.Pass one two = more start-costs refl
   update_for-costs r h five _ _ one two = more (replace-costs one two) refl
 
--- from a cost under any limit of the hits planned to one from anywhere
+-- From a cost for any limit of planned hits to a cost from any start
 
 reached-anywhere : (d e b : ℕ) (f : Phase) → ((limit : ℕ) → 5 ≤ limit → Costs limit f (both d e b))
     → (p : Progress) → p.stopped ≡ false → span p.stream ≤ 2304 → Reached (5 + hits_planned p) p (f p) d e b
@@ -291,7 +291,7 @@ end-spends r p i spans =
     let w = anywhere 0 3 9 (close r p.field.outcome) (λ limit five. close-costs r p.field.outcome) x refl spans in
     record { forward = w.forward; drawn = w.drawn; new = w.new; appended = w.appended; counted = w.counted; coded = w.coded }
 
--- an update makes 4,647 draws at most, and writes 47 events of 275 bytes at most
+-- An update makes at most 4,647 draws, and writes at most 47 events of 275 bytes together.
 pub update-spends : (r : Ruling) → RulingCosts 5 r → (one two : Choice) → CostsAtMost 4647 47 275 (update r one two)
 unfolding update close_update
 update-spends r h one two p i spans =

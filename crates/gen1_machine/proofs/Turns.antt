@@ -1,4 +1,4 @@
--- What sending out and a turn leave of the bench: no more than there was.
+-- Sending out and turns never make a bench longer.
 use Rattle.std.proofs.Common.{List, [], inl, refl, ℕ, ◌∷◌, ◌≡◌}
 use Rattle.gen1_machine.specs.declared.choice.Choice.{Choice}
 use Rattle.gen1_machine.specs.declared.choice.Choice.TheVariants as choices
@@ -21,7 +21,7 @@ use Rattle.gen1_machine.proofs.Free.{act-free, begin-free, conditions-spared, pe
 use Rattle.gen1_machine.proofs.Leads.{choose-leads, given-leads, keeps-leads, leads-weaker, stay-leads, then-leads, Leads}
 use Rattle.gen1_machine.proofs.Bench.{alike-free, alike-most, bench, between-free, between-weaker, most-free, sent-most, Alike, AtMost, Between, FreeParty, MaySend}
 
--- parts of a turn in which nobody is sent out, and what comes after them
+-- Parts of a turn that send out no member, and what follows them
 
 module _ {P : Field → Action → Stream → Type 0} (free : Free P) (terms : Terms) where
   pub part-acts : (s : Side) (pick : Pick) → Keeps P (do_part (ruling_of terms) (Acts s pick))
@@ -90,7 +90,7 @@ module _ {P : Field → Action → Stream → Type 0} (free : Free P) (terms : T
   unfolding the_fallen_faint faint_in_order
   the_fallen_faint-free = given-keeps _ (λ s. then-keeps (faints-free (other s)) (faints-free s))
 
--- a member is sent out
+-- A member is sent out
 
 pub sent-place : (place : ℕ) (m : Member) → (sent_out place m).place ≡ place
 sent-place place m = (penalty-leaves m.status).left _
@@ -117,12 +117,12 @@ module _ {A B C : Party → Type 0} (turn place : ℕ) (free : FreeParty B)
       (given-leads _ (λ m. record { led = λ p h. record { turned = h.turned; one = h.one; two = sends p.field.two _ (sent-place place m) h.two } }))
       (keeps-leads (then-keeps (on_conditions-keeps One _ untrapped-one) (note-keeps _))) (λ f x w h. h)
 
--- what a choice promises: who is switched to may be sent out
+-- A choice implies that its member may be sent out.
 abbrev pub Promises : Choice → Party → Type 0
 Promises (choices.Switch place) t = MaySend place t
 Promises _ t = Unit {0}
 
--- one side after the other, beside a fact of the other party
+-- One side after the other, with a fact of the other party
 
 module _ {B : Party → Type 0} (terms : Terms) (n place : ℕ) (free : FreeParty B) (before : Party) (may : MaySend place before) where
   one-sends : Leads (Between (Alike before) B n) (Between (AtMost (bench before)) B n) (do_part (ruling_of terms) (Sends One place))
@@ -139,7 +139,7 @@ module _ {B : Party → Type 0} (terms : Terms) (n place : ℕ) (free : FreePart
       (send_two n place free (λ t a e h. sent-most before t a place e h may))
       (between-weaker (λ t h. h) (alike-most before))
 
--- a turn leaves its number, and no bench is longer
+-- A turn keeps its number, and makes no bench longer
 
 abbrev pub Begins : Party → Party → ℕ → Field → Action → Stream → Type 0
 Begins one two n = Between (Alike one) (Alike two) n
@@ -157,7 +157,7 @@ module _ (terms : Terms) (one two : Party) (n : ℕ) where
   both_pick-leads : (picks_one picks_two : Pick) → Leads (Begins one two n) (NoMore one two n) (both_pick (ruling_of terms) picks_one picks_two)
   both_pick-leads picks_one picks_two = leads-weaker (keeps-leads (both_pick-free begins-free terms picks_one picks_two)) begins-no_more
 
-  -- the one that is sent out is cut short, or the rest follows
+  -- The turn is cut short, or its rest follows.
   parts-lead : {P Q R : Field → Action → Stream → Type 0} (part : Part) (rest : List Part) → Leads P Q (do_part (ruling_of terms) part)
       → ((f : Field) (a : Action) (w : Stream) → Q f a w → R f a w) → Leads Q R (do_parts (ruling_of terms) rest) → Leads P R (do_parts (ruling_of terms) (part ∷ rest))
   unfolding do_parts
@@ -208,7 +208,7 @@ module _ (terms : Terms) (one two : Party) (n : ℕ) where
   turn-leads choice_one choice_two a b = then-leads (keeps-leads (flinch-free One))
       (then-leads (keeps-leads (flinch-free Two)) (play_turn-leads choice_one choice_two a b) begins-no_more) begins-no_more
 
-  -- the first members come out
+  -- The first members come out.
   pub start-leads : one.active.place ≡ 0 → two.active.place ≡ 0 → Leads (Begins one two n) (NoMore one two n) start
   unfolding start
   start-leads a b = then-leads

@@ -1,4 +1,4 @@
--- No update leaves the valid states.
+-- Every update of a valid state leads to a valid state.
 use Rattle.std.proofs.Common.{Bool, List, [], arith, false, inl, inr, refl, subst, sym, true, ℕ, ◌∙◌, ◌∷◌, ◌≡◌, ◌⊎◌}
 use Rattle.std.proofs.lemmas.Bool.{false≢true}
 use Rattle.gen1_rolls.specs.Streams.{IsStream, Link}
@@ -30,7 +30,7 @@ use Rattle.gen1_machine.proofs.Steady.{softens-fallen}
 use Rattle.gen1_machine.proofs.KeptAccuracy.{at-steady, stands-alone}
 use Rattle.gen1_machine.proofs.KeptTurns.{both-of, kept-tied, send_out-stands, Both}
 
--- the accuracy that is kept, through the end of an update
+-- The kept accuracy through the end of an update
 
 faints : (s : Side) → Keeps Both (faint_if_fallen s)
 unfolding faint_if_fallen
@@ -76,7 +76,7 @@ close-kept terms p h = by p.field.outcome
     by outcomes.WinTwo = usual
     by outcomes.Tie = usual
 
--- through an update
+-- Through an update
 
 replaced : (x y : Choice) (p : Progress) → Both p.field p.action p.stream → let q : Progress = replace x y p in Both q.field q.action q.stream
 replaced x y p h = (replace-keeps (λ s place. both-of (λ v. send_out-stands v s place)) x y).kept p h
@@ -120,7 +120,7 @@ update-kept s x y seed (inl h) ready o a b =
     (subst (λ q. let p : Progress = update_for r requests.Pass q x y (opened s) in Both p.field p.action p.stream) (sym h.requests.two)
     (start-kept.kept (opened s) (nobody-accurate s h))))
 
--- a step, and a run
+-- A step, and a run
 
 stood-stands : (s : State) → Stood s → Stands s.terms s.field
 stood-stands s (inl h) = inl h

@@ -35,7 +35,7 @@ use Rattle.gen1_machine.proofs.Sound.{planned-sound}
 use Rattle.gen1_machine.proofs.Fitting.{offered-fits, offered-place}
 use Rattle.gen1_machine.proofs.ValidTurns.{room-free, send_out-leads, sent-valid, turn-valid, Room, Sure}
 
--- an update is closed
+-- An update is closed
 
 requests-spared : (terms : Terms) (a b : Request) → Spares (Sure terms) (with_requests a b)
 unfolding with_requests
@@ -95,7 +95,7 @@ close-valid terms p h = by p.field.outcome
     by outcomes.WinTwo = usual
     by outcomes.Tie = usual
 
--- the first members come out
+-- The first members come out
 
 out-first : (rules : Rules) (t : Party) → IsMembersUnder rules t.members → (m : Member)
     → IsParty rules (record t { active = record (sent_out 1 m) { conditions = without_trapping (sent_out 1 m).conditions } })
@@ -136,7 +136,7 @@ start-valid s seed h = record {
   holds = λ u. tt;
 }
 
--- replacements
+-- Replacements
 
 both_replace-valid : (terms : Terms) (x y : ℕ) (p : Progress) → IsBetween 1 (length p.field.one.members) x → IsBetween 1 (length p.field.two.members) y
     → Sure terms p.field p.action p.stream → let q : Progress = replace (choices.Switch x) (choices.Switch y) p in Sure terms q.field q.action q.stream
@@ -162,7 +162,7 @@ two_replaces-valid : (terms : Terms) (y : ℕ) (s : State) → IsBetween 1 (leng
 unfolding replace send_if_chosen stay ◌▸◌ unless_stopped
 two_replaces-valid terms y s l h = (send_out-leads terms (λ u. Any) Two y refl).led (opened s) (h, l)
 
--- an update
+-- An update
 
 abbrev pub Stands : Terms → Field → Type 0
 Stands terms f = IsUnstarted terms f ⊎ IsField terms f

@@ -38,7 +38,7 @@ use Rattle.gen1_machine.proofs.SoundWalk.{conditions-spared, residual-sound}
 use Rattle.gen1_machine.proofs.Acts.{act-stays, act-takes, begin-keeps}
 use Rattle.gen1_machine.proofs.Fitting.{free-plain, Fits}
 
--- a valid field, with nothing planned
+-- A valid field without plans.
 abbrev pub Sure : Terms → Field → Action → Stream → Type 0
 Sure terms = IsPlanned terms (λ s. Any)
 
@@ -51,7 +51,7 @@ act-fits terms plan s Continue fits = act-stays terms plan s Continue (λ used. 
 act-fits terms plan s Idle fits = act-stays terms plan s Idle (λ used. refl)
 act-fits terms plan s Held fits = act-stays terms plan s Held (λ used. refl)
 
--- the picked move
+-- The picked move
 
 picked-valid : {terms : Terms} (plan : Side → Plan) (s : Side) (pick : Pick) (f : Field) (a : Action) (w : Stream) → FitsPick pick (plan s) → IsPlanned terms plan f a w
     → IsUsedMove (length (member_in s f).moves) (picked_after pick (active_in s f).picked_move)
@@ -100,7 +100,7 @@ module _ (terms : Terms) (plan : Side → Plan) (s : Side) where
   unfolding end_spent_trapping
   end_spent = choose-keeps _ (on_conditions-keeps s _ (conditions-spared (planned-sound terms plan) s _ without_trapping-tame)) stay-keeps
 
--- parts one after the other; each may be the last
+-- Parts one after another. Each may be the last
 
 module _ (terms : Terms) (plan : Side → Plan) where
   parts-end : Leads (IsPlanned terms plan) (Sure terms) (do_parts (ruling_of terms) [])
@@ -145,7 +145,7 @@ module _ (terms : Terms) (plan : Side → Plan) (one two : Pick) (fits_one : Fit
   both_pick-leads = then-leads (keeps-leads (set_picked-keeps terms plan One one fits_one))
       (then-leads (keeps-leads (set_picked-keeps terms plan Two two fits_two)) (in_order-leads _ both_act-leads) sure) sure
 
--- a member is sent out
+-- A member is sent out
 
 no-conditions : (e : Effect) (n : ℕ) → IsConditions e n no_conditions
 no-conditions e n = record {
@@ -181,7 +181,7 @@ Room n t = length t.members ≡ n
 pub room-free : (n : ℕ) → FreeParty (Room n)
 room-free n = record { member = λ t m h. length-set t.members (t.active.place - 1) m ∙ h; active = λ t a e h. h }
 
--- beside the number of members of each party
+-- With the number of members of each party.
 abbrev pub Roomy : Terms → (Side → Plan) → ℕ → ℕ → ℕ → Field → Action → Stream → Type 0
 Roomy terms plan one two turn f a w = IsPlanned terms plan f a w × Between (Room one) (Room two) turn f a w
 
@@ -206,7 +206,7 @@ send_out-leads terms plan s place any = then-leads
           holds = holds-after terms plan s t f (subst (λ x. HoldsPlan x (out_of t).moves t.active) (sym any) tt) h.holds;
         }
 
--- a place of a party stays one, since no change of who is out touches its members
+-- A place of a party stays one, since sending out changes no list of members
 
 active-members : (s t : Side) (change : Active → Active) (f : Field) → (party t (changed_active s change f)).members ≡ (party t f).members
 unfolding changed_active
@@ -224,7 +224,7 @@ unfolding do_part begin on_action
 send_part terms plan s place any =
     then-leads (record { led = λ p h. ((begin-keeps terms plan s).kept p h.0, h.1) }) (send_out-leads terms plan s place any) (λ f a w h. h.0)
 
--- one side uses a move, and the other switches
+-- One side uses a move, and the other switches.
 one_picks-leads : (terms : Terms) (plan : Side → Plan) (s : Side) (pick : Pick) (place : ℕ) → FitsPick pick (plan s) → plan (other s) ≡ Any
     → Leads (λ f a w. IsPlanned terms plan f a w × InRange (other s) place f) (Sure terms) (one_picks (ruling_of terms) s pick place)
 unfolding one_picks set_picked given on_active on_field
@@ -234,7 +234,7 @@ one_picks-leads terms plan s pick place fits any = then-leads {Q = λ f a w. IsP
     (parts-then terms _ _ (keeps-leads (suffers_part terms plan (other s))) sure (act-end terms plan s pick fits)))
     (λ f a w h. sure f a w h.0)
 
--- both switch
+-- Both switch
 
 pub sends-room : (terms : Terms) (one two turn place : ℕ) → Leads (Between (Room one) (Room two) turn) (Between (Room one) (Room two) turn) (do_part (ruling_of terms) (Sends One place))
 unfolding do_part
@@ -256,7 +256,7 @@ both_switch-leads terms plan one two turn x y any_one any_two l m =
     second : Leads (Roomy terms plan one two turn) (IsPlanned terms plan) (do_part (ruling_of terms) (Sends Two y))
     second = record { led = λ p h. (send_part terms plan Two y any_two).led p (h.0, rw h.1.two m) }
 
--- what is planned by choices
+-- What choices plan
 
 pub comes-kept : (c : Choice) (s t : Side) (change : Active → Active) (f : Field) → Comes c t f → Comes c t (changed_active s change f)
 comes-kept (choices.Switch place) s t change f h = range-kept s t change place f h
@@ -273,7 +273,7 @@ pub with_plan-other : (s : Side) (x : Plan) (plan : Side → Plan) → with_plan
 with_plan-other One x plan = refl
 with_plan-other Two x plan = refl
 
--- a move that explains nothing goes on with nothing
+-- A move that explains nothing has nothing to go on with.
 never : (b : Bool) → (b ≡ true → false ≡ true) → b ≡ false
 never true h = absurd (false≢true (h refl))
 never false h = refl
@@ -318,7 +318,7 @@ pick-plan {terms} plan s zero f a w fits h = by (must_continue (underway_in s f)
           rest = with_plan-other s (Plans Struggle effect) plan;
         }
 
--- the turn, by what both choose
+-- The turn, by both choices
 
 module _ (terms : Terms) (plan : Side → Plan) (x y : Choice) (plan_one : PlanOf x (plan One)) (plan_two : PlanOf y (plan Two)) where
   Chosen : Field → Action → Stream → Type 0
@@ -371,7 +371,7 @@ turn-keeps terms plan x y one two =
     then-leads (keeps-leads (flinch-chosen terms plan x y one two One))
     (then-leads (keeps-leads (flinch-chosen terms plan x y one two Two)) (play_turn-leads terms plan x y one two) (λ f a w h. sure f a w h.0)) (λ f a w h. sure f a w h.0)
 
--- from a valid field
+-- From a valid field
 
 pub choice_plan : Choice → Side → Field → Plan
 choice_plan (choices.Move (suc k)) s f = Plans (Slot (suc k)) (effect_of (Slot (suc k)) (member_in s f).moves)

@@ -1,4 +1,4 @@
--- A watcher can follow an action.
+-- A spectator can follow an action.
 use Rattle.std.proofs.Common.{Bool, List, None, Option, Some, ap, false, lit≤, refl, suc, sym, true, true≢false, zero, ℕ, ◌+◌, ◌∙◌, ◌≡◌}
 use Rattle.gen1_tables.specs.declared.effect.Stat.TheVariants.{Attack}
 use Rattle.gen1_tables.specs.declared.effect.Effect.{Effect}
@@ -38,14 +38,14 @@ one-explosion : (e : Effect) → explodes e ≡ true → hits_more e ≡ false
 one-explosion effects.Explode h = refl
 one-explosion _ h = absurd (true≢false (sym h))
 
--- an explosion, and a faint, as they show
+-- An explosion and a faint, as they show.
 pub exploded-shows : (s : Side) (f : Field) → AllOut f → shows (changed_member s fallen f) ≡ fallen_view s (shows f)
 unfolding fallen
 exploded-shows s f o = sym (told-member s fallen (λ n x. not_shown) f o.both refl)
     ∙ on-side-same s (on_shown (λ x. not_shown)) (on_shown (λ x. not_shown)) f o.both refl
 
 module _ {v : View} where
-  -- what comes before any damage
+  -- Before any damage
 
   going-tells : (going_on : Bool) → Tells v (set_going_on going_on)
   unfolding set_going_on seeing
@@ -108,7 +108,7 @@ module _ {v : View} where
   unfolding use_move seeing
   use_move-tells s pick move = current-tells s pick ⊳ choose-tells _ stay-tells (spend-tells s) ⊳ choose-tells _ (note-tells _ (λ f w. refl)) stay-tells
 
-  -- a count of hits or of turns takes two draws at most
+  -- A count of hits or of turns takes two draws at most
 
   count_again-tells : (f : ℕ → Phase) → ((x : ℕ) → Tells v (f (low_bits 2 x))) → (c : ℕ) → Tells v (count_again f c)
   unfolding count_again seeing
@@ -153,7 +153,7 @@ module _ {v : View} where
       ⊳ choose-tells _ (early_effect-tells s move move.effect ⊳ stop-tells) stay-tells
       ⊳ prelude-tells s move
 
-  -- damage: one loop at most
+  -- Damage: one loop at most
 
   set_critical-tells : (critical : Bool) → Tells v (set_critical critical)
   unfolding set_critical seeing
@@ -234,7 +234,7 @@ module _ {v : View} where
   damage_of-tells s move effects.OneHitKnockOut = knock_out-tells s move
   damage_of-tells s move _ = choose-tells _ (usual-tells s move) (damage-tells 0)
 
-  -- what comes with a hit
+  -- After a hit
 
   pub recoil-tells : (s : Side) (move : Move) → Tells v (recoil s move)
   unfolding recoil seeing
@@ -260,7 +260,7 @@ module _ {v : View} where
   unfolding count_hit seeing
   count_hit-tells = action-tells _
 
-  -- a miss, and what the first hit says
+  -- A miss, and the reports of the first hit
 
   crash-tells : (s : Side) → Tells v (crash s)
   unfolding crash seeing
@@ -282,7 +282,7 @@ module _ {v : View} where
   unfolding note_hit_count seeing
   hit_count-tells target made = note-tells _ (λ f w. refl)
 
-  -- how many hits are planned doesn't show
+  -- The number of planned hits doesn't show
 
   set_planned-tells : (n : ℕ) → Tells v (set_planned n)
   unfolding set_planned
@@ -296,7 +296,7 @@ module _ {v : View} where
   unfolding plan_hits
   plan-tells = choose-tells _ stay-tells (draw_count-tells plan_two_more (λ x. two_more-tells (low_bits 2 x)))
 
-  -- an explosion fells its user unseen
+  -- An explosion makes its user fall without an event
 
   explode-falls : (s : Side) → Leads (Seen v) (Lags v (fallen_view s)) (Halted v) (explode s)
   unfolding explode on_member on_conditions without_seed
@@ -314,13 +314,13 @@ module _ {v : View} where
       by p r (Stands m) = (after-leads (λ q n. Stands n) h).leads p r m
       by p r (Fallen s m) = (after-leads (λ q n. Fallen s n) (k s)).leads p r m
 
-  -- the rage of who was hit by an explosion builds after the fall
+  -- The rage of a member that was hit by an explosion builds after the fall.
   build_rage-falls : (t : Side) → Leads (MayFall v) (MayFall v) (Halted v) (build_rage t)
   unfolding build_rage
   build_rage-falls t = fell-leads (choose-tells _ (raise-tells t t Attack 1 (lit≤ tt) stay-tells) stay-tells)
       (λ s. choose-tells _ (raise-lags (fallen_view s) (apart-fallen s) t t Attack 1 (lit≤ tt) stay-tells) stay-tells)
 
-  -- hits
+  -- Hits
 
   hit_effect-tells : (s : Side) (move : Move) (e : Effect) → explodes e ≡ false → Tells v (hit_effect s move e)
   unfolding hit_effect
@@ -367,14 +367,14 @@ module _ {v : View} where
   hits-falls s move h = first_hit-tells s move ⊳ hit_once-falls s move h
       ⊳ if-sees (hits_more move.effect) (λ e. absurd (true≢false (sym e ∙ one-explosion move.effect h))) (λ e. stay-tells)
 
-  -- a miss
+  -- A miss
 
   missed_move-tells : (s : Side) (move : Move) → Tells v (missed_move s move)
   unfolding missed_move
   missed_move-tells s move = note_miss-tells s move ⊳ choose-tells _ (crash-tells s) stay-tells
       ⊳ choose-tells _ (explode-tells s) (after-leads (λ p m. Stands m) stay-tells) ⊳ stop-leads (λ p m. Still m)
 
-  -- a move that explodes has no side effect
+  -- A move that explodes has no side effect.
   side_effect-falls : (r : Ruling) (s : Side) (move : Move) (e : Effect) → explodes e ≡ true → Leads (MayFall v) (MayFall v) (Halted v) (side_effect r s move e)
   unfolding side_effect kept_away_effect
   side_effect-falls r s move effects.Explode h = choose-tells _ stay-tells stay-tells
@@ -390,7 +390,7 @@ module _ {v : View} where
       by true e = choose-tells _ (missed_move-tells s move) stay-tells ⊳ hits-falls s move e
           ⊳ choose-tells _ stay-tells (side_effect-falls r s move move.effect e)
 
-  -- an action
+  -- An action
 
   carry_out-tells : (r : Ruling) → RulingTells v r → (s : Side) (pick : Pick) (move : Move) → shifts_well move.effect ≡ true
       → Leads (Seen v) (MayFall v) (Halted v) (carry_out r s pick move)
@@ -412,7 +412,7 @@ module _ {v : View} where
   unfolding begin
   begin-tells s = action-tells _
 
--- what stays the same where a change doesn't show
+-- What stays the same under a change that doesn't show
 
 fell-silent : {v : View} {events : List Event} (change : Field → Field) (f : Field) → Silent change → Fell v f events → Fell v (change f) events
 fell-silent change f h (Stands m) = Stands (record { out = kept h.keeps f m.out; agrees = m.agrees ∙ sym (h.unseen f) })
@@ -437,7 +437,7 @@ silent-accuracy : (s : Side) (byte : ℕ) → Silent (changed_active s (with_kep
 unfolding with_kept_accuracy
 silent-accuracy s byte = silent-active s (with_kept_accuracy byte) (λ a. refl)
 
--- only a fault stops more than the action
+-- Only a fault stops more than the action
 
 resume-lands : {v : View} (s : Side) (byte : ℕ) (q : Progress) → Lands (MayFall v) (Halted v) q
     → Lands (MayFall v) (Halted v) (resume (on_active s (with_kept_accuracy byte) q))

@@ -1,4 +1,4 @@
--- A watcher can follow what moves do besides damage.
+-- A spectator can follow what moves do in addition to damage.
 use Rattle.std.proofs.Common.{Bool, List, None, Option, Some, ap, arith, false, lit≤, min, nat_le, nat_lt, refl, sym, true, ℕ, ◌+◌, ◌-◌, ◌∙◌, ◌≡◌, ◌≤◌}
 use Rattle.std.proofs.lemmas.Bool.{leb-true, leb-false, ltb-false}
 use Rattle.gen1_tables.specs.declared.effect.Stat.{Stat}
@@ -30,7 +30,7 @@ use Rattle.gen1_machine.proofs.Showing.{BothOut, AllOut, Keeps, kept, keeps-acti
 use Rattle.gen1_machine.proofs.Watching.{seeing, Runs, Leads, Seen, Tells, Ahead, Anything, fallen_view, after-leads, before-leads, ◌⊳◌, choose-tells, if-sees, given-tells, given-sees, draw-tells, until-tells, stay-tells, more-ahead, still-ahead, note-told, sees_all-last, conditions-tells, note-tells, told-tells, start-seen, boost-seen, unboost-seen, starts-tells, lose-tells, gain-tells, status-tells, inflict-tells, cure-tells}
 use Rattle.gen1_machine.proofs.WatchedGate.{fail-tells, fails_if-tells, must_hit-tells}
 
--- effects that move a stage by one at least
+-- Effects that shift a stage by at least one.
 abbrev pub shifts_well : Effect → Bool
 shifts_well (effects.StatUp stat n) = nat_le 1 n
 shifts_well (effects.StatDown stat n) = nat_le 1 n
@@ -40,7 +40,7 @@ pub record RulingTells (v : View) (r : Ruling) : Type 0 where
   pub sleeps : (s : Side) → Tells v (r.sleeps s)
   pub freezes : (s : Side) → Tells v (r.freezes s)
 
--- where what shows lags behind by a part of its own: nothing, or a member that fell unseen
+-- What shows may lag: by nothing, or by a member that fell without an event
 
 abbrev pub Lags : View → (View → View) → Progress → Type 0
 Lags v G p = Ahead v Anything G p
@@ -51,7 +51,7 @@ seen-lags p m = record { before = p.field; was = m.out; fact = tt; agrees = m.ag
 pub lags-seen : {v : View} (p : Progress) → Lags v (λ w. w) p → Seen v p
 lags-seen p m = record { out = m.out; agrees = m.agrees ∙ sym m.ahead }
 
--- a lag has no part in stages
+-- Stages don't depend on the lag.
 pub record Apart (G : View → View) : Type 0 where
   pub commutes : (s : Side) (stat : Stat) (n : ℕ) (w : View) → on_side_view s (at_stage stat n) (G w) ≡ G (on_side_view s (at_stage stat n) w)
   pub stages : (s : Side) (w : View) → (side_view s (G w)).stages ≡ (side_view s w).stages
@@ -88,7 +88,7 @@ knows-stage G h s stat n p m =
     sym (stages-shown s m.0.before) ∙ sym (h.stages s (shows m.0.before)) ∙ sym (ap (λ (w : View). (side_view s w).stages) m.0.ahead) ∙ stages-shown s p.field in
     record { before = m.0.before; was = m.0.was; fact = ap (λ (x : Stages). stage_of stat x) same ∙ m.1; agrees = m.0.agrees; out = m.0.out; ahead = m.0.ahead }
 
--- what an event of stages tells
+-- What an event of a stage says.
 pub on-side-same : (s : Side) (g h : SideView → SideView) (f : Field) → BothOut f → g (side_shows (party s f)) ≡ h (side_shows (party s f))
     → on_side_view s (if_out g) (shows f) ≡ on_side_view s h (shows f)
 on-side-same One g h f o e = ap (λ (x : SideView). record (shows f) { one = x }) (out-shows g (side_shows f.one) o.one.placed ∙ e)
@@ -110,7 +110,7 @@ none-left : (n k : ℕ) → n ≤ k → nat_lt 0 (k - n) ≡ false → n ≡ k
 none-left n k low e = let h = ltb-false 0 (k - n) e in omega (arith, low, h)
 
 module _ {v : View} {S : Progress → Type 0} where
-  -- the event of a stage, where what shows may lag behind
+  -- The event of a stage, while what shows may lag.
   note-lags : (event : Field → Event) (Fact : Field → Type 0) (G k : View → View) (change : Field → Field) → Keeps change
       → ((f : Field) → shows (change f) ≡ k (shows f)) → ((w : View) → k (G w) ≡ G (k w))
       → ((b f : Field) → AllOut b → Fact b → sees (event f) (shows b) ≡ k (shows b))
@@ -243,7 +243,7 @@ clear_side-tells s G =
     ⊳ more-ahead (changed_conditions s after_haze) Anything (λ w. on_side_view s levelled (G w)) (on_side_view s unconfused) (keeps-conditions s after_haze) (haze-shows s)
 
 module _ {v : View} where
-  -- the rulings
+  -- The rulings
 
   pub sleep_for-tells : (marked : Bool) (s : Side) (b : ℕ) → Tells v (sleep_for marked s b)
   unfolding sleep_for seeing
@@ -270,7 +270,7 @@ module _ {v : View} where
   pub ruling_of-tells : (t : Terms) → RulingTells v (ruling_of t)
   ruling_of-tells t = record { sleeps = sleeps_under-tells t.rules.sleep_clause; freezes = freezes_under-tells t.rules.freeze_clause }
 
-  -- before damage
+  -- Before damage
 
   pub confused_by-tells : (s : Side) (b : ℕ) → Tells v (confused_by s b)
   unfolding confused_by seeing
@@ -385,7 +385,7 @@ module _ {v : View} where
   early_effect-tells s move effects.Splash = splash-tells s
   early_effect-tells s move _ = fail-tells s
 
-  -- where others deal damage
+  -- At the place of the damage
 
   pub ready_to_sleep-tells : (s : Side) (move : Move) → Tells v (ready_to_sleep s move)
   unfolding ready_to_sleep seeing
@@ -415,7 +415,7 @@ module _ {v : View} where
   late_effect-tells r h s move effects.Bide w = bide-tells s
   late_effect-tells r h s move _ w = stay-tells
 
-  -- side effects
+  -- Side effects
 
   happens-tells : (bound : ℕ) {f : Phase} → Tells v f → (x : ℕ) → Tells v (happens_below bound f x)
   unfolding happens_below seeing

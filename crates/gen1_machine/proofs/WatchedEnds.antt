@@ -1,4 +1,4 @@
--- A watcher can follow the end of an update, and a whole update.
+-- A spectator can follow the end of an update, and a whole update.
 use Rattle.std.proofs.Common.{List, ap, arith, false, length, refl, subst, sym, true≢false, ℕ, ◌+◌, ◌∙◌, ◌≡◌, ◌≤◌}
 use Rattle.gen1_machine.specs.declared.side.Side.{Side}
 use Rattle.gen1_machine.specs.declared.side.Side.TheVariants.{One, Two}
@@ -23,7 +23,7 @@ use Rattle.gen1_machine.proofs.WatchedActions.{exploded-shows, fell-ongoing}
 use Rattle.gen1_machine.proofs.WatchedSwitches.{ChoiceFits, steady-out, steady-any, sized, hidden-shown, hidden-fallen, start-tells}
 use Rattle.gen1_machine.proofs.WatchedTurns.{turn-tells, replace-tells}
 
--- what is left of an update
+-- The rest of an update
 
 pub record Done (v : View) (f : Field) (events : List Event) : Type 0 where
   pub both : BothOut f
@@ -32,7 +32,7 @@ pub record Done (v : View) (f : Field) (events : List Event) : Type 0 where
 abbrev pub IsDone : View → Progress → Type 0
 IsDone v p = Done v p.field p.events
 
--- an outcome that is yet to be told
+-- An outcome that no event has reported yet.
 pub record Ended (v : View) (o : Outcome) (f : Field) (events : List Event) : Type 0 where
   pub before : Field
   pub agrees : sees_all events v ≡ shows before
@@ -84,7 +84,7 @@ unfolding with_next_turn
 next-keeps = record { both = λ f o. record { one = o.one; two = o.two }; outcome = λ f. refl }
 
 module _ {v : View} {S : Progress → Type 0} where
-  -- the fallen faint
+  -- The fallen faint
 
   faint-tells : (t : Side) → Leads (Seen v) (Seen v) S (faint_if_fallen t)
   unfolding faint_if_fallen fallen
@@ -142,7 +142,7 @@ module _ {v : View} {S : Progress → Type 0} where
   unfolding the_fallen_faint
   fallen-tells = given-tells _ faints-tells
 
-  -- the battle ends
+  -- The battle ends
 
   end-step : (o : Outcome) → Leads (Seen v) (HasEnded v o) S (on_field (with_outcome o))
   unfolding on_field with_outcome
@@ -166,7 +166,7 @@ module _ {v : View} {S : Progress → Type 0} where
         Runs r (record { both = m.both; agrees = sees_all-last p.events event v ∙ ap (λ w. sees event w) m.agrees ∙ h (shows m.before) ∙ sym m.ahead });
   }
 
-  -- the battle goes on
+  -- The battle goes on
 
   ask_switches-tells : Leads (Seen v) (Seen v) S ask_for_switches
   unfolding ask_for_switches
@@ -178,7 +178,7 @@ module _ {v : View} {S : Progress → Type 0} where
       ⊳ told-told (with_requests requests.Move requests.Move) (λ f. events.Turn f.turn) Anything later (silent-requests requests.Move requests.Move)
       (λ b f o q fact a. turn-seen f.turn (shows b) ∙ ap (λ n. record (shows b) { turn = n }) (ap (λ (w : View). w.turn) a))
 
--- the first place is somebody's
+-- The first place holds a member.
 fits-first : (v : View) (f : Field) (events : List Event) → sees_all events v ≡ shows f → (s : Side) → 1 ≤ length (party s f).members → (1 ≤ 1) × (1 ≤ length (side_view s v).members)
 fits-first v f events e s h = let same = sized v f events e s in (omega arith, omega (arith, h, same))
 
@@ -230,7 +230,7 @@ module _ {v : View} where
       subst (λ (o : Outcome). IsDone v (close r o x)) (sym m.outcome) (any-done (close r (outcomes.Fault m.number) x)
       ((close-fault r m.number).leads x refl (record { before = m.before; agrees = m.agrees; both = m.both; ahead = m.ahead })))
 
-  -- an update
+  -- An update
 
   update_for-lands : (r : Ruling) → RulingTells v r → (a b : Request) (one two : Choice) → ChoiceFits v One one → ChoiceFits v Two two
       → (p : Progress) → p.stopped ≡ false → Seen v p → Lands (MayFall v) (Halted v) (update_for r a b one two p)
@@ -249,7 +249,7 @@ module _ {v : View} where
   update-done r h one two c d p i m = close-done r (update_for r p.field.request_one p.field.request_two one two p)
       (update_for-lands r h p.field.request_one p.field.request_two one two c d p i m)
 
-  -- the first update, before which nobody is out
+  -- The first update. Before it no member is out.
   pub first-done : (r : Ruling) (one two : Choice) (p : Progress) → p.stopped ≡ false → p.field.outcome ≡ outcomes.Ongoing
       → sees_all p.events v ≡ shows p.field → p.field.request_one ≡ requests.Pass → p.field.request_two ≡ requests.Pass
       → 1 ≤ length p.field.one.members → 1 ≤ length p.field.two.members → IsDone v (update r one two p)

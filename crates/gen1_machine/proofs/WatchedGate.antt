@@ -1,4 +1,4 @@
--- A watcher can follow the gate, the landing and the hit test.
+-- A spectator can follow the gate, the landing and the hit test.
 use Rattle.std.proofs.Common.{Bool, None, Option, Some, ap, false, if◌then◌else◌, nat_le, refl, sym, true, ℕ, ◌-◌, ◌∙◌, ◌≡◌}
 use Rattle.gen1_stats.specs.declared.status.Status.{Status}
 use Rattle.gen1_stats.specs.declared.status.Status.TheVariants.{Asleep, Healthy}
@@ -34,7 +34,7 @@ less-asleep : (turns : ℕ) (marked : Bool) (status : Status) → status ≡ Asl
 less-asleep turns marked status e = ap (λ s. kind_of (one_turn_less_asleep s)) e
 
 module _ {v : View} where
-  -- misses and failures
+  -- Misses and failures
 
   pub missed-tells : (missed : Bool) → Tells v (set_missed missed)
   unfolding set_missed seeing
@@ -52,7 +52,7 @@ module _ {v : View} where
   unfolding cant seeing
   cant-tells s why = note-tells _ (λ f w. refl) ⊳ stop-tells
 
-  -- the landing
+  -- The landing
 
   pub broke-tells : Tells v set_broke
   unfolding set_broke seeing
@@ -79,7 +79,7 @@ module _ {v : View} where
   unfolding land seeing
   land-tells s = choose-tells _ (given-tells _ (land_damage-tells s)) stay-tells
 
-  -- the hit on itself
+  -- The hit on itself
 
   pub on_foes_substitute-tells : (s : Side) (damage : ℕ) (o : Option ℕ) → Tells v (land_on_foes_substitute s damage o)
   unfolding land_on_foes_substitute seeing
@@ -96,9 +96,9 @@ module _ {v : View} where
   hurt_itself-tells s = conditions-tells s _ (λ c. refl) ⊳ conditions-tells s _ (λ c. refl) ⊳ conditions-tells s _ (λ c. refl)
       ⊳ given-tells _ (λ n. hurt_itself_by-tells s (before_types n)) ⊳ stop-tells
 
-  -- the gate
+  -- The gate
 
-  -- a sleeper wakes up where its count is at its end, and only there
+  -- A sleeper wakes up exactly when its count is at its end
 
   pub wake-tells : (s : Side) (turns : ℕ) (marked : Bool) → nat_le turns 1 ≡ true
       → Leads (λ p. Seen v p × (status_of s p ≡ Asleep turns marked)) (Seen v) (Halted v) (wake s)
@@ -183,7 +183,7 @@ module _ {v : View} where
   unfolding gate seeing
   gate-tells s pick = gate_of_status-tells s ⊳ gate_of_turn-tells s ⊳ gate_of_move-tells s pick
 
-  -- the hit test
+  -- The hit test
 
   pub miss-tells : (s : Side) → Tells v (miss s)
   unfolding miss seeing

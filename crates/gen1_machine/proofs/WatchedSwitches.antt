@@ -1,4 +1,4 @@
--- A watcher can follow a switch, and the beginning of a battle.
+-- A spectator can follow a switch, and the beginning of a battle.
 use Rattle.std.proofs.Common.{[], Bool, List, None, Some, ap, arith, false, get_or-set_same, if◌then◌else◌, length, length-set, map, nat_le, nat_lt, not, refl, slice_index_or, subst, sym, true, ℕ, ◌&&◌, ◌++◌, ◌-◌, ◌==◌, ◌∙◌, ◌∷◌, ◌≡◌, ◌≤◌}
 use Rattle.std.proofs.lemmas.Bool.{le-leb}
 use Rattle.std.proofs.lemmas.List.{length-map, map-set, set-get_or}
@@ -24,7 +24,7 @@ use Rattle.gen1_machine.specs.View.{side_view, on_side_view, not_shown, shown_at
 use Rattle.gen1_machine.proofs.Showing.{IsOut, ActiveView, active_view, side_of, active-shown, penalty-unseen}
 use Rattle.gen1_machine.proofs.Watching.{Runs, Lands, Leads, Seen, Behind, Anything, fallen_view, after-leads, before-leads, ◌⊳◌, sees_all-last}
 
--- a view never shows more members than before, nor fewer
+-- A view always shows the same number of members
 
 record SameSize (w x : View) : Type 0 where
   one : length x.one.members ≡ length w.one.members
@@ -83,7 +83,7 @@ pub sized : (v : View) (f : Field) (events : List Event) → sees_all events v �
 sized v f events e One = sym (length-map f.one.members shown) ∙ sym (ap (λ (w : View). length w.one.members) e) ∙ (sees_all-size events v).one
 sized v f events e Two = sym (length-map f.two.members shown) ∙ sym (ap (λ (w : View). length w.two.members) e) ∙ (sees_all-size events v).two
 
--- a place of somebody, and a choice that names one
+-- A place that holds a member, and a choice that names one
 
 abbrev pub Fits : View → Side → ℕ → Type 0
 Fits v s place = (1 ≤ place) × (place ≤ length (side_view s v).members)
@@ -95,7 +95,7 @@ ChoiceFits v s _ = Unit {0}
 fits-now : (v : View) (f : Field) (events : List Event) (s : Side) (place : ℕ) → Fits v s place → sees_all events v ≡ shows f → place ≤ length (party s f).members
 fits-now v f events s place fits e = let h = sized v f events e s in omega (arith, h, fits.1)
 
--- a switch and its event
+-- A switch and its event
 
 abbrev fresh : ℕ → Member → Active
 fresh place m = record nobody_out {
@@ -126,7 +126,7 @@ sent-place : (place : ℕ) (m : Member) (a : Active) → (with_sent_out place m 
 unfolding with_sent_out
 sent-place place m a = ap (λ (w : ActiveView). w.place) (penalty-unseen m.status (fresh place m))
 
--- the field after a switch
+-- The field after a switch.
 abbrev sent : Side → ℕ → Field → Field
 sent s place f = changed_conditions (other s) without_trapping (changed_active s (with_sent_out place (member_at place (party s f))) f)
 
@@ -149,14 +149,14 @@ switch-shows Two place f low high =
     (sent-place place (member_at place f.two) f.two.active)
     ∙ ap (λ (x : SideView). record (shows f) { two = x }) (switched-side place f.two low high)
 
--- all that shows, with something said of each side
+-- All that shows, with a fact of each side.
 pub record Even (v : View) (A B : Party → Type 0) (f : Field) (events : List Event) : Type 0 where
   pub agrees : sees_all events v ≡ shows f
   pub ongoing : f.outcome ≡ outcomes.Ongoing
   pub one : A f.one
   pub two : B f.two
 
--- what depends on the members and the place alone
+-- A fact that depends only on the members and the place.
 abbrev pub Steady : (Party → Type 0) → Type 0
 Steady A = (t : Party) (a : Active) → a.place ≡ t.active.place → A t → A (record t { active = a })
 
@@ -224,12 +224,12 @@ module _ {v : View} {S : Progress → Type 0} where
   send_out-tells One place fits = after-leads even-seen (before-leads seen-even (send-one IsOut IsOut steady-out place fits))
   send_out-tells Two place fits = after-leads even-seen (before-leads seen-even (send-two IsOut IsOut steady-out place fits))
 
-  -- whoever was out before
+  -- Whatever member was out before.
   pub start-tells : (A B : Party → Type 0) → Steady B → Fits v One 1 → Fits v Two 1 → Leads (λ p. Even v A B p.field p.events) (Seen v) S start
   unfolding start
   start-tells A B steady one two = send-one A B steady 1 one ⊳ after-leads even-seen (send-two IsOut B steady-out 1 two)
 
--- who fell unseen has fallen
+-- A member that fell without an event has fallen
 
 pub hidden-shown : {v : View} {f : Field} {events : List Event} (s : Side) → Behind v Anything (fallen_view s) f events → shown (member_in s f) ≡ not_shown
 hidden-shown {v} {f} One m =

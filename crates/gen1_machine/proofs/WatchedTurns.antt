@@ -1,4 +1,4 @@
--- A watcher can follow a turn, and an update.
+-- A spectator can follow a turn, and an update.
 use Rattle.std.proofs.Common.{[], Bool, List, false, refl, sym, true, true≢false, ℕ, ◌∙◌, ◌∷◌, ◌≡◌, ◌||◌}
 use Rattle.gen1_stats.specs.declared.status.Status.{Status}
 use Rattle.gen1_stats.specs.declared.status.Status.TheVariants.{Poisoned, Burned}
@@ -23,7 +23,7 @@ use Rattle.gen1_machine.proofs.WatchedEffects.{RulingTells}
 use Rattle.gen1_machine.proofs.WatchedActions.{begin-tells, act-tells}
 use Rattle.gen1_machine.proofs.WatchedSwitches.{Fits, ChoiceFits, send_out-tells, hidden-fallen}
 
--- after a part that cuts nothing off, everybody stands
+-- After a part that cuts nothing off, no active member has fallen
 
 or-left : (a b : Bool) → (a || b) ≡ false → a ≡ false
 or-left true b e = absurd (true≢false e)
@@ -53,7 +53,7 @@ AllFit v [] = Unit {0}
 AllFit v (part ∷ rest) = PartFits v part × AllFit v rest
 
 module _ {v : View} where
-  -- the residual
+  -- Residual damage
 
   worsen-tells : (s : Side) → Tells v (worsen s)
   unfolding worsen seeing
@@ -81,7 +81,7 @@ module _ {v : View} where
   unfolding residual
   residual-tells s = choose-tells _ (given-tells _ (suffer_status-tells s) ⊳ choose-tells _ (suffer_seed-tells s) stay-tells) stay-tells
 
-  -- the parts of a turn
+  -- The parts of a turn
 
   do_part-tells : (r : Ruling) → RulingTells v r → (part : Part) → PartFits v part → Leads (Seen v) (MayFall v) (Halted v) (do_part r part)
   unfolding do_part
@@ -107,7 +107,7 @@ module _ {v : View} where
   unfolding set_picked seeing
   set_picked-tells s pick = given-tells _ (λ a. active-tells s _ (λ a. refl))
 
-  -- the order
+  -- The order
 
   toss-tells : (begins : Side → Phase) → ((s : Side) → Leads (Seen v) (MayFall v) (Halted v) (begins s)) → (b : ℕ) → Leads (Seen v) (MayFall v) (Halted v) (toss begins b)
   unfolding toss
@@ -146,7 +146,7 @@ module _ {v : View} where
   unfolding turn seeing
   turn-tells r h one two a b = conditions-tells One _ (λ c. refl) ⊳ conditions-tells Two _ (λ c. refl) ⊳ play_turn-tells r h one two a b
 
-  -- replacements
+  -- Replacements
 
   send_if-tells : (s : Side) (c : Choice) → ChoiceFits v s c → Tells v (send_if_chosen s c)
   unfolding send_if_chosen

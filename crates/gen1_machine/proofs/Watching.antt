@@ -1,4 +1,5 @@
--- Phases that a watcher can follow: where the view made of the events was what the field shows, it is so afterwards.
+-- Phases that a spectator can follow: if the view made from the events was what the field shows, it still is
+-- afterwards.
 use Rattle.std.proofs.Common.{[], Bool, List, None, Option, Some, ap, false, is_some, refl, subst, sym, true, ℕ, ◌+◌, ◌++◌, ◌∙◌, ◌∷◌, ◌≡◌}
 use Rattle.gen1_rolls.specs.Streams.{byte_at, span, first}
 use Rattle.gen1_tables.specs.declared.effect.Stat.{Stat}
@@ -22,7 +23,7 @@ use Rattle.gen1_machine.specs.Progress.{Action, Phase, stay, unless_stopped, ◌
 use Rattle.gen1_machine.specs.View.{on_side_view, not_shown, if_out, on_named, on_shown, on_active_shown, sees_volatile, sees_rise, sees_drop, sees, sees_all, shown, side_shows, shows, View}
 use Rattle.gen1_machine.proofs.Showing.{BothOut, AllOut, visible, active_view, Keeps, kept, keeps-conditions, keeps-member, Silent, silent-active, silent-conditions, silent-member, silent-penalty, told-member, told-active}
 
--- what leads from one fact to another where it goes on, and to a third where it stops
+-- From one fact to another if a phase goes on, and to a third if it stops
 
 pub data Lands (Q S : Progress → Type 0) (q : Progress) : Type 0 where
   Runs : q.stopped ≡ false → Q q → Lands Q S q
@@ -63,7 +64,7 @@ choose-sees {P} {Q} {S} test {f} {g} hf hg = record { leads = λ p r m. by p (te
 pub choose-tells : {P Q S : Progress → Type 0} (test : Progress → Bool) {f g : Phase} → Leads P Q S f → Leads P Q S g → Leads P Q S (choose test f g)
 choose-tells test hf hg = choose-sees test (before-leads (λ p m. m.0) hf) (before-leads (λ p m. m.0) hg)
 
--- a test that is settled before
+-- A test whose result is known.
 pub if-sees : {P Q S : Progress → Type 0} (b : Bool) {f g : Phase} → (b ≡ true → Leads P Q S f) → (b ≡ false → Leads P Q S g) → Leads P Q S (choose (λ _. b) f g)
 unfolding choose
 if-sees true hf hg = record { leads = λ p r m. (hf refl).leads p r m }
@@ -82,14 +83,14 @@ pub stay-tells : {P S : Progress → Type 0} → Leads P P S stay
 unfolding stay
 stay-tells = record { leads = λ p r m. Runs r m }
 
--- a phase that stops for sure leads wherever one likes
+-- A phase that always stops leads to any fact.
 pub stop-leads : {P Q S : Progress → Type 0} → ((p : Progress) → P p → S (record p { stopped = true })) → Leads P Q S stop
 unfolding stop
 stop-leads h = record { leads = λ p r m. Rests refl (h p m) }
 
--- what a watcher knows
+-- What a spectator knows
 
--- all that shows
+-- All that shows.
 pub record Agrees (v : View) (f : Field) (events : List Event) : Type 0 where
   pub out : AllOut f
   pub agrees : sees_all events v ≡ shows f
@@ -102,7 +103,7 @@ unfolding sees_all
 sees_all-last [] event v = refl
 sees_all-last (e ∷ events) event v = sees_all-last events event (sees e v)
 
--- all that showed before a change, which is yet to be told
+-- All that showed before a change which no event has reported yet.
 pub record Behind (v : View) (Fact : Field → Type 0) (g : View → View) (f : Field) (events : List Event) : Type 0 where
   pub before : Field
   pub was : AllOut before
@@ -139,7 +140,7 @@ module _ {v : View} {S : Progress → Type 0} where
         Runs r (record { out = kept h.keeps p.field m.out; agrees = m.agrees ∙ sym (h.unseen p.field) });
   }
 
-  -- a change that doesn't show where something holds
+  -- A change that doesn't show while a fact holds.
   pub field-sees : (change : Field → Field) (Fact : Field → Type 0) → Keeps change → ((f : Field) → Fact f → shows (change f) ≡ shows f)
       → Leads (λ p. Seen v p × Fact p.field) (Seen v) S (on_field change)
   unfolding on_field
@@ -148,7 +149,7 @@ module _ {v : View} {S : Progress → Type 0} where
         Runs r (record { out = kept k p.field m.0.out; agrees = m.0.agrees ∙ sym (h p.field m.1) });
   }
 
-  -- a change that shows, where the event of it is yet to come
+  -- A change that shows, before its event.
   pub field-ahead : (change : Field → Field) (Fact : Field → Type 0) (g : View → View) → Keeps change
       → ((f : Field) → AllOut f → Fact f → shows (change f) ≡ g (shows f))
       → Leads (λ p. Seen v p × Fact p.field) (Ahead v Fact g) S (on_field change)
@@ -174,7 +175,7 @@ module _ {v : View} {S : Progress → Type 0} where
         Runs r (record { before = m.before; was = m.was; fact = m.fact; agrees = m.agrees; out = kept h.keeps p.field m.out; ahead = h.unseen p.field ∙ m.ahead });
   }
 
-  -- the event that was due
+  -- The event that was due.
   pub note-told : (event : Field → Event) (Fact : Field → Type 0) (g : View → View)
       → ((before f : Field) → AllOut before → AllOut f → Fact before → shows f ≡ g (shows before) → sees (event f) (shows before) ≡ g (shows before))
       → Leads (Ahead v Fact g) (Seen v) S (note event)
@@ -200,7 +201,7 @@ module _ {v : View} {S : Progress → Type 0} where
         Runs r (record { out = o; agrees = sees_all-last p.events (event f) v ∙ ap (λ w. sees (event f) w) m.agrees ∙ h m.before f m.was o m.fact a ∙ sym a });
   }
 
-  -- no event was due
+  -- No event was due.
   pub stay-told : (Fact : Field → Type 0) (g : View → View) → ((before : Field) → AllOut before → Fact before → g (shows before) ≡ shows before)
       → Leads (Ahead v Fact g) (Seen v) S stay
   unfolding stay
@@ -209,7 +210,7 @@ module _ {v : View} {S : Progress → Type 0} where
         Runs r (record { out = m.out; agrees = m.agrees ∙ sym (h m.before m.was m.fact) ∙ sym m.ahead });
   }
 
-  -- an event that shows nothing
+  -- An event that shows nothing.
   pub note-tells : (event : Field → Event) → ((f : Field) (w : View) → sees (event f) w ≡ w) → Leads (Seen v) (Seen v) S (note event)
   unfolding note
   note-tells event h = record {
@@ -217,7 +218,7 @@ module _ {v : View} {S : Progress → Type 0} where
         Runs r (record { out = m.out; agrees = sees_all-last p.events (event p.field) v ∙ h p.field (sees_all p.events v) ∙ m.agrees });
   }
 
-  -- a change and its event, at once
+  -- A change and its event together.
   pub told-sees : {P : Progress → Type 0} (change : Field → Field) (event : Field → Event) → Keeps change → ((p : Progress) → P p → Seen v p)
       → ((p : Progress) → P p → sees (event (change p.field)) (shows p.field) ≡ shows (change p.field))
       → Leads P (Seen v) S (told change event)
@@ -234,7 +235,7 @@ module _ {v : View} {S : Progress → Type 0} where
       → Leads (Seen v) (Seen v) S (told change event)
   told-tells change event k h = told-sees change event k (λ p m. m) (λ p m. h p.field m.out)
 
--- a member that fell unseen, and a fault
+-- A member that fell without an event, and a fault
 
 abbrev pub fallen_view : Side → View → View
 fallen_view s = on_side_view s (on_shown (λ _. not_shown))
@@ -242,7 +243,7 @@ fallen_view s = on_side_view s (on_shown (λ _. not_shown))
 abbrev pub Anything : Field → Type 0
 Anything f = Unit {0}
 
--- all that shows, but perhaps for a fall
+-- All that shows, except perhaps for a fall.
 pub data Fell (v : View) (f : Field) (events : List Event) : Type 0 where
   Stands : Agrees v f events → Fell v f events
   Fallen : (s : Side) → Behind v Anything (fallen_view s) f events → Fell v f events
@@ -266,7 +267,7 @@ pub data Halting (v : View) (f : Field) (events : List Event) : Type 0 where
 abbrev pub Halted : View → Progress → Type 0
 Halted v p = Halting v p.field p.events
 
--- a phase that a watcher can follow
+-- A phase that a spectator can follow.
 abbrev pub Tells : View → Phase → Type 0
 Tells v f = Leads (Seen v) (Seen v) (Halted v) f
 
@@ -274,7 +275,7 @@ unfoldable pub seeing : Bool
 unfolding with_bide with_bide_storing without_bide with_thrash with_thrash_one_less without_thrash with_trapping with_trapping_one_less without_trapping with_charging without_charging with_invulnerability without_invulnerability with_recharge without_recharge with_rage broken_off with_flinch without_flinch with_confusion without_confusion with_mist with_focus_energy with_light_screen with_reflect with_substitute without_substitute with_seed without_seed with_bad_poison with_worse_poison with_disabled with_disable_one_less without_disable with_status hurt_by healed_by fallen with_pp_spent with_types_of with_current_move with_picked_move with_kept_accuracy sees on_named on_active_shown
 seeing = true
 
--- what each event does to a view
+-- The effect of each event on a view
 
 pub start-seen : (w : Who) (what : Volatile) (x : View) → sees (events.Start w what) x ≡ on_side_view w.side (if_out (sees_volatile what true)) x
 unfolding sees on_named
@@ -394,7 +395,7 @@ module _ {v : View} {S : Progress → Type 0} where
       (λ f o. let q : Field = changed_member s (healed_by amount) f in
       heal-seen (who_in s q) (health_in s q) (shows f) ∙ told-member s (healed_by amount) (λ n x. record x { hp = n.hp }) f o.both refl)) stay-tells
 
-  -- a status is set with the event of it
+  -- A status is set together with its event.
   pub status-tells : (s : Side) (status : Status) (kind : Kind) → kind_of status ≡ Some kind
       → Leads (Seen v) (Seen v) S (told (changed_member s (with_status status)) (λ f. events.Status (who_in s f) kind))
   unfolding with_status

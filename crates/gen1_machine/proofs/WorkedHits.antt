@@ -1,4 +1,4 @@
--- Worked examples of moves that deal damage, computed (docs/PROOFS.md, "Worked examples").
+-- Worked examples: moves that deal damage (docs/PROOFS.md, "Worked examples").
 use Rattle.std.proofs.Common.{Bool, List, None, [], false, refl, replicate, true, ℕ, ◌∷◌, ◌≡◌}
 use Rattle.gen1_machine.specs.declared.side.Side.{Side}
 use Rattle.gen1_machine.specs.declared.side.Side.TheVariants.{One, Two}
@@ -22,7 +22,7 @@ use Rattle.gen1_machine.specs.Action.{act}
 use Rattle.gen1_machine.proofs.Computing.{computing}
 use Rattle.gen1_machine.proofs.WorkedRules.{tauros, knowing, facing, as_is, set, usual}
 
--- events of two Tauros
+-- Events of two Tauros
 
 abbrev pub tauros_of : Side → Who
 tauros_of s = record { side = s; species = 128 }
@@ -36,11 +36,11 @@ hurt s hp = events.Damage (tauros_of s) (healthy_at hp) sources.Direct
 abbrev pub moves : ℕ → Event
 moves move = events.Move (tauros_of One) move (tauros_of Two)
 
--- link numbers of which the first few are given
+-- Link numbers with given first numbers.
 abbrev pub drawing : ℕ → ℕ → ℕ → ℕ → ℕ → Stream
 drawing a b c d e = Link (a ∷ b ∷ c ∷ d ∷ e ∷ replicate 5 0)
 
--- side 1 uses its only move; draws of 255, 255 and 0 are no critical hit, the factor 255 and a hit
+-- Side 1 uses its only move. The draws 255, 255 and 0 give no critical hit, the factor 255, and a hit
 
 abbrev pub uses : ℕ → Member → (Active → Active) → ℕ → ℕ → Progress
 uses move foe change d e = act usual One (Use (Slot 1)) (facing (knowing move 10) as_is foe change (drawing 255 255 0 d e))
@@ -48,8 +48,9 @@ uses move foe change d e = act usual One (Use (Slot 1)) (facing (knowing move 10
 abbrev pub left_with : ℕ → Member
 left_with hp = record tauros { hp = hp }
 
--- damage numbers (docs/MECHANICS.md, "Damage numbers"): level, attack and defense, divided by 4 where one is above 255, with the low
--- byte of each. Reflect makes 288 into 576, and Light Screen 238 into 476; of 999 it makes 1998, a quarter of which is 499, 243 above 256
+-- Damage numbers (docs/MECHANICS.md, "Damage numbers"): level, attack and defense. If one is above 255 both are
+-- divided by 4, and their low bytes count. Reflect doubles 288 to 576, and Light Screen 238 to 476. It doubles 999 to
+-- 1998, a quarter of which is 499, with the low byte 243
 
 abbrev with_attack_stage : ℕ → Active → Active
 with_attack_stage n a = record a { stages = record a.stages { attack = n } }
@@ -66,8 +67,8 @@ screens_double : (fitted false 70 tauros as_is tauros as_is ≡ 100 ∷ 74 ∷ 7
 unfolding computing
 screens_double = (refl, refl, refl, refl, refl)
 
--- a critical hit takes the own stats, twice the level and no screen; an attack of 3 beside 288 becomes 1, and a defense of 3 beside 298
--- is 0
+-- A critical hit takes the own stats, twice the level and no screen. With an attack of 3 and a defense of 288, the
+-- attack becomes 1. With a defense of 3 and an attack of 298, the defense becomes 0.
 critical_takes_own_stats : (fitted true 70 tauros (with_attack_stage 12) tauros (set with_reflect) ≡ 200 ∷ 74 ∷ 72 ∷ [])
     × (fitted false 70 tauros (with_attack_stage 12) tauros as_is ≡ 100 ∷ 249 ∷ 72 ∷ [])
     × (fitted false 70 (record tauros { attack = 3 }) as_is tauros as_is ≡ 100 ∷ 1 ∷ 72 ∷ [])
@@ -75,8 +76,8 @@ critical_takes_own_stats : (fitted true 70 tauros (with_attack_stage 12) tauros 
 unfolding computing
 critical_takes_own_stats = (refl, refl, refl, refl)
 
--- a row of 0 (docs/MECHANICS.md, "Types"): the Ghost is missed and told as immune; the critical draw and the hit test are taken, and no
--- draw for the factor
+-- A row of 0 (docs/MECHANICS.md, "Types"): the move misses the Ghost, which is reported as immune. The draws of the
+-- critical hit and the hit test are made, and none for the factor
 
 abbrev on_a_ghost : Progress
 on_a_ghost = uses 70 (record tauros { species = 94 }) as_is 0 0
@@ -88,8 +89,9 @@ immune_ghost : (on_a_ghost.events ≡ events.Move (tauros_of One) 70 ghost ∷ e
 unfolding computing
 immune_ghost = (refl, refl)
 
--- many hits (docs/MECHANICS.md, "Many hits"). Double Slap: 42 * 15 * 74 / 72 is 647, / 50 is 12, + 2 is 14, with the own type
--- 21. The count 3, drawn anew as 2, makes four hits of 21, told once
+-- Many hits (docs/MECHANICS.md, "Many hits"). Double Slap: 42 * 15 * 74 / 72 is 647, / 50 is 12, + 2 is 14, and 21
+-- for the user's own type. A count of 3 is drawn again and gives 2, so there are four hits of 21. Their number is
+-- reported once
 
 abbrev slaps : Member → (Active → Active) → ℕ → ℕ → Progress
 slaps foe change = uses 3 foe change
@@ -100,7 +102,7 @@ four_slaps : ((slaps tauros as_is 3 2).events
 unfolding computing
 four_slaps = (refl, refl)
 
--- two to five hits: 0 and 1 are kept, 2 and 3 are drawn anew
+-- Two to five hits: a draw of 0 or 1 is kept, and one of 2 or 3 is drawn again
 
 abbrev hits_by : ℕ → ℕ → ℕ
 hits_by d e = (slaps tauros as_is d e).action.hits_made
@@ -110,14 +112,16 @@ numbers_of_slaps : hits_by 0 3 ∷ hits_by 1 3 ∷ hits_by 2 0 ∷ hits_by 2 1 �
 unfolding computing
 numbers_of_slaps = refl
 
--- a fall ends the hits: of 30 HP the second takes 9, of 10 the first takes all, and the count is drawn all the same
+-- A fall ends the hits. With 30 HP left, the second hit takes 9. With 10 HP left, the first takes all of them, and
+-- the count is drawn nonetheless.
 felled_by_slaps : ((slaps (left_with 30) as_is 3 2).events ≡ moves 3 ∷ hurt Two 9 ∷ hurt Two 0 ∷ events.HitCount (tauros_of Two) 2 ∷ [])
     × ((slaps (left_with 10) as_is 3 2).events ≡ moves 3 ∷ hurt Two 0 ∷ events.HitCount (tauros_of Two) 1 ∷ [])
     × ((slaps (left_with 10) as_is 3 2).drawn ≡ 5)
 unfolding computing
 felled_by_slaps = (refl, refl, refl)
 
--- so does a substitute that breaks: one of 30 HP at the second hit, one of 20 at the first, and then no count is drawn or told
+-- A substitute that breaks ends the hits too. One of 30 HP breaks at the second hit. One of 20 HP breaks at the
+-- first, and then no count is drawn or reported
 
 abbrev slaps_substitute : ℕ → Progress
 slaps_substitute hp = slaps tauros (set (with_substitute hp)) 3 2
@@ -129,21 +133,21 @@ slaps_on_substitute : ((slaps_substitute 30).events ≡ moves 3 ∷ events.Activ
 unfolding computing
 slaps_on_substitute = (refl, refl, refl)
 
--- Double Kick: 42 * 30 * 74 / 72 is 1295, / 50 is 25, + 2 is 27, and Fighting on Normal 54
+-- Double Kick: 42 * 30 * 74 / 72 is 1295, / 50 is 25, + 2 is 27, and 54 for Fighting on Normal.
 two_kicks : ((uses 24 tauros as_is 0 0).events ≡ moves 24 ∷ events.SuperEffective (tauros_of Two) ∷ hurt Two 299 ∷ hurt Two 245
     ∷ events.HitCount (tauros_of Two) 2 ∷ [])
     × ((uses 24 tauros as_is 0 0).drawn ≡ 3)
 unfolding computing
 two_kicks = (refl, refl)
 
--- Twineedle: 42 * 25 * 74 / 72 is 1079, / 50 is 21, + 2 is 23; then 51 poisons, and 52 does not
+-- Twineedle: 42 * 25 * 74 / 72 is 1079, / 50 is 21, + 2 is 23. Then a draw of 51 poisons, and 52 doesn't.
 two_needles : ((uses 41 tauros as_is 51 0).events ≡ moves 41 ∷ hurt Two 330 ∷ hurt Two 307 ∷ events.HitCount (tauros_of Two) 2
     ∷ events.Status (tauros_of Two) kinds.Poison ∷ [])
     × ((uses 41 tauros as_is 52 0).events ≡ moves 41 ∷ hurt Two 330 ∷ hurt Two 307 ∷ events.HitCount (tauros_of Two) 2 ∷ [])
 unfolding computing
 two_needles = (refl, refl)
 
--- charging (docs/MECHANICS.md, "Charging"): Razor Wind and Dig, with all of their first turn and of both
+-- Charging (docs/MECHANICS.md, "Charging"): Razor Wind and Dig, in their first turn and in both turns
 
 abbrev charges : ℕ → Progress
 charges move = uses move tauros as_is 0 0
@@ -154,7 +158,7 @@ strikes move = act usual One Continue (charges move)
 abbrev pp_left : Progress → ℕ
 pp_left p = (known_in 1 (member One p).moves).pp
 
--- the first turn writes Prepare alone, and costs neither a draw nor PP
+-- The first turn writes only Prepare, and costs neither a draw nor PP.
 begins_to_charge : ((charges 13).events ≡ events.Prepare (tauros_of One) 13 ∷ []) × ((charges 13).drawn ∷ pp_left (charges 13) ∷ [] ≡ 0 ∷ 10 ∷ [])
     × ((active One (charges 13)).current_move ≡ Slot 1)
     × ((underway One (charges 13)).charging ∷ is_invulnerable One (charges 13) ∷ (underway One (charges 91)).charging
@@ -162,8 +166,8 @@ begins_to_charge : ((charges 13).events ≡ events.Prepare (tauros_of One) 13 �
 unfolding computing
 begins_to_charge = (refl, refl, refl, refl)
 
--- Razor Wind: 42 * 80 * 74 / 72 is 3453, / 50 is 69, + 2 is 71, with the own type 106. Dig: 42 * 100 * 74 / 72 is 4316, / 50 is
--- 86, + 2 is 88
+-- Razor Wind: 42 * 80 * 74 / 72 is 3453, / 50 is 69, + 2 is 71, and 106 for the user's own type. Dig: 42 * 100 * 74 /
+-- 72 is 4316, / 50 is 86, + 2 is 88.
 charged_up : ((strikes 13).events ≡ events.Prepare (tauros_of One) 13 ∷ moves 13 ∷ hurt Two 247 ∷ [])
     × ((strikes 13).drawn ∷ pp_left (strikes 13) ∷ [] ≡ 3 ∷ 9 ∷ [])
     × ((strikes 91).events ≡ events.Prepare (tauros_of One) 91 ∷ moves 91 ∷ hurt Two 265 ∷ [])

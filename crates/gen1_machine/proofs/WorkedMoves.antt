@@ -1,4 +1,4 @@
--- Worked examples of moves with rules of their own, computed (docs/PROOFS.md, "Worked examples").
+-- Worked examples: moves with rules of their own (docs/PROOFS.md, "Worked examples").
 use Rattle.std.proofs.Common.{None, Some, [], false, map, refl, true, ℕ, ◌∷◌, ◌≡◌}
 use Rattle.gen1_tables.specs.declared.effect.Stat.TheVariants.{Attack}
 use Rattle.gen1_tables.specs.declared.effect.Effect.TheVariants as effects
@@ -27,8 +27,9 @@ use Rattle.gen1_machine.proofs.Computing.{computing}
 use Rattle.gen1_machine.proofs.WorkedRules.{tauros, knowing, facing, as_is, set, hp_of, usual}
 use Rattle.gen1_machine.proofs.WorkedHits.{tauros_of, healthy_at, hurt, moves, drawing, uses, left_with}
 
--- recoil (docs/MECHANICS.md, "Recoil, drain and explosion"). Take Down: 42 * 90 * 74 / 72 is 3885, / 50 is 77, + 2 is 79, with the own
--- type 118, of which a quarter is 29; of 10 HP that were there it is 2, and of 3 it is 1
+-- Recoil (docs/MECHANICS.md, "Recoil, drain and explosion"). Take Down: 42 * 90 * 74 / 72 is 3885, / 50 is 77, + 2 is
+-- 79, and 118 for the user's own type. A quarter of 118 is 29. If the foe had 10 HP the recoil is 2, and if it had 3
+-- it is 1
 
 abbrev recoils_to : ℕ → Event
 recoils_to hp = events.Damage (tauros_of One) (healthy_at hp) sources.Recoil
@@ -41,14 +42,14 @@ take_down : ((uses 36 tauros as_is 0 0).events ≡ moves 36 ∷ hurt Two 235 ∷
 unfolding computing
 take_down = (refl, refl, refl, refl, refl)
 
--- by Struggle it is half: of 10 HP, 5
+-- Struggle's recoil is half: 5 for 10 HP.
 struggled : (act usual One (Use Struggle) (facing tauros as_is (left_with 10) as_is (drawing 255 255 0 0 0))).events
     ≡ moves 165 ∷ hurt Two 0 ∷ recoils_to 348 ∷ []
 unfolding computing
 struggled = refl
 
--- Counter (docs/MECHANICS.md, "Counter"): a last damage of 60 becomes 120, where the foe picked a Normal or a Fighting move of some
--- power; else it is a miss, which costs the critical draw and keeps the last damage
+-- Counter (docs/MECHANICS.md, "Counter"): a last damage of 60 becomes 120 if the foe picked a Normal or Fighting move
+-- of some power. Otherwise Counter misses, after its critical draw, and the last damage stays
 
 abbrev counters : ℕ → ℕ → Progress
 counters move damage = act usual One (Use (Slot 1))
@@ -60,8 +61,8 @@ countered : ((counters 70 60).events ≡ moves 68 ∷ hurt Two 233 ∷ []) × ((
 unfolding computing
 countered = (refl, refl, refl, refl, refl)
 
--- fixed damage (docs/MECHANICS.md, "Fixed damage and one-hit moves"): Seismic Toss and Night Shade at level 100, also on a Ghost, Sonic
--- Boom, Dragon Rage, and Super Fang, for which half of 353 is 176; each by the draw of its hit test
+-- Fixed damage (docs/MECHANICS.md, "Fixed damage and one-hit moves"): Seismic Toss and Night Shade at level 100, also
+-- on a Ghost, Sonic Boom, Dragon Rage, and Super Fang. Half of 353 is 176. Each takes the draw of its hit test
 
 abbrev dealt_to : Member → ℕ → ℕ
 dealt_to foe move = hp_of Two (act usual One (Use (Slot 1)) (facing (knowing move 10) as_is foe as_is (Sweep 0)))
@@ -74,7 +75,7 @@ fixed_damage_on_a_ghost : dealt_to (record tauros { species = 94 }) 69 ≡ 253
 unfolding computing
 fixed_damage_on_a_ghost = refl
 
--- Guillotine fells, and breaks any Substitute; a slower user misses, after the critical draw
+-- Guillotine takes all HP, and breaks any Substitute. With a slower user it misses after the critical draw
 
 abbrev slower_guillotine : Progress
 slower_guillotine = act usual One (Use (Slot 1)) (facing (record (knowing 12 5) { speed = 317 }) as_is tauros as_is (drawing 255 255 0 0 0))
@@ -86,8 +87,9 @@ guillotine : ((uses 12 tauros as_is 0 0).events ≡ moves 12 ∷ hurt Two 0 ∷ 
 unfolding computing
 guillotine = (refl, refl, refl, refl, refl)
 
--- confused (docs/MECHANICS.md, "Hit on itself"): 42 * 40 * 74 / 72 is 1726, / 50 is 34, + 2 is 36, at a draw of 128, not of 127. Behind a
--- Substitute of its own it is the foe's Substitute that takes it: 52 of 88
+-- Confusion (docs/MECHANICS.md, "Hit on itself"): 42 * 40 * 74 / 72 is 1726, / 50 is 34, + 2 is 36. The member hits
+-- itself at a draw of 128, and not at 127. If it has a Substitute, the foe's Substitute takes the hit: 52 of 88 are
+-- left
 
 abbrev confused_by_draw : (Active → Active) → (Active → Active) → ℕ → Progress
 confused_by_draw change foe b = gate One (Use (Slot 1)) (facing tauros change tauros foe (Sweep b))
@@ -114,8 +116,8 @@ hit_on_the_foes_substitute : (hits_substitute.events ≡ is_confused_still ∷ e
 unfolding computing
 hit_on_the_foes_substitute = (refl, refl, refl, refl)
 
--- Thrash (docs/MECHANICS.md, "Going on"): the first action draws (255 & 1) + 2 turns; the last draws (3 & 3) + 2 turns of confusion, and
--- costs no PP. Power 90 makes 118, as Take Down's above
+-- Thrash (docs/MECHANICS.md, "Going on"): the first action draws (255 & 1) + 2 turns. The last draws (3 & 3) + 2
+-- turns of confusion, and costs no PP. A power of 90 deals 118, as Take Down above
 
 abbrev thrashes : Pick → (Active → Active) → ℕ → Progress
 thrashes pick change first = act usual One pick (facing (knowing 37 10) change tauros as_is (drawing first 255 255 0 0))
@@ -139,8 +141,8 @@ thrash : (first_thrash.events ≡ moves 37 ∷ hurt Two 235 ∷ []) × ((underwa
 unfolding computing
 thrash = (refl, refl, refl, refl, refl, refl)
 
--- the kept accuracy (docs/MECHANICS.md, "Kept accuracy"): at accuracy -6 a quarter of 255 is 63, and in the next action a quarter of
--- that is 15; where Thrash ends nothing is kept
+-- Kept accuracy (docs/MECHANICS.md, "Kept accuracy"): at accuracy -6 a quarter of 255 is 63, and in the next action a
+-- quarter of that is 15. When Thrash ends, nothing is kept
 
 abbrev aiming_badly : Active → Active
 aiming_badly a = record a { stages = record a.stages { accuracy = 0 } }
@@ -156,7 +158,8 @@ accuracy_is_kept : kept (thrashes (Use (Slot 1)) aiming_badly 255) ∷ kept (thr
 unfolding computing
 accuracy_is_kept = refl
 
--- Bide (docs/MECHANICS.md, "Going on"): 30 and a last damage of 40 let out 140; with two turns left 70 are stored; twice 32768 is 0, a miss
+-- Bide (docs/MECHANICS.md, "Going on"): an energy of 30 and a last damage of 40 let out 140. With two turns left, 70
+-- are stored. Twice 32768 is 0, which is a miss
 
 abbrev bides : ℕ → ℕ → ℕ → Progress
 bides turns energy damage = act usual One Continue (set_last_damage damage (facing (knowing 117 10) (λ a. record a {
@@ -174,14 +177,15 @@ bide : ((bides 1 30 40).events ≡ bide_ends ∷ hurt Two 213 ∷ []) × ((bides
 unfolding computing
 bide = (refl, refl, refl, refl, refl)
 
--- Rage (docs/MECHANICS.md, "Going on"): 42 * 20 * 74 / 72 is 863, / 50 is 17, + 2 is 19, with the own type 28; Strength's 106 builds it
+-- Rage (docs/MECHANICS.md, "Going on"): 42 * 20 * 74 / 72 is 863, / 50 is 17, + 2 is 19, and 28 for the user's own
+-- type. Strength's 106 builds it.
 rage : ((uses 99 tauros as_is 0 0).events ≡ moves 99 ∷ hurt Two 325 ∷ events.Start (tauros_of One) volatiles.Rage ∷ [])
     × ((uses 70 tauros (set with_rage) 0 0).events ≡ moves 70 ∷ hurt Two 247 ∷ events.Boost (tauros_of Two) Attack 1 ∷ [])
     × ((uses 70 (left_with 5) (set with_rage) 0 0).events ≡ moves 70 ∷ hurt Two 0 ∷ [])
 unfolding computing
 rage = (refl, refl, refl)
 
--- what a choice comes to (docs/MECHANICS.md, "Picks")
+-- Picks (docs/MECHANICS.md, "Picks")
 
 abbrev picked_move : ℕ → Member → (Active → Active) → (Active → Active) → Pick
 picked_move k m change foe = pick_in k One (facing m change tauros foe (Sweep 0)).field
@@ -192,13 +196,14 @@ picks : (picked_move 2 tauros as_is as_is ≡ Use (Slot 2)) × (picked_move 0 ta
 unfolding computing
 picks = (refl, refl, refl, refl, refl)
 
--- who is held takes no test
+-- A side that is held takes no test.
 held : (gate_or_held One Held (facing (record tauros { status = Asleep 3 false }) as_is tauros as_is (Sweep 0))).events
     ≡ events.Cant (tauros_of One) reasons.PartiallyTrapped ∷ []
 unfolding computing
 held = refl
 
--- a burn (docs/MECHANICS.md, "Side effects"): Flamethrower burns by a draw of 25 and not of 26; it thaws without a draw
+-- A burn (docs/MECHANICS.md, "Side effects"): Flamethrower burns at a draw of 25, and not at 26. It thaws without a
+-- draw
 
 abbrev flames : Member → ℕ → Progress
 flames foe b = side_effect usual One (move_at 53) (effects.BurnChance 26) (facing tauros as_is foe as_is (Sweep b))

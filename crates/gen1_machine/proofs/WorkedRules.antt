@@ -1,4 +1,4 @@
--- Worked examples of single rules, computed (docs/PROOFS.md, "Worked examples").
+-- Worked examples: single rules (docs/PROOFS.md, "Worked examples").
 use Rattle.std.proofs.Common.{Bool, List, None, Option, Some, [], false, map, nat_lt, not, refl, replicate, slice_index, suc, true, zero, ℕ, ◌&&◌, ◌++◌, ◌+◌, ◌==◌, ◌∷◌, ◌≡◌}
 use Rattle.gen1_tables.specs.declared.element.Element.TheVariants.{Normal, Flying, Water, Ice}
 use Rattle.gen1_tables.specs.declared.effect.Stat.TheVariants.{Attack}
@@ -43,7 +43,7 @@ use Rattle.gen1_machine.specs.TurnOrder.{in_order}
 use Rattle.gen1_machine.specs.Turn.{set_picked}
 use Rattle.gen1_machine.proofs.Computing.{computing}
 
--- two members that face each other in the middle of an update
+-- Two members that face each other in the middle of an update
 
 abbrev pub tauros : Member
 tauros = record {
@@ -106,13 +106,14 @@ numbers_up (suc k) n = n ∷ numbers_up k (n + 1)
 abbrev zero_seed : Stream
 zero_seed = Link (replicate 10 0)
 
--- link numbers (docs/MECHANICS.md, "Link numbers"): seeds 1 to 10 draw 1 to 9, then 6, 11, 16
+-- Link numbers (docs/MECHANICS.md, "Link numbers"): seeds 1 to 10 draw 1 to 9, then 6, 11, 16.
 link_numbers : map (byte_at (Link (numbers_up 10 1))) (numbers_up 12 0)
     ≡ 1 ∷ 2 ∷ 3 ∷ 4 ∷ 5 ∷ 6 ∷ 7 ∷ 8 ∷ 9 ∷ 6 ∷ 11 ∷ 16 ∷ []
 unfolding computing
 link_numbers = refl
 
--- draws until a byte meets a test (docs/MECHANICS.md, "Link numbers"): the last of a sweep, a late one of a link, and none at all
+-- Draws until a byte passes a test (docs/MECHANICS.md, "Link numbers"): the last of a sweep, a late one of a link
+-- battle, and none
 
 abbrev until_late : Progress → Progress
 until_late p = draw_until (λ b. b == 51) set_last_damage p
@@ -128,7 +129,7 @@ draws_without_end : (until_never (Sweep 7)).drawn ∷ (until_never zero_seed).dr
 unfolding computing
 draws_without_end = refl
 
--- damage (docs/MECHANICS.md, "Damage formula"): Body Slam between two Tauros, by all 39 factors
+-- Damage (docs/MECHANICS.md, "Damage formula"): Body Slam between two Tauros, with all 39 factors
 
 abbrev body_slam : ℕ → DamageNumbers
 body_slam level = record {
@@ -161,7 +162,7 @@ critical_body_slam_damage : slice_index critical_body_slam 0 ∷ slice_index cri
 unfolding computing
 critical_body_slam_damage = refl
 
--- ice on Gyarados (docs/MECHANICS.md, "Types"): 75, then 37, then 74
+-- Ice on Gyarados (docs/MECHANICS.md, "Types"): 75, then 37, then 74.
 ice_on_gyarados : type_steps 75 (record {
   level = 100;
   power = 95;
@@ -177,7 +178,7 @@ ice_on_gyarados : type_steps 75 (record {
 unfolding computing
 ice_on_gyarados = refl
 
--- the factor (docs/MECHANICS.md, "Factors"): 217 after 180 draws, 255 after 2
+-- The factor (docs/MECHANICS.md, "Factors"): 217 after 180 draws, 255 after 2
 
 abbrev varied : ℕ → Progress
 varied start = vary 255 (facing tauros as_is tauros as_is (Sweep start))
@@ -186,13 +187,13 @@ factors : (varied 0).drawn ∷ (varied 0).field.last_damage ∷ (varied 254).dra
 unfolding computing
 factors = refl
 
--- critical hits of Persian (docs/MECHANICS.md, "Critical hits"): Slash, Strength, and both with Focus Energy
+-- Critical hits of Persian (docs/MECHANICS.md, "Critical hits"): Slash, Strength, and both with Focus Energy.
 persian : critical_bound 115 false true ∷ critical_bound 115 false false ∷ critical_bound 115 true true ∷ critical_bound 115 true false ∷ []
     ≡ 255 ∷ 57 ∷ 112 ∷ 14 ∷ []
 unfolding computing
 persian = refl
 
--- hit test (docs/MECHANICS.md, "Hit test"): of an accuracy of 255, 254 hits and 255 misses
+-- Hit test (docs/MECHANICS.md, "Hit test"): at an accuracy of 255, a draw of 254 hits and 255 misses
 
 abbrev strength_misses : ℕ → Bool
 strength_misses b = (hit_test One (move_at 70) 255 (facing tauros as_is tauros as_is (Sweep b))).action.missed
@@ -209,8 +210,8 @@ accuracy_bytes : scaled 76 (staged 0 6) level_stages ∷ scaled 76 (staged 0 6) 
 unfolding computing
 accuracy_bytes = refl
 
--- landing on a substitute of 88 (docs/MECHANICS.md, "Landing"): equal damage leaves it at 0, one more breaks it, more than a byte
--- breaks any
+-- Landing on a substitute of 88 HP (docs/MECHANICS.md, "Landing"): equal damage leaves it at 0, one more breaks it,
+-- and damage above a byte breaks any
 
 abbrev after_landing : ℕ → Option ℕ
 after_landing damage =
@@ -220,8 +221,8 @@ substitute_of_88 : after_landing 88 ∷ after_landing 89 ∷ after_landing 256 �
 unfolding computing
 substitute_of_88 = refl
 
--- explosion (docs/MECHANICS.md, "Recoil, drain and explosion"): on a substitute that breaks the user lives; on a hit and on
--- a miss it falls
+-- Explosion (docs/MECHANICS.md, "Recoil, drain and explosion"): if a substitute breaks, the user lives. On a hit and
+-- on a miss the user falls
 
 abbrev explodes_at : (Active → Active) → Progress
 explodes_at foe = act usual One (Use (Slot 1)) (facing (knowing 153 5) as_is tauros foe (Sweep 0))
@@ -234,7 +235,7 @@ explosion : hp_of One (explodes_at (set (with_substitute 1))) ∷ hp_of One (exp
 unfolding computing
 explosion = refl
 
--- a burned foe with Attack 149 (docs/MECHANICS.md, "Stage shift"): Growl makes it 98, and the user's Swords Dance 49
+-- A burned foe with Attack 149 (docs/MECHANICS.md, "Stage shift"): Growl makes it 98, and the user's Swords Dance 49
 
 abbrev burned_foe : Progress
 burned_foe = facing tauros as_is (record tauros { status = Burned }) as_is (Sweep 0)
@@ -247,7 +248,7 @@ penalties : stat_now Attack Two burned_foe ∷ stat_now Attack Two growled
 unfolding computing
 penalties = refl
 
--- Recover at a maximum of 703 (docs/MECHANICS.md, "Early effects"): a loss of 0, 255 or 511 can't be healed
+-- Recover at a maximum of 703 (docs/MECHANICS.md, "Early effects"): it fails at a loss of 0, 255 or 511
 
 abbrev recovered_from : ℕ → ℕ
 recovered_from hp = hp_of One (heal One (move_at 105) (facing (record tauros { max = 703; hp = hp }) as_is tauros as_is (Sweep 0)))
@@ -256,7 +257,7 @@ recovery : map recovered_from (703 ∷ 448 ∷ 192 ∷ 449 ∷ 447 ∷ []) ≡ 7
 unfolding computing
 recovery = refl
 
--- the gate (docs/MECHANICS.md, "Gate"): sleep comes before a flinch, which stays
+-- The gate (docs/MECHANICS.md, "Gate"): sleep comes before a flinch, and the flinch stays
 
 abbrev drowsy : Progress
 drowsy = gate One (Use (Slot 1)) (facing (record tauros { status = Asleep 3 false }) (set with_flinch) tauros as_is (Sweep 0))
@@ -265,7 +266,8 @@ sleep_before_flinch : (code_sent drowsy ≡ 0x04 ∷ 1 ∷ 128 ∷ 1 ∷ []) × 
 unfolding computing
 sleep_before_flinch = (refl, refl)
 
--- Dig's second turn, paralysed (docs/MECHANICS.md, "Gate"): 62 stops, and the user stays invulnerable; 63 does not
+-- Dig's second turn with paralysis (docs/MECHANICS.md, "Gate"): a draw of 62 stops it, and the user stays
+-- invulnerable. A draw of 63 doesn't stop it
 
 abbrev digs : ℕ → Progress
 digs b = gate One Continue (facing (record (knowing 91 5) { status = Paralysed })
@@ -276,8 +278,8 @@ paralysed_dig : (digs 62).stopped ∷ is_invulnerable One (digs 62) ∷ (underwa
 unfolding computing
 paralysed_dig = refl
 
--- trapping (docs/MECHANICS.md, "Going on"): draws of 1 and of 2, 3 hold for 2 and 4; a hold that is gone is used anew, with 63 PP for 0
--- (docs/MECHANICS.md, "Action"); a ghost is held for 0
+-- Trapping (docs/MECHANICS.md, "Going on"): draws of 1 and of 2, 3 hold for 2 and 4 turns. If the hold has ended, the
+-- move is used as a new one, and PP of 0 become 63 (docs/MECHANICS.md, "Action"). A Ghost is held for 0 damage
 
 abbrev wraps : ℕ → Option ℕ
 wraps b = (underway One (trap One (facing (knowing 35 20) as_is tauros as_is (Sweep b)))).trapping
@@ -300,7 +302,7 @@ wrap_on_ghost : (is_trapping One wraps_ghost ≡ true) × (hp_of Two wraps_ghost
 unfolding computing
 wrap_on_ghost = (refl, refl)
 
--- faults: Strength on a Defense of 512 under Reflect (docs/MECHANICS.md, "Damage numbers"); Psywave at level 1
+-- Faults: Strength on a Defense of 512 with Reflect (docs/MECHANICS.md, "Damage numbers"), and Psywave at level 1
 -- (docs/MECHANICS.md, "Fixed damage and one-hit moves"). At level 2 Psywave deals 1 or 2
 
 abbrev against_reflect : Progress
@@ -316,7 +318,7 @@ faults = (refl, refl)
 abbrev psywave_at_1 : Progress
 psywave_at_1 = fixed_damage One (move_at 149) (set_last_damage 7 (facing (record tauros { level = 1 }) as_is tauros as_is (Sweep 0)))
 
--- the last damage stays as it was
+-- The last damage stays as it was.
 psywave_keeps_the_last_damage : (psywave_at_1.field.outcome ≡ outcomes.Fault 2) × (psywave_at_1.field.last_damage ≡ 7)
 unfolding computing
 psywave_keeps_the_last_damage = (refl, refl)
@@ -325,7 +327,8 @@ psywave_at_2 : any (λ b. not (nat_lt 0 (psywaved 2 b).field.last_damage && nat_
 unfolding computing
 psywave_at_2 = refl
 
--- residual (docs/MECHANICS.md, "Residual damage"): bad poison and a seed take 22 and 44 of 353; the foe heals 44, also where only 20 HP were left
+-- Residual damage (docs/MECHANICS.md, "Residual damage"): bad poison and a seed take 22 and 44 of 353 HP. The foe
+-- heals 44, even if only 20 HP were left
 
 abbrev badly : ℕ → Progress
 badly hp = residual One (facing (record tauros { hp = hp; status = Poisoned }) (set λ c. with_seed (with_bad_poison c)) (record tauros { hp = 300 }) as_is (Sweep 0))
@@ -334,7 +337,8 @@ poison_and_seed : hp_of One (badly 353) ∷ hp_of Two (badly 353) ∷ hp_of One 
 unfolding computing
 poison_and_seed = refl
 
--- order of a turn (docs/MECHANICS.md, "Order of a turn"): a tie in Speed takes a draw; Quick Attack comes first without one, Counter last
+-- Order of a turn (docs/MECHANICS.md, "Order of a turn"): a tie in Speed takes a draw. Quick Attack comes first and
+-- Counter last, both without a draw
 
 abbrev begins : Progress → List Event
 begins p = (in_order (λ s. note λ f. events.Win s) p).events
@@ -347,7 +351,7 @@ speed_tie : (begins (facing tauros as_is tauros as_is (Sweep 127)) ≡ events.Wi
 unfolding computing
 speed_tie = (refl, refl)
 
--- also where the slower side picked it in an earlier turn, and sleeps now
+-- This also holds if the slower side picked the move in an earlier turn and sleeps now.
 abbrev quick : Status → Pick → Progress
 quick status pick = set_picked One pick
     (facing (record (knowing 98 30) { speed = 1; status = status }) (with_picked_move (Slot 1)) tauros (with_picked_move (Slot 1)) (Sweep 0))
@@ -373,7 +377,7 @@ disable_draws : (disabled_by_ones.drawn ≡ 29) × ((conditions Two disabled_by_
 unfolding computing
 disable_draws = (refl, refl)
 
--- the sleep clause (docs/MECHANICS.md, "Rules (sleep clause, freeze clause)"): another living member sleeps
+-- The sleep clause (docs/MECHANICS.md, "Rules (sleep clause, freeze clause)"): another living member sleeps
 
 abbrev under : ℕ → Ruling
 under bits = ruling_of (record { rules = rules_of bits; limit = 1000 })
@@ -404,13 +408,13 @@ sleep_clause_and_recharge : (spored_while_recharging.drawn ≡ 0) × (spored_whi
 unfolding computing
 sleep_clause_and_recharge = (refl, refl, refl)
 
--- Rest's sleep is not marked (docs/MECHANICS.md, "Early effects")
+-- Rest's sleep isn't marked (docs/MECHANICS.md, "Early effects").
 rest_is_not_marked : status_of One (heal One (move_at 156) (facing (record tauros { hp = 1 }) as_is tauros as_is (Sweep 0))) ≡ Asleep 2 false
 unfolding computing
 rest_is_not_marked = refl
 
--- the freeze clause (docs/MECHANICS.md, "Rules (sleep clause, freeze clause)"): another living member is frozen; a refused freeze leaves
--- the foe's recharging
+-- The freeze clause (docs/MECHANICS.md, "Rules (sleep clause, freeze clause)"): another living member is frozen. A
+-- freeze that the clause prevents leaves the foe's recharging
 
 abbrev chilled : ℕ → Progress
 chilled bits =
@@ -422,7 +426,8 @@ freeze_clause : ((chilled 2).events ≡ []) × ((chilled 2).drawn ≡ 1) × (sta
 unfolding computing
 freeze_clause = (refl, refl, refl, refl, refl, refl)
 
--- the last turn ends without a winner (docs/MECHANICS.md, "Turn limit"): a tie; a turn earlier the battle goes on
+-- The last turn ends without a winner (docs/MECHANICS.md, "Turn limit"): the battle is a tie. One turn earlier it
+-- goes on
 
 abbrev settled_at : ℕ → Progress → Progress
 settled_at turn p = settle (ruling_of (record usual_terms { limit = 3 })) (record p { field = record p.field { turn = turn } })

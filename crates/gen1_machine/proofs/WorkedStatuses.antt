@@ -1,4 +1,4 @@
--- Worked examples of statuses, conditions and stats, computed (docs/PROOFS.md, "Worked examples").
+-- Worked examples: statuses, conditions and stats (docs/PROOFS.md, "Worked examples").
 use Rattle.std.proofs.Common.{List, None, Option, Some, [], false, map, refl, true, ℕ, ◌∷◌, ◌≡◌}
 use Rattle.gen1_tables.specs.declared.effect.Stat.TheVariants.{Attack, Speed}
 use Rattle.gen1_tables.specs.declared.effect.Effect.TheVariants as effects
@@ -32,8 +32,8 @@ alone m change = facing m change tauros as_is (Sweep 0)
 abbrev fails : List Event
 fails = events.Fail (tauros_of One) ∷ []
 
--- stats (docs/MECHANICS.md, "Stats"): of Chansey's HP at level 100, with DVs 15 and experience 65535, (250 + 15) * 2 + 63 are 593, and
--- with 110 they are 703; of Tauros, base 75, 100, 95, 110 and 70
+-- Stats (docs/MECHANICS.md, "Stats"). Chansey's HP at level 100 with DVs of 15 and experience 65535: (250 + 15) * 2 +
+-- 63 is 593, and with 110 it is 703. Tauros has the bases 75, 100, 95, 110 and 70
 
 abbrev at_most : ℕ → ℕ
 at_most base = stat base 15 65535 100
@@ -48,7 +48,7 @@ stats_of_tauros : (hp_stat 250 (hp_dv 15 15 15 15) 65535 100 ∷ hp_stat 75 15 6
 unfolding computing
 stats_of_tauros = (refl, refl)
 
--- stages (docs/MECHANICS.md, "Stages"): 298 from -6 to +6, at most 999; and 3 at -6, at least 1
+-- Stages (docs/MECHANICS.md, "Stages"): 298 from -6 to +6, at most 999, and 3 at -6, at least 1.
 stages_of_298 : map (λ stage. at_stage stage 298) (0 ∷ 1 ∷ 2 ∷ 3 ∷ 4 ∷ 5 ∷ 6 ∷ 7 ∷ 8 ∷ 9 ∷ 10 ∷ 11 ∷ 12 ∷ [])
     ≡ 74 ∷ 83 ∷ 98 ∷ 119 ∷ 149 ∷ 196 ∷ 298 ∷ 447 ∷ 596 ∷ 745 ∷ 894 ∷ 999 ∷ 999 ∷ []
 unfolding computing
@@ -58,7 +58,8 @@ stage_of_3 : at_stage 0 3 ≡ 1
 unfolding computing
 stage_of_3 = refl
 
--- what a substitute costs (docs/MECHANICS.md, "Early effects"): of 353 a quarter is 88, and who has 88 makes one and falls
+-- The cost of a substitute (docs/MECHANICS.md, "Early effects"): a quarter of 353 is 88. A user with 88 HP makes one
+-- and falls
 
 abbrev substitutes : ℕ → Progress
 substitutes hp = early_effect One (move_at 164) effects.Substitute (alone (left_with hp) as_is)
@@ -80,7 +81,8 @@ one_substitute_at_a_time : (second_substitute.events ≡ fails) × ((conditions 
 unfolding computing
 one_substitute_at_a_time = (refl, refl, refl)
 
--- what is healed is told (docs/MECHANICS.md, "Early effects"): half of 353 is 176, as far as there is room; a loss of 0 fails
+-- Healing is reported (docs/MECHANICS.md, "Early effects"): half of 353 is 176, and HP stop at the maximum. A loss of
+-- 0 fails
 
 abbrev recovers : ℕ → List Event
 recovers hp = (heal One (move_at 105) (alone (left_with hp) as_is)).events
@@ -90,14 +92,14 @@ recovery_is_told : (recovers 100 ≡ events.Heal (tauros_of One) (healthy_at 276
 unfolding computing
 recovery_is_told = (refl, refl, refl)
 
--- Rest tells its sleep first
+-- Rest reports its sleep first.
 rest_is_told : (heal One (move_at 156) (alone (record tauros { hp = 1; status = Burned }) as_is)).events
     ≡ events.Status (tauros_of One) kinds.Sleep ∷ events.Heal (tauros_of One) (record { hp = 353; max = 353; kind = Some kinds.Sleep }) ∷ []
 unfolding computing
 rest_is_told = refl
 
--- drain (docs/MECHANICS.md, "Recoil, drain and explosion"): of a last damage of 35 the user heals 17, and of 1 it heals 1; where it is
--- unhurt, nothing is told
+-- Drain (docs/MECHANICS.md, "Recoil, drain and explosion"): a last damage of 35 heals the user by 17, and one of 1 by
+-- 1. An unhurt user has no event
 
 abbrev drains : ℕ → ℕ → Progress
 drains hp damage = drain One (set_last_damage damage (alone (left_with hp) as_is))
@@ -107,7 +109,8 @@ drain_is_told : ((drains 300 35).events ≡ events.Heal (tauros_of One) (healthy
 unfolding computing
 drain_is_told = (refl, refl, refl, refl)
 
--- confusion (docs/MECHANICS.md, "Early effects"): Confuse Ray hits by one draw, and the next, here one more, gives (draw & 3) + 2
+-- Confusion (docs/MECHANICS.md, "Early effects"): Confuse Ray hits by one draw. The next draw, here one more, gives
+-- (draw & 3) + 2
 
 abbrev ray : ℕ → Progress
 ray b = early_effect One (move_at 109) effects.InflictConfusion (facing tauros as_is tauros as_is (Sweep b))
@@ -119,14 +122,14 @@ confusion_counts : map confused_for (3 ∷ 4 ∷ 5 ∷ 6 ∷ 7 ∷ 254 ∷ 255 �
 unfolding computing
 confusion_counts = refl
 
--- the miss by a Ghost move is told as a Normal type's immunity
+-- A miss by a Ghost move on a Normal type is reported as immunity.
 confusion_is_told : ((ray 3).events ≡ events.Start (tauros_of Two) volatiles.Confusion ∷ []) × ((ray 3).drawn ≡ 2)
     × ((ray 255).events ≡ events.Immune (tauros_of Two) ∷ []) × ((ray 255).drawn ≡ 1)
 unfolding computing
 confusion_is_told = (refl, refl, refl, refl)
 
--- Toxic's counter (docs/MECHANICS.md, "Residual damage"): it rises by 1 with the poison and by 1 with the seed, to 64 at most; a sixteenth
--- of 353 is 22, and so the first two take 22 and 44
+-- Toxic's counter (docs/MECHANICS.md, "Residual damage"): it rises by 1 for the poison and by 1 for the seed, to at
+-- most 64. A sixteenth of 353 is 22, so the first two take 22 and 44
 
 abbrev with_counter : ℕ → ActiveConditions → ActiveConditions
 with_counter n c = record c { bad_poison = Some n }
@@ -153,8 +156,9 @@ toxic_takes_more : ((ill (with_counter 0)).events ≡ poisoned_at 331 ∷ []) ×
 unfolding computing
 toxic_takes_more = (refl, refl, refl, refl)
 
--- penalties (docs/MECHANICS.md, "Penalties"): a Speed of 318 is quartered to 79 as paralysis comes. String Shot recomputes it at -1
--- to 66 percent, 209, and lays the penalty again: 52; and once more for the shifter's own Swords Dance: 13
+-- Penalties (docs/MECHANICS.md, "Penalties"): paralysis quarters a Speed of 318 to 79. String Shot recomputes Speed
+-- at -1 to 66 percent, 209, and the penalty applies again: 52. The shifter's own Swords Dance applies it once more:
+-- 13
 
 abbrev paralysed_foe : Progress
 paralysed_foe = early_effect One (move_at 86) effects.InflictParalysis (alone tauros as_is)
@@ -167,7 +171,8 @@ speed_of_the_paralysed : (status_of Two paralysed_foe ≡ Paralysed) × (stat_no
 unfolding computing
 speed_of_the_paralysed = (refl, refl)
 
--- its own shift forgets the penalty: at +1 Speed is 477, and the foe's Swords Dance quarters that to 119; at +2 it is 636
+-- A member's own shift drops the penalty. At +1 its Speed is 477, and the foe's Swords Dance quarters that to 119. At
+-- +2 it is 636
 
 abbrev quickened : ℕ → Progress
 quickened by = raise_stage Two Two Speed by stay paralysed_foe
@@ -177,8 +182,8 @@ speed_recomputed : stat_now Speed Two (quickened 1) ∷ stat_now Speed Two (rais
 unfolding computing
 speed_recomputed = refl
 
--- stage shifts (docs/MECHANICS.md, "Stage shift"): from 999 up by 2 is up by 1 and a failure, and from 1 down by 1 is nothing and a
--- failure; 5 at -5 is 5 * 28 / 100, so 1
+-- Stage shifts (docs/MECHANICS.md, "Stage shift"): a stat of 999 that should rise by 2 rises by 1, and the move
+-- fails. A stat of 1 that should fall by 1 stays, and the move fails. 5 at -5 is 5 * 28 / 100, so 1
 
 abbrev dances : Member → (Active → Active) → Progress
 dances m change = late_effect usual One (move_at 14) (effects.StatUp Attack 2) (alone m change)
@@ -203,8 +208,9 @@ shift_at_1 : (weakest.events ≡ fails) × (stat_now Attack One weakest ≡ 1) �
 unfolding computing
 shift_at_1 = (refl, refl, refl)
 
--- late effects (docs/MECHANICS.md, "Late effects"): Growl fails on a Substitute without a draw, misses under Mist without one, and else
--- takes one; a foe with Recharge sleeps in place of its burn, where 0 is drawn and then the count 1; Bide draws (1 & 1) + 2
+-- Late effects (docs/MECHANICS.md, "Late effects"). Growl fails on a Substitute without a draw, misses under Mist
+-- without a draw, and takes one otherwise. A foe that has to recharge sleeps, and loses its burn: a draw of 0 is
+-- rejected, and 1 is the count. Bide draws (1 & 1) + 2
 
 abbrev growls : (Active → Active) → Progress
 growls foe = late_effect usual One (move_at 45) (effects.StatDown Attack 1) (facing tauros as_is tauros foe (Sweep 0))
@@ -232,8 +238,8 @@ bide_begins : (begins_bide.events ≡ events.Start (tauros_of One) volatiles.Bid
 unfolding computing
 bide_begins = (refl, refl, refl)
 
--- Haze (docs/MECHANICS.md, "Early effects"): the burned user's Attack is 298 again, and its burn stays; the foe wakes, acts no more this
--- turn, and keeps its Substitute but not its confusion
+-- Haze (docs/MECHANICS.md, "Early effects"): the burned user's Attack is 298 again, and its burn stays. The foe
+-- wakes, acts no more this turn, and keeps its Substitute but not its confusion
 
 abbrev hazed : Progress
 hazed = early_effect One (move_at 114) effects.Haze (facing (record tauros { status = Burned }) (at_attack_stage 3)

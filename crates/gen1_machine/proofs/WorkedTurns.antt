@@ -1,4 +1,5 @@
--- Worked examples of turns, and of how a battle begins, ends and is told, computed (docs/PROOFS.md, "Worked examples").
+-- Worked examples: turns, the beginning and the end of a battle, and how they are reported (docs/PROOFS.md, "Worked
+-- examples").
 use Rattle.std.proofs.Common.{Bool, List, None, Some, [], codes, false, map, refl, replicate, slice_index, true, ℕ, ◌++◌, ◌∷◌, ◌≡◌}
 use Rattle.gen1_tables.specs.declared.effect.Stat.TheVariants.{Attack, Speed}
 use Rattle.gen1_stats.specs.declared.status.Status.TheVariants.{Healthy, Asleep, Poisoned, Paralysed}
@@ -34,14 +35,14 @@ use Rattle.gen1_machine.proofs.Computing.{computing}
 use Rattle.gen1_machine.proofs.WorkedRules.{tauros, knowing, facing, as_is, set, usual}
 use Rattle.gen1_machine.proofs.WorkedHits.{left_with, tauros_of, healthy_at}
 
--- a member more on a side
+-- One more member on a side.
 abbrev joined_by : Side → Member → Progress → Progress
 joined_by s m p = record p { field = with_party s (record (party s p.field) { members = (party s p.field).members ++ m ∷ [] }) p.field }
 
 abbrev comes_out : Side → ℕ → Event
 comes_out s place = events.Switch (tauros_of s) place 100 (healthy_at 353)
 
--- the order of a turn (docs/MECHANICS.md, "Order of a turn"): both use Splash, which takes no draw
+-- The order of a turn (docs/MECHANICS.md, "Order of a turn"): both use Splash, which takes no draw
 
 abbrev splashing : ℕ → Member
 splashing speed = record (knowing 150 40) { speed = speed }
@@ -52,14 +53,14 @@ both_splash one two b = turn usual (choices.Move 1) (choices.Move 1) (facing (sp
 abbrev splashes : Side → List Event
 splashes s = events.Move (tauros_of s) 150 (tauros_of (other s)) ∷ events.Activate (tauros_of s) volatiles.Splash ∷ []
 
--- a tie in Speed takes one draw, whatever it is: side 1 begins below 128
+-- A tie in Speed takes one draw, whatever its value. Side 1 begins below 128.
 tie_in_speed : ((both_splash 318 318 127).events ≡ splashes One ++ splashes Two) × ((both_splash 318 318 128).events ≡ splashes Two ++ splashes One)
     × ((both_splash 318 318 255).events ≡ splashes Two ++ splashes One)
     × ((both_splash 318 318 127).drawn ∷ (both_splash 318 318 128).drawn ∷ (both_splash 318 318 255).drawn ∷ [] ≡ 1 ∷ 1 ∷ 1 ∷ [])
 unfolding computing
 tie_in_speed = (refl, refl, refl, refl)
 
--- where one is faster, or a side switches, there is no draw
+-- If one side is faster or a side switches, there is no draw.
 faster_by_one : ((both_splash 318 317 128).events ≡ splashes One ++ splashes Two) × ((both_splash 317 318 127).events ≡ splashes Two ++ splashes One)
     × ((both_splash 318 317 128).drawn ∷ (both_splash 317 318 127).drawn ∷ [] ≡ 0 ∷ 0 ∷ [])
 unfolding computing
@@ -79,8 +80,8 @@ switches_come_first : (one_switches.events ≡ comes_out Two 2 ∷ splashes One)
 unfolding computing
 switches_come_first = (refl, refl, refl)
 
--- sent out (docs/MECHANICS.md, "Switching in"): told once, with the health that it comes with; a paralysed member's Speed of 318 is
--- quartered to 79, and the foe's trapping ends
+-- Sending out (docs/MECHANICS.md, "Switching in"): one event reports it, with the health that the member brings. A
+-- paralyzed member's Speed of 318 is quartered to 79, and the foe's trapping ends
 
 abbrev sent_in : Progress
 sent_in = send_out Two 2 (joined_by Two (record (left_with 200) { status = Paralysed })
@@ -91,8 +92,8 @@ sent_in_once : (sent_in.events ≡ events.Switch (tauros_of Two) 2 100 (record {
 unfolding computing
 sent_in_once = (refl, refl, refl)
 
--- the end of an update (docs/MECHANICS.md, "Falls and requests"): who has fallen faints, the last actor's foe first, and is ill no
--- more
+-- The end of an update (docs/MECHANICS.md, "Falls and requests"): the fallen faint and lose their status, the last
+-- actor's foe first
 
 abbrev closes : ℕ → Side → Progress → Progress
 closes number actor p = close_update (ruling_of (record usual_terms { limit = 3 }))
@@ -118,7 +119,7 @@ replacements_are_asked_for : ((one_fell 2).events ≡ events.Faint (tauros_of Tw
 unfolding computing
 replacements_are_asked_for = (refl, refl, refl, refl, refl, refl, refl, refl)
 
--- where nobody fell the next turn begins; where nobody is left the battle is won or tied
+-- If no member fell, the next turn begins. If no member is left, the battle is won or tied
 
 abbrev last_fell : Member → Progress
 last_fell m = closes 2 One (facing m as_is fell_ill as_is (Sweep 0))
@@ -130,7 +131,8 @@ nobody_left : ((closes 2 One (facing tauros as_is tauros as_is (Sweep 0))).event
 unfolding computing
 nobody_left = (refl, refl, refl, refl, refl)
 
--- the last turn (docs/MECHANICS.md, "Turn limit"): a tie, also where a replacement would be due; but a win is a win
+-- The last turn (docs/MECHANICS.md, "Turn limit"): the battle is a tie, even if a replacement would be due. A win
+-- stays a win
 
 abbrev won_at_the_end : Progress
 won_at_the_end = closes 3 One (facing tauros as_is fell_ill as_is (Sweep 0))
@@ -141,7 +143,7 @@ no_replacement_after_the_last_turn : ((one_fell 3).events ≡ events.Faint (taur
 unfolding computing
 no_replacement_after_the_last_turn = (refl, refl, refl, refl)
 
--- a fault is told alone, and nothing is asked for
+-- A fault is the only event, and nothing is asked for.
 abbrev ends_by : ℕ → Progress
 ends_by n = close_update usual (fault n (facing tauros as_is fell_ill as_is (Sweep 0)))
 
@@ -150,7 +152,8 @@ fault_is_told_alone : ((ends_by 1).events ≡ events.Fault 1 ∷ []) × ((ends_b
 unfolding computing
 fault_is_told_alone = (refl, refl, refl, refl, refl)
 
--- what is offered (docs/MECHANICS.md, "Offered choices"): of places 1, 2 and 3 the second has fallen, and the first is out
+-- Offered choices (docs/MECHANICS.md, "Offered choices"): of places 1, 2 and 3, the first is out and the second has
+-- fallen
 
 abbrev offered_to : Request → Member → (Active → Active) → List Choice
 offered_to request m change = offered One (record (joined_by One tauros (joined_by One (left_with 0) (facing m change tauros as_is (Sweep 0)))).field {
@@ -166,7 +169,8 @@ only_the_living_are_offered : (offered_to requests.Switch (left_with 0) as_is �
 unfolding computing
 only_the_living_are_offered = (refl, refl, refl, refl, refl, refl)
 
--- the beginning (docs/MECHANICS.md, "A battle in ten sentences"): at turn 0 both pass, place 1 of each comes out, and turn 1 begins
+-- The beginning (docs/MECHANICS.md, "A battle in ten sentences"): at turn 0 both sides pass, place 1 of each comes
+-- out, and turn 1 begins
 
 abbrev first_of_all : State
 first_of_all = first_state usual_terms (tauros ∷ tauros ∷ []) (tauros ∷ tauros ∷ []) (replicate 10 0)
@@ -180,8 +184,8 @@ battle_begins : (first_of_all.field.turn ≡ 0) × (first_update.answer ≡ Acce
 unfolding computing
 battle_begins = (refl, refl, refl, refl)
 
--- a fault in the bytes of a battle (docs/LAYOUT.md, "Header"): 4 for Fault 1, 5 for Fault 2; beside it are turn 0 and the limit
--- 1000, which is 3 * 256 + 232
+-- A fault in the bytes of a battle (docs/LAYOUT.md, "Header"): 4 for Fault 1, 5 for Fault 2. The turn is 0, and the
+-- limit is 1000, which is 3 * 256 + 232
 
 abbrev header_after : Outcome → List ℕ
 header_after outcome = map (slice_index (bytes_of (record first_of_all { field = record first_of_all.field { outcome = outcome } })))
@@ -192,7 +196,8 @@ outcome_in_the_header : (header_after (outcomes.Fault 1) ≡ 3 ∷ 0 ∷ 0 ∷ 4
 unfolding computing
 outcome_in_the_header = (refl, refl, refl)
 
--- what a watcher sees (docs/MECHANICS.md, "Spectator's view"): a switch clears the stages, Substitute, confusion and screens
+-- What a spectator sees (docs/MECHANICS.md, "Spectator's view"): a switch clears the stages, Substitute, confusion
+-- and screens
 
 abbrev raised_and_hidden : List Event
 raised_and_hidden =
@@ -213,7 +218,8 @@ view_after_a_switch : ((seen_after raised_and_hidden).stages ≡ record level_st
 unfolding computing
 view_after_a_switch = (refl, refl, refl, refl, refl)
 
--- how it is told (docs/MECHANICS.md, "Log bytes", "Lines"): a Strength of side 1 that fells side 2, and a member that comes out hurt
+-- Log bytes and lines (docs/MECHANICS.md, "Log bytes", "Lines"): a Strength of side 1 makes side 2 fall, and a hurt
+-- member comes out
 
 abbrev felled : List Event
 felled =

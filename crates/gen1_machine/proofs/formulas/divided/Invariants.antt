@@ -1,4 +1,4 @@
--- The value was divided once for each penalty that is done.
+-- The value has been divided once for each penalty so far.
 use Rattle.std.proofs.Common.{◌≡◌}
 use Rattle.gen1_machine.specs.Stages.{divided_times}
 use Rattle.gen1_machine.proofs.formulas.divided.Given as goal

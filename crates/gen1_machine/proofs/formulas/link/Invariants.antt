@@ -1,4 +1,4 @@
--- The number was renewed once for each nine bytes that are done.
+-- The number has been renewed once for each nine bytes so far.
 use Rattle.std.proofs.Common.{◌≡◌, ◌%◌, slice_index}
 use Rattle.gen1_rolls.specs.Streams.{times_renewed}
 use Rattle.gen1_machine.proofs.formulas.link.Given as goal

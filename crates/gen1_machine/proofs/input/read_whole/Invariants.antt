@@ -1,4 +1,4 @@
--- What was read so far is gone from the source and fits the limit, and no read has failed.
+-- The bytes that were read so far are gone from the source and fit the limit, and no read has failed.
 use Rattle.std.proofs.Common.{◌≡◌, ◌-◌, ◌≤◌, vec_len}
 use Rattle.std.specs.Io.KnownBytes.{Consumes}
 use Rattle.gen1_machine.proofs.input.read_whole.Given as goal

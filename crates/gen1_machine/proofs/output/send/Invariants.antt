@@ -1,4 +1,4 @@
--- What is gone from `rest` was appended, and no write has failed.
+-- The bytes that are gone from `rest` were appended, and no write has failed.
 use Rattle.std.proofs.Common.{◌≡◌, List, ℕ, ◌++◌, length}
 use Rattle.std.specs.Io.KnownBytes.{Appends}
 use Rattle.gen1_machine.proofs.output.send.Given as goal
