@@ -1,4 +1,4 @@
--- Lemmas of first draws, of the ring of link numbers, and of a generator that counts up.
+-- Lemmas about first draws, the ring of link numbers, and a generator that counts up.
 pub mod First
 pub mod Period
 pub mod Rings

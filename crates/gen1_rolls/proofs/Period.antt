@@ -1,16 +1,17 @@
--- Any span of a stream holds every byte. For link numbers: 5x + 1 mod 256 has the full period, by computing one orbit.
+-- Any span of a stream holds every byte. For link numbers, 5x + 1 modulo 256 has the full period, which one orbit
+-- shows by computing.
 use Rattle.std.proofs.Common.{◌≡◌, ℕ, zero, suc, ◌+◌, ◌-◌, ◌*◌, ◌/◌, ◌%◌, ◌<◌, ◌≤◌, List, Bool, true, false, ◌||◌, ◌&&◌, nat_eq, refl, sym, ap, ◌∙◌, arith, inl, inr, ◌⊎◌, rules}
 use Rattle.std.proofs.lemmas.Bool.{cases_eq}
 use Rattle.std.proofs.lemmas.List.Elements.{All-get_or}
 use Rattle.std.specs.Prelude.{slice_index}
 use Rattle.gen1_rolls.specs.Streams.{iterate, renewed, Stream, byte_at, span, IsStream, HoldsEveryByte, Link, Sweep, Drawn}
 
--- whether b is among the first n numbers from x on
+-- Whether b is among the first n numbers from x on.
 unfoldable pub finds : ℕ → ℕ → ℕ → Bool
 finds zero x b = false
 finds (suc n) x b = nat_eq x b || finds n (renewed x) b
 
--- whether each number below n is among the first 256 from 0 on
+-- Whether each number below n is among the first 256 from 0 on.
 unfoldable pub finds_below : ℕ → Bool
 finds_below zero = true
 finds_below (suc n) = finds 256 0 n && finds_below n
@@ -25,7 +26,7 @@ iterate-add f m (suc n) x =
     let e : suc n + m ≡ suc (n + m) = omega arith in
     ap (λ k. iterate k f x) e ∙ ap f (iterate-add f m n x)
 
--- the first time apart
+-- The first application is taken out.
 iterate-suc : {A : Type 0} (f : A → A) (n : ℕ) (x : A) → iterate (suc n) f x ≡ iterate n f (f x)
 iterate-suc f n x = ap (λ k. iterate k f x) (let e : suc n ≡ n + 1 = omega arith in e) ∙ iterate-add f 1 n x
 
@@ -53,14 +54,14 @@ found_at (suc n) b h lt =
     let hs = both (finds 256 0 n) (finds_below n) h in
     elim (cases_eq b n) [ inl same ↦ rw same hs.0 | inr other ↦ found_at n b hs.1 (omega arith) ]
 
--- each number is reached from 0 in fewer than 256 steps
+-- Each number is reached from 0 in fewer than 256 steps.
 pub from_zero : (b : ℕ) → b < 256 → (k : ℕ) × ((k < 256) × (iterate k renewed 0 ≡ b))
 from_zero b lt = finds-reached 256 0 b (found_at 256 b found_all lt)
 
 period : iterate 256 renewed 0 ≡ 0
 period = refl
 
--- and from any other number
+-- Each number is reached from any number in fewer than 256 steps.
 pub full_period : (x b : ℕ) → x < 256 → b < 256 → (k : ℕ) × ((k < 256) × (iterate k renewed x ≡ b))
 full_period x b ltx ltb =
     let a = from_zero x ltx in
@@ -92,7 +93,7 @@ below_byte : (k x : ℕ) → x < 256 → iterate k renewed x < 256
 below_byte zero x lt = lt
 below_byte (suc k) x lt = omega arith
 
--- each ninth byte of a link battle is the same number, renewed
+-- Each ninth byte of a link battle is the same number, renewed.
 byte_at-rounds : (seed : List ℕ) (n r : ℕ) → byte_at (Link seed) (n + 9 * r) ≡ iterate r renewed (byte_at (Link seed) n)
 unfolding byte_at
 byte_at-rounds seed n r =
@@ -101,14 +102,14 @@ byte_at-rounds seed n r =
     ap (λ j. iterate ((n + 9 * r) / 9) renewed (slice_index seed j)) place ∙ ap (λ k. iterate k renewed (slice_index seed (n % 9))) rounds
     ∙ iterate-add renewed (n / 9) r (slice_index seed (n % 9))
 
--- a stream draws bytes alone
+-- A stream draws only bytes.
 pub byte-small : (s : Stream) (n : ℕ) → IsStream s → byte_at s n < 256
 unfolding byte_at
 byte-small (Link seed) n is = below_byte (n / 9) (slice_index seed (n % 9)) (All-get_or (λ x. x < 256) seed (n % 9) 0 (omega (arith, is.0)) is.1)
 byte-small (Sweep start) n is = omega arith
 byte-small (Drawn bytes width) n is = is.0 n
 
--- a stream holds every byte within a span, from any place on
+-- A stream holds every byte within a span, from any place on.
 pub every_byte : (s : Stream) → IsStream s → (n : ℕ) → HoldsEveryByte (λ k. byte_at s (n + k)) (span s)
 unfolding byte_at
 every_byte (Link seed) is n b lt =

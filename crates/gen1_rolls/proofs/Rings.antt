@@ -1,4 +1,4 @@
--- The draws of a link battle's generator, and that any 2,304 of them in a row hold every number.
+-- The draws of a link battle's generator. Any 2,304 of them in a row hold every number.
 use Rattle.std.proofs.Common.{◌≡◌, ℕ, zero, suc, ◌+◌, ◌/◌, ◌%◌, ◌<◌, ◌≤◌, List, [], ◌∷◌, ◌++◌, map, take, drop, length, get_or, refl, sym, ap, ◌∙◌, arith, inl, inr, ◌⊎◌, nat_lt, true, false, length-take, length-append, length-drop, subst}
 use Rattle.std.proofs.Math.Seq.{take-append_seam, drop-append_seam}
 use Rattle.std.proofs.Math.ListN.{get_or-append, set}
@@ -12,7 +12,7 @@ use Rattle.gen1_rolls.specs.Link.{Ring, turned, byte_of, after_draw, ring_of, ri
 use Rattle.gen1_rolls.specs.Streams.{iterate, renewed, times_renewed, byte_at, IsStream, Link}
 use Rattle.gen1_rolls.proofs.Standing.{own_is_stream}
 
--- numbers that were not renewed yet
+-- Numbers that haven't been renewed yet.
 pub turned-none : (s : List ℕ) → turned 0 s ≡ s
 turned-none s = grind (arith, common_steps)
 
@@ -46,7 +46,7 @@ turned-at s q j long lt =
 same_ring : (i j : ℕ) (xs ys : List ℕ) → i ≡ j → xs ≡ ys → ◌≡◌ {A = Ring} (record { index = i; numbers = xs }) (record { index = j; numbers = ys })
 same_ring i j xs ys e h = cc
 
--- one draw more
+-- One more draw.
 pub after_draw-ring_at : (s : List ℕ) (n : ℕ) → 9 ≤ length s → after_draw (ring_at s n) ≡ ring_at s (n + 1)
 after_draw-ring_at s n long =
     elim (below_or (n % 9)) [
@@ -64,20 +64,20 @@ after_draw-ring_at s n long =
     below_or : (m : ℕ) → (m < 8) ⊎ (8 ≤ m)
     below_or m = grind arith
 
--- n draws more
+-- n more draws.
 pub draws-ring_at : (s : List ℕ) (m n : ℕ) → 9 ≤ length s → iterate n after_draw (ring_at s m) ≡ ring_at s (m + n)
 draws-ring_at s m zero long = ap (ring_at s) (let e : m ≡ m + 0 = omega arith in e)
 draws-ring_at s m (suc n) long =
     ap after_draw (draws-ring_at s m n long) ∙ after_draw-ring_at s (m + n) long
     ∙ ap (ring_at s) (let e : m + n + 1 ≡ m + suc n = omega arith in e)
 
--- a ring in its first round is its numbers as they are
+-- A ring in its first round has its numbers as they were.
 pub ring-first_round : (i : ℕ) (s : List ℕ) → i < 9 → ◌≡◌ {A = Ring} (record { index = i; numbers = s }) (ring_at s i)
 ring-first_round i s lt =
     let none : i / 9 ≡ 0 = omega arith in
     same_ring i (i % 9) s (turned (i / 9) s) (omega arith) (sym (turned-none s) ∙ ap (λ q. turned q s) (sym none))
 
--- the ring after n draws from its seed
+-- The ring after n draws from its seed.
 pub iterate-ring_of : (s : List ℕ) (n : ℕ) → 9 ≤ length s → iterate n after_draw (ring_of s) ≡ ring_at s n
 iterate-ring_of s n long = ap (iterate n after_draw) (ring-first_round 0 s (omega arith)) ∙ draws-ring_at s 0 n long ∙ ap (ring_at s) (let e : 0 + n ≡ n = omega arith in e)
 
@@ -85,7 +85,7 @@ pub byte_of-ring_at : (s : List ℕ) (n : ℕ) → 9 ≤ length s → byte_of (r
 unfolding byte_at
 byte_of-ring_at s n long = turned-at s (n / 9) (n % 9) long (omega arith)
 
--- the ring after n draws stands at n
+-- The ring after n draws is at place n.
 pub ring_at-stands : (seed : List ℕ) (n : ℕ) → 9 ≤ length seed → StandsAt byte_of after_draw 2304 (ring_of seed) (Link seed) n (ring_at seed n)
 ring_at-stands seed n long =
     record {
@@ -94,22 +94,22 @@ ring_at-stands seed n long =
       spans = refl;
     }
 
--- and what stands at n is that ring: index and numbers are known at once
+-- A generator at place n is that ring, so its index and its numbers are known together.
 pub ring-stands : {seed : List ℕ} {n : ℕ} {ring : Ring} → StandsAt byte_of after_draw 2304 (ring_of seed) (Link seed) n ring → 9 ≤ length seed → ring ≡ ring_at seed n
 ring-stands {seed = seed} {n = n} a long = a.reached ∙ iterate-ring_of seed n long
 
--- a ring in its first round stands at its index in the stream that its numbers name
+-- A ring in its first round is at its index in the stream that its numbers give.
 pub first_round-stands : (i : ℕ) (s : List ℕ) → 9 ≤ length s → i < 9 → StandsAt byte_of after_draw 2304 (ring_of s) (Link s) i (record { index = i; numbers = s })
 first_round-stands i s long lt =
     subst (λ (ring : Ring). StandsAt byte_of after_draw 2304 (ring_of s) (Link s) i ring) (sym (ring-first_round i s lt)) (ring_at-stands s i long)
 
--- so its draws are a stream
+-- So its draws are a stream.
 pub first_round-stream : (i : ℕ) (s : List ℕ) → length s ≡ 10 → i < 9 → ((j : ℕ) → j < length s → get_or s j 0 < 256)
     → IsStream (stream_of byte_of after_draw 2304 (record { index = i; numbers = s }))
 first_round-stream i s ten lt small =
     own_is_stream (first_round-stands i s (omega (arith, ten)) lt) (ten, All-from_get_or (λ x. x < 256) s 0 small)
 
--- one number more is renewed
+-- One more number is renewed.
 pub turn_step : (xs ys : List ℕ) (i y : ℕ) → i < length xs → ys ≡ map renewed (take i xs) ++ drop i xs → y ≡ renewed (get_or ys i 0)
     → set ys i y ≡ map renewed (take (i + 1) xs) ++ drop (i + 1) xs
 turn_step xs ys i y lt so_far e =

@@ -10,11 +10,11 @@ iterate-one_up zero n lt = omega arith
 iterate-one_up (suc k) n lt =
     let e : ((n + k) % 256 + 1) % 256 ≡ (n + suc k) % 256 = omega arith in ap one_up (iterate-one_up k n lt) ∙ e
 
--- a sweep begins its stream
+-- A sweep is at the beginning of its stream.
 pub sweep_stands : (n : ℕ) → n < 256 → StandsAt (λ x. x) one_up 256 n (Sweep n) 0 n
 unfolding byte_at
 sweep_stands n lt = record { reached = refl; bytes = λ k. iterate-one_up k n lt; spans = refl }
 
--- so its draws are a stream
+-- So its draws are a stream.
 pub sweep_is_stream : (n : ℕ) → n < 256 → IsStream (stream_of (λ x. x) one_up 256 n)
 sweep_is_stream n lt = own_is_stream (sweep_stands n lt) lt

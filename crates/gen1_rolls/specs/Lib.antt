@@ -1,4 +1,4 @@
--- Draws, and the generators that they are taken from.
+-- Draws, and the generators that make them.
 pub mod Draws
 pub mod Link
 pub mod Streams

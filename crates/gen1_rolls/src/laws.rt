@@ -1,17 +1,19 @@
-//! What holds of every generator (docs/MECHANICS.md, "Link numbers"). The contract of a function with an empty body is a law.
+//! What holds for every generator (docs/MECHANICS.md, "Link numbers"). Each function has an empty body. Its contract
+//! is the law.
 ghost use Rattle.gen1_rolls.specs.Draws.{stream_of, StandsAt};
 ghost use Rattle.gen1_rolls.specs.Streams.{IsStream};
 
 use crate::rolls::Rolls;
 
-/// Every generator stands at the beginning of its own stream. So what a clause says for each stream that a generator may
-/// draw, it says of each generator.
+/// Every generator is at the beginning of its own stream. So what a clause says for each stream that a generator may
+/// draw, it says for each generator.
 pub fn every_generator_stands<R: Rolls>()
     ensures { (r : R) → StandsAt R.byte R.next R.SPAN r (stream_of R.byte R.next R.SPAN r) 0 r }
 {}
 
-/// For a generator that the program holds, its own stream also keeps to the law of streams: bytes, of which any `SPAN` in a
-/// row hold every number. The law is what a draw tells, so one draw is taken of a copy; `random` stays where it is.
+/// A generator's own stream keeps to the law of streams: it is bytes, of which any `SPAN` in a row hold every number.
+///
+/// The law follows from a draw, so one draw is taken from a copy. `random` itself doesn't change.
 pub fn draws_a_stream<R: Rolls + Copy>(random: &R)
     ensures stands { StandsAt R.byte R.next R.SPAN random.now
         (stream_of R.byte R.next R.SPAN random.now) 0 random.now }

@@ -1,11 +1,11 @@
-//! Draws of a battle: streams of bytes, the generator of a link battle, a generator that counts up, and the first draw that
-//! meets a test.
+//! The draws of a battle: streams of bytes, the generator of a link battle, a generator that counts up, and the first
+//! draw that passes a test.
 //!
 //! - `rolls`: what a generator is
-//! - `link`: that of a link battle
-//! - `sweep`: one that counts up
-//! - `search`: the first draw that meets a test
-//! - `laws`: what holds of every generator
+//! - `link`: the generator of a link battle
+//! - `sweep`: a generator that counts up
+//! - `search`: the first draw that passes a test
+//! - `laws`: what holds for every generator
 #![tactic(auto)]
 
 mod laws;

@@ -7,8 +7,10 @@ ghost use Rattle.gen1_rolls.specs.Streams.{IsStream, renewed, Link};
 use crate::rolls::Rolls;
 use std::marker::Model;
 
-/// The generator of a link battle: nine numbers that are drawn in turn, a tenth that is only kept,
-/// and the index of the number that is drawn next (docs/MECHANICS.md, "Link numbers").
+/// The generator of a link battle (docs/MECHANICS.md, "Link numbers").
+///
+/// It has nine numbers that are drawn in turn, a tenth that is only kept, and the index of the number that is drawn
+/// next.
 #[derive(Clone, Copy, PartialEq, Eq, Debug, Drop)]
 pub struct LinkRandom {
     index: u8,
@@ -29,7 +31,7 @@ impl Model for LinkRandom {
 }
 
 impl LinkRandom {
-    /// The generator as a battle begins: its first nine draws are the first nine numbers.
+    /// The generator at the beginning of a battle. Its first nine draws are the first nine numbers.
     pub fn new(seed: [u8; 10]) -> Self
         ensures start { result ≡ ring_of seed }
         ensures stands { StandsAt byte_of after_draw 2304 (ring_of seed) (Link seed) 0 result }
@@ -40,8 +42,7 @@ impl LinkRandom {
         }
     }
 
-    /// The generator with these parts, as `index` and `numbers` tell them. `None` if the index is
-    /// above 8.
+    /// A generator with these parts, as `index` and `numbers` return them. Returns `None` if the index is above 8.
     pub fn from_parts(index: u8, numbers: [u8; 10]) -> Option<Self>
         ensures value { result ≡ (if nat_lt index 9
             then Some (record { index = index; numbers = numbers })
@@ -56,7 +57,7 @@ impl LinkRandom {
         }
     }
 
-    /// The index of the number that is drawn next, from 0 to 8.
+    /// The index of the number that is drawn next, 0 to 8.
     pub fn index(&self) -> u8
         ensures value { result ≡ self.now.index }
         ensures below { result < 9 }
@@ -97,8 +98,9 @@ impl Rolls for LinkRandom {
     ghost positive = { lit< tt };
 }
 
-/// What becomes of one of the nine numbers each time that all nine were drawn: five times the
-/// number and one more, modulo 256 (docs/MECHANICS.md, "Link numbers").
+/// Renews one of the nine numbers: five times the number, plus one, modulo 256 (docs/MECHANICS.md, "Link numbers").
+///
+/// This happens each time that all nine were drawn.
 pub fn renew(number: u8) -> u8
     ensures { result ≡ renewed number }
 {
@@ -114,7 +116,7 @@ fn turn(numbers: &mut [u8; 10])
     }
 }
 
-/// The number at an index, and that the draws from there on are a stream.
+/// The number at an index. Its contract also says that the draws from there on are a stream.
 fn number_at(numbers: &[u8], index: u8) -> u8
     requires below { index < 9 }
     requires ten { length numbers.now ≡ 10 }

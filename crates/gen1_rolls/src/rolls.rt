@@ -1,23 +1,26 @@
-//! A generator of bytes: what every draw of a battle is taken from (docs/MECHANICS.md, "Link numbers").
+//! A generator of bytes, which all draws of a battle come from (docs/MECHANICS.md, "Link numbers").
 ghost use Rattle.std.specs.Prelude.{◌≡◌, ℕ, ◌<◌};
 ghost use Rattle.gen1_rolls.specs.Draws.{stream_of};
 ghost use Rattle.gen1_rolls.specs.Streams.{IsStream};
 
-/// A generator of bytes: what it draws next, and what a draw leaves, depend on its value alone.
+/// A generator of bytes (docs/MECHANICS.md, "Link numbers").
+///
+/// Its value alone determines what it draws next, and what it is after a draw.
 pub trait Rolls {
-    /// Any this many draws in a row hold every number from 0 to 255. So a loop that draws until a
-    /// test is met needs no more.
+    /// Any this many draws in a row hold every number from 0 to 255. So a loop that draws until a test passes needs
+    /// at most this many.
     const SPAN: usize;
 
     ghost SPAN: { ℕ };
 
-    // The byte that is drawn next, and what a draw leaves.
+    // The byte that is drawn next, and the generator after a draw.
     ghost byte: { Self → ℕ };
 
     ghost next: { Self → Self };
 
-    /// Draws the next byte. The draws from this one on are a stream: bytes, of which any `SPAN` in a
-    /// row hold every number from 0 to 255.
+    /// Draws the next byte.
+    ///
+    /// The draws from this one on are a stream: bytes, of which any `SPAN` in a row hold every number from 0 to 255.
     fn draw(&mut self) -> u8
         ensures drawn { result ≡ byte self.old }
         ensures left { self.new ≡ next self.old }

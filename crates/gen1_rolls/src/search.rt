@@ -1,12 +1,13 @@
-//! The first draw that meets a test (docs/MECHANICS.md, "Link numbers").
+//! The first draw that passes a test (docs/MECHANICS.md, "Link numbers").
 ghost use Rattle.std.specs.Prelude.{ℕ, Bool, IfSome, IfNone};
 ghost use Rattle.gen1_rolls.specs.Draws.{Settles, FindsDraw, FindsNone};
 
 use crate::rolls::Rolls;
 
-/// Draws until a byte meets the test, and answers that byte: the first draw that meets it. `None`
-/// after `SPAN` draws, where no byte from 0 to 255 meets it. The test's answer is to be settled by
-/// the byte.
+/// Draws until a byte passes the test, and returns that byte.
+///
+/// Returns `None` after `SPAN` draws, if no byte from 0 to 255 passes. The result of the test must depend on the byte
+/// alone.
 pub fn until<R: Rolls, F: Fn(u8) -> bool>(r: &mut R, test: F) -> Option<u8>
     requires callable { F.IsAlwaysCallable test }
     ensures found { (p : ℕ → Bool) → Settles (F.post test) p

@@ -7,8 +7,10 @@ ghost use Rattle.gen1_rolls.specs.Sweep.{one_up};
 use crate::rolls::Rolls;
 use std::marker::Model;
 
-/// A generator for tests (docs/MECHANICS.md, "Link numbers"): each draw is the last plus 1, and 0
-/// after 255. A search that begins just behind its byte takes all 256 draws.
+/// A generator for tests (docs/MECHANICS.md, "Link numbers").
+///
+/// Each draw is the last plus 1, and 0 after 255. A search that begins one past the byte that it looks for takes all
+/// 256 draws.
 #[derive(Clone, Copy, PartialEq, Eq, Debug, Drop)]
 pub struct Sweep {
     number: u8,
@@ -52,7 +54,7 @@ impl Rolls for Sweep {
     ghost positive = { lit< tt };
 }
 
-/// The number after a number, and that the draws from the first on are a stream.
+/// The number after a number. Its contract also says that the draws from the first on are a stream.
 fn step(number: u8) -> u8
     ensures value { result ≡ one_up number }
     ensures stream { IsStream (stream_of (λ x. x) one_up 256 number) }

@@ -5,7 +5,7 @@ use Rattle.std.specs.Option.{option_or}
 use Rattle.gen1_stats.specs.Sheets.{Sheet}
 use Rattle.gen1_stats.specs.Teams.{first_refusal, member_refusal}
 
--- the refusal is then that of those behind
+-- If a member isn't refused, the first refusal is that of the members after it.
 pub first_refusal-drop : (sheets : List Sheet) (i : ℕ) (s : Sheet) → i < length sheets → s ≡ get_or sheets i s
     → member_refusal (i + 1) s ≡ None
     → first_refusal (i + 1) (drop i sheets) ≡ first_refusal (i + 1 + 1) (drop (i + 1) sheets)

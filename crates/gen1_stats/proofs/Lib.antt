@@ -1,4 +1,4 @@
--- Lemmas of the ranges of stats, of roots, and of lists of members.
+-- Lemmas about the ranges of stats, about roots, and about lists of members.
 pub mod Joining
 pub mod Lists
 pub mod Ranges

@@ -1,4 +1,4 @@
--- A member that is not refused keeps to the ranges of a member.
+-- A member that isn't refused is in the ranges of a member.
 use Rattle.std.proofs.Common.{All, AllPairs, Bool, List, None, Some, if◌then◌else◌, [], arith, false, length, map, min, nat_le, nat_lt, refl, slice_index_or, suc, true, zero, ℕ, ◌*◌, ◌-◌, ◌/◌, ◌≡◌, ◌≢◌, ◌≤◌, ◌∷◌, ◌||◌, ◌==◌, sym}
 use Rattle.std.proofs.lemmas.Bool.Decides.{nat_tests}
 use Rattle.std.proofs.lemmas.Bool.{and_parts, eqb-false, leb-true, ltb-false, or_parts}
@@ -16,7 +16,7 @@ use Rattle.gen1_stats.specs.Sheets.{Sheet}
 use Rattle.gen1_stats.specs.Stats.{full_pp}
 use Rattle.gen1_stats.specs.Teams.{first_failed, known_of, member_of, member_refusal, repeats, tests}
 
--- no test of a member fails
+-- No test of a member fails.
 pub record IsAllowed (s : Sheet) : Type 0 where
   pub level : (s.level == 0 || nat_lt 100 s.level) ≡ false
   pub no_move : (length s.moves == 0) ≡ false
@@ -25,7 +25,7 @@ pub record IsAllowed (s : Sheet) : Type 0 where
   pub repeated : repeats s.moves ≡ false
   pub ups : list_any (λ chosen. nat_lt 3 chosen.1) s.moves ≡ false
 
--- where no test has failed, the first has not, nor any of the others
+-- If no test has failed, neither the first nor any of the others has.
 passed : (test : Bool × TeamRefusal) (more : List (Bool × TeamRefusal)) → first_failed (test ∷ more) ≡ None
     → (test.0 ≡ false) × (first_failed more ≡ None)
 passed test more none = by test.0 refl none
@@ -50,18 +50,18 @@ allowed place s none = let all = none_failed (tests place s) none in let d : Boo
   ups = all 6 d (omega arith);
 }
 
--- the PP ups that are allowed
+-- The PP ups that are allowed.
 pub ups_allowed : (s : Sheet) → IsAllowed s → All (λ move. move.1 ≤ 3) s.moves
 ups_allowed s is k d low = ltb-false _ _ (none_passes (λ chosen. nat_lt 3 chosen.1) s.moves is.ups k d low)
 
--- what passes a test at each element of a list passes it wherever one looks, if the default does
+-- If each element of a list passes a test, and so does the default, every index passes it.
 passes_at : {X : Type 0} (p : X → Bool) (xs : List X) (i : ℕ) (d : X) → list_all p xs ≡ true → p d ≡ true
     → p (slice_index_or xs i d) ≡ true
 passes_at p [] i d all default = default
 passes_at p (x ∷ xs) zero d all default = (and_parts _ _ all).0
 passes_at p (x ∷ xs) (suc i) d all default = passes_at p xs i d (and_parts _ _ all).1 default
 
--- no move has more than 40 PP, by one test over the table
+-- No move has more than 40 PP, by one test over the table.
 pub pp_at_most_40 : (move : ℕ) → (move_row move).pp ≤ 40
 unfolding move_row
 pp_at_most_40 move =
@@ -71,7 +71,7 @@ pp_at_most_40 move =
 full_pp-le : (base ups : ℕ) → base ≤ 40 → ups ≤ 3 → full_pp base ups ≤ 63
 full_pp-le base ups low few = let most : ups * min 7 (base / 5) ≤ 3 * 7 = mul-le ups (min 7 (base / 5)) 3 7 few (omega arith) in omega arith
 
--- moves that don't repeat differ in pairs
+-- Moves that don't repeat differ in pairs.
 differ : (moves : List (ℕ × ℕ)) → repeats moves ≡ false → AllPairs (λ a b. a.id ≢ b.id) (map known_of moves)
 differ [] none i j d before low = absurd (omega arith)
 differ (move ∷ moves) none zero zero d before low = absurd (omega arith)
@@ -82,7 +82,7 @@ differ (move ∷ moves) none zero (suc j) d before low = λ same.
 differ (move ∷ moves) none (suc i) (suc j) d before low =
     differ moves (or_parts _ _ none).1 i j d (omega arith) (omega arith)
 
--- a sum of at least low, capped at 999
+-- A sum of at least low, capped at 999.
 capped : (low sum : ℕ) → low ≤ sum → low ≤ 999 → IsBetween low 999 (min 999 sum)
 capped low sum enough small = (omega arith, omega arith)
 
@@ -104,12 +104,12 @@ member_of-ranges s is few = record {
   distinct = differ s.moves is.repeated;
 }
 
--- Pound is a move that a member may know
+-- Pound is a move that a member may know.
 known_pound : IsKnown record { id = 1; pp = 35 }
 unfolding move_row move_rows
 known_pound = record { in_engine = refl; not_struggle = λ same. absurd (omega arith); pp = omega arith }
 
--- the least member begins so as well
+-- The least member is fresh too.
 pub least_member-fresh : IsFresh least_member
 least_member-fresh = record {
   member = record {

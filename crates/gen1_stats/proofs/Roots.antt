@@ -1,14 +1,14 @@
--- The root that is computed is the one that is described, and there is no other.
+-- The computed root is the one that is described, and it is the only one.
 use Rattle.std.proofs.Common.{Bool, arith, false, nat_le, refl, suc, true, zero, ℕ, ◌*◌, ◌+◌, ◌<◌, ◌≤◌, ◌≡◌}
 use Rattle.std.proofs.lemmas.Nat.{mul-le}
 use Rattle.std.proofs.lemmas.Bool.{leb-true, leb-false}
 use Rattle.gen1_stats.specs.Stats.{root_from, root, IsRoot}
 
--- a number whose square is not below n is beyond one whose square is
+-- If the square of r is below n, and that of j isn't, j is above r.
 beyond : (n r j : ℕ) → r * r < n → n ≤ j * j → r + 1 ≤ j
 beyond n r j less enough = grind (arith, mul-le)
 
--- the search finds the root, where no number before its start is one
+-- The search finds the root if no number before its start is the root.
 root_from-is : (k r n : ℕ) → r + k ≡ 255 → ((j : ℕ) → n ≤ j * j → r ≤ j) → IsRoot n (root_from k r n)
 unfolding root_from
 root_from-is zero r n sum least = record { capped = omega arith; reaches = λ below. absurd (omega arith); least = least }
@@ -23,6 +23,6 @@ pub root-is : (n : ℕ) → IsRoot n (root n)
 unfolding root
 root-is n = root_from-is 255 0 n refl (λ j enough. omega arith)
 
--- two numbers that are both the root are equal
+-- Two numbers that are both the root are equal.
 pub root_unique : (n a b : ℕ) → IsRoot n a → IsRoot n b → a ≡ b
 root_unique n a b is_a is_b = grind (arith, is_a.least b, is_b.least a)

@@ -1,4 +1,5 @@
--- What the code's `Member` stands for (docs/MECHANICS.md, "Teams"): a member as a battle begins, unhurt and healthy.
+-- The machine's member for a `Member` of the code (docs/MECHANICS.md, "Teams"): a member at the beginning of a
+-- battle, unhurt and healthy.
 use Rattle.gen1_stats.specs.declared.member.Member.TheInside.{Inside}
 use Rattle.gen1_stats.specs.declared.status.Status.TheVariants.{Healthy}
 use Rattle.gen1_stats.specs.Members.{IsFresh, Member}

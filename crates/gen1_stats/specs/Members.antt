@@ -1,4 +1,4 @@
--- What a member of a team is, as a battle begins and while it lasts (docs/MECHANICS.md, "Stats").
+-- A member of a team, at the beginning of a battle and during it (docs/MECHANICS.md, "Stats").
 use Rattle.std.specs.Prelude.{All, AllPairs, Bool, List, [], false, length, nat_lt, true, ℕ, ◌||◌, ◌≡◌, ◌∷◌, ◌≢◌, ◌≤◌}
 use Rattle.gen1_tables.specs.declared.effect.Effect.{Effect}
 use Rattle.gen1_tables.specs.declared.effect.Effect.TheVariants.{LeftOut}
@@ -23,20 +23,20 @@ abbrev pub leaves_out : Effect → Bool
 leaves_out LeftOut = true
 leaves_out _ = false
 
--- whether the engine leaves a move out
+-- Whether the engine leaves a move out.
 abbrev pub is_left_out : ℕ → Bool
 is_left_out move = leaves_out (move_row move).effect
 
 abbrev pub IsBetween : ℕ → ℕ → ℕ → Type 0
 IsBetween low high n = (low ≤ n) × (n ≤ high)
 
--- a move that a member may know: not one that the engine leaves out, nor Struggle
+-- A move that a member may know. It is neither one that the engine leaves out nor Struggle.
 pub record IsKnown (known : KnownMove) : Type 0 where
   pub in_engine : is_left_out known.id ≡ false
   pub not_struggle : known.id ≢ struggle
   pub pp : known.pp ≤ 63
 
--- what a member's numbers and moves keep to, for a whole battle
+-- The ranges of a member's numbers and moves, for a whole battle.
 pub record IsMember (m : Member) : Type 0 where
   pub level : IsBetween 1 100 m.level
   pub max : IsBetween 11 999 m.max
@@ -49,7 +49,7 @@ pub record IsMember (m : Member) : Type 0 where
   pub known : All IsKnown m.moves
   pub distinct : AllPairs (λ a b. a.id ≢ b.id) m.moves
 
--- what a member of a team keeps to as a battle begins: it is of the tables, unhurt and healthy
+-- A fresh member, at the beginning of a battle: it is from the tables, unhurt and healthy.
 pub record IsFresh (m : Member) : Type 0 where
   pub member : IsMember m
   pub species : IsBetween 1 151 m.species
@@ -57,12 +57,12 @@ pub record IsFresh (m : Member) : Type 0 where
   pub unhurt : m.hp ≡ m.max
   pub healthy : m.status ≡ Healthy
 
--- what a list of members keeps to that is a team, as a battle begins
+-- A list of members that is a team at the beginning of a battle.
 pub record IsTeam (team : List Member) : Type 0 where
   pub size : IsBetween 1 6 (length team)
   pub members : All IsFresh team
 
--- the least that a member can be, which fills the unused places of a list of members
+-- The least possible member. It fills the unused places of a list of members.
 abbrev pub least_member : Member
 least_member = record {
   species = 1;
@@ -77,11 +77,11 @@ least_member = record {
   moves = record { id = 1; pp = 35 } ∷ [];
 }
 
--- the member at a place where there is none
+-- The member at a place that holds none.
 abbrev pub nobody : Member
 nobody = record { species = 0; level = 0; max = 0; hp = 0; attack = 0; defense = 0; speed = 0; special = 0; status = Healthy; moves = [] }
 
--- the move in a slot where there is none
+-- The move in a slot that holds none.
 abbrev pub nothing_known : KnownMove
 nothing_known = record { id = 0; pp = 0 }
 
@@ -96,7 +96,7 @@ abbrev pub is_asleep : Status → Bool
 is_asleep (Asleep turns marked) = true
 is_asleep _ = false
 
--- whether the sleep clause counts this sleep
+-- Whether the sleep clause counts this sleep.
 abbrev pub is_marked : Status → Bool
 is_marked (Asleep turns marked) = marked
 is_marked _ = false

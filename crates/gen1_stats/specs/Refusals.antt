@@ -1,5 +1,5 @@
--- The refusals of a team (docs/MECHANICS.md, "Teams"): their numbers in the order of the tests, the member that is at fault,
--- and their texts.
+-- The refusals of a team (docs/MECHANICS.md, "Teams"): their numbers in the order of the tests, the place of the
+-- member, and their texts.
 use Rattle.std.specs.Prelude.{List, codes, if◌then◌else◌, ℕ, ◌++◌, ◌==◌}
 use Rattle.std.specs.Fmt.{decimal}
 use Rattle.gen1_stats.specs.declared.refusal.TeamRefusal.{TeamRefusal}
@@ -16,7 +16,7 @@ number_of (StruggleChosen place) = 7
 number_of (RepeatedMove place) = 8
 number_of (PpUps place) = 9
 
--- from 1; 0 where it is the number of members that is at fault
+-- The member's place, from 1. It is 0 if the number of members is wrong.
 abbrev pub place_of : TeamRefusal → ℕ
 place_of Empty = 0
 place_of TooMany = 0
@@ -28,7 +28,7 @@ place_of (StruggleChosen place) = place
 place_of (RepeatedMove place) = place
 place_of (PpUps place) = place
 
--- what is wrong, in words
+-- What is wrong, in words.
 abbrev pub fault_of : TeamRefusal → List ℕ
 fault_of Empty = codes "the team has no member"
 fault_of TooMany = codes "the team has more than six members"
@@ -40,7 +40,7 @@ fault_of (StruggleChosen place) = codes "Struggle can't be chosen"
 fault_of (RepeatedMove place) = codes "a move stands twice"
 fault_of (PpUps place) = codes "a move has more than three PP ups"
 
--- what is wrong and where
+-- What is wrong, and where.
 abbrev pub sentence_of : TeamRefusal → List ℕ
 sentence_of refusal =
     if place_of refusal == 0 then fault_of refusal

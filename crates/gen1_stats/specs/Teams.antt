@@ -1,4 +1,5 @@
--- What a member is asked for as, what it becomes, and why a list of members is no team (docs/MECHANICS.md, "Teams").
+-- Members as they are specified, what they become, and why a list of members isn't a team (docs/MECHANICS.md,
+-- "Teams").
 use Rattle.std.specs.Prelude.{Bool, List, None, Option, Some, [], false, if◌then◌else◌, length, map, nat_lt, slice_index, ℕ, ◌+◌, ◌==◌, ◌||◌, ◌∷◌}
 use Rattle.std.specs.List.{list_any}
 use Rattle.std.specs.Option.{option_or}
@@ -12,7 +13,7 @@ use Rattle.gen1_stats.specs.Members.{Member, is_left_out}
 use Rattle.gen1_stats.specs.Sheets.{Sheet}
 use Rattle.gen1_stats.specs.Stats.{full_pp, hp_dv, hp_stat, stat}
 
--- a move with its PP as a battle begins
+-- A move with its PP at the beginning of a battle.
 abbrev pub known_of : ℕ × ℕ → KnownMove
 known_of chosen = record { id = chosen.0; pp = full_pp (move_row chosen.0).pp chosen.1 }
 
@@ -22,11 +23,11 @@ dv k s = slice_index s.dvs k
 abbrev pub max_of : Sheet → ℕ
 max_of s = hp_stat (species_row s.species).hp (hp_dv (dv 0 s) (dv 1 s) (dv 2 s) (dv 3 s)) (slice_index s.exp 0) s.level
 
--- one of the four stats, by its place among the DVs
+-- One of the four stats, by its place among the DVs.
 abbrev pub stat_of : ℕ → ℕ → Sheet → ℕ
 stat_of k base s = stat base (dv k s) (slice_index s.exp (k + 1)) s.level
 
--- a member as a battle begins: unhurt and healthy
+-- A member at the beginning of a battle, unhurt and healthy.
 abbrev pub member_of : Sheet → Member
 member_of s = let row = species_row s.species in record {
   species = s.species;
@@ -44,12 +45,12 @@ member_of s = let row = species_row s.species in record {
 abbrev pub team_of : List Sheet → List Member
 team_of sheets = map member_of sheets
 
--- whether a move stands twice among chosen moves
+-- Whether a move occurs twice among the chosen moves.
 abbrev pub repeats : List (ℕ × ℕ) → Bool
 repeats [] = false
 repeats (first ∷ later) = list_any (λ chosen. chosen.0 == first.0) later || repeats later
 
--- each thing that may be wrong with a member, and the refusal for it
+-- The tests of a member in order, each with the refusal for it.
 abbrev pub tests : ℕ → Sheet → List (Bool × TeamRefusal)
 tests place s =
     (s.level == 0 || nat_lt 100 s.level, Level place)
@@ -64,16 +65,16 @@ abbrev pub first_failed : List (Bool × TeamRefusal) → Option TeamRefusal
 first_failed [] = None
 first_failed (test ∷ more) = if test.0 then Some test.1 else first_failed more
 
--- why a member is refused at its place
+-- Why a member is refused at its place.
 abbrev pub member_refusal : ℕ → Sheet → Option TeamRefusal
 member_refusal place s = first_failed (tests place s)
 
--- the refusal of the first member that is refused, where the list begins at this place
+-- The refusal of the first member that is refused. The list begins at this place.
 abbrev pub first_refusal : ℕ → List Sheet → Option TeamRefusal
 first_refusal place [] = None
 first_refusal place (s ∷ sheets) = option_or (member_refusal place s) (first_refusal (place + 1) sheets)
 
--- why a list of members is no team; `None` where it is one
+-- Why a list of members isn't a team, or `None` if it is.
 abbrev pub team_refusal : List Sheet → Option TeamRefusal
 team_refusal sheets =
     if length sheets == 0 then Some Empty

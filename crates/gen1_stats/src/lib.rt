@@ -1,12 +1,12 @@
 //! Teams, and the stats of their members.
 //!
 //! - `team`: [`Team`], one to six members
-//! - `member`: a member of it, as a battle begins
-//! - `known_move`: a move that it knows
-//! - `status`: what ails a member
-//! - `stats`: the formulas of its stats
-//! - `member_spec`: a member as it is asked for
-//! - `refusal`: why a list of members is no team
+//! - `member`: a member of a team at the beginning of a battle
+//! - `known_move`: a move that a member knows
+//! - `status`: the status of a member
+//! - `stats`: the formulas of a member's stats
+//! - `member_spec`: the specification of a member
+//! - `refusal`: why a list of members isn't a team
 #![tactic(auto)]
 
 mod known_move;

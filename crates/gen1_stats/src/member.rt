@@ -1,4 +1,4 @@
-//! A member of a team as a battle begins (docs/MECHANICS.md, "Stats").
+//! A member of a team at the beginning of a battle (docs/MECHANICS.md, "Stats").
 ghost use Rattle.std.specs.Prelude.{◌≡◌, ◌≢◌, ◌≤◌, All, AllPairs, IfErr, IfOk, None, OnOk, Some, length, map};
 ghost use Rattle.gen1_stats.specs.declared.status.Status.TheVariants.{Healthy};
 ghost use Rattle.gen1_stats.specs.Members.{IsBetween, IsFresh, IsKnown, least_member};
@@ -12,7 +12,7 @@ use arrayvec::ArrayVec;
 use gen1_tables::{MoveId, Species};
 use std::marker::Model;
 
-/// A member of a team as a battle begins: unhurt, healthy, and with full PP.
+/// A member of a team at the beginning of a battle: unhurt, healthy, and with full PP (docs/MECHANICS.md, "Stats").
 #[derive(Debug, Clone, PartialEq, Eq, Drop)]
 pub struct Member {
     species: Species,
@@ -51,7 +51,7 @@ impl Model for Member {
 impl Default for Member {
     ghost is_default = { λ member. member ≡ least_member };
 
-    /// The least that a member can be, at level 1 with Pound: it fills the unused places of a list.
+    /// The least possible member, at level 1 with Pound. It fills the unused places of a list.
     fn default() -> Self {
         let mut moves = ArrayVec::new();
         moves.push(KnownMove {
@@ -72,7 +72,7 @@ impl Default for Member {
 }
 
 impl Member {
-    // The member that is asked for, or why it is refused at this place of its team, from 1.
+    // The specified member, or the reason why it is refused at this place of its team, from 1.
     pub(crate) fn new(spec: &MemberSpec, place: u8) -> Result<Self, TeamRefusal>
         ensures made { IfOk result (λ member. member ≡ member_of spec.now) }
         ensures allowed { OnOk result (member_refusal place spec.now ≡ None) }
@@ -82,7 +82,7 @@ impl Member {
         if let Some(refusal) = spec.refusal(place) {
             return Err(refusal);
         }
-        // The type knows that a species is of the tables; asked for its number, it says so.
+        // A species is one of the tables by its type. The call of `number` states that as a fact.
         prove!(spec.species.number() <= 151);
         let level = spec.level;
         let base = spec.species.base();
@@ -105,7 +105,7 @@ impl Member {
         self.species
     }
 
-    /// The level, from 1 to 100.
+    /// The level, 1 to 100.
     pub fn level(&self) -> u8
         ensures value { result ≡ self.now.level }
         ensures low { 1 ≤ result }
@@ -114,7 +114,7 @@ impl Member {
         self.level
     }
 
-    /// The HP of the unhurt member, from 11 to 999: those that it begins with, healthy.
+    /// The maximum HP, 11 to 999. The member begins with all of them.
     pub fn max_hp(&self) -> u16
         ensures value { result ≡ self.now.max }
         ensures unhurt { self.now.hp ≡ result }
@@ -125,7 +125,7 @@ impl Member {
         self.max_hp
     }
 
-    /// The Attack stat, from 5 to 999.
+    /// The Attack stat, 5 to 999.
     pub fn attack(&self) -> u16
         ensures value { result ≡ self.now.attack }
         ensures low { 5 ≤ result }
@@ -134,7 +134,7 @@ impl Member {
         self.attack
     }
 
-    /// The Defense stat, from 5 to 999.
+    /// The Defense stat, 5 to 999.
     pub fn defense(&self) -> u16
         ensures value { result ≡ self.now.defense }
         ensures low { 5 ≤ result }
@@ -143,7 +143,7 @@ impl Member {
         self.defense
     }
 
-    /// The Speed stat, from 5 to 999.
+    /// The Speed stat, 5 to 999.
     pub fn speed(&self) -> u16
         ensures value { result ≡ self.now.speed }
         ensures low { 5 ≤ result }
@@ -152,7 +152,7 @@ impl Member {
         self.speed
     }
 
-    /// The Special stat, from 5 to 999.
+    /// The Special stat, 5 to 999.
     pub fn special(&self) -> u16
         ensures value { result ≡ self.now.special }
         ensures low { 5 ≤ result }
@@ -161,7 +161,7 @@ impl Member {
         self.special
     }
 
-    /// One to four moves that differ, with their full PP.
+    /// One to four different moves with full PP.
     pub fn moves(&self) -> &[KnownMove]
         ensures value { result.now ≡ self.now.moves }
         ensures some { 1 ≤ length result.now }
@@ -173,7 +173,7 @@ impl Member {
     }
 }
 
-// Chosen moves with their full PP.
+// Chosen moves with full PP.
 fn known_moves(chosen: &[(MoveId, u8)]) -> ArrayVec<KnownMove, 4>
     requires room { length chosen.now ≤ 4 }
     requires ups { All (λ move. move.1 ≤ 3) chosen.now }

@@ -1,4 +1,4 @@
-//! A member as it is asked for, and what may be wrong with it (docs/MECHANICS.md, "Teams").
+//! The specification of a member, and what may be wrong with it (docs/MECHANICS.md, "Teams").
 ghost use Rattle.std.specs.Prelude.{◌≡◌, ◌==◌, nat_lt};
 ghost use Rattle.std.specs.List.{list_any};
 ghost use Rattle.gen1_tables.specs.Moves.{struggle};
@@ -10,10 +10,10 @@ use arrayvec::ArrayVec;
 use gen1_tables::{Effect, MoveId, STRUGGLE, Species};
 use std::marker::Model;
 
-/// A member as it is asked for.
+/// The specification of a member (docs/MECHANICS.md, "Teams").
 ///
-/// `dvs` are those of Attack, Defense, Speed and Special, `exp` the experience of HP, Attack, Defense, Speed and
-/// Special, and `moves` each chosen move with its PP ups. `Team::new` says which values are refused.
+/// `dvs` are those of Attack, Defense, Speed and Special. `exp` is the experience of HP, Attack, Defense, Speed and
+/// Special. `moves` are the chosen moves, each with its PP ups. `Team::new` says which values are refused.
 #[derive(Debug, Clone, PartialEq, Eq, Drop)]
 pub struct MemberSpec {
     pub species: Species,
@@ -50,7 +50,7 @@ impl Default for MemberSpec {
 
     ghost is_default = { λ spec. spec ≡ least_sheet };
 
-    /// A Bulbasaur of level 1 without a move, which no team takes: it fills the unused places of a list.
+    /// A Bulbasaur of level 1 without a move. No team accepts it, so it fills the unused places of a list.
     fn default() -> Self {
         MemberSpec {
             species: Species::default(),

@@ -1,18 +1,19 @@
-//! Why a list of members is no team (docs/MECHANICS.md, "Teams").
+//! Why a list of members isn't a team (docs/MECHANICS.md, "Teams").
 ghost use Rattle.std.specs.Prelude.{◌≡◌, ◌≤◌, Some};
 ghost use Rattle.gen1_stats.specs.Refusals.{fault_of, number_of, place_of, sentence_of};
 
 use std::error::Error;
 use std::fmt;
 
-/// Why a list of members is no team. Each number is the place of the member that is at fault, from 1.
+/// Why a list of members isn't a team (docs/MECHANICS.md, "Teams"). Each number is the place of the refused member,
+/// from 1.
 #[derive(Debug, Clone, Copy, PartialEq, Eq)]
 pub enum TeamRefusal {
-    /// There is no member.
+    /// There are no members.
     Empty,
     /// There are more than six members.
     TooMany,
-    /// The level is not 1 to 100.
+    /// The level isn't 1 to 100.
     Level(u8),
     /// A DV is above 15.
     Dv(u8),
@@ -20,16 +21,16 @@ pub enum TeamRefusal {
     NoMove(u8),
     /// A move is one of the four that the engine leaves out.
     MoveLeftOut(u8),
-    /// Struggle was chosen, which no member knows.
+    /// Struggle was chosen, and no member can know it.
     StruggleChosen(u8),
-    /// A move stands twice.
+    /// A move occurs twice.
     RepeatedMove(u8),
     /// A move has more than three PP ups.
     PpUps(u8),
 }
 
 impl TeamRefusal {
-    /// The number of the refusal, from 1 to 9, in the order of the tests.
+    /// The number of the refusal, 1 to 9, in the order of the tests.
     pub fn number(self) -> u8
         ensures value { result ≡ number_of self }
         ensures low { 1 ≤ result }
@@ -48,7 +49,7 @@ impl TeamRefusal {
         }
     }
 
-    /// The place of the member that is at fault, from 1; 0 where the number of members is.
+    /// The place of the refused member, from 1. It is 0 if the number of members is wrong.
     pub fn place(self) -> u8
         ensures { result ≡ place_of self }
     {
@@ -64,7 +65,7 @@ impl TeamRefusal {
         }
     }
 
-    // What is wrong, with no word on where.
+    // What is wrong, without the place.
     fn fault(self) -> &'static str
         ensures { result.now ≡ fault_of self }
     {

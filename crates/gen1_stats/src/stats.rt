@@ -2,7 +2,7 @@
 ghost use Rattle.std.specs.Prelude.{◌≡◌, ◌≤◌, slice_index};
 ghost use Rattle.gen1_stats.specs.Stats.{IsRoot, full_pp, hp_dv, hp_stat, points, root, stat};
 
-/// Attack, Defense, Speed or Special, at most 999, of a species with this base stat.
+/// Attack, Defense, Speed or Special of a species with this base stat, at most 999 (docs/MECHANICS.md, "Stats").
 pub fn stat(base: u8, dv: u8, exp: u16, level: u8) -> u16
     ensures value { result ≡ stat base dv exp level }
     ensures rounded_up { IsRoot exp (root exp) }
@@ -10,14 +10,14 @@ pub fn stat(base: u8, dv: u8, exp: u16, level: u8) -> u16
     (points(base, dv, exp, level) + 5).min(999) as u16
 }
 
-/// The HP of an unhurt member, at most 999, of a species with this base stat.
+/// The maximum HP of a species with this base stat, at most 999 (docs/MECHANICS.md, "Stats").
 pub fn hp_stat(base: u8, dv: u8, exp: u16, level: u8) -> u16
     ensures { result ≡ hp_stat base dv exp level }
 {
     (points(base, dv, exp, level) + u32::from(level) + 10).min(999) as u16
 }
 
-// What HP and the other stats have in common.
+// The common part of HP and the other stats.
 fn points(base: u8, dv: u8, exp: u16, level: u8) -> u32
     ensures value { result ≡ points base dv exp level }
     ensures high { result ≤ 2761 }
@@ -26,7 +26,7 @@ fn points(base: u8, dv: u8, exp: u16, level: u8) -> u32
     growth * u32::from(level) / 100
 }
 
-// The square root of the experience, rounded up, at most 255.
+// The square root of the experience, rounded up, and at most 255.
 fn root(exp: u16) -> u16
     ensures value { result ≡ root exp }
     ensures least { IsRoot exp result }
@@ -47,7 +47,7 @@ pub(crate) fn hp_dv(dvs: [u8; 4]) -> u8
     8 * (dvs[0] % 2) + 4 * (dvs[1] % 2) + 2 * (dvs[2] % 2) + dvs[3] % 2
 }
 
-/// The PP of a move with so many PP ups.
+/// The PP of a move with this many PP ups.
 pub(crate) fn full_pp(base: u8, ups: u8) -> u8
     requires base_fits { base ≤ 40 }
     requires ups_fit { ups ≤ 3 }

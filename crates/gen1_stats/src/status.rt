@@ -1,4 +1,4 @@
-//! What ails a member (docs/MECHANICS.md, "Penalties").
+//! The status of a member (docs/MECHANICS.md, "Penalties").
 ghost use Rattle.std.specs.Prelude.{◌≡◌};
 ghost use Rattle.gen1_stats.specs.Members.{is_healthy, sleeps_or_freezes};
 
@@ -7,7 +7,7 @@ ghost use Rattle.gen1_stats.specs.Members.{is_healthy, sleeps_or_freezes};
 pub enum Status {
     #[default]
     Healthy,
-    /// Asleep for so many turns more; marked where the sleep clause counts it.
+    /// Asleep for this many more turns. It is marked if the sleep clause counts it.
     Asleep { turns: u8, marked: bool },
     Poisoned,
     Burned,
@@ -16,14 +16,14 @@ pub enum Status {
 }
 
 impl Status {
-    /// Whether nothing ails the member.
+    /// Whether the member has no status.
     pub fn is_healthy(self) -> bool
         ensures { result ≡ is_healthy self }
     {
         matches!(self, Status::Healthy)
     }
 
-    /// Whether the member can't act by its status: it is asleep or frozen.
+    /// Whether the status alone keeps the member from acting: it is asleep or frozen.
     pub fn sleeps_or_freezes(self) -> bool
         ensures { result ≡ sleeps_or_freezes self }
     {

@@ -9,7 +9,7 @@ use crate::refusal::TeamRefusal;
 use arrayvec::ArrayVec;
 use std::marker::Model;
 
-/// One to six members as a battle begins: unhurt and healthy.
+/// A team: one to six members at the beginning of a battle, unhurt and healthy (docs/MECHANICS.md, "Teams").
 #[derive(Debug, Clone, PartialEq, Eq, Drop)]
 pub struct Team {
     members: ArrayVec<Member, 6>,
@@ -29,10 +29,10 @@ impl Model for Team {
 }
 
 impl Team {
-    /// The team of the members that are asked for, or the first test that they fail.
+    /// The team of the specified members, or the first test that they fail (docs/MECHANICS.md, "Teams").
     ///
-    /// The tests come in the order of `TeamRefusal`'s variants: those on the number of members, then the others
-    /// member by member, each over all of a member's moves before the next.
+    /// The tests come in the order of `TeamRefusal`'s variants. Those of the number of members are first. The others
+    /// go member by member, and each looks at all moves of a member before the next test.
     pub fn new(specs: &[MemberSpec]) -> Result<Self, TeamRefusal>
         ensures made { IfOk result (λ team. team ≡ team_of specs.now) }
         ensures allowed { OnOk result (team_refusal specs.now ≡ None) }

@@ -1,4 +1,4 @@
--- Lemmas of the rows of the tables and of names.
+-- Lemmas about the rows of the tables, and about names.
 pub mod Rows
 pub mod Named
 pub mod RowPlaces

@@ -1,4 +1,4 @@
--- What a look-up by name finds.
+-- Finding a number by its name.
 use Rattle.std.proofs.Common.{◌≡◌, ◌≢◌, ◌≤◌, ℕ, ◌+◌, ◌-◌, Bool, List, [], ◌∷◌, Option, Some, None, IfSome, IsNone, MatchOption, nat_le, ◌&&◌, if◌then◌else◌, cond, refl, sym, ap, subst, ◌∙◌, map, get_or, length, arith, bytes_eq, option_map, position}
 use Rattle.std.specs.List.{position_from, range_with_len}
 use Rattle.std.proofs.lemmas.Iterator.Adapters.{position_from-zero}
@@ -15,7 +15,7 @@ position_from-map p f i (x ∷ xs) = ap (λ o. cond (p (f x)) (Some i) o) (posit
 pub position-map : {A B : Type 0} (p : B → Bool) (f : A → B) (xs : List A) → position p (map f xs) ≡ position (λ x. p (f x)) xs
 position-map p f xs = position_from-zero p (map f xs) ∙ position_from-map p f 0 xs ∙ sym (position_from-zero (λ x. p (f x)) xs)
 
--- a number from 1 to size whose name is the text
+-- A number from 1 to size whose name is the text.
 abbrev pub IsPlace : (ℕ → List ℕ) → ℕ → List ℕ → ℕ → Type 0
 IsPlace name size text n = (1 ≤ n) × (n ≤ size) × (name n ≡ text)
 
@@ -31,7 +31,7 @@ place_of-found : (names : List (List ℕ)) (size : ℕ) → length names ≡ siz
 unfolding place_of
 place_of-found names size all text = found_at names size all text _ refl
 
--- where each name of a list is found at its own place, which is computed once for each list
+-- Each name of a list is found at its own place. This is computed once for each list.
 place_of-name_at : (names : List (List ℕ)) (size : ℕ) → map (λ n. place_of names (name_at names n)) (range_with_len 1 size) ≡ map Some (range_with_len 1 size)
     → (n : ℕ) → 1 ≤ n → n ≤ size → place_of names (name_at names n) ≡ Some n
 place_of-name_at names size each n low high =
@@ -56,7 +56,7 @@ pub move_named-move_name : (n : ℕ) → 1 ≤ n → n ≤ 165 → move_named (m
 unfolding move_named move_name
 move_named-move_name = place_of-name_at move_names 165 (unfold move_names in unfold place_of in unfold name_at in refl)
 
--- the number that `new` makes of a place in range is the place
+-- The number that `new` makes from a place in range is the place.
 pub new_of : (name : ℕ → List ℕ) (size : ℕ) (text : List ℕ) (p r : Option ℕ) → IfSome p (IsPlace name size text)
     → MatchOption p (r ≡ None) (λ x. r ≡ (if nat_le 1 x && nat_le x size then Some x else None)) → r ≡ p
 new_of name size text None r place made = made

@@ -1,4 +1,4 @@
--- What the types of a foe make of damage, computed once for all types of a move and of a foe.
+-- The factors of a foe's types, computed once for all types of a move and of a foe.
 use Rattle.std.proofs.Common.{Bool, List, [], ap, arith, eqb-true, get_or, length, map, nat_le, refl, sym, ◌&&◌, ◌*◌, ◌+◌, ◌<◌, ◌==◌, ◌∙◌, ◌∷◌, ◌≡◌, ◌≤◌, ℕ, true}
 use Rattle.std.specs.List.{list_all}
 use Rattle.std.proofs.lemmas.Bool.{and_parts, leb-true}
@@ -24,11 +24,11 @@ number-lt t = omega arith
 of_each : (p : Element → Bool) → list_all p elements ≡ true → (t : Element) → p t ≡ true
 of_each p all t = ap p (at_number t) ∙ AllPass-from_list_all p elements all (number_of t) Normal (number-lt t)
 
--- the place of a row in the code's table, by the numbers of both types; d stands for what is not there
+-- The place of a row in the code's table, by the numbers of both types. d is the default.
 abbrev pub place_at : ℕ → ℕ → ℕ → ℕ
 place_at d t u = get_or ROW_PLACES (15 * t + u) d
 
--- the factors that the specification has, of which none is lost or large
+-- The factors are those of the specification. None is lost, and none is large.
 abbrev Agrees : List TypeRow → ℕ × ℕ → Type 0
 Agrees rows two = (two ≡ tenths_of rows) × (length rows ≤ 2) × (two.0 ≤ 20) × (two.1 ≤ 20)
 
@@ -58,7 +58,7 @@ agree d t u v kind first second =
     let of_kind = of_each (λ y. list_all (λ z. agree_at d t y z) elements) of_all u in
     rw (kind, first, second) (agrees-is _ _ (of_each (λ z. agree_at d t u z) of_kind v))
 
--- a row of the code has the specification's factor
+-- A row of the code has the specification's factor.
 same-tenths : map (λ r. r.2) TYPE_ROWS ≡ map (λ (row : TypeRow). row.tenths) type_rows
 unfolding type_rows
 same-tenths = refl

@@ -1,4 +1,4 @@
--- The code's rows are those of the specification, which is computed once for each table.
+-- The code's rows are those of the specification. Each table is computed once.
 use Rattle.std.proofs.Common.{◌≡◌, ◌<◌, ◌≤◌, ℕ, ◌-◌, nat_le, true, List, [], ◌∷◌, refl, sym, ap, ◌∙◌, map, get_or, length, arith}
 use Rattle.std.proofs.lemmas.List.{get_or-map}
 use Rattle.std.proofs.lemmas.Bool.{leb-true}
@@ -7,7 +7,7 @@ use Rattle.gen1_tables.specs.Moves.{move_rows, move_row, row_of}
 use Rattle.gen1_tables.specs.declared.species.TheConstants.{SPECIES_ROWS}
 use Rattle.gen1_tables.specs.declared.moves.TheConstants.{MOVE_ROWS}
 
--- where two lists agree under two functions, they agree at each index that both have
+-- If two lists agree under two functions, they agree at each index that both have.
 pub agree_at : {A B C : Type 0} (f : A → C) (g : B → C) (xs : List A) (ys : List B) (a : A) (b : B) → map f xs ≡ map g ys
     → (i : ℕ) → i < length xs → i < length ys → f (get_or xs i a) ≡ g (get_or ys i b)
 agree_at f g xs ys a b same i in_xs in_ys =
@@ -25,11 +25,11 @@ pub base_of-at : (n : ℕ) (d : _) → 1 ≤ n → n ≤ 151 → (get_or SPECIES
 unfolding species_row species_rows
 base_of-at n d low high = agree_at (λ r. r.2) base_of SPECIES_ROWS species_rows d _ refl (n - 1) (omega arith) (omega arith)
 
--- no accuracy is above 100 percent
+-- An accuracy is at most 100 percent.
 pub percent-le : (n : ℕ) (d : _) → 1 ≤ n → n ≤ 165 → (get_or MOVE_ROWS (n - 1) d).2 ≤ 100
 percent-le n d low high =
     leb-true _ 100 (agree_at (λ r. nat_le r.2 100) (λ r. true) MOVE_ROWS MOVE_ROWS d d refl (n - 1) (omega arith) (omega arith))
 
--- no move has more than 40 PP without PP ups
+-- A move has at most 40 PP without PP ups.
 pub pp-le : (n : ℕ) (d : _) → 1 ≤ n → n ≤ 165 → (get_or MOVE_ROWS (n - 1) d).3 ≤ 40
 pp-le n d low high = leb-true _ 40 (agree_at (λ r. nat_le r.3 40) (λ r. true) MOVE_ROWS MOVE_ROWS d d refl (n - 1) (omega arith) (omega arith))

@@ -1,4 +1,4 @@
--- Two types are the same where the code finds them equal.
+-- Two types are the same exactly if the code finds them equal.
 use denote.Enum.Bare.{sameb}
 use Rattle.std.proofs.Common.{refl, ◌≡◌}
 use Rattle.gen1_tables.specs.contracts.element.Element.{the_type}

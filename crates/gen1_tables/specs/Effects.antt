@@ -1,4 +1,4 @@
--- What an effect does, as rules ask beside its own case.
+-- Properties of effects that rules ask for.
 use Rattle.std.specs.Prelude.{Bool, false, true}
 use Rattle.gen1_tables.specs.declared.effect.Effect.{Effect}
 use Rattle.gen1_tables.specs.declared.effect.Effect.TheVariants as effects
@@ -44,7 +44,7 @@ abbrev pub knocks_out : Effect → Bool
 knocks_out effects.OneHitKnockOut = true
 knocks_out _ = false
 
--- a move that may hit more than once
+-- A move that may hit more than once.
 abbrev pub hits_more : Effect → Bool
 hits_more effects.MultiHit = true
 hits_more effects.DoubleHit = true

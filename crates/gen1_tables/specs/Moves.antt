@@ -6,8 +6,7 @@ use Rattle.gen1_tables.specs.declared.effect.Stat.TheVariants.{Attack, Defense, 
 use Rattle.gen1_tables.specs.declared.effect.Effect.{Effect}
 use Rattle.gen1_tables.specs.declared.effect.Effect.TheVariants.{AlwaysFails, Bide, BurnChance, Charge, ChargeInvulnerable, ConfusionChance, Conversion, Counter, CrashOnMiss, DamageOnly, Disable, DoubleHit, Drain, DreamEater, Explode, FixedDamage, FlinchChance, FocusEnergy, FreezeChance, Haze, Heal, InflictConfusion, InflictParalysis, InflictPoison, InflictSleep, LeechSeed, LeftOut, Mist, MultiHit, NeverMisses, OneHitKnockOut, ParalysisChance, PayDay, PoisonChance, Rage, Recharge, Recoil, Screen, Splash, StatDown, StatDownChance, StatUp, Substitute, SuperFang, Thrash, Trapping, Twineedle}
 
--- a move's type, power, accuracy in percent, PP without PP ups, and what it does beside its damage
--- (docs/TABLES.md, "Moves", "Effects")
+-- A move's type, power, accuracy in percent, PP without PP ups, and effect (docs/TABLES.md, "Moves", "Effects").
 pub record MoveRow : Type 0 where
   pub kind : Element
   pub power : ℕ
@@ -18,7 +17,7 @@ pub record MoveRow : Type 0 where
 abbrev row : Element → ℕ → ℕ → ℕ → Effect → MoveRow
 row t p a n e = record { kind = t; power = p; accuracy = a; pp = n; effect = e }
 
--- the row that the code's numbers stand for
+-- The row that the code's values represent.
 abbrev pub row_of : Element × ℕ × ℕ × ℕ × Effect → MoveRow
 row_of r = row r.0 r.1 r.2 r.3 r.4
 
@@ -191,14 +190,14 @@ move_rows =
     row Normal 50 100 10 Recoil ∷  -- Struggle
     []
 
--- what stands at a number that no move has
+-- The row for a number that no move has.
 abbrev no_move : MoveRow
 no_move = row Normal 0 0 0 DamageOnly
 
--- the move with a number
+-- The move with a number.
 unfoldable pub move_row : ℕ → MoveRow
 move_row number = slice_index_or move_rows (number - 1) no_move
 
--- Struggle, which no member knows and everybody can use
+-- Struggle. No member knows it, and every member can use it.
 abbrev pub struggle : ℕ
 struggle = 165

@@ -1,11 +1,12 @@
--- The names of species and moves, in the order of their numbers, and who has a name (docs/TABLES.md, "Species", "Moves").
+-- The names of species and moves in the order of their numbers, and the numbers of names (docs/TABLES.md, "Species",
+-- "Moves").
 use Rattle.std.specs.Prelude.{ℕ, ◌+◌, ◌-◌, List, [], ◌∷◌, Option, option_map, position, bytes_eq, slice_index_or, codes}
 
--- the name at a place of a list, counted from 1
+-- The name at a place of a list, counted from 1.
 unfoldable pub name_at : List (List ℕ) → ℕ → List ℕ
 name_at names place = slice_index_or names (place - 1) []
 
--- the place, counted from 1, of the first name that is the text
+-- The place, counted from 1, of the first name that equals the text.
 unfoldable pub place_of : List (List ℕ) → List ℕ → Option ℕ
 place_of names text = option_map (λ index. index + 1) (position (λ name. bytes_eq name text) names)
 
@@ -333,18 +334,18 @@ move_names =
     codes "Struggle" ∷
     []
 
--- the name of a species by its number
+-- The name of a species by its number.
 unfoldable pub species_name : ℕ → List ℕ
 species_name = name_at species_names
 
--- the name of a move by its number
+-- The name of a move by its number.
 unfoldable pub move_name : ℕ → List ℕ
 move_name = name_at move_names
 
--- the number of the species whose name is the text
+-- The number of the species with this name.
 unfoldable pub species_named : List ℕ → Option ℕ
 species_named text = place_of species_names text
 
--- the number of the move whose name is the text
+-- The number of the move with this name.
 unfoldable pub move_named : List ℕ → Option ℕ
 move_named text = place_of move_names text

@@ -3,7 +3,7 @@ use Rattle.std.specs.Prelude.{ℕ, List, [], ◌-◌, ◌∷◌, slice_index_or}
 use Rattle.gen1_tables.specs.declared.element.Element.{Element}
 use Rattle.gen1_tables.specs.declared.element.Element.TheVariants.{Normal, Fighting, Flying, Poison, Ground, Rock, Bug, Ghost, Fire, Water, Grass, Electric, Psychic, Ice, Dragon}
 
--- two types, one type counting as both, and the base stats
+-- Two types and the base stats. A species of one type has it twice.
 pub record SpeciesRow : Type 0 where
   pub first_type : Element
   pub second_type : Element
@@ -177,10 +177,10 @@ species_rows =
     row Psychic Psychic 100 100 100 100 100 ∷  -- Mew
     []
 
--- what stands at a number that no species has
+-- The row for a number that no species has.
 abbrev no_species : SpeciesRow
 no_species = row Normal Normal 0 0 0 0 0
 
--- the species with a number
+-- The species with a number.
 unfoldable pub species_row : ℕ → SpeciesRow
 species_row number = slice_index_or species_rows (number - 1) no_species

@@ -1,4 +1,5 @@
--- The types: their numbers, which of them are special, and what each does to another (docs/TABLES.md, "Types", "Type rows").
+-- The types: their numbers, which of them are special, and the factors between them (docs/TABLES.md, "Types", "Type
+-- rows").
 use Rattle.std.specs.Prelude.{ℕ, List, [], ◌∷◌, Bool, true, false, filter, ◌==◌, ◌&&◌, ◌||◌}
 use Rattle.gen1_tables.specs.declared.element.Element.{Element}
 use Rattle.gen1_tables.specs.declared.element.Element.TheVariants.{Normal, Fighting, Flying, Poison, Ground, Rock, Bug, Ghost, Fire, Water, Grass, Electric, Psychic, Ice, Dragon}
@@ -23,7 +24,7 @@ number_of Dragon = 14
 abbrev pub same_type : Element → Element → Bool
 same_type t u = number_of t == number_of u
 
--- whether damage by the type sets Special against Special
+-- Whether damage by the type uses Special against Special.
 abbrev pub is_special : Element → Bool
 is_special Fire = true
 is_special Water = true
@@ -34,12 +35,12 @@ is_special Ice = true
 is_special Dragon = true
 is_special physical = false
 
--- whether one of a list meets a test
+-- Whether an element of a list passes a test.
 abbrev pub any : {A : Type 0} → (A → Bool) → List A → Bool
 any test [] = false
 any test (a ∷ more) = test a || any test more
 
--- what a move of a type does to a foe of a type: the factor of the damage, in tenths
+-- A row: a move's type, a foe's type, and the factor of the damage in tenths.
 pub record TypeRow : Type 0 where
   pub attacker : Element
   pub defender : Element
@@ -48,11 +49,11 @@ pub record TypeRow : Type 0 where
 abbrev row : Element → Element → ℕ → TypeRow
 row t u n = record { attacker = t; defender = u; tenths = n }
 
--- a row of the code
+-- A row of the code.
 abbrev pub row_of : Element × Element × ℕ → TypeRow
 row_of r = row r.0 r.1 r.2
 
--- the rows, in the order in which they are applied
+-- The rows, in the order in which they apply.
 unfoldable pub type_rows : List TypeRow
 type_rows =
     row Water Fire 20 ∷
@@ -139,12 +140,12 @@ type_rows =
     row Dragon Dragon 20 ∷
     []
 
--- the rows that apply to a move of a type against a foe of two types, which may be the same
+-- The rows that apply to a move of a type against a foe of two types. The two may be the same.
 abbrev pub rows_against : Element → Element → Element → List TypeRow
 rows_against t first second =
     filter (λ row. same_type row.attacker t && (same_type row.defender first || same_type row.defender second)) type_rows
 
--- the factors of two rows at most; 10 tenths leave the damage as it is
+-- The factors of at most two rows. A factor of 10 tenths leaves the damage as it is.
 abbrev pub tenths_of : List TypeRow → ℕ × ℕ
 tenths_of [] = (10, 10)
 tenths_of (row ∷ []) = (row.tenths, 10)

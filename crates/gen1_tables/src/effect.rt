@@ -1,8 +1,8 @@
-//! The stats that a stage can change, and what moves do beside their damage (docs/TABLES.md, "Effects").
+//! The stats that have stages, and the effects of moves (docs/TABLES.md, "Effects").
 ghost use Rattle.std.specs.Prelude.{◌≡◌};
 ghost use Rattle.gen1_tables.specs.Effects.{bides, charges, explodes, rages, recharges, thrashes, traps};
 
-/// A stat that a stage can change.
+/// A stat that has a stage.
 #[derive(Clone, Copy, PartialEq, Eq, Debug, Drop)]
 pub enum Stat {
     Attack,
@@ -13,67 +13,66 @@ pub enum Stat {
     Evasion,
 }
 
-/// What a move does beside its damage (docs/TABLES.md, "Effects").
+/// What a move does in addition to its damage, or instead of it (docs/TABLES.md, "Effects").
 ///
-/// The number of a chance is the bound of its draw: the effect comes where the draw, from 0 to
-/// 255, is below it.
+/// The number of a chance is the bound of its draw: the effect happens if the draw, from 0 to 255, is below it.
 #[derive(Clone, Copy, PartialEq, Eq, Debug, Drop)]
 pub enum Effect {
-    /// Damage and nothing else.
+    /// Damage only.
     DamageOnly,
     /// Fails, without a draw.
     AlwaysFails,
     /// Hits two to five times for the same damage.
     MultiHit,
-    /// Damage alone: coins have no use in a link battle.
+    /// Damage only. Coins have no use in a link battle.
     PayDay,
-    /// Freezes the foe where a draw is below 26.
+    /// Freezes the foe if a draw is below 26.
     FreezeChance,
     /// Charges in its first turn and hits in the next.
     Charge,
-    /// Charges, and can't be hit in between.
+    /// Charges, and can't be hit until it strikes.
     ChargeInvulnerable,
-    /// Keeps the foe from acting and lands the same damage for some turns.
+    /// Keeps the foe from acting, and deals the same damage for some turns.
     Trapping,
-    /// Fells the foe at once; misses where the user is the slower one.
+    /// Takes all of the foe's HP. It misses if the user is slower.
     OneHitKnockOut,
     /// Hits twice for the same damage.
     DoubleHit,
-    /// Hits twice, and then poisons the foe where a draw is below 52.
+    /// Hits twice, then poisons the foe if a draw is below 52.
     Twineedle,
-    /// Costs the user 1 HP where it misses.
+    /// Costs the user 1 HP if it misses.
     CrashOnMiss,
     /// Costs the user a part of the damage.
     Recoil,
-    /// Goes on by itself for some turns, and then confuses the user.
+    /// Goes on for some turns, then confuses the user.
     Thrash,
     /// Puts the foe to sleep.
     InflictSleep,
     /// Confuses the foe.
     InflictConfusion,
-    /// Deals a damage of its own rule, which no stat and no type changes.
+    /// Deals damage by a rule of its own. Stats and types don't change it.
     FixedDamage,
     /// Disables one of the foe's moves for some turns.
     Disable,
     /// Guards the user against moves that lower a stat.
     Mist,
-    /// Has the user lose its next turn where it lands.
+    /// Makes the user lose its next turn if it lands.
     Recharge,
-    /// Deals double the last damage, against a Normal or Fighting move.
+    /// Deals twice the last damage, against a Normal or Fighting move.
     Counter,
     /// Heals the user by half the damage.
     Drain,
     /// Seeds the foe.
     LeechSeed,
-    /// Poisons the foe; Toxic badly.
+    /// Poisons the foe. Toxic poisons it badly.
     InflictPoison,
-    /// Paralyses the foe.
+    /// Paralyzes the foe.
     InflictParalysis,
-    /// Goes on until the user leaves; its Attack rises whenever it is hit.
+    /// Goes on until the user leaves. Its Attack rises with each hit that it takes.
     Rage,
-    /// Of a move that no member may have.
+    /// The effect of a move that no member may have.
     LeftOut,
-    /// Heals the user; Rest also puts it to sleep.
+    /// Heals the user. Rest also puts it to sleep.
     Heal,
     /// Doubles the user's Special or Defense against damage.
     Screen,
@@ -81,13 +80,13 @@ pub enum Effect {
     Haze,
     /// Changes the chance of critical hits.
     FocusEnergy,
-    /// Waits for some turns, and then deals double the damage taken.
+    /// Waits for some turns, then deals twice the damage taken.
     Bide,
-    /// Halves the foe's Defense for its damage, and fells the user.
+    /// Halves the foe's Defense for its damage, and makes the user fall.
     Explode,
     /// Hits without a hit test.
     NeverMisses,
-    /// Hits a sleeping foe alone, and heals the user by half the damage.
+    /// Hits only a sleeping foe, and heals the user by half the damage.
     DreamEater,
     /// Does nothing.
     Splash,
@@ -95,11 +94,11 @@ pub enum Effect {
     Conversion,
     /// Deals half of the foe's HP.
     SuperFang,
-    /// Turns a quarter of the user's maximum HP into a substitute.
+    /// Makes a substitute for a quarter of the user's maximum HP.
     Substitute,
     /// Burns the foe by a draw.
     BurnChance(u8),
-    /// Paralyses the foe by a draw.
+    /// Paralyzes the foe by a draw.
     ParalysisChance(u8),
     /// Poisons the foe by a draw.
     PoisonChance(u8),
@@ -107,23 +106,23 @@ pub enum Effect {
     FlinchChance(u8),
     /// Confuses the foe by a draw.
     ConfusionChance(u8),
-    /// Lowers the foe's stat by one stage where a draw is below 85.
+    /// Lowers the foe's stat by one stage if a draw is below 85.
     StatDownChance(Stat),
-    /// Raises the user's stat by that many stages.
+    /// Raises the user's stat by this many stages.
     StatUp(Stat, u8),
-    /// Lowers the foe's stat by that many stages.
+    /// Lowers the foe's stat by this many stages.
     StatDown(Stat, u8),
 }
 
 impl Effect {
-    /// Whether the move halves the Defense for its damage, and fells its user.
+    /// Whether the move halves the Defense for its damage and makes its user fall.
     pub fn explodes(self) -> bool
         ensures { result ≡ explodes self }
     {
         matches!(self, Effect::Explode)
     }
 
-    /// Whether the move charges in its first turn, invulnerable or not.
+    /// Whether the move charges in its first turn, with or without becoming invulnerable.
     pub fn charges(self) -> bool
         ensures { result ≡ charges self }
     {
@@ -137,7 +136,7 @@ impl Effect {
         matches!(self, Effect::Trapping)
     }
 
-    /// Whether the move goes on by itself for some turns.
+    /// Whether the move goes on for some turns and then confuses its user.
     pub fn thrashes(self) -> bool
         ensures { result ≡ thrashes self }
     {
@@ -151,7 +150,7 @@ impl Effect {
         matches!(self, Effect::Bide)
     }
 
-    /// Whether the user must recharge where the move lands.
+    /// Whether the user must recharge after the move lands.
     pub fn recharges(self) -> bool
         ensures { result ≡ recharges self }
     {

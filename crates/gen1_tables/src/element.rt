@@ -24,7 +24,7 @@ pub enum Element {
 }
 
 impl Element {
-    /// The number of the type, from 0 for Normal to 14 for Dragon.
+    /// The number of the type, 0 for Normal to 14 for Dragon.
     pub fn number(self) -> u8
         ensures value { result ≡ number_of self }
         ensures range { result < 15 }
@@ -32,8 +32,7 @@ impl Element {
         self as u8
     }
 
-    /// Whether damage by a move of this type sets Special against Special, and not Attack
-    /// against Defense.
+    /// Whether damage by a move of this type uses Special against Special, instead of Attack against Defense.
     pub fn is_special(self) -> bool
         ensures { result ≡ is_special self }
     {

@@ -1,10 +1,10 @@
 //! The types, species and moves of Generation I, as docs/TABLES.md lists them.
 //!
 //! - `element`: the types
-//! - `types`: what each does to another
+//! - `types`: the factors between types
 //! - `species`: the species
 //! - `moves`: the moves
-//! - `effect`: what a move does beside its damage, and stats
+//! - `effect`: the effects of moves, and stats
 //! - `names`: the names of species and moves
 #![tactic(auto)]
 

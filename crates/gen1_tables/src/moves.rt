@@ -1,4 +1,4 @@
-//! The moves by their numbers, each with type, power, accuracy, PP and effect (docs/TABLES.md, "Moves").
+//! The moves by their numbers. Each has a type, power, accuracy, PP and effect (docs/TABLES.md, "Moves").
 ghost use Rattle.std.specs.Prelude.{◌≡◌, ◌≢◌, ◌↔◌, ℕ, ◌≤◌, ◌*◌, ◌/◌, nat_le, ◌&&◌, if◌then◌else◌, IfSome, IsNone};
 ghost use Rattle.gen1_tables.specs.Moves.{move_row, row_of};
 ghost use Rattle.gen1_tables.specs.Names.{move_name, move_named};
@@ -193,7 +193,7 @@ static MOVE_ROWS: [MoveRow; 165] = [
 /// The number of Counter.
 pub const COUNTER: u8 = 68;
 
-/// The number of Struggle, which no member knows and everybody can use.
+/// The number of Struggle. No member knows it, and every member can use it.
 pub const STRUGGLE: u8 = 165;
 
 /// A move, by its number from 1 to 165 (docs/TABLES.md, "Moves").
@@ -222,7 +222,7 @@ impl Default for MoveId {
 }
 
 impl MoveId {
-    /// The move with a number; `None` outside 1 to 165.
+    /// The move with a number. Returns `None` outside 1 to 165.
     pub fn new(number: u8) -> Option<Self>
         ensures { result ≡ (if nat_le 1 number && nat_le number 165 then Some number else None) }
     {
@@ -233,7 +233,7 @@ impl MoveId {
         }
     }
 
-    /// The move whose name is the text, letter for letter; `None` where none has it.
+    /// The move with this name, which must match exactly. Returns `None` if no move has it.
     pub fn from_name(text: &str) -> Option<Self>
         ensures value { result ≡ move_named text.now }
         ensures found { IfSome result (λ number. move_name number ≡ text.now) }
@@ -243,7 +243,7 @@ impl MoveId {
         place_of(move_names(), text).and_then(Self::new)
     }
 
-    /// The move's number, from 1 to 165.
+    /// The move's number, 1 to 165.
     pub fn number(self) -> u8
         ensures value { result ≡ self }
         ensures low { 1 ≤ result }
@@ -266,14 +266,14 @@ impl MoveId {
         self.row().0
     }
 
-    /// The move's power, 0 for one that deals no damage by the damage rule.
+    /// The move's power. It is 0 for a move that deals no damage by the damage rule.
     pub fn power(self) -> u8
         ensures { result ≡ (move_row self).power }
     {
         self.row().1
     }
 
-    /// The accuracy as a byte: the percent of docs/TABLES.md in 255ths, rounded down.
+    /// The accuracy as a byte: the percentage of docs/TABLES.md in 255ths, rounded down.
     pub fn accuracy_byte(self) -> u8
         ensures { result ≡ (move_row self).accuracy * 255 / 100 }
     {
@@ -288,7 +288,7 @@ impl MoveId {
         self.row().3
     }
 
-    /// What the move does beside its damage (docs/TABLES.md, "Effects").
+    /// The move's effect (docs/TABLES.md, "Effects").
     pub fn effect(self) -> Effect
         ensures { result ≡ (move_row self).effect }
     {

@@ -1,4 +1,4 @@
-//! The species by their numbers, each with its types and base stats (docs/TABLES.md, "Species").
+//! The species by their numbers. Each has its types and base stats (docs/TABLES.md, "Species").
 ghost use Rattle.std.specs.Prelude.{◌≡◌, ◌≢◌, ◌↔◌, ℕ, ◌≤◌, nat_le, ◌&&◌, if◌then◌else◌, IfSome, IsNone};
 ghost use Rattle.gen1_tables.specs.Names.{species_name, species_named};
 ghost use Rattle.gen1_tables.specs.Species.{species_row, base_of, types_of};
@@ -193,7 +193,7 @@ impl Default for Species {
 }
 
 impl Species {
-    /// The species with a number; `None` outside 1 to 151.
+    /// The species with a number. Returns `None` outside 1 to 151.
     pub fn new(number: u8) -> Option<Self>
         ensures { result ≡ (if nat_le 1 number && nat_le number 151 then Some number else None) }
     {
@@ -204,7 +204,7 @@ impl Species {
         }
     }
 
-    /// The species whose name is the text, letter for letter; `None` where none has it.
+    /// The species with this name, which must match exactly. Returns `None` if no species has it.
     pub fn from_name(text: &str) -> Option<Self>
         ensures value { result ≡ species_named text.now }
         ensures found { IfSome result (λ number. species_name number ≡ text.now) }
@@ -214,7 +214,7 @@ impl Species {
         place_of(species_names(), text).and_then(Self::new)
     }
 
-    /// The species' number, from 1 to 151.
+    /// The species' number, 1 to 151.
     pub fn number(self) -> u8
         ensures value { result ≡ self }
         ensures low { 1 ≤ result }
@@ -237,7 +237,7 @@ impl Species {
         SPECIES_ROWS[self.number as usize - 1].2
     }
 
-    /// The species' two types; one with a single type has it twice.
+    /// The species' two types. A species of one type has it twice.
     pub fn types(self) -> [Element; 2]
         ensures { result ≡ types_of (species_row self) }
     {

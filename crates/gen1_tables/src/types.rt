@@ -1,4 +1,4 @@
-//! What each type does to another: the rows of the type chart (docs/TABLES.md, "Type rows").
+//! The rows of the type chart (docs/TABLES.md, "Type rows").
 ghost use Rattle.std.specs.Prelude.{length, map, ◌≡◌, ◌≤◌};
 ghost use Rattle.gen1_tables.specs.Places.{in_order, tenths_at};
 ghost use Rattle.gen1_tables.specs.Types.{TypeRow, row_of, rows_against, tenths_of, type_rows};
@@ -96,7 +96,8 @@ static TYPE_ROWS: [TypeRow; 82] = [
     (Dragon, Dragon, 20),
 ];
 
-// By the type of a move and that of a foe, in the order of `Element`: the place of their row, from 0; 82 where there is none.
+// The place of each row, counted from 0, by the type of a move and that of a foe in the order of `Element`. It is 82
+// if there is no row.
 static ROW_PLACES: [u8; 225] = [
     82, 82, 82, 82, 82, 17, 82, 18, 82, 82, 82, 82, 82, 82, 82, // Normal
     34, 82, 36, 35, 82, 39, 38, 41, 82, 82, 82, 82, 37, 40, 82, // Fighting
@@ -115,17 +116,18 @@ static ROW_PLACES: [u8; 225] = [
     82, 82, 82, 82, 82, 82, 82, 82, 82, 82, 82, 82, 82, 82, 81, // Dragon
 ];
 
-/// The rows of the table of types, in the order in which they are applied. A pair without a row
-/// leaves the damage as it is (docs/TABLES.md, "Type rows").
+/// The rows of the table of types, in the order in which they apply. A pair without a row leaves the damage as it is
+/// (docs/TABLES.md, "Type rows").
 pub fn type_rows() -> &'static [TypeRow; 82]
     ensures { map row_of result.now ≡ type_rows }
 {
     &TYPE_ROWS
 }
 
-/// What the types of a foe, which may be the same, make of damage by a move of a type (docs/MECHANICS.md, "Types"): the
-/// factors of the rows that apply, in tenths and in the order in which they are applied. There are two at most, each 0, 5
-/// or 20, and 10, which leaves the damage as it is, stands for a row that is not there.
+/// The two factors of a move's type against a foe's two types, which may be the same (docs/MECHANICS.md, "Types").
+///
+/// They are the factors of the rows that apply, in tenths and in the order in which they apply: 0, 5 or 20. At most
+/// two rows apply. A factor of 10, which leaves the damage as it is, represents a missing row.
 pub fn effectiveness(kind: Element, first: Element, second: Element) -> (u8, u8)
     ensures tenths { result ≡ tenths_of (rows_against kind first second) }
     ensures all { length (rows_against kind first second) ≤ 2 }
@@ -138,7 +140,7 @@ pub fn effectiveness(kind: Element, first: Element, second: Element) -> (u8, u8)
     in_order(one, two)
 }
 
-// The factors of the rows at two places, which are the same where there is one row or none.
+// The factors of the rows at two places. The places are equal if there is one row or none.
 fn in_order(one: u8, two: u8) -> (u8, u8)
     ensures { result ≡ in_order one two }
 {
@@ -151,7 +153,7 @@ fn in_order(one: u8, two: u8) -> (u8, u8)
     }
 }
 
-// The factor of the row at a place, or 10 behind the last one.
+// The factor of the row at a place. It is 10 after the last row.
 fn tenths_at(place: u8) -> u8
     ensures { result ≡ tenths_at place }
 {

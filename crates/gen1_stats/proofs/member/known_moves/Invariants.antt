@@ -4,7 +4,7 @@ use Rattle.gen1_stats.specs.Members.{IsBetween}
 use Rattle.gen1_stats.specs.Teams.{known_of}
 use Rattle.gen1_stats.proofs.member.known_moves.Given as goal
 
--- the moves so far are those that were chosen so far
+-- The moves so far are those chosen so far.
 abbrev pub invariant-loop-id : goal.invariant-loop-id
 invariant-loop-id l = record {
   made : l.moves.items ≡ map known_of (take l.id-index l.chosen);

@@ -2,7 +2,7 @@ use Rattle.std.proofs.Common.{◌≡◌, length}
 use Rattle.gen1_stats.specs.Teams.{repeats}
 use Rattle.gen1_stats.proofs.member_spec.repeats.Given as goal
 
--- the moves that are left repeat exactly where all do
+-- The remaining moves repeat exactly if all moves do.
 abbrev pub invariant-loop-first : goal.invariant-loop-first
 invariant-loop-first l = repeats l.rest ≡ repeats l.moves
 

@@ -3,7 +3,7 @@ use Rattle.gen1_stats.specs.Members.{IsFresh}
 use Rattle.gen1_stats.specs.Teams.{first_refusal, team_of}
 use Rattle.gen1_stats.proofs.team.Team.new.Given as goal
 
--- the members so far are those that were asked for so far, and none of them is refused
+-- The members so far are those specified so far, and none of them is refused.
 abbrev pub invariant-loop-spec : goal.invariant-loop-spec
 invariant-loop-spec l = record {
   counted : length l.members.items ≡ l.spec-index;
