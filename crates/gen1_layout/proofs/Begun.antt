@@ -11,7 +11,7 @@ use Rattle.gen1_layout.proofs.WaysBack.{blocks_any}
 abbrev pub no_member : List ℕ
 no_member = replicate 24 0
 
--- so many members written, and zeros behind them
+-- This many written members, and zeros after them.
 abbrev pub begun_members : ℕ → List Member → List (List ℕ)
 begun_members count ms = take count (member_blocks ms) ++ replicate (6 - count) no_member
 
@@ -47,7 +47,7 @@ begin_member ms k few low =
     ap (λ (b : List ℕ). set (begun_members k ms) k b) (sym (blocks_any ms k few low)) ∙ six (member_blocks ms) (length-blocks ms) k low
     ∙ ap (λ (n : ℕ). begun_members n ms) e
 
--- one member more is written
+-- One more member is written.
 pub begin_step : (s : Side) (place : ℕ) (ms : List Member) (p start : Parts) (w : List ℕ) → 1 ≤ place → place ≤ 6 → length ms ≤ 6
     → p ≡ begun_side s (place - 1) ms start → w ≡ member_block (get_or ms (place - 1) nobody)
     → with_member s place (refill 24 (member_of s place p) w) p ≡ begun_side s (place + 1 - 1) ms start

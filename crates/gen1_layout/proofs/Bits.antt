@@ -1,4 +1,4 @@
--- Bits as a list of tests, and what `|`, `& !` and `&` with one bit make of them.
+-- Bits as a list of tests, and the effect of `|`, `& !` and `&` with one bit.
 use Rattle.std.proofs.Common.{Bool, List, [], arith, false, get_or, length, lit<, nat_eq, not, refl, set, suc, sym, true, zero, ap, ℕ, ◌%◌, ◌*◌, ◌+◌, ◌-◌, ◌/◌, ◌<◌, ◌||◌, ◌≡◌, ◌≤◌, ◌^◌, ◌∙◌, ◌∷◌}
 use Rattle.std.proofs.Math.Nat.{pow-suc}
 use Rattle.std.proofs.lemmas.Bool.{eq-eqb}
@@ -10,7 +10,7 @@ use Rattle.gen1_machine.specs.Rules.{bit_of}
 use Rattle.gen1_machine.specs.Layout.{number_of_bits}
 use Rattle.gen1_layout.specs.Flags.{any_at, holds_or_any_at, set_at}
 
--- the bit at a place
+-- The bit at a place.
 abbrev pub power : ℕ → ℕ
 power zero = 1
 power (suc k) = power k * 2
@@ -22,7 +22,7 @@ power_is (suc k) = pow-suc 2 k ∙ ap (λ (n : ℕ). n * 2) (power_is k)
 abbrev bit : Bool → ℕ
 bit b = bit_of b
 
--- the number of these bits, the lowest first, which does not unfold
+-- The number of these bits, the lowest first. It doesn't unfold.
 unfoldable pub bits_of : List Bool → ℕ
 bits_of [] = 0
 bits_of (b ∷ bs) = bits_of bs * 2 + bit b
@@ -32,7 +32,7 @@ unfolding bits_of
 bits_of-is [] = refl
 bits_of-is (b ∷ bs) = let e = bits_of-is bs in omega (arith, e)
 
--- a bound on the bits of a set
+-- A bound of the bits of a set.
 abbrev pub bound : List Bool → ℕ
 bound [] = 1
 bound (b ∷ bs) = bound bs * 2
@@ -49,7 +49,7 @@ or_nothing a = let one : a * 1 ≡ a = omega arith in let h : bit_or (a * 1) 0 �
 pub and_nothing : (a : ℕ) → bit_and 0 a ≡ 0
 and_nothing a = let h : bit_and a 0 ≡ a % 1 = and_mask a 0 in and_comm 0 a ∙ (h ∙ omega arith)
 
--- an `|` with one bit puts that condition into the set
+-- An `|` with one bit puts that condition into the set.
 pub bits_set : (bs : List Bool) (k : ℕ) → k < length bs → bit_or (bits_of bs) (power k) ≡ bits_of (set bs k true)
 unfolding bits_of
 bits_set [] k h = absurd (omega arith)
@@ -67,7 +67,7 @@ bits_set (b ∷ bs) (suc k) h =
       | false ↦ (let low : (bits_of bs * 2 + 0) / 2 ≡ bits_of bs = omega arith in or_step (bits_of bs * 2 + 0) (power k * 2) ∙ rw (half, even, low, step) (omega arith))
     ]
 
--- the number of n bits that are all set
+-- The number of n bits that are all set.
 abbrev pub full : ℕ → ℕ
 full zero = 0
 full (suc n) = full n * 2 + 1
@@ -91,7 +91,7 @@ power-full zero (suc n) h = omega arith
 power-full (suc k) zero h = absurd (omega arith)
 power-full (suc k) (suc n) h = let step = power-full k n (omega arith) in omega arith
 
--- an `&` with all bits but one takes that condition out of the set
+-- An `&` with all bits but one takes that condition out of the set.
 pub bits_clear : (bs : List Bool) (k n : ℕ) → k < length bs → length bs ≤ n → bit_and (bits_of bs) (full n - power k) ≡ bits_of (set bs k false)
 unfolding bits_of
 bits_clear [] k n h l = absurd (omega arith)
@@ -117,7 +117,7 @@ bits_clear (b ∷ bs) (suc k) (suc n) h l =
       | false ↦ (let low : (bits_of bs * 2 + 0) / 2 ≡ bits_of bs = omega arith in rw odd (and_step (bits_of bs * 2 + 0) ((full n - power k) * 2 + 1) ∙ rw (half, rest, low, step) (omega arith)))
     ]
 
--- an `&` with one bit tells whether that condition is in the set
+-- An `&` with one bit says whether that condition is in the set.
 pub bits_get : (bs : List Bool) (k : ℕ) → bit_and (bits_of bs) (power k) ≡ bit (get_or bs k false) * power k
 unfolding bits_of
 bits_get [] k = and_nothing (power k) ∙ omega arith
@@ -144,11 +144,11 @@ pub power-positive : (k : ℕ) → 0 < power k
 power-positive zero = lit< tt
 power-positive (suc k) = let h = power-positive k in omega arith
 
--- one bit of the bits read
+-- Reading one of the bits.
 pub bit_read : (bs : List Bool) (k : ℕ) → nat_eq (bit_and (bits_of bs) (power k)) (power k) ≡ get_or bs k false
 bit_read bs k = rw (bits_get bs k) (bit_test (get_or bs k false) (power k) (power-positive k))
 
--- whether one of several bits is set
+-- Whether one of several bits is set
 
 abbrev meets : List Bool → ℕ → Bool
 meets bs n = not (nat_eq (bit_and (bits_of bs) n) 0)

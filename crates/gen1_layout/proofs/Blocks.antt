@@ -1,4 +1,4 @@
--- What each part holds where the parts stand for a field, and what a replaced block stands for.
+-- The contents of each part when the parts represent a field, and what a replaced block represents.
 use Rattle.std.proofs.Common.{Bool, List, [], ap, arith, cond, false, length, map, nat_eq, replicate, sym, take, ℕ, ◌++◌, ◌-◌, ◌<◌, ◌≡◌, ◌≤◌, ◌∙◌, get_or, set}
 use Rattle.std.proofs.lemmas.Bool.Decides.{nat_tests}
 use Rattle.std.proofs.lemmas.List.{get_or-map, get_or-take, get_or_append_left, length-map, map-set, set-append_left}
@@ -12,9 +12,9 @@ use Rattle.gen1_layout.specs.Parts.{active_of, member_of, Parts}
 use Rattle.gen1_layout.specs.Storable.{IsStorable, IsStorableParty}
 use Rattle.gen1_layout.specs.Within.{state_in, Setting, Within}
 
--- members
+-- Members
 
--- a place where a member is has that member's block
+-- A place that holds a member has that member's block.
 pub blocks_get : (ms : List Member) (k : ℕ) → length ms ≤ 6 → k < length ms → get_or (member_blocks ms) k [] ≡ member_block (get_or ms k nobody)
 blocks_get ms k few within =
     let blocks = map member_block ms in
@@ -22,7 +22,7 @@ blocks_get ms k few within =
     get_or-take 6 (blocks ++ replicate 6 (replicate 24 0)) k [] (omega arith)
     ∙ get_or_append_left blocks (replicate 6 (replicate 24 0)) [] k inside ∙ get_or-map member_block ms k nobody [] within
 
--- replacing a member's block replaces the member
+-- Replacing a member's block replaces the member.
 pub blocks_set : (ms : List Member) (k : ℕ) (m : Member) → length ms ≤ 6 → k < length ms → set (member_blocks ms) k (member_block m) ≡ member_blocks (set ms k m)
 blocks_set ms k m few within =
     let blocks = map member_block ms in
@@ -32,7 +32,7 @@ blocks_set ms k m few within =
     ∙ ap (λ (l : List (List ℕ)). take 6 l) (set-append_left blocks rest k (member_block m) inside
     ∙ ap (λ (l : List (List ℕ)). l ++ rest) (sym (map-set member_block ms k m)))
 
--- sides
+-- Sides
 
 pub party_in : (g : Setting) (f : Field) (s : Side) → IsStorable g.terms f → IsStorableParty g.terms.rules (party s f)
 party_in g f One v = v.one
@@ -41,11 +41,11 @@ party_in g f Two v = v.two
 not_zero : (n : ℕ) → 1 ≤ n → nat_eq n 0 ≡ false
 not_zero n h = grind (arith, nat_tests)
 
--- who is out has a block
+-- A member that is out has an active block.
 pub block_out : (t : Party) → 1 ≤ t.active.place → active_block_of t ≡ active_block (member_at t.active.place t) t.active
 block_out t h = ap (λ (b : Bool). cond b (replicate 36 0) (active_block (member_at t.active.place t) t.active)) (not_zero t.active.place h)
 
--- what the parts hold
+-- The contents of the parts
 
 module _ {g : Setting} {p : Parts} {f : Field} (h : Within g p f) where
   pub header_holds : p.header ≡ header_block (state_in g f)
@@ -68,7 +68,7 @@ module _ {g : Setting} {p : Parts} {f : Field} (h : Within g p f) where
       let v = party_in g f s h.storable in
       side_member s place ∙ blocks_get (party s f).members (place - 1) v.members.size.1 (omega arith)
 
-  -- of the member that is out
+  -- The contents of the member that is out.
   pub out_holds : (s : Side) (place : ℕ) → place ≡ (active_in s f).place → member_of s place p ≡ member_block (member_in s f)
   out_holds s place e =
       let v = party_in g f s h.storable in

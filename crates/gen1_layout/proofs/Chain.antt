@@ -1,5 +1,5 @@
--- How what is shown goes through phases. Each lemma takes what is shown and gives what is shown; phases are explicit
--- arguments, for which `_` will mostly do.
+-- How shown facts pass through phases. Each lemma takes a shown fact and gives a shown fact. Phases are explicit
+-- arguments, and `_` is mostly enough for them.
 use Rattle.std.proofs.Common.{Bool, List, [], ap, false, refl, subst, sym, true, ℕ, ◌++◌, ◌+◌, ◌≡◌, ◌∙◌, ◌∷◌}
 use Rattle.gen1_rolls.specs.Draws.{StandsAt}
 use Rattle.gen1_rolls.specs.Streams.{Stream, byte_at}
@@ -14,7 +14,7 @@ use Rattle.gen1_layout.specs.Parts.{Parts}
 use Rattle.gen1_layout.specs.Within.{Within}
 use Rattle.gen1_layout.specs.Shows.{Frame, Shows, ShowsDrawn, Telling, Told}
 
--- phases, by what they come to
+-- Phases, by their results
 
 pub then-goes : (f k : Phase) (p : Progress) → (f p).stopped ≡ false → (f ▸ k) p ≡ k (f p)
 unfolding ◌▸◌ unless_stopped
@@ -32,7 +32,7 @@ pub choose-false : (test : Progress → Bool) (f k : Phase) (p : Progress) → t
 unfolding choose
 choose-false test f k p e = ap (λ (b : Bool). elim b as (λ _. Progress) [ true ↦ f p | false ↦ k p ]) e
 
--- one phase, then the next
+-- One phase, then the next
 
 module _ {g g' : Frame} {parts parts' : Parts} {events events' : Telling} {b : Bool} {p : Progress} where
   pub goes : (f k : Phase) → Shows g parts events false (f p) → Shows g' parts' events' b (k (f p)) → Shows g' parts' events' b ((f ▸ k) p)
@@ -68,7 +68,7 @@ module _ {g : Frame} {parts : Parts} {events : Telling} {b : Bool} {p : Progress
   unfolding on_action
   acted f h = record { within = h.within; written = h.written; ends = h.ends; stream = h.stream; drawn = h.drawn; skips = h.skips; action = ap f h.action }
 
--- what code showed that tells nothing, for whoever has been told of the events so far
+-- What code showed that writes no event, for any reader of the events so far
 
 module _ {g : Frame} {parts : Parts} {events : Telling} {b : Bool} {p : Progress} (h : Shows g parts events b p) where
   pub as_list : Shows g parts (Told p.events) b p
@@ -80,7 +80,7 @@ module _ {g : Frame} {parts : Parts} {events : Telling} {b : Bool} {p : Progress
   pub quietly : {g' : Frame} {parts' : Parts} {b' : Bool} {q : Progress} → (Shows g parts (Told p.events) b p → Shows g' parts' (Told p.events) b' q) → Shows g' parts' events b' q
   quietly f = from_list (f as_list)
 
--- a part that changes nothing, and a test that does not hold
+-- A part that changes nothing, and a test that fails
 
 module _ {g g' : Frame} {parts parts' : Parts} {events events' : Telling} {b : Bool} {p : Progress} where
   pub passing : (f k : Phase) → f p ≡ p → Shows g parts events false p → Shows g' parts' events' b (k p) → Shows g' parts' events' b ((f ▸ k) p)
@@ -90,9 +90,9 @@ module _ {g g' : Frame} {parts parts' : Parts} {events events' : Telling} {b : B
   unfolding stay
   past test f k e h a = passing (when test f) k (choose-false test f stay p e) h a
 
--- writes and events
+-- Writes and events
 
--- one event more was told
+-- One more event was written.
 abbrev pub Tells : Telling → Telling → Event → Type 0
 Tells events events' e = (all : List Event) → events all → events' (all ++ e ∷ [])
 
@@ -108,7 +108,7 @@ module _ {g : Frame} {parts : Parts} {events : Telling} {b : Bool} {p : Progress
   unfolding note
   noted {events' = events'} event a k = record { within = h.within; written = told_then events' a h.written k; ends = h.ends; stream = h.stream; drawn = h.drawn; skips = h.skips; action = h.action }
 
-  -- a change, and the event that tells of it
+  -- A change, and the event that reports it.
   pub told_so : {parts' : Parts} {events' : Telling} (f : Field → Field) (event : Field → Event) {e : Event} → Within g.setting parts' (f p.field)
       → Tells events events' e → e ≡ event (f p.field) → Shows g parts' events' b (told f event p)
   unfolding told
@@ -130,10 +130,10 @@ module _ {g : Frame} {parts : Parts} {events : Telling} {b : Bool} {p : Progress
   unfolding set_last_damage
   put_damage damage w = put (with_last_damage damage) w
 
--- with a generator
+-- With a generator
 
 module _ {A : Type 0} {byte : A → ℕ} {next : A → A} {width : ℕ} {origin : A} where
-  -- what code without draws showed, for a generator that has not moved
+  -- What code without draws showed, for a generator that hasn't moved.
   pub still : {g g' : Frame} {parts parts' : Parts} {events events' : Telling} {now : A} {b b' : Bool} {p q : Progress}
       → ShowsDrawn byte next width origin g parts events now b p → Shows (record g' { drawn = p.drawn }) parts' events' b' q → g'.stream ≡ g.stream
       → ShowsDrawn byte next width origin g' parts' events' now b' q
@@ -157,7 +157,7 @@ module _ {A : Type 0} {byte : A → ℕ} {next : A → A} {width : ℕ} {origin 
       → ShowsDrawn byte next width origin g' parts' events new b' q
   drawn_quietly h f = drawn_from_list h (f (drawn_as_list h))
 
-  -- a draw: the byte is the stream's, and what follows begins behind it
+  -- A draw: the byte is the stream's, and the next place is one further.
   pub drawing : {g g' : Frame} {parts parts' : Parts} {events events' : Telling} {old new now : A} {b b' : Bool} {p : Progress} (f : ℕ → Phase) {drawn : ℕ}
       → ShowsDrawn byte next width origin g parts events old b p → drawn ≡ byte old → new ≡ next old
       → (ShowsDrawn byte next width origin g parts events new b (record p { drawn = p.drawn + 1 })

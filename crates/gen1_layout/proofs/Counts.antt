@@ -1,4 +1,4 @@
--- The conditions in an active block: the bits as a number, and the numbers beside them.
+-- The conditions in an active block: the bits as a number, and the counts in the bytes after them.
 use Rattle.std.proofs.Common.{List, None, Option, Some, ap, arith, drop, false, is_some, refl, set, sym, take, true, unwrap_or, ℕ, ◌++◌, ◌+◌, ◌-◌, ◌<◌, ◌≡◌, ◌≤◌, ◌∙◌}
 use Rattle.std.proofs.lemmas.List.{set-append_left, set-append_right}
 use Rattle.gen1_stats.specs.Members.{Member}
@@ -17,7 +17,7 @@ use Rattle.gen1_layout.proofs.Bits.{bits_of-is, bits_of-lt}
 pub number_small : (c : ActiveConditions) → conditions_number c < 131072
 number_small c = let bits = condition_bits c in let e = bits_of-is bits in let small = bits_of-lt bits in omega (arith, e, small)
 
--- a number beside its bit
+-- A count with its bit
 
 pub count_back : (o : Option ℕ) → (if is_some o then Some (unwrap_or o 0) else None) ≡ o
 count_back None = refl
@@ -27,9 +27,9 @@ pub disabled_back : (o : Option DisabledSlot) → is_some o ≡ true → Some (r
 disabled_back None e = cc
 disabled_back (Some d) e = refl
 
--- a number that is written, and bits that are
+-- A count that is written, and bits that are written
 
--- the active block once the bits are written
+-- The active block after the bits are written.
 abbrev pub marked : Member → Active → ActiveConditions → List ℕ
 marked m a new = take 21 (active_block m (record a { conditions = new })) ++ drop 21 (active_block m a)
 
@@ -43,7 +43,7 @@ count_block at byte m a new low high counted =
     set-append_right front (old ++ back) 21 at byte refl low
     ∙ ap (λ (l : List ℕ). front ++ l) (set-append_left old back (at - 21) byte (omega arith) ∙ ap (λ (l : List ℕ). l ++ back) (sym counted))
 
--- Bide, thrashing and trapping, of which one at most is on
+-- Bide, thrashing and trapping. At most one of them is on
 
 pub bide_back : (b : Option Storing) (t r : Option ℕ) → (if is_some b then Some (turns_byte b t r) else None) ≡ turns_stored b
 bide_back None t r = refl
@@ -63,7 +63,7 @@ trapping_back None None (Some n) h = refl
 trapping_back (Some x) t (Some n) h = absurd (omega (arith, h))
 trapping_back None (Some m) (Some n) h = absurd (omega (arith, h))
 
--- the byte of turns once one of them is off: 0 where it was on, and else as it was
+-- The byte of turns after one of the three is off: 0 if it was on, and unchanged otherwise
 
 pub without_bide-on : (b : Option Storing) (t r : Option ℕ) → Alone b t r → is_some b ≡ true → 0 ≡ turns_byte None t r
 without_bide-on None t r h e = cc
@@ -99,7 +99,7 @@ pub energy_fits : (b : Option Storing) → IsStorableBide b → energy_of b < 65
 energy_fits None h = omega arith
 energy_fits (Some x) h = omega (arith, h.1)
 
--- what stays storable
+-- What stays storable
 
 pub less_alone : (u : Underway) → IsStorableUnderway u → Alone None u.thrash u.trapping × Alone u.bide None u.trapping × Alone u.bide u.thrash None
 less_alone u h = (omega (arith, h.alone), omega (arith, h.alone), omega (arith, h.alone))
@@ -118,7 +118,7 @@ same_storable count c d e h = record {
   disabled = rw e.disabled h.disabled;
 }
 
--- who does not trap has no trapping to end
+-- A member that doesn't trap has no trapping to end
 
 pub not_trapping : (c : ActiveConditions) → is_some c.underway.trapping ≡ false → record c { underway = record c.underway { trapping = None } } ≡ c
 not_trapping c e = ap (λ (t : Option ℕ). record c { underway = record c.underway { trapping = t } }) (sym (by c.underway.trapping e))

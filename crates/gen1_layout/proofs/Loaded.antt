@@ -1,4 +1,4 @@
--- What is loaded stands for the state whose packing its form is.
+-- A loaded battle represents the state whose packing is its form.
 use Rattle.std.proofs.Common.{List, ap, inl, inr, length, ℕ, ◌∙◌, ◌≡◌, ◌≤◌, ◌⊎◌}
 use Rattle.gen1_machine.specs.State.{Field, Terms}
 use Rattle.gen1_machine.specs.Valid.{IsStarted, IsUnstarted}

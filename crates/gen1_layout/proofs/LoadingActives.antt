@@ -1,4 +1,4 @@
--- An active block passes its test exactly where, but for its current stats, it is that of a valid active.
+-- An active block passes its test exactly if, apart from its current stats, it is the block of a valid active member.
 use Rattle.gen1_layout.proofs.Words.{Active, ActiveConditions, Bool, DisabledSlot, IsBetween, List, Member, None, Option, Some, [], ap, arith, false, inl, inr, is_some, known_in, length, nat_le, nat_tests, nobody, refl, slice_index, slice_index_or, subst, suc, sym, true, zero, ℕ, ◌∙◌}
 use Rattle.std.proofs.Common.{drop, if◌then◌else◌, unwrap_or, ◌%◌, ◌&&◌, ◌*◌, ◌+◌, ◌-◌, ◌/◌, ◌<◌, ◌==◌, ◌||◌, ◌∷◌, ◌≡◌, ◌≤◌}
 use Rattle.std.proofs.lemmas.List.{get_or-drop, get_or-take}
@@ -23,7 +23,7 @@ use Rattle.gen1_layout.proofs.LoadingBlocks.{listed, part_bytes, part_length, tw
 use Rattle.gen1_layout.proofs.LoadingPlaces.{held, holds, known_slot}
 use Rattle.gen1_layout.proofs.LoadingStatLaws.{split_stats, with_stats}
 
--- types
+-- Types
 
 record HasElement (byte : ℕ) : Type 0 where
   pub element : Element
@@ -64,7 +64,7 @@ number_of-low Psychic = omega arith
 number_of-low Ice = omega arith
 number_of-low Dragon = omega arith
 
--- counts
+-- Counts
 
 record HasCount (on : Bool) (low high count : ℕ) : Type 0 where
   pub option : Option ℕ
@@ -80,7 +80,7 @@ count_back : (option : Option ℕ) (low high : ℕ) → IsCount low high option 
 count_back None low high valid = refl
 count_back (Some n) low high valid = valid
 
--- what is underway
+-- What is underway
 
 record HasProgress (bide thrash trapping : Bool) (turns energy : ℕ) : Type 0 where
   pub storing : Option Storing
@@ -220,7 +220,7 @@ energy-low : (storing : Option Storing) → IsStoring storing → energy_of stor
 energy-low None valid = omega arith
 energy-low (Some b) valid = valid.1
 
--- the kept accuracy
+-- The kept accuracy
 
 kept_of : (keeps : Bool) (byte : ℕ) → CountFits keeps 1 255 byte → IsKept keeps byte
 kept_of true byte fits = fits.0
@@ -230,9 +230,9 @@ kept_back : (keeps : Bool) (byte : ℕ) → byte ≤ 255 → IsKept keeps byte �
 kept_back true byte low kept = (kept, low)
 kept_back false byte low kept = kept
 
--- slots and what is used
+-- Slots and used moves
 
--- the number in a slot of a member's bytes
+-- The number in a slot of a member's bytes.
 slot_number : (m : Member) (slot : ℕ) → IsBetween 1 4 slot → slice_index (member_block m) (14 + slot) ≡ (known_in slot m.moves).id
 slot_number m zero range = absurd (let low = range.0 in omega arith)
 slot_number m (suc zero) range = refl
@@ -241,11 +241,11 @@ slot_number m (suc (suc (suc zero))) range = refl
 slot_number m (suc (suc (suc (suc zero)))) range = refl
 slot_number m (suc (suc (suc (suc (suc more))))) range = absurd (let high = range.1 in omega arith)
 
--- a slot that holds a move is one of the moves
+-- A slot that holds a move is one of the moves.
 holds_from : (m : Member) (slot : ℕ) → HoldsMove (member_block m) slot → IsBetween 1 (length m.moves) slot
 holds_from m slot holds = (holds.0.0, known_slot slot m.moves holds.0.0 (λ none. holds.1 (slot_number m slot holds.0 ∙ none)))
 
--- the number of a move that a member knows
+-- The number of a move that a member knows.
 known_range : (rules : ℕ) (m : Member) (slot : ℕ) → IsMemberUnder (rules_of rules) m → IsBetween 1 (length m.moves) slot
     → IsBetween 1 165 (known_in slot m.moves).id
 known_range rules m slot valid range =
@@ -263,7 +263,7 @@ holds_back rules m slot valid range =
     let number = known_range rules m slot valid range in
     (four, λ none. let some = number.0 in let is : (known_in slot m.moves).id ≡ 0 = sym (slot_number m slot four) ∙ none in omega arith)
 
--- effects
+-- Effects
 
 no_effect : (move_row 0).effect ≡ effects.DamageOnly
 unfolding move_row move_rows
@@ -273,7 +273,7 @@ struggle_effect : (move_row 165).effect ≡ effects.Recoil
 unfolding move_row move_rows
 struggle_effect = refl
 
--- neither effect keeps anything underway
+-- Neither effect keeps anything underway.
 no_ties : (block : List ℕ) → PassesUnderway effects.DamageOnly block → PassesUnderway effects.Recoil block
 no_ties block p = record {
   bide = p.bide;
@@ -372,9 +372,9 @@ disabled_back : (rules : ℕ) (m : Member) (option : Option DisabledSlot) → Is
 disabled_back rules m None known valid = (refl, refl)
 disabled_back rules m (Some d) known valid = (holds_back rules m d.slot known valid.0, valid.1)
 
--- the block
+-- The block
 
--- an active, from its parts
+-- An active block from its parts.
 abbrev active_with : ℕ → Element → Element → ℕ → ℕ → ℕ → ℕ → ℕ → ℕ → UsedMove → UsedMove → ℕ → ActiveConditions → Active
 active_with place first second attack defense speed special accuracy evasion current_move picked_move kept conditions = record {
   place = place;
@@ -412,7 +412,7 @@ long_2 a b c d low next third = omega arith
 long_3 : (a b c d : ℕ) → a < 256 → b < 256 → c < 256 → d < 256 → (a + 256 * b + 65536 * (c + 256 * d)) / 65536 / 256 % 256 ≡ d
 long_3 a b c d low next third last = omega arith
 
--- from bytes
+-- From bytes to a block
 
 record HasActive (m : Member) (block : List ℕ) : Type 0 where
   pub active : Active
@@ -541,7 +541,7 @@ actives_from rules side members full fit valid same p =
           made.same;
     }
 
--- and back
+-- From a block to bytes
 
 out_back : (rules : ℕ) (m : Member) (a : Active) (s9 s10 s11 s12 s13 s14 s15 s16 : ℕ) → IsMemberUnder (rules_of rules) m → IsActive m.moves a
     → KeepsAccuracy a → PassesOut (member_block m) (with_stats (beside_stats (active_block m a)) s9 s10 s11 s12 s13 s14 s15 s16)

@@ -1,4 +1,4 @@
--- What reading answers, and which bytes stand for a battle.
+-- The results of reading, and the bytes that represent a battle.
 use Rattle.std.proofs.Common.{Bool, Err, IsOk, ◌↔◌, List, Ok, Result, arith, false, if◌then◌else◌, length, refl, slice_index, slice_set, suc, true, zero, ℕ, ◌<◌, ◌==◌, ◌∙◌, ◌∷◌, [], ◌≡◌}
 use Rattle.std.proofs.lemmas.Bool.{eqb-true}
 use Rattle.std.proofs.lemmas.List.{length-set}
@@ -10,7 +10,7 @@ use Rattle.gen1_layout.specs.LoadingLaws.{PassesForm}
 use Rattle.gen1_layout.specs.LoadingMeaning.{AreBytes, IsBattle}
 use Rattle.gen1_layout.proofs.LoadingForms.{forms_law}
 
--- the form of version 3 is bytes of that version
+-- The form of version 3 is bytes of that version.
 
 set_bytes : (bytes : List ℕ) (i v : ℕ) → v < 256 → AreBytes bytes → AreBytes (slice_set bytes i v)
 set_bytes [] i v low fit k = fit k
@@ -44,7 +44,7 @@ form_of bytes full fit = by (slice_index bytes 0 == 3) refl
     by true is = record { full = full; fit = fit; version = eqb-true _ _ is }
     by false is = mended bytes full fit
 
--- who passes all tests stands for a battle
+-- Bytes that pass all tests represent a battle
 
 battle_from : (bytes : List ℕ) → AreBytes bytes → PassesBefore 8 bytes → IsBattle bytes
 battle_from bytes fit p =

@@ -9,7 +9,7 @@ pub power : ℕ → ℕ
 power zero = 1
 power (suc c) = 2 * power c
 
--- so many bits from a place on
+-- This many bits from a place on.
 abbrev pub bits_from : ℕ → ℕ → ℕ → List Bool
 bits_from zero i n = []
 bits_from (suc c) i n = (bit_at n i == 1) ∷ bits_from c (suc i) n
@@ -43,7 +43,7 @@ lowest : (b : Bool) (n : ℕ) → ((bit_of b + 2 * n) % 2 == 1) ≡ b
 lowest false n = let even : (0 + 2 * n) % 2 ≡ 0 = omega arith in rw even refl
 lowest true n = let odd : (1 + 2 * n) % 2 ≡ 1 = omega arith in rw odd refl
 
--- each bit is the one that the number was made of
+-- Each bit is the one that the number was made from.
 pub bit_back : (bits : List Bool) (k : ℕ) → (bit_at (number_of_bits bits) k == 1) ≡ slice_index_or bits k false
 bit_back [] k = rw (bit_at-zero k) refl
 bit_back (b ∷ bits) zero = rw (bit_at_lowest (bit_of b + 2 * number_of_bits bits)) (lowest b (number_of_bits bits))
@@ -60,6 +60,6 @@ pub bits_17-low : (bits : List Bool) → length bits ≡ 17 → number_of_bits b
 unfolding power
 bits_17-low bits long = rw long at (bits_low bits)
 
--- a number of four bytes
+-- A number of four bytes.
 pub four_back : (n : ℕ) → n < 131072 → n % 256 + 256 * (n / 256 % 256) + 65536 * (n / 65536 % 256 + 256 * (n / 65536 / 256 % 256)) ≡ n
 four_back n low = omega arith

@@ -1,10 +1,10 @@
--- Bytes as the list of what stands at each offset, and numbers of two bytes.
+-- Bytes as the list of the values at each offset, and numbers of two bytes.
 use Rattle.std.proofs.Common.{add-one, ◌≡◌, ℕ, ◌≤◌, zero, suc, ◌+◌, ◌*◌, ◌/◌, ◌%◌, ◌<◌, List, [], ◌∷◌, ap, arith, drop, drop-cons, take, length, slice_index, ◌∙◌}
 use Rattle.std.proofs.Math.ListN.{drop_of_length-le}
 use Rattle.std.proofs.lemmas.List.{length-drop, length-take}
 use Rattle.gen1_layout.specs.LoadingMeaning.{AreBytes}
 
--- so many bytes from an offset on, one by one
+-- This many bytes from an offset on, one by one.
 abbrev pub bytes_from : ℕ → ℕ → List ℕ → List ℕ
 bytes_from zero at bytes = []
 bytes_from (suc n) at bytes = slice_index bytes at ∷ bytes_from n (at + 1) bytes
@@ -14,7 +14,7 @@ drop-bytes_from zero at bytes long = drop_of_length-le bytes (omega arith)
 drop-bytes_from (suc n) at bytes long =
     drop-cons bytes at 0 (omega arith) ∙ ap (λ rest. slice_index bytes at ∷ rest) (rw (← add-one at) (drop-bytes_from n (at + 1) bytes (omega arith)))
 
--- a list of a length, one by one
+-- A list of this length, one by one.
 pub listed : (n : ℕ) (bytes : List ℕ) → length bytes ≡ n → bytes ≡ bytes_from n 0 bytes
 listed n bytes long = drop-bytes_from n 0 bytes (omega (arith, long))
 
@@ -27,7 +27,7 @@ two_high a b low high = omega arith
 pub two_back : (n : ℕ) → n < 65536 → n % 256 + 256 * (n / 256 % 256) ≡ n
 two_back n small = omega arith
 
--- a part of bytes is bytes
+-- A part of bytes is bytes
 
 bytes_of_drop : (k : ℕ) (bytes : List ℕ) → AreBytes bytes → AreBytes (drop k bytes)
 bytes_of_drop zero bytes fit = fit

@@ -1,4 +1,4 @@
--- Exactly the packings of valid states pass all tests.
+-- The packings of valid states are exactly the bytes that pass all tests.
 use Rattle.gen1_layout.proofs.Words.{Active, Bool, IsBetween, List, Member, ap, arith, false, inl, inr, length, nat_tests, nobody, refl, slice_index, subst, sym, ℕ, ◌∙◌}
 use Rattle.std.proofs.Common.{All, replicate, if◌then◌else◌, ◌*◌, ◌++◌, ◌+◌, ◌-◌, ◌<◌, ◌==◌, ◌≡◌, ◌≤◌}
 use Rattle.std.proofs.lemmas.Bool.{cases_lt}
@@ -24,7 +24,7 @@ use Rattle.gen1_layout.proofs.LoadingPlaces.{holds}
 use Rattle.gen1_layout.proofs.LoadingRequestLaws.{requests_law, starts_law}
 use Rattle.gen1_layout.proofs.LoadingStatLaws.{split_stats, stats_law}
 
--- a side with a member out, from its bytes
+-- A side with a member out, from its bytes
 
 record HasParty (rules : Rules) (members : List Member) (side : List ℕ) : Type 0 where
   pub active : Active
@@ -34,7 +34,7 @@ record HasParty (rules : Rules) (members : List Member) (side : List ℕ) : Type
   pub at : slice_index side 144 ≡ active.place
   pub same : active_bytes side ≡ active_block (out_of members active) active
 
--- the member that is out has the bytes of the place that is out
+-- The member that is out has the bytes of its place.
 out_is : (byte : ℕ) (side : List ℕ) (members : List Member) (a : Active) → IsMembersUnder (rules_of byte) members
     → places_of side ≡ member_blocks members → IsBetween 1 (length members) a.place → slice_index side 144 ≡ a.place
     → out_bytes side ≡ member_block (out_of members a)
@@ -74,11 +74,11 @@ party_of byte side members full fit valid same passes stats =
 not_zero : (n : ℕ) → 1 ≤ n → (n == 0) ≡ false
 not_zero n low = grind (arith, nat_tests)
 
--- somebody is out
+-- A member is out.
 placed : (t : Party) → 1 ≤ t.active.place → active_block_of t ≡ active_block (member_at t.active.place t) t.active
 placed t low = ap (λ (b : Bool). if b then replicate 36 0 else active_block (member_at t.active.place t) t.active) (not_zero t.active.place low)
 
--- a side is the bytes of its members and of its active block
+-- A side is the bytes of its members and of its active block.
 side_is : (side : List ℕ) (t : Party) → length side ≡ 180 → places_of side ≡ member_blocks t.members → active_bytes side ≡ active_block_of t
     → side ≡ party_bytes t
 side_is side t full places active =
@@ -92,7 +92,7 @@ form_is form s full header one two =
     form_split form full ∙ ap (λ (h : List ℕ). h ++ side_one form ++ side_two form) header
     ∙ ap (λ (l : List ℕ). header_block s ++ l ++ side_two form) one ∙ ap (λ (l : List ℕ). header_block s ++ party_bytes s.field.one ++ l) two
 
--- the header's bytes stand first
+-- The header's bytes come first.
 header_at : (form : List ℕ) (k : ℕ) → k < 24 → slice_index (header_of form) k ≡ slice_index form k
 header_at form k low = get_or-take 24 form k 0 low
 
@@ -205,7 +205,7 @@ forms_from form full fit three p =
       | inr none ↦ start_from form full fit p h (omega arith) one two
     ]
 
--- and back
+-- From a state to bytes
 
 record SideIs (t : Party) (side : List ℕ) : Type 0 where
   pub places : places_of side ≡ member_blocks t.members

@@ -1,4 +1,4 @@
--- A header passes its test exactly where it is that of some state in its ranges.
+-- A header passes its test exactly if it is the header of some state with numbers in range.
 use Rattle.std.proofs.Common.{All, Bool, List, [], arith, false, length, refl, slice_index, subst, suc, sym, true, zero, ℕ, ap, ◌%◌, ◌*◌, ◌+◌, ◌/◌, ◌<◌, ◌∙◌, ◌∷◌, ◌≡◌, ◌≤◌}
 use Rattle.std.proofs.lemmas.List.Elements.{All-from_get_or}
 use Rattle.gen1_stats.specs.Members.{IsBetween}
@@ -77,7 +77,7 @@ bits_of_rules-low rules = by rules.sleep_clause rules.freeze_clause
     by true false = omega arith
     by true true = omega arith
 
--- with at most eight draws the numbers in use are the first nine seed bytes
+-- With at most eight draws, the numbers in use are the first nine seed bytes.
 first_round : (seed : List ℕ) (drawn j : ℕ) → drawn ≤ 8 → j ≤ 8 → byte_at (Link seed) (9 * (drawn / 9) + j) ≡ slice_index seed j
 unfolding byte_at
 first_round seed drawn j few low =

@@ -1,4 +1,4 @@
--- The bytes of a side pass the test of its members exactly where they are those of valid members.
+-- The bytes of a side pass the test of its members exactly if they are the bytes of valid members.
 use Rattle.gen1_layout.proofs.Words.{Bool, IsBetween, List, Member, [], ap, arith, false, inl, inr, known_in, length, map, nat_le, nat_tests, refl, slice_index, slice_index_or, subst, suc, sym, true, zero, ℕ, ◌∙◌}
 use Rattle.std.proofs.Common.{All, AllPairs, drop, not, replicate, take, ◌≢◌, ◌%◌, ◌&&◌, ◌*◌, ◌++◌, ◌+◌, ◌-◌, ◌<◌, ◌==◌, ◌∷◌, ◌≡◌, ◌≤◌, ◌⊎◌}
 use Rattle.std.proofs.lemmas.Bool.{eqb-true}
@@ -17,9 +17,9 @@ use Rattle.gen1_layout.specs.LoadingLaws.{MembersStand}
 use Rattle.gen1_layout.specs.LoadingMeaning.{AreBytes, StandsForMember, StandsForMembers}
 use Rattle.gen1_layout.proofs.LoadingBlocks.{bytes_from, listed, part_bytes, part_length, two_back, two_high, two_low}
 
--- the status
+-- The status
 
--- what a status byte and its mark stand for
+-- What a status byte and its mark represent.
 record HasStatus (rules : ℕ) (byte mark : ℕ) : Type 0 where
   pub status : Status
   pub valid : IsStatus (rules_of rules) status
@@ -100,12 +100,12 @@ mark_explained rules Burned valid is = absurd (omega arith)
 mark_explained rules Frozen valid is = absurd (omega arith)
 mark_explained rules Paralysed valid is = absurd (omega arith)
 
--- the moves
+-- The moves
 
 abbrev move_of : ℕ → ℕ → KnownMove
 move_of id pp = record { id = id; pp = pp }
 
--- what a slot's number and PP are, after those of earlier slots
+-- The number and PP of a slot, after those of earlier slots.
 abbrev SlotIs : ℕ → ℕ → List ℕ → Type 0
 SlotIs id pp earlier =
     ((id ≡ 0) × (pp ≡ 0)) ⊎ ((may_be_known id ≡ true) × (pp ≤ 63) × All (λ before. (before ≢ 0) × (before ≢ id)) earlier)
@@ -279,7 +279,7 @@ moves_of i1 i2 i3 i4 p1 p2 p3 p4 some (inr s1) (inr s2) (inr s3) (inl none4) =
 moves_of i1 i2 i3 i4 p1 p2 p3 p4 some (inr s1) (inr s2) (inr s3) (inr s4) =
     moves_of_four i1 i2 i3 i4 p1 p2 p3 p4 s1.0 s1.1 s2 s3 s4
 
--- a member, from its bytes
+-- A member from its bytes
 
 member_made : (rules : ℕ) (b0 b1 b2 b3 b4 b5 b6 b7 b8 b9 b10 b11 b12 b13 b14 i1 i2 i3 i4 p1 p2 p3 p4 b23 : ℕ)
     → b2 < 256 → b3 < 256 → b4 < 256 → b5 < 256 → b6 < 256 → b7 < 256 → b8 < 256 → b9 < 256 → b10 < 256 → b11 < 256 → b12 < 256 → b13 < 256
@@ -333,13 +333,13 @@ member_from rules block long fit p =
     (b 19) (b 20) (b 21) (b 22) (b 23) (fit 2) (fit 3) (fit 4) (fit 5) (fit 6) (fit 7) (fit 8) (fit 9) (fit 10) (fit 11) (fit 12) (fit 13)
     s.status s.valid s.same s.marked s.healthy h q)
 
--- and back
+-- From a member to bytes
 
 known_passes : (k : KnownMove) → IsKnown k → InTable k → may_be_known k.id ≡ true
 known_passes k known range = let high = range.1 in let no : k.id ≢ 165 = known.not_struggle in
     test_of k.id (is_left_out k.id) range.0 (omega arith) known.in_engine
 
--- a slot that holds a move, after moves that differ from it
+-- A slot that holds a move, after other moves that differ from it.
 slot_passes : (k : KnownMove) (earlier : List ℕ) → IsKnown k → InTable k → All (λ before. (before ≢ 0) × (before ≢ k.id)) earlier → SlotIs k.id k.pp earlier
 slot_passes k earlier known range others = inr (known_passes k known range, known.pp, others)
 
@@ -426,12 +426,12 @@ member_passes rules m valid fallen =
       moves = moves_pass m m.moves n.slots n.known n.distinct valid.moves;
     }
 
--- the six places
+-- The six places
 
 abbrev nothing : List ℕ
 nothing = replicate 24 0
 
--- places after one with these bytes
+-- Places after one with these bytes.
 abbrev Follows : ℕ → List ℕ → List (List ℕ) → Type 0
 Follows rules before [] = Unit {0}
 Follows rules before (block ∷ blocks) = PassesPlace rules before block × Follows rules block blocks
@@ -530,7 +530,7 @@ members_from rules side long fit p =
           ∙ ap (λ bs. member_block first.member ∷ bs) more.same;
     }
 
--- and back
+-- From members to bytes
 
 nothing_follows : (rules : ℕ) (before : List ℕ) (n : ℕ) → Follows rules before (replicate n nothing)
 nothing_follows rules before zero = tt

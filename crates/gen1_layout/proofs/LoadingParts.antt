@@ -1,4 +1,4 @@
--- The bytes as their parts, and the parts of what a state packs to.
+-- The bytes as their parts, and the parts of a state's packing.
 use Rattle.std.proofs.Common.{List, [], ap, arith, drop, flat_map, length, map, refl, replicate, subst, suc, sym, take, zero, ℕ, ◌++◌, ◌==◌, ◌∙◌, ◌∷◌, ◌≡◌, ◌≤◌, Bool, true, false, if◌then◌else◌}
 use Rattle.std.proofs.Math.Seq.{drop-append_seam, take-length}
 use Rattle.std.proofs.lemmas.List.{take-replicate}
@@ -14,15 +14,15 @@ nothing = replicate 24 0
 abbrev pub joined : List (List ℕ) → List ℕ
 joined blocks = flat_map (λ (block : List ℕ). block) blocks
 
--- a side is its places and its active block
+-- A side is its places and its active block.
 pub side_split : (side : List ℕ) → length side ≡ 180 → side ≡ joined (places_of side) ++ active_bytes side
 side_split side long = subst (λ (l : List ℕ). l ≡ joined (places_of l) ++ active_bytes l) (sym (listed 180 side long)) refl
 
--- the whole is its header and its sides
+-- The whole is its header and its sides.
 pub form_split : (form : List ℕ) → length form ≡ 384 → form ≡ header_of form ++ side_one form ++ side_two form
 form_split form long = subst (λ (l : List ℕ). l ≡ header_of l ++ side_one l ++ side_two l) (sym (listed 384 form long)) refl
 
--- six blocks
+-- Six blocks
 
 abbrev AreBlocks : List (List ℕ) → Type 0
 AreBlocks [] = Unit {0}
@@ -55,7 +55,7 @@ six_split (b1 ∷ b2 ∷ b3 ∷ b4 ∷ []) active six are full = absurd (omega a
 six_split (b1 ∷ b2 ∷ b3 ∷ b4 ∷ b5 ∷ []) active six are full = absurd (omega arith)
 six_split (b1 ∷ b2 ∷ b3 ∷ b4 ∷ b5 ∷ b6 ∷ b7 ∷ more) active six are full = absurd (omega arith)
 
--- the blocks of a side's members
+-- The blocks of a side's members
 
 zeros_are : (n : ℕ) → (length (replicate n nothing) ≡ n) × AreBlocks (replicate n nothing)
 zeros_are zero = (refl, tt)
@@ -78,7 +78,7 @@ active_full t = by (t.active.place == 0)
 pub party_split : (t : Party) → SplitSide (member_blocks t.members) (active_block_of t)
 party_split t = let are = blocks_are 6 t.members (omega arith) in six_split (member_blocks t.members) (active_block_of t) are.0 are.1 (active_full t)
 
--- the parts of what a state packs to
+-- The parts of a state's packing
 
 take_front : (xs ys : List ℕ) → take (length xs) (xs ++ ys) ≡ xs
 take_front [] ys = refl

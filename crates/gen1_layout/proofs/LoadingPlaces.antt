@@ -1,4 +1,4 @@
--- What stands at a place of a side with these members.
+-- The bytes at a place of a side with these members.
 use Rattle.std.proofs.Common.{List, [], ap, arith, inl, inr, length, map, refl, replicate, slice_index, slice_index_or, suc, take, zero, ℕ, ◌++◌, ◌-◌, ◌<◌, ◌∙◌, ◌∷◌, ◌≡◌, ◌≢◌, ◌≤◌, ◌⊎◌}
 use Rattle.std.proofs.lemmas.List.{get_or-replicate, take-replicate}
 use Rattle.gen1_stats.specs.declared.known_move.KnownMove.{KnownMove}
@@ -17,7 +17,7 @@ at_place side (suc (suc (suc (suc (suc zero))))) low high = refl
 at_place side (suc (suc (suc (suc (suc (suc zero)))))) low high = refl
 at_place side (suc (suc (suc (suc (suc (suc (suc more))))))) low high = absurd (omega arith)
 
--- a member's block where there is a member, and else zeros
+-- A member's block if there is a member, and zeros otherwise.
 abbrev HoldsAt : List Member → List (List ℕ) → ℕ → Type 0
 HoldsAt members blocks j =
     ((j < length members) × (slice_index_or blocks j [] ≡ member_block (slice_index_or members j nobody)))
@@ -34,7 +34,7 @@ block_at (suc n) (suc j) (m ∷ members) low few =
       | inr none ↦ inr (let more = none.0 in omega arith, none.1)
     ]
 
--- a place of a side that holds anything holds one of its members
+-- A place of a side that holds anything holds one of its members.
 pub held : (side : List ℕ) (members : List Member) (place : ℕ) → places_of side ≡ member_blocks members → IsBetween 1 6 place
     → slice_index (member_bytes place side) 0 ≢ 0
     → (place ≤ length members) × (member_bytes place side ≡ member_block (slice_index_or members (place - 1) nobody))
@@ -48,7 +48,7 @@ held side members place same range some =
       | inr none ↦ absurd (some (ap (λ b. slice_index b 0) (here ∙ none.1)))
     ]
 
--- and the place of a member holds it
+-- The place of a member holds that member.
 pub holds : (side : List ℕ) (members : List Member) (place : ℕ) → places_of side ≡ member_blocks members → length members ≤ 6
     → IsBetween 1 (length members) place → member_bytes place side ≡ member_block (slice_index_or members (place - 1) nobody)
 holds side members place same few range =
@@ -61,7 +61,7 @@ holds side members place same few range =
       | inr none ↦ absurd (let more = none.0 in omega arith)
     ]
 
--- a slot with a number is one of the moves
+-- A slot with a number is one of the moves.
 known_below : (j : ℕ) (moves : List KnownMove) → (slice_index_or moves j nothing_known).id ≢ 0 → j < length moves
 known_below j [] some = absurd (some refl)
 known_below zero (k ∷ moves) some = omega arith

@@ -1,4 +1,4 @@
--- Turn, outcome and requests pass their test exactly where they stand together in the state.
+-- Turn, outcome and requests pass their test exactly if they fit together in the state.
 use Rattle.std.proofs.Common.{All, Bool, List, [], ap, arith, false, inl, inr, length, map, nat_lt, not, refl, replicate, slice_index, slice_index_or, subst, suc, sym, take, true, zero, ℕ, ◌++◌, ◌+◌, ◌-◌, ◌<◌, ◌||◌, ◌∙◌, ◌∷◌, ◌≡◌, ◌≤◌}
 use Rattle.std.proofs.lemmas.List.{take-replicate}
 use Rattle.std.proofs.lemmas.List.Elements.{All-head, All-tail}
@@ -20,7 +20,7 @@ use Rattle.gen1_layout.specs.LoadingRequests.{any_lives, lives, Asks, PassesAske
 use Rattle.gen1_layout.proofs.LoadingBlocks.{two_back}
 use Rattle.gen1_layout.proofs.LoadingPlaces.{holds}
 
--- who lives
+-- Living members
 
 lives_same : (rules : Rules) (m : Member) → IsMemberUnder rules m → lives (member_block m) ≡ is_living m
 lives_same rules m valid =
@@ -55,7 +55,7 @@ place_lives rules side members place valid same range =
     ap lives (holds side members place same valid.size.1 range)
     ∙ lives_same rules (slice_index_or members (place - 1) nobody) (valid.each (place - 1) nobody (omega arith))
 
--- requests by their bytes
+-- Requests by their bytes
 
 is_pass_byte : (r : Request) → request_byte r ≡ 0 → r ≡ requests.Pass
 is_pass_byte requests.Pass is = refl
@@ -107,7 +107,7 @@ asked_back false true s low terms p = ((ap request_byte p.0, ap request_byte p.1
 asked_back true false s low terms p = ((ap request_byte p.0, ap request_byte p.1), below_back s low terms p.2)
 asked_back false false s low terms p = ((ap request_byte p.0, ap request_byte p.1), below_back s low terms p.2)
 
--- the whole, where the bytes of the sides say who lives
+-- The whole, with the living members from the bytes of the sides
 
 record SaysWhoLives (s : State) (one two : List ℕ) : Type 0 where
   pub any_one : any_lives one ≡ lives_in One s.field

@@ -1,4 +1,4 @@
--- Current stats pass their test exactly where they are those of the active after some penalties.
+-- Current stats pass their test exactly if they are those of the active member after some penalties.
 use Rattle.std.proofs.Common.{List, ap, arith, drop, inl, inr, length, refl, slice_index, subst, suc, sym, take, zero, ℕ, ◌*◌, ◌++◌, ◌+◌, ◌-◌, ◌<◌, ◌∙◌, ◌∷◌, ◌≡◌, ◌≤◌}
 use Rattle.std.proofs.lemmas.Bool.{cases_lt}
 use Rattle.gen1_tables.specs.declared.effect.Stat.TheVariants.{Attack, Defense, Speed, Special}
@@ -13,7 +13,7 @@ use Rattle.gen1_layout.specs.LoadingMeaning.{beside_stats, AreBytes, StandsForSt
 use Rattle.gen1_layout.specs.LoadingStats.{PassesStats}
 use Rattle.gen1_layout.proofs.LoadingBlocks.{bytes_from, listed, two_back}
 
--- an active block, from what is beside its current stats, and these
+-- An active block from these current stats and the bytes around them.
 abbrev pub with_stats : List ℕ → ℕ → ℕ → ℕ → ℕ → ℕ → ℕ → ℕ → ℕ → List ℕ
 with_stats beside s9 s10 s11 s12 s13 s14 s15 s16 =
     take 9 beside ++ (s9 ∷ s10 ∷ s11 ∷ s12 ∷ s13 ∷ s14 ∷ s15 ∷ s16 ∷ drop 9 beside)
@@ -25,7 +25,7 @@ split_stats block beside long same =
     let is : beside_stats (bytes_from 36 0 block) ≡ beside = ap beside_stats (sym whole) ∙ same in
     whole ∙ ap (λ l. with_stats l (slice_index block 9) (slice_index block 10) (slice_index block 11) (slice_index block 12) (slice_index block 13) (slice_index block 14) (slice_index block 15) (slice_index block 16)) is
 
--- penalties
+-- Penalties
 
 halved_below : (k v bound : ℕ) → 1 ≤ bound → divided_times 2 k v ≤ 2 * bound + 1 → divided_times 2 (suc k) v ≤ bound
 halved_below k v bound some low = omega arith
@@ -44,7 +44,7 @@ quartered_5 v low =
     quartered_below 4 v 1 (omega arith) (quartered_below 3 v 7 (omega arith) (quartered_below 2 v 31 (omega arith)
     (quartered_below 1 v 127 (omega arith) (quartered_below 0 v 511 (omega arith) (omega arith)))))
 
--- more penalties change nothing
+-- More penalties change nothing
 
 halved_late : (j v : ℕ) → v ≤ 999 → divided_times 2 (suc (suc (suc (suc (suc (suc (suc (suc (suc (j)))))))))) v ≤ 1
 halved_late zero v low = halved_9 v low
@@ -94,7 +94,7 @@ quartered-low (suc k) v low = let before = quartered-low k v low in omega arith
 at_stage-low : (stage v : ℕ) → at_stage stage v ≤ 999
 at_stage-low stage v = omega arith
 
--- from bytes
+-- From bytes to stats
 
 low_of : (low high v : ℕ) → low < 256 → low + 256 * high ≡ v → low ≡ low_byte v
 low_of low high v small is = omega arith

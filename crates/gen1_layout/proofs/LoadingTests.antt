@@ -1,4 +1,4 @@
--- What the tests of reading say together, once some have passed.
+-- What the tests of reading say together, after some have passed.
 use Rattle.std.proofs.Common.{◌<◌, ◌≡◌}
 use Rattle.gen1_layout.proofs.Words.{IsBetween, List, arith, length, slice_index, subst, ℕ}
 use Rattle.gen1_layout.specs.declared.loading.LoadFault.{LoadFault}
@@ -7,7 +7,7 @@ use Rattle.gen1_layout.specs.Loading.{number_of, PassesOfActives, PassesOfMember
 use Rattle.gen1_layout.specs.LoadingBytes.{header_of}
 use Rattle.gen1_layout.specs.LoadingHeader.{version_three, PassesHeader, PassesVersion}
 
--- the tests before the one on current stats
+-- The tests before that of the current stats.
 pub record PassesFive (bytes form : List ℕ) : Type 0 where
   pub length : length bytes ≡ 384
   pub version : IsBetween 1 3 (slice_index bytes 0)

@@ -1,4 +1,4 @@
--- A `Packed` in memory is its 384 bytes side by side, and back.
+-- A `Packed` in memory is its 384 bytes in a row, and the other way around.
 use mathlib.Core.List.{List, [], ◌∷◌}
 use mathlib.Core.Path.{◌≡◌, ap, refl, sym}
 use Prim.Native.Nat.{zero, ℕ, ◌+◌}
@@ -32,7 +32,7 @@ use Rattle.gen1_layout.specs.contracts.packed.Packed as whole
 use Rattle.gen1_layout.specs.contracts.packed.Packed.TheInside as inside
 use Rattle.gen1_layout.proofs.packed.Packed.TheInside.TheLaws as laws
 
--- a packed battle, as callers see it and as its field
+-- A packed battle, as callers see it and as its field.
 abbrev pub Row : RattleType
 Row = whole.the_row
 
@@ -42,7 +42,7 @@ Inner = inside.the_row
 abbrev array_ty : Ty
 array_ty = ty_array (ty_int w8) 384
 
--- where the bytes begin, in a struct at the offset o
+-- Where the bytes begin, in a struct at the offset o.
 abbrev pub start : ℕ → ℕ
 start o = o + up (align array_ty) zero
 
@@ -58,7 +58,7 @@ as_tuple v b o = let D = inside.the_type in Recorded-part (Struct (shape D)) D.D
 abbrev Viewed : Parts → Inner.Denot → Type 0
 Viewed d a = (parts_of a.0 ≡ d) × (length a.0 ≡ 384)
 
--- to own a battle is to own its field
+-- To own a battle is to own its field.
 abbrev Owned : OwnsFields Row Inner
 Owned =
     fixed_owns Inner Parts Row.coded whole.the_inverse whole.the_view whole.the_invariant
@@ -67,7 +67,7 @@ Owned =
 module _ {M : Type 1} {𝓤 : Ura M} (𝓛 : Logic 𝓤) (b o : ℕ) where
   open 𝓛 use {H}
 
-  -- what is left of the struct while its field is out
+  -- The remaining part of the struct while its field is out.
   abbrev pub Left : SProp 𝓤
   Left = H.left full_share (ty_struct [] (raw_tys fields)) (raw_tys fields) b o
 
@@ -94,7 +94,7 @@ module _ {M : Type 1} {𝓤 : Ura M} (𝓛 : Logic 𝓤) (b o : ℕ) where
       use2 𝓛 (‵ (part_at Tuple full_share (v.0, tt) b o)) (left_Struct 𝓛 full_share inside.the_type.name fields (v.0, tt) b o) $
       rewrite ! 0 (λ (f : Fml). ‵ f) (sym (as_tuple v b o)) refl $ done !
 
-  -- the bytes of a packed battle that is seen as d
+  -- The bytes of a packed battle whose value is d.
   pub bytes_out : (d : Parts)
       → ent 𝓤 (sem 𝓛 ((mem Row).own_at d b o))
       (ex 𝓤 (λ (x : (a : Inner.Denot) × Viewed d a). sep 𝓤 (sem 𝓛 (cells (mem u8) x.0.0 b (start o))) Left))

@@ -1,4 +1,4 @@
--- The numbers of the header are those of the ring after so many draws.
+-- The numbers of the header are those of the ring after this many draws.
 use Rattle.std.proofs.Common.{List, [], arith, length, lit<, refl, slice_index, sym, ℕ, ◌%◌, ◌*◌, ◌+◌, ◌/◌, ◌<◌, ◌≡◌, ◌∙◌, ◌∷◌}
 use Rattle.gen1_rolls.specs.Link.{turned}
 use Rattle.gen1_rolls.specs.Streams.{byte_at, times_renewed}
@@ -26,7 +26,7 @@ turned_is q (x0 ∷ x1 ∷ x2 ∷ x3 ∷ x4 ∷ x5 ∷ x6 ∷ x7 ∷ x8 ∷ []) 
 turned_is q (x0 ∷ x1 ∷ x2 ∷ x3 ∷ x4 ∷ x5 ∷ x6 ∷ x7 ∷ x8 ∷ x9 ∷ []) e = refl
 turned_is q (x0 ∷ x1 ∷ x2 ∷ x3 ∷ x4 ∷ x5 ∷ x6 ∷ x7 ∷ x8 ∷ x9 ∷ x10 ∷ rest) e = absurd (omega arith)
 
--- the nine numbers in use and the tenth
+-- The nine numbers in use and the tenth.
 pub numbers_are : (seed : List ℕ) (n : ℕ) → length seed ≡ 10 → turned (n / 9) seed ≡ number_at seed n 0 ∷ number_at seed n 1 ∷ number_at seed n 2 ∷ number_at seed n 3 ∷ number_at seed n 4 ∷ number_at seed n 5 ∷ number_at seed n 6 ∷ number_at seed n 7 ∷ number_at seed n 8 ∷ slice_index seed 9 ∷ []
 numbers_are seed n ten =
     let at = number_is seed n in

@@ -1,4 +1,4 @@
--- The member that is out: where its bytes begin, and what is written there.
+-- The member that is out: where its bytes begin, and the effect of writing them.
 use Rattle.std.proofs.Common.{ap, arith, length, refl, ℕ, List, ◌+◌, ◌-◌, ◌≡◌, ◌∙◌}
 use Rattle.std.specs.Prelude.{slice_index}
 use Rattle.std.specs.List.{refill}

@@ -1,4 +1,4 @@
--- The packing of the machine, cut into parts, is the blocks of the state.
+-- The machine's packing, cut into parts, is the blocks of the state.
 use Rattle.std.proofs.Common.{Bool, List, [], arith, cond, false, get_or, inl, inr, length, lit<, nat_eq, refl, replicate, true, ℕ, ◌≡◌, ◌≤◌, ◌∙◌, ◌∷◌, ◌⊎◌}
 use Rattle.gen1_stats.specs.Members.{nobody, Member}
 use Rattle.gen1_machine.specs.State.{member_at, Party, State}
@@ -19,7 +19,7 @@ six_are (a ∷ b ∷ c ∷ d ∷ e ∷ []) long = absurd (omega arith)
 six_are (a ∷ b ∷ c ∷ d ∷ e ∷ f ∷ []) long = refl
 six_are (a ∷ b ∷ c ∷ d ∷ e ∷ f ∷ g ∷ L) long = absurd (omega arith)
 
--- the block of the member behind so many
+-- The block of the n-th member.
 abbrev nth : ℕ → List Member → List ℕ
 nth k ms = member_block (get_or ms k nobody)
 

@@ -1,4 +1,5 @@
--- A pair of loans: what its lender becomes where another loan lies before the pair, or behind each of its two.
+-- Pairs of borrows: the final value of what they borrow from. Another borrow may come before the pair, or after each
+-- of its two.
 use mathlib.Core.List.{List, [], ◌∷◌}
 use mathlib.Core.Path.{ap, refl, sym, ◌∙◌}
 use Prim.Native.Nat.{ℕ}
@@ -30,7 +31,7 @@ use Rattle.gen1_layout.proofs.Rewriting.{refill-same}
 module _ {M : Type 1} {𝓤 : Ura M} (𝓛 : Logic 𝓤) (R T U V : RattleType) (F : T.Denot → R.Denot) (G : U.Denot → V.Denot → T.Denot) (γ γ' γ₁ γ₂ : GName) where
   open 𝓛 use {A}
 
-  -- a part is lent, and of it a pair
+  -- A part is borrowed, and then a pair from it.
   pub both_then : ent 𝓤 (sep 𝓤 (sem 𝓛 (follows R T γ γ' F)) (sem 𝓛 (follows_both T U V γ' γ₁ γ₂ G))) (sem 𝓛 (follows_both R U V γ γ₁ γ₂ (λ x y. F (G x y))))
   unfolding both_by
   both_then =
@@ -43,7 +44,7 @@ module _ {M : Type 1} {𝓤 : Ura M} (𝓛 : Logic 𝓤) (R T U V : RattleType) 
 module _ {M : Type 1} {𝓤 : Ura M} (𝓛 : Logic 𝓤) (R T U : RattleType) (G : T.Denot → U.Denot → R.Denot) (f : T.Denot → T.Denot) (g : U.Denot → U.Denot) (γ γ₁ γ₂ δ₁ δ₂ : GName) where
   open 𝓛 use {A}
 
-  -- a pair is lent, and each of the two again
+  -- A pair is borrowed, and then each of the two again.
   pub both_behind : ent 𝓤 (sep 𝓤 (sem 𝓛 (follows_both R T U γ γ₁ γ₂ G)) (sep 𝓤 (sem 𝓛 (follows T T γ₁ δ₁ f)) (sem 𝓛 (follows U U γ₂ δ₂ g)))) (sem 𝓛 (follows_both R T U γ δ₁ δ₂ (λ x y. G (f x) (g y))))
   unfolding both_by
   both_behind =
@@ -72,7 +73,7 @@ module _ {M : Type 1} {𝓤 : Ura M} (𝓛 : Logic 𝓤) (κ : Lft) (q : Share) 
   abbrev Anew : GName → SProp 𝓤
   Anew δ = sep 𝓤 (sem 𝓛 ((MutSlice (named 0) κ u8).own_val (record r { ghost_name = δ }) (slice_val r.ref_ptr n ∷ []))) (sep 𝓤 (A.lft κ q) (sem 𝓛 (follows (Array u8 0) (Array u8 0) r.ghost_name δ kept)))
 
-  -- a lent slice keeps its length: so what it is lent of may be told by lists of that length alone
+  -- A borrowed slice keeps its length, so only lists of that length matter for what it is borrowed from.
   pub lent_anew : ent 𝓤 (sep 𝓤 (sem 𝓛 ((MutSlice (named 0) κ u8).own_val r vs)) (A.lft κ q)) (H.⇛ (ex 𝓤 Anew))
   lent_anew =
       qed 𝓛 (‵ ((MutSlice (named 0) κ u8).own_val r vs) ∷ ‵ (flft κ q) ∷ []) ∵ updating ! $ fsplit3 ! $ pure_l ! (mut_slice_at u8 r vs) (λ is.

@@ -1,4 +1,4 @@
--- A part of a list after a part of it was written anew.
+-- A part of a list after a part of it was rewritten.
 use Rattle.std.proofs.Common.{List, ap, append_assoc, arith, drop, length, length-append, length-drop, sym, take, take-append-drop, ℕ, ◌++◌, ◌+◌, ◌-◌, ◌≡◌, ◌≤◌, ◌∙◌}
 use Rattle.std.proofs.lemmas.List.{drop-append-le, drop-drop, drop-take, drop_at, length-take-le, take-append-le, take_at}
 use Rattle.std.specs.List.{refill}
@@ -15,7 +15,7 @@ length-refill n xs ws e =
 pub length-part : (a n : ℕ) (xs : List ℕ) → a + n ≤ length xs → length (part a n xs) ≡ n
 length-part a n xs within = length-take-le n (drop a xs) (omega (arith, length-drop a xs))
 
--- a part of the first of two lists, and of the second
+-- A part of the first of two lists, and of the second
 
 pub part-first_of : (at n : ℕ) (xs ys : List ℕ) → at + n ≤ length xs → part at n (xs ++ ys) ≡ part at n xs
 part-first_of at n xs ys within =
@@ -63,7 +63,7 @@ module _ (a n : ℕ) (w xs : List ℕ) (within : a + n ≤ length xs) where
       ap (λ (l : List ℕ). drop (a + n) l) whole ∙ drop_at (front ++ fresh) back (a + n) long ∙ drop-drop n a xs in
       ap (λ (l : List ℕ). take m l) (skip (rewritten a n w xs) ∙ ap (λ (l : List ℕ). drop (b - (a + n)) l) tail ∙ sym (skip xs))
 
-  -- within what was written
+  -- A part within the written part.
   pub part-inside : (k m : ℕ) → k + m ≤ n → part (a + k) m (rewritten a n w xs) ≡ part k m fresh
   part-inside k m inside =
       let at : drop a (rewritten a n w xs) ≡ fresh ++ back = drop_at front (fresh ++ back) a (length-take-le a xs (omega arith)) in
@@ -72,7 +72,7 @@ module _ (a n : ℕ) (w xs : List ℕ) (within : a + n ≤ length xs) where
       ∙ drop-append-le k fresh back (omega (arith, length-fresh)) in
       ap (λ (l : List ℕ). take m l) step ∙ take-append-le m (drop k fresh) back (omega (arith, length-drop k fresh, length-fresh))
 
-  -- from its beginning
+  -- A part from the beginning of the written part.
   pub part-first : (m : ℕ) → m ≤ n → part a m (rewritten a n w xs) ≡ part 0 m fresh
   part-first m inside =
       let at : drop a (rewritten a n w xs) ≡ fresh ++ back = drop_at front (fresh ++ back) a (length-take-le a xs (omega arith)) in

@@ -1,4 +1,4 @@
--- A member whose move in a slot has other PP.
+-- A member with other PP in a slot.
 use Rattle.std.proofs.Common.{List, [], ap, arith, get_or, inl, inr, length, length-set, refl, set, suc, sym, zero, ℕ, ◌+◌, ◌-◌, ◌<◌, ◌≡◌, ◌≤◌, ◌∙◌, ◌∷◌}
 use Rattle.std.proofs.lemmas.Bool.{cases_eq}
 use Rattle.std.proofs.lemmas.List.{get_or-set_other, get_or-set_same}
@@ -56,7 +56,7 @@ pp_ok rules slot pp m low high small ok =
       status = ok.status;
     }
 
--- its bytes
+-- Its bytes.
 pub pp_block : (slot pp : ℕ) (m : Member) → 1 ≤ slot → slot ≤ 4 → slot ≤ length m.moves → set (member_block m) (slot + 18) pp ≡ member_block (with_pp slot pp m)
 pp_block zero pp m low high inside = absurd (omega arith)
 pp_block (suc zero) pp m low high inside =

@@ -1,4 +1,4 @@
--- One lemma for each part that code writes: the parts still stand for a field, the one with that part changed.
+-- One lemma for each part that code writes: afterwards the parts represent the field with that part changed.
 use Rattle.std.proofs.Common.{List, ap, arith, length, length-set, refl, subst, sym, ℕ, ◌-◌, ◌<◌, ◌≡◌, ◌≤◌, ◌∙◌}
 use Rattle.std.proofs.lemmas.List.{get_or-set_same}
 use Rattle.std.proofs.lemmas.List.Elements.{All-get_or, All-set}
@@ -16,7 +16,7 @@ use Rattle.gen1_layout.specs.Storable.{IsStorable, IsStorableActive, IsStorableC
 use Rattle.gen1_layout.specs.Within.{blocks_of, state_in, Setting, Within, Packs}
 use Rattle.gen1_layout.proofs.Blocks.{block_out, blocks_set, party_in}
 
--- once a member is out on both sides
+-- With a member out on both sides.
 pub within_packed : {g : Setting} {p : Parts} {f : Field} → Packs g p f → IsStorable g.terms f → Within g p f
 within_packed h storable = record { same = h.same; terms = h.terms; seed = h.seed; storable = storable }
 
@@ -32,7 +32,7 @@ packed_of h = record {
   outcome = h.storable.outcome;
 }
 
--- a write to the header
+-- A write to the header
 
 pub header_packed : {g : Setting} {p : Parts} {f : Field} (new : Field) (w : List ℕ) → Packs g p f
     → refill 24 p.header w ≡ header_block (state_in g new) → new.one ≡ f.one → new.two ≡ f.two
@@ -49,7 +49,7 @@ header_packed {g = g} {f = f} new w h e one two damage turn outcome = record {
   outcome = outcome;
 }
 
--- who is out is still out
+-- The members that are out stay out.
 pub still_within : {g g' : Setting} {p q : Parts} {f new : Field} → Within g p f → Packs g' q new → g'.terms ≡ g.terms
     → new.one ≡ f.one → new.two ≡ f.two → Within g' q new
 still_within {g' = g'} {f = f} h k terms one two = within_packed k (record {
@@ -60,7 +60,7 @@ still_within {g' = g'} {f = f} h k terms one two = within_packed k (record {
   outcome = k.outcome;
 })
 
--- a write to an active block
+-- A write to an active block
 
 with_party_storable : (g : Setting) (f : Field) (s : Side) (t : Party) → IsStorable g.terms f → IsStorableParty g.terms.rules t → IsStorable g.terms (with_party s t f)
 with_party_storable g f One t v new = record { one = new; two = v.two; last_damage = v.last_damage; turn = v.turn; outcome = v.outcome }
@@ -114,9 +114,9 @@ conditions_step {g = g} {f = f} s change w h e storable =
       conditions = storable;
     })
 
--- a write to the block of the member that is out
+-- A write to the block of the member that is out
 
--- what a change of a member in battle leaves alone
+-- What a change of a member in battle leaves as it is.
 pub record SameStats (m n : Member) : Type 0 where
   pub attack : m.attack ≡ n.attack
   pub defense : m.defense ≡ n.defense
@@ -182,13 +182,13 @@ member_step {g = g} {p = p} {f = f} s place change w h at e stats count ok =
           (member_storable g.terms.rules (party s f) m (party_in g f s h.storable) ok count);
     }
 
--- what is known of who is out
+-- What is known about a member that is out.
 pub member_ok : {g : Setting} {p : Parts} {f : Field} (s : Side) → Within g p f → IsMemberUnder g.terms.rules (member_in s f)
 member_ok {g = g} {f = f} s h =
     let v = party_in g f s h.storable in
     All-get_or (IsMemberUnder g.terms.rules) (party s f).members ((active_in s f).place - 1) nobody (omega (arith, v.place.0, v.place.1)) v.members.each
 
--- the same steps, for a change that is known by what it makes
+-- The same steps for a change that is given by its result
 
 pub member_written : {g : Setting} {p : Parts} {f : Field} (s : Side) (place : ℕ) (change : Member → Member) (new : Member) (w : List ℕ) → Within g p f
     → place ≡ (active_in s f).place → change (member_in s f) ≡ new → refill 24 (member_of s place p) w ≡ member_block new
@@ -218,11 +218,11 @@ conditions_written {f = f} s change new w h makes e ok =
     conditions_step s change w h (e ∙ ap (λ (c : ActiveConditions). active_block (member_in s f) (record (active_in s f) { conditions = c })) is)
     (subst (IsStorableConditions (length (member_in s f).moves)) is ok)
 
--- what is known of the conditions of who is out
+-- What is known about the conditions of a member that is out.
 pub active_ok : {g : Setting} {p : Parts} {f : Field} (s : Side) → Within g p f → IsStorableActive (length (member_in s f).moves) (active_in s f)
 active_ok {g = g} {f = f} s h = (party_in g f s h.storable).active
 
--- another member is sent out
+-- Another member is sent out
 
 sent_put : (g : Setting) (f : Field) (s : Side) (a : Active) → 1 ≤ a.place
     → with_active s (active_block (member_at a.place (party s f)) a) (blocks_of (state_in g f)) ≡ blocks_of (state_in g (with_party s (record (party s f) { active = a }) f))
@@ -285,7 +285,7 @@ first_written {g = g} {p = p} {f = f} s change new w h makes low e =
     members_two One a = h.two
     members_two Two a = h.two
 
--- no write, where the conditions are to stay as they are
+-- No write is needed if the conditions stay as they are
 
 pub within_unchanged : {g : Setting} {p : Parts} {f : Field} → Within g p f → (s : Side) (change : ActiveConditions → ActiveConditions)
     → change (conditions_in s f) ≡ conditions_in s f → Within g p (changed_conditions s change f)

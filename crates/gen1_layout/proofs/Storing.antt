@@ -1,4 +1,4 @@
--- A field of a battle is storable, and a packed battle that stands for a started state is within an update of it.
+-- A field of a battle is storable. The bytes of a started state represent its field inside an update.
 use Rattle.std.proofs.Common.{◌+◌, ◌≤◌}
 use Rattle.gen1_layout.proofs.Words.{Bool, DisabledSlot, Field, None, Option, Parts, Some, Within, arith, false, is_some, lit≤, refl, subst, sym, true, ℕ}
 use Rattle.gen1_tables.specs.declared.effect.Effect.{Effect}
@@ -11,7 +11,7 @@ use Rattle.gen1_machine.specs.Valid.{IsCount, IsDisabled, IsField, IsOutcome, Is
 use Rattle.gen1_layout.specs.Storable.{IsStorable, IsStorableBide, IsStorableDisabled, IsStorableParty, IsStorableUnderway}
 use Rattle.gen1_layout.specs.Within.{Packs, setting_of, Stands}
 
--- no move bides, thrashes and traps at once
+-- No move bides, thrashes and traps at once.
 alone : (e : Effect) → bit_of (bides e) + bit_of (thrashes e) + bit_of (traps e) ≤ 1
 alone Bide = lit≤ tt
 alone Thrash = lit≤ tt
@@ -72,11 +72,11 @@ storable_of terms f h = record {
   outcome = h.outcome;
 }
 
--- from turn 1 on
+-- From turn 1 on.
 pub within_of : (p : Parts) (s : State) → Stands p s → IsField s.terms s.field → Within (setting_of s) p s.field
 within_of p s h field = record { same = h.same; terms = h.valid.terms; seed = h.valid.seed; storable = storable_of s.terms s.field field }
 
--- before the first update
+-- Before the first update.
 pub packed_at : (p : Parts) (s : State) → Stands p s → IsUnstarted s.terms s.field → Packs (setting_of s) p s.field
 packed_at p s h field = record {
   same = h.same;

@@ -1,4 +1,4 @@
--- What a part that is written anew makes of the parts of a battle.
+-- The parts of a battle after one part is rewritten.
 use Rattle.std.proofs.Common.{List, ap, arith, drop, length, length-append, lit≤, refl, suc, sym, take, zero, ℕ, ◌++◌, ◌+◌, ◌≡◌, ◌≤◌, ◌∙◌}
 use Rattle.std.proofs.lemmas.List.{drop_at, take_at}
 use Rattle.std.specs.List.{refill}
@@ -10,7 +10,7 @@ use Rattle.gen1_layout.specs.Parts.{active_of, bytes_of_side, bytes_of_sides, in
 use Rattle.gen1_layout.specs.Joined.{part-part, side_one-joined, side_two-joined}
 use Rattle.gen1_layout.proofs.Rewriting.{length-part, length-refill, part-above, part-below, part-first, part-first_of, part-inside, part-same, part-second_of, refill-same}
 
--- a side below or above what is written is as it was
+-- A side below or above the written part stays as it was
 
 side-below : (a n : ℕ) (w xs : List ℕ) → a + n ≤ length xs → (at : ℕ) → at + 180 ≤ a → side_parts at (rewritten a n w xs) ≡ side_parts at xs
 side-below a n w xs within at h =
@@ -22,7 +22,7 @@ side-above a n w xs within at h =
     let same = part-above a n w xs within in
     rw (same at 24 (omega arith), same (at + 24) 24 (omega arith), same (at + 48) 24 (omega arith), same (at + 72) 24 (omega arith), same (at + 96) 24 (omega arith), same (at + 120) 24 (omega arith), same (at + 144) 36 (omega arith)) refl
 
--- a part of a side
+-- A part of a side
 
 active-written : (at : ℕ) (w xs : List ℕ) → at + 180 ≤ length xs
     → side_parts at (rewritten (at + 144) 36 w xs) ≡ record (side_parts at xs) { active = refill 36 (part (at + 144) 36 xs) w }
@@ -83,14 +83,14 @@ member-5-written at w xs h =
     let above = part-above (at + 120) 24 w xs within in
     rw (below at 24 (omega arith), below (at + 24) 24 (omega arith), below (at + 48) 24 (omega arith), below (at + 72) 24 (omega arith), below (at + 96) 24 (omega arith), above (at + 144) 36 (omega arith), part-same (at + 120) 24 w xs within) refl
 
--- what each loan leaves
+-- The result of each borrow
 
 pub header-lent : (xs w : List ℕ) → length xs ≡ 384 → parts_of (rewritten 0 24 w xs) ≡ record (parts_of xs) { header = refill 24 (part 0 24 xs) w }
 header-lent xs w long =
     let within : 0 + 24 ≤ length xs = omega arith in
     rw (part-same 0 24 w xs within, side-above 0 24 w xs within 24 (omega arith), side-above 0 24 w xs within 204 (omega arith)) refl
 
--- a part of side 1, and of side 2
+-- A part of side 1, and of side 2
 
 one-lent : (at n : ℕ) (w xs : List ℕ) → length xs ≡ 384 → 24 ≤ at → at + n ≤ 204
     → parts_of (rewritten at n w xs) ≡ record (parts_of xs) { one = side_parts 24 (rewritten at n w xs) }
@@ -104,7 +104,7 @@ two-lent at n w xs long low high =
     let within : at + n ≤ length xs = omega arith in
     rw (part-below at n w xs within 0 24 (omega arith), side-below at n w xs within 24 (omega arith)) refl
 
--- a part of either side
+-- A part of either side
 
 pub side-joined : (s : Side) (xs : List ℕ) → bytes_of_side (side_of s (parts_of xs)) ≡ part (side_at s) 180 xs
 side-joined One xs = side_one-joined xs
@@ -115,7 +115,7 @@ pub side-lent : (s : Side) (xs w : List ℕ) → length xs ≡ 384
 side-lent One xs w long = one-lent 24 180 w xs long (omega arith) (omega arith) ∙ ap (λ side. record (parts_of xs) { one = side }) (side-written 24 w xs (omega arith))
 side-lent Two xs w long = two-lent 204 180 w xs long (omega arith) (omega arith) ∙ ap (λ side. record (parts_of xs) { two = side }) (side-written 204 w xs (omega arith))
 
--- both sides, of bytes that lie side by side
+-- Both sides, from bytes in a row.
 abbrev sides_at : List ℕ → Parts → Parts
 sides_at bytes p = record p { one = side_parts 0 bytes; two = side_parts 180 bytes }
 
@@ -141,7 +141,7 @@ halves-written v w p long_v long_w =
     ∙ ap (λ side. record p { one = side; two = side_parts 180 (v ++ w) }) (side-first_of v w long_v)
     ∙ ap (λ side. record p { one = side_parts 0 v; two = side }) (side-second_of v w long_v)
 
--- a side's own 180 bytes and the other's
+-- A side's own 180 bytes and those of the foe's side.
 pub both-written : (s : Side) (v w : List ℕ) (p : Parts) → length v ≡ 180 → length w ≡ 180
     → with_sides (in_order s v w) p ≡ with_side s (side_parts 0 v) (with_side (other s) (side_parts 0 w) p)
 both-written One v w p long_v long_w = halves-written v w p long_v long_w
@@ -193,7 +193,7 @@ member-part Two (suc (suc (suc (suc (suc zero))))) xs low high = refl
 member-part Two (suc (suc (suc (suc (suc (suc zero)))))) xs low high = refl
 member-part Two (suc (suc (suc (suc (suc (suc (suc k))))))) xs low high = absurd (omega arith)
 
--- the same of the parts of a battle, which are those of its bytes
+-- The same for the parts of a battle, which are those of its bytes
 
 module _ (p : Parts) (long : length (joined p) ≡ 384) (same : parts_of (joined p) ≡ p) where
   pub header-leaves : (w : List ℕ) → parts_of (rewritten 0 24 w (joined p)) ≡ record p { header = refill 24 p.header w }
@@ -244,7 +244,7 @@ module _ (p : Parts) (long : length (joined p) ≡ 384) (same : parts_of (joined
       ∙ ap (λ (l : List ℕ). with_member s place (refill 24 l w) (parts_of (joined p))) (member-value s place low high)
       ∙ ap (λ (x : Parts). with_member s place (refill 24 (member_of s place p) w) x) same
 
--- both sides at once, a side's own bytes and the other's
+-- Both sides at once: a side's own bytes and those of the foe's side
 
 module _ (p : Parts) (long : (length (bytes_of_side p.one) ≡ 180) × (length (bytes_of_side p.two) ≡ 180)) where
   abbrev own : Side → List ℕ

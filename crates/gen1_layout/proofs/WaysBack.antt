@@ -1,4 +1,4 @@
--- A field read back from its bytes.
+-- Reading a field back from its bytes.
 use Rattle.std.proofs.Common.{Bool, List, None, Option, Some, [], ap, arith, cond, false, is_some, length, lit<, lit≤, map, min, max, nat_le, refl, replicate, slice_index, subst, suc, sym, true, zero, get_or, ℕ, ◌%◌, ◌*◌, ◌+◌, ◌++◌, ◌-◌, ◌/◌, ◌<◌, ◌==◌, ◌≡◌, ◌≤◌, ◌∙◌, ◌∷◌, inl, inr, ◌⊎◌}
 use Rattle.std.proofs.Math.Nat.{div-le_self}
 use Rattle.std.proofs.Math.Bool.{or-false}
@@ -37,21 +37,21 @@ use Rattle.gen1_layout.specs.Within.{state_in, Packs, Setting, Within}
 use Rattle.gen1_layout.proofs.Blocks.{blocks_get}
 use Rattle.gen1_layout.proofs.Steps.{member_ok}
 
--- numbers
+-- Numbers
 
 pub word_back : (v : ℕ) (rest : List ℕ) → v < 65536 → little_number 2 (low_byte v ∷ high_byte v ∷ rest) ≡ v
 word_back v rest h = little_number-reads_back 2 v rest h
 
--- 17 bits in four bytes
+-- 17 bits in four bytes.
 pub long_back : (v : ℕ) (rest : List ℕ) → v < 131072
     → little_number 4 (low_byte v ∷ high_byte v ∷ low_byte (v / 65536) ∷ high_byte (v / 65536) ∷ rest) ≡ v
 long_back v rest h = omega arith
 
--- the top byte of 17 bits, which is 0 either way
+-- The top byte of 17 bits, which is 0 in both forms.
 pub top_byte : (v : ℕ) → v < 131072 → v / 16777216 % 256 ≡ high_byte (v / 65536)
 top_byte v h = omega arith
 
--- enumerations
+-- Enumerations
 
 pub outcome_back : (o : Outcome) → IsOutcome o → outcome_of (outcome_byte o) ≡ o
 outcome_back outcomes.Ongoing h = refl
@@ -145,13 +145,13 @@ element_back Psychic = refl
 element_back Ice = refl
 element_back Dragon = refl
 
--- options
+-- Options
 
 pub none_back : {A : Type 0} (o : Option A) → is_some o ≡ false → None ≡ o
 none_back None e = refl
 none_back (Some a) e = cc
 
--- members, also at places where there is none
+-- Members, and places without one
 
 below_or : (a b : ℕ) → (a < b) ⊎ (b ≤ a)
 below_or a b = grind arith
@@ -172,7 +172,7 @@ blocks_any ms k few small = elim (below_or k (length ms)) [
       ∙ get_or-replicate 6 (k - length blocks) (replicate 24 0) [] (omega arith) ∙ ap member_block (sym (get_or-past ms k nobody past)))
 ]
 
--- what is known where a side may still have nobody out
+-- What is known while a side may have no member out
 
 module _ {g : Setting} {p : Parts} {f : Field} (h : Packs g p f) where
   pub header_packs : p.header ≡ header_block (state_in g f)
@@ -186,7 +186,7 @@ module _ {g : Setting} {p : Parts} {f : Field} (h : Packs g p f) where
   member_packs One place = ap (λ (q : Parts). get_or q.one.members (place - 1) []) h.same
   member_packs Two place = ap (λ (q : Parts). get_or q.two.members (place - 1) []) h.same
 
-  -- the member at any place
+  -- The member at any place.
   pub any_holds : (s : Side) (place : ℕ) → 1 ≤ place → place ≤ 6 → member_of s place p ≡ member_block (member_at place (party s f))
   any_holds s place low high = member_packs s place ∙ blocks_any (party s f).members (place - 1) (members_in s).size.1 (omega arith)
 
@@ -210,11 +210,11 @@ module _ {g : Setting} {p : Parts} {f : Field} (h : Packs g p f) where
     | inr e ↦ subst (λ (m : Member). IsStatus g.terms.rules m.status) (sym e) tt
   ]
 
-  -- where there is one
+  -- A place with a member.
   pub ok_inside : (s : Side) (place : ℕ) → 1 ≤ place → place ≤ length (party s f).members → IsMemberUnder g.terms.rules (member_at place (party s f))
   ok_inside s place low high = All-get_or (IsMemberUnder g.terms.rules) (party s f).members (place - 1) nobody (omega arith) (members_in s).each
 
-  -- and where there is none
+  -- A place without a member.
   pub nobody_past : (s : Side) (place : ℕ) → length (party s f).members < place → member_at place (party s f) ≡ nobody
   nobody_past s place beyond = get_or-past (party s f).members (place - 1) nobody (omega arith)
 
@@ -231,7 +231,7 @@ module _ {g : Setting} {p : Parts} {f : Field} (h : Packs g p f) where
   pub limit_packs : g.terms.limit < 65536
   limit_packs = omega (arith, h.terms.limit.1)
 
--- inside an update
+-- Inside an update
 
 module _ {g : Setting} {p : Parts} {f : Field} (h : Within g p f) where
   pub few_moves : (s : Side) → length (member_in s f).moves ≤ 4
@@ -243,7 +243,7 @@ module _ {g : Setting} {p : Parts} {f : Field} (h : Within g p f) where
   pub max_fits : (s : Side) → (member_in s f).max < 65536
   max_fits s = let m = (member_ok s h).numbers in omega (arith, m.max.1)
 
--- the bytes of a slot
+-- The bytes of a slot
 
 pub id_at : (m : Member) (slot : ℕ) → 1 ≤ slot → slot ≤ 4 → slice_index (member_block m) (slot + 14) ≡ (known_in slot m.moves).id
 id_at m zero low high = absurd (omega arith)
@@ -261,7 +261,7 @@ pp_at m (suc (suc (suc zero))) low high = refl
 pp_at m (suc (suc (suc (suc zero)))) low high = refl
 pp_at m (suc (suc (suc (suc (suc k))))) low high = absurd (omega arith)
 
--- stats as they stand
+-- Current stats
 
 one_fits : (stage n : ℕ) → at_stage stage n < 65536
 one_fits stage n = let x = n * percent_at stage / 100 in let e : at_stage stage n ≡ max 1 (min 999 x) = refl in omega (arith, e)
@@ -281,7 +281,7 @@ now_fits Special m a = one_fits a.stages.special m.special
 now_fits Accuracy m a = one_fits a.stages.accuracy 0
 now_fits Evasion m a = one_fits a.stages.evasion 0
 
--- numbers that types of the tables and the events take
+-- Numbers that types of the tables and the events accept
 
 between : (low high n : ℕ) → low ≤ n → n ≤ high → nat_le low n && nat_le n high ≡ true
 between low high n a b = grind (arith, nat_tests)
@@ -296,7 +296,7 @@ health_taken hp most a h range = ap (λ (b : Bool). cond b (Some a) None) (fits 
     fits : (hp most : ℕ) → hp ≤ most → 11 ≤ most → most ≤ 999 → nat_le hp most && nat_le 11 most && nat_le most 999 ≡ true
     fits hp most a b c = grind (arith, nat_tests)
 
--- whether a member lives, place by place
+-- Whether a member lives, place by place
 
 pub any_of_six : (ms : List Member) → length ms ≤ 6
     → is_living (get_or ms 0 nobody) || (is_living (get_or ms 1 nobody) || (is_living (get_or ms 2 nobody) || (is_living (get_or ms 3 nobody) || (is_living (get_or ms 4 nobody) || is_living (get_or ms 5 nobody)))))

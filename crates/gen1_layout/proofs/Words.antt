@@ -1,4 +1,4 @@
--- What most answers over the bytes cite, passed on.
+-- Reexports of what most proofs about the bytes use.
 pub use Rattle.std.proofs.Common.{Bool, List, None, Option, Some, [], add-one, ap, arith, false, inl, inr, is_some, length, lit<, lit≤, map, nat_le, nat_lt, refl, rules, slice_index, slice_index_or, slice_set, subst, suc, sym, true, zero, ℕ, ◌∙◌}
 pub use Rattle.std.proofs.lemmas.Bool.Decides.{nat_tests}
 pub use Rattle.gen1_stats.specs.Members.{IsBetween, Member, nobody}

@@ -1,4 +1,4 @@
--- What a byte of a field says, where it says anything (docs/LAYOUT.md, "Header", "Member", "Active block").
+-- The meaning of a field's byte, if it has one (docs/LAYOUT.md, "Header", "Member", "Active block").
 use Rattle.std.specs.Prelude.{None, Option, Some, if◌then◌else◌, ℕ, ◌==◌}
 use Rattle.gen1_tables.specs.declared.element.Element.{Element}
 use Rattle.gen1_tables.specs.declared.element.Element.TheVariants.{Normal, Fighting, Flying, Poison, Ground, Rock, Bug, Ghost, Fire, Water, Grass, Electric, Psychic, Ice, Dragon}
@@ -20,7 +20,7 @@ outcome_of n =
 abbrev pub request_of_byte : ℕ → Request
 request_of_byte n = if n == 1 then requests.Move else (if n == 2 then requests.Switch else requests.Pass)
 
--- a byte, and the mark
+-- The status of a byte and its mark.
 abbrev pub status_of : ℕ → ℕ → Status
 status_of n mark =
     if n == 0 then Healthy else (if n == 8 then Poisoned else (if n == 16 then Burned else (if n == 32 then Frozen
@@ -36,7 +36,7 @@ element_of n =
     else (if n == 9 then Water else (if n == 10 then Grass else (if n == 11 then Electric else (if n == 12 then Psychic
     else (if n == 13 then Ice else (if n == 14 then Dragon else Normal)))))))))))))
 
--- the turns of Bide, where it is on
+-- The turns of Bide, if it is on.
 abbrev pub turns_stored : Option Storing → Option ℕ
 turns_stored None = None
 turns_stored (Some b) = Some b.turns

@@ -1,10 +1,10 @@
--- 384 bytes that were taken apart are, joined, the bytes again (docs/LAYOUT.md, "The 384 bytes of a battle"): so a battle's
--- parts say what its bytes are.
+-- The parts of 384 bytes, joined, are the bytes again (docs/LAYOUT.md, "The 384 bytes of a battle"). So a battle's
+-- parts determine its bytes.
 use Rattle.std.proofs.Common.{List, ap, append_assoc, arith, drop, length, refl, sym, take, take-append-drop, ℕ, ◌++◌, ◌+◌, ◌≡◌, ◌∙◌}
 use Rattle.std.proofs.lemmas.List.{drop-drop, drop-take, take-take, take_all}
 use Rattle.gen1_layout.specs.Parts.{bytes_of_side, joined, part, parts_of, side_parts}
 
--- two parts side by side
+-- Two adjacent parts.
 pub part-part : (a n m : ℕ) (xs : List ℕ) → part a n xs ++ part (a + n) m xs ≡ part a (n + m) xs
 part-part a n m xs =
     let back : drop (a + n) xs ≡ drop n (drop a xs) = sym (drop-drop n a xs) in
@@ -13,7 +13,7 @@ part-part a n m xs =
     ap (λ (l : List ℕ). part a n xs ++ take m l) back ∙ ap (λ (l : List ℕ). part a n xs ++ l) shift
     ∙ ap (λ (l : List ℕ). l ++ drop n (part a (n + m) xs)) front ∙ take-append-drop n (part a (n + m) xs)
 
--- the bytes of a side are its parts side by side
+-- The bytes of a side are its parts in a row
 
 pub side_one-joined : (xs : List ℕ) → bytes_of_side (side_parts 24 xs) ≡ part 24 180 xs
 side_one-joined xs =

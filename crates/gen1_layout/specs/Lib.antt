@@ -1,18 +1,18 @@
--- The parts of the bytes, and what a lent part leaves.
+-- The parts of the bytes, and the result of a borrowed part.
 pub mod Parts
 pub mod Joined
 pub mod Lending
--- What the bytes stand for.
+-- What the bytes represent.
 pub mod Storable
 pub mod Within
 pub mod Decoding
 pub mod Flags
 pub mod SentOut
--- What an operation of an update has made.
+-- What an operation of an update shows.
 pub mod Shows
--- What contracts say and speak of, in a word each.
+-- Words for the clauses of contracts, and reexports.
 pub mod Words
--- Loading: the tests of the bytes, and what they mean.
+-- Loading: the tests of the bytes, and their meaning.
 pub mod LoadingBytes
 pub mod LoadingHeader
 pub mod LoadingMember

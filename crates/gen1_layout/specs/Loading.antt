@@ -1,5 +1,5 @@
--- Which bytes stand for a battle, and what reading answers where they do not (docs/LAYOUT.md, "Loading"): seven tests, of
--- which the first that fails names the fault.
+-- The bytes that represent a battle, and the result of reading other bytes (docs/LAYOUT.md, "Loading"). There are
+-- seven tests, and the first that fails names the error.
 use Rattle.std.specs.Prelude.{Err, List, Ok, Result, length, slice_index, ℕ, ◌<◌, ◌≡◌}
 use Rattle.gen1_stats.specs.Members.{IsBetween}
 use Rattle.gen1_layout.specs.declared.loading.LoadFault.{LoadFault}
@@ -12,7 +12,7 @@ use Rattle.gen1_layout.specs.LoadingActive.{PassesActiveAt}
 use Rattle.gen1_layout.specs.LoadingStats.{PassesStatsAt}
 use Rattle.gen1_layout.specs.LoadingRequests.{PassesRequests}
 
--- the tests of the form of version 3, each of both sides
+-- The tests of the form of version 3, each for both sides
 
 abbrev pub PassesOfMembers : List ℕ → Type 0
 PassesOfMembers form =
@@ -27,7 +27,7 @@ PassesOfStats form = PassesStatsAt (word form 1) (side_one form) × PassesStatsA
 abbrev pub PassesOfRequests : List ℕ → Type 0
 PassesOfRequests form = PassesRequests (header_of form) (side_one form) (side_two form)
 
--- the faults' numbers are those of their tests
+-- The numbers of errors are those of their tests.
 abbrev pub number_of : LoadFault → ℕ
 number_of faults.Length = 1
 number_of faults.Version = 2
@@ -37,7 +37,7 @@ number_of faults.Active = 5
 number_of faults.Stat = 6
 number_of faults.Request = 7
 
--- the seven tests. The first three are of the bytes themselves, the others of their form of version 3
+-- The seven tests. The first three are about the bytes themselves, the others about their form of version 3.
 abbrev pub PassesTest : LoadFault → List ℕ → Type 0
 PassesTest faults.Length bytes = length bytes ≡ 384
 PassesTest faults.Version bytes = IsBetween 1 3 (slice_index bytes 0)
@@ -47,16 +47,16 @@ PassesTest faults.Active bytes = PassesOfActives (version_three bytes)
 PassesTest faults.Stat bytes = PassesOfStats (version_three bytes)
 PassesTest faults.Request bytes = PassesOfRequests (version_three bytes)
 
--- bytes that pass every test with a lesser number
+-- Bytes that pass every test with a smaller number.
 abbrev pub PassesBefore : ℕ → List ℕ → Type 0
 PassesBefore number bytes = (fault : LoadFault) → number_of fault < number → PassesTest fault bytes
 
--- the form of version 3 where all tests pass, and else the fault of the first that fails
+-- The form of version 3 if all tests pass, and otherwise the error of the first test that fails.
 abbrev pub IsReadAs : Result (List ℕ) LoadFault → List ℕ → Type 0
 IsReadAs (Ok form) bytes = PassesBefore 8 bytes × (form ≡ version_three bytes)
 IsReadAs (Err fault) bytes = PassesBefore (number_of fault) bytes × (PassesTest fault bytes → ⊥)
 
--- the same of a battle that is loaded: its parts are those of the form
+-- The same for a loaded battle: its parts are those of the form.
 abbrev pub IsLoadedAs : Result Parts LoadFault → List ℕ → Type 0
 IsLoadedAs (Ok loaded) bytes = PassesBefore 8 bytes × (loaded ≡ parts_of (version_three bytes))
 IsLoadedAs (Err fault) bytes = PassesBefore (number_of fault) bytes × (PassesTest fault bytes → ⊥)

@@ -1,4 +1,4 @@
--- The test of an active block, but for its current stats (docs/LAYOUT.md, "Active block" and "Condition bits").
+-- The test of an active block, without its current stats (docs/LAYOUT.md, "Active block" and "Condition bits").
 use Rattle.std.specs.Prelude.{All, Bool, List, false, if◌then◌else◌, nat_le, slice_index, true, ℕ, ◌&&◌, ◌+◌, ◌<◌, ◌==◌, ◌||◌, ◌≡◌, ◌≢◌, ◌≤◌, ◌⊎◌}
 use Rattle.std.specs.Int.{bit_at}
 use Rattle.gen1_tables.specs.declared.effect.Effect.{Effect}
@@ -9,41 +9,41 @@ use Rattle.gen1_tables.specs.Effects.{bides, charges, rages, recharges, thrashes
 use Rattle.gen1_machine.specs.Valid.{OnlyWith}
 use Rattle.gen1_layout.specs.LoadingBytes.{active_bytes, long, member_bytes, word}
 
--- whether a condition is on, by the place of its bit
+-- Whether a condition is on, by the place of its bit.
 abbrev pub has : ℕ → List ℕ → Bool
 has bit active = bit_at (long active 17) bit == 1
 
--- a count in its range where a condition is on, and 0 where it is not
+-- A count is in its range if its condition is on, and 0 otherwise.
 abbrev pub CountFits : Bool → ℕ → ℕ → ℕ → Type 0
 CountFits true low high count = IsBetween low high count
 CountFits false low high count = count ≡ 0
 
--- slots
+-- Slots
 
 abbrev pub HoldsMove : List ℕ → ℕ → Type 0
 HoldsMove member slot = IsBetween 1 4 slot × (slice_index member (14 + slot) ≢ 0)
 
--- none, a slot that holds a move, or Struggle
+-- No move, a slot that holds a move, or Struggle.
 abbrev pub UsedFits : List ℕ → ℕ → Type 0
 UsedFits member used = (used ≡ 0) ⊎ ((used ≡ 5) ⊎ HoldsMove member used)
 
--- with Disabled a slot that holds a move, and a count
+-- With Disabled on, a slot that holds a move, and a count.
 abbrev pub DisabledFits : Bool → List ℕ → ℕ → ℕ → Type 0
 DisabledFits true member slot turns = HoldsMove member slot × IsBetween 1 8 turns
 DisabledFits false member slot turns = (slot ≡ 0) × (turns ≡ 0)
 
--- the turns of Bide and thrashing, and those of trapping
+-- The turns of Bide and thrashing, and those of trapping.
 abbrev pub TurnsFit : Bool → Bool → ℕ → Type 0
 TurnsFit true trapping turns = IsBetween 1 3 turns
 TurnsFit false trapping turns = CountFits trapping 0 4 turns
 
--- what is underway belongs to the current move
+-- What is underway belongs to the current move
 
--- a number without a move has no effect
+-- A number without a move has no effect.
 abbrev pub effect_of_number : ℕ → Effect
 effect_of_number id = if nat_le 1 id && nat_le id 165 then (move_row id).effect else effects.DamageOnly
 
--- the effect of the move in a slot; none for no slot, or for Struggle's
+-- The effect of the move in a slot. No slot has none, and neither has Struggle's.
 abbrev pub effect_in : List ℕ → ℕ → Effect
 effect_in member slot =
     effect_of_number (if nat_le 1 slot && nat_le slot 4 then slice_index member (14 + slot) else 0)
@@ -56,22 +56,22 @@ pub record PassesUnderway (effect : Effect) (active : List ℕ) : Type 0 where
   pub recharge : OnlyWith (recharges effect) (has 10 active)
   pub rage : OnlyWith (rages effect) (has 11 active)
 
--- the block
+-- The block
 
--- the numbers of the other conditions
+-- The numbers of the other conditions.
 pub record PassesCounts (member : List ℕ) (active : List ℕ) : Type 0 where
   pub substitute : CountFits (has 9 active) 0 249 (slice_index active 21)
   pub confused : CountFits (has 6 active) 1 5 (slice_index active 22)
   pub disabled : DisabledFits (has 16 active) member (slice_index active 23) (slice_index active 24)
   pub bad_poison : CountFits (has 13 active) 0 64 (slice_index active 25)
 
--- the numbers of what is underway
+-- The numbers of what is underway.
 pub record PassesProgress (active : List ℕ) : Type 0 where
   pub turns : TurnsFit (has 0 active || has 1 active) (has 2 active) (slice_index active 26)
   pub energy : CountFits (has 0 active) 0 65535 (word active 27)
   pub kept : CountFits (has 11 active || has 1 active) 1 255 (slice_index active 31)
 
--- stages are 6 more than their number
+-- Stages are stored as 6 more than their number.
 pub record PassesStages (active : List ℕ) : Type 0 where
   pub attack : slice_index active 3 ≤ 12
   pub defense : slice_index active 4 ≤ 12
@@ -80,7 +80,7 @@ pub record PassesStages (active : List ℕ) : Type 0 where
   pub accuracy : slice_index active 7 ≤ 12
   pub evasion : slice_index active 8 ≤ 12
 
--- what needs no other part
+-- The fields that depend on no other part.
 pub record PassesFixed (active : List ℕ) : Type 0 where
   pub first_type : slice_index active 1 ≤ 14
   pub second_type : slice_index active 2 ≤ 14
@@ -96,17 +96,17 @@ pub record PassesOut (member : List ℕ) (active : List ℕ) : Type 0 where
   pub picked_move : UsedFits member (slice_index active 30)
   pub underway : PassesUnderway (effect_in member (slice_index active 29)) active
 
--- the member that is out
+-- The member that is out.
 abbrev pub out_bytes : List ℕ → List ℕ
 out_bytes side = member_bytes (slice_index side 144) side
 
--- from turn 1 on
+-- From turn 1 on.
 pub record PassesActive (side : List ℕ) : Type 0 where
   pub place : IsBetween 1 6 (slice_index side 144)
   pub member : slice_index (out_bytes side) 0 ≢ 0
   pub out : PassesOut (out_bytes side) (active_bytes side)
 
--- at turn 0 nobody is out
+-- At turn 0 no member is out.
 pub record PassesActiveAt (turn : ℕ) (side : List ℕ) : Type 0 where
   pub before : turn ≡ 0 → All (λ byte. byte ≡ 0) (active_bytes side)
   pub later : 1 ≤ turn → PassesActive side

@@ -1,4 +1,4 @@
--- What bytes stand for, part by part (docs/LAYOUT.md, "Loading"): a part of a valid state whose packing they are.
+-- What bytes represent, part by part (docs/LAYOUT.md, "Loading"): the part of a valid state whose packing they are.
 use Rattle.std.specs.Prelude.{List, length, slice_index, slice_index_or, slice_range, ℕ, ◌++◌, ◌-◌, ◌<◌, ◌≡◌, ◌≤◌}
 use Rattle.gen1_rolls.specs.Streams.{IsStream, Link}
 use Rattle.gen1_stats.specs.declared.status.Status.TheVariants.{Healthy}
@@ -15,7 +15,7 @@ use Rattle.gen1_layout.specs.LoadingBytes.{active_bytes, places_of}
 abbrev pub AreBytes : List ℕ → Type 0
 AreBytes bytes = (k : ℕ) → slice_index bytes k < 256
 
--- a header: of a state whose sides are not looked at
+-- The header of a state. The sides of the state don't matter.
 pub record StandsForHeader (header : List ℕ) : Type 0 where
   pub state : State
   pub terms : IsTerms state.terms
@@ -25,29 +25,29 @@ pub record StandsForHeader (header : List ℕ) : Type 0 where
   pub outcome : IsOutcome state.field.outcome
   pub same : header ≡ header_block state
 
--- one member
+-- One member.
 pub record StandsForMember (rules : Rules) (block : List ℕ) : Type 0 where
   pub member : Member
   pub valid : IsMemberUnder rules member
   pub fallen : member.hp ≡ 0 → member.status ≡ Healthy
   pub same : block ≡ member_block member
 
--- the members of a side
+-- The members of a side.
 pub record StandsForMembers (rules : Rules) (side : List ℕ) : Type 0 where
   pub members : List Member
   pub valid : IsMembersUnder rules members
   pub fallen : FallenAreHealthy members
   pub same : places_of side ≡ member_blocks members
 
--- the member that is out, of a side with these members
+-- The member that is out, for a side with these members.
 abbrev pub out_of : List Member → Active → Member
 out_of members a = slice_index_or members (a.place - 1) nobody
 
--- an active block but for its current stats
+-- An active block without its current stats.
 abbrev pub beside_stats : List ℕ → List ℕ
 beside_stats block = slice_range block 0 9 ++ slice_range block 17 36
 
--- an active block, of a member that is out: current stats and penalties are not looked at
+-- The active block of a member that is out. Current stats and penalties don't matter.
 pub record StandsForActive (members : List Member) (side : List ℕ) : Type 0 where
   pub active : Active
   pub place : IsBetween 1 (length members) active.place
@@ -55,26 +55,26 @@ pub record StandsForActive (members : List Member) (side : List ℕ) : Type 0 wh
   pub kept : KeepsAccuracy active
   pub same : beside_stats (active_bytes side) ≡ beside_stats (active_block (out_of members active) active)
 
--- the current stats: those of this active after so many penalties
+-- The current stats: those of this active member after some number of penalties.
 pub record StandsForStats (member : Member) (a : Active) (block : List ℕ) : Type 0 where
   pub halved : ℕ
   pub quartered : ℕ
   pub same : block ≡ active_block member (record a { attack_penalties = halved; speed_penalties = quartered })
 
--- the whole: the packing of a valid state
+-- The whole: the packing of a valid state.
 pub record StandsFor (form : List ℕ) : Type 0 where
   pub state : State
   pub valid : IsState state
   pub same : form ≡ bytes_of state
 
--- bytes of one of the three versions, whose form of version 3 stands for a state
+-- Bytes of one of the three versions whose form of version 3 represents a state.
 pub record IsBattle (bytes : List ℕ) : Type 0 where
   pub full : length bytes ≡ 384
   pub version : IsBetween 1 3 (slice_index bytes 0)
   pub keeps : PassesVersion bytes
   pub stands : StandsFor (version_three bytes)
 
--- a battle that was loaded
+-- A loaded battle.
 pub record StandsForSome (loaded : Parts) : Type 0 where
   pub state : State
   pub stands : Stands loaded state

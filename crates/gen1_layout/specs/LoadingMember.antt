@@ -15,7 +15,7 @@ pub record PassesOwnStats (member : List ℕ) : Type 0 where
   pub speed : IsBetween 5 999 (word member 10)
   pub special : IsBetween 5 999 (word member 12)
 
--- the status and its mark
+-- The status and its mark
 
 abbrev pub status_fits : ℕ → Bool
 status_fits byte = nat_le byte 8 || byte == 16 || byte == 32 || byte == 64
@@ -26,13 +26,13 @@ pub record PassesStatus (rules : ℕ) (member : List ℕ) : Type 0 where
   pub mark : slice_index member 23 ≤ 1
   pub marked : slice_index member 23 ≡ 1 → (rules % 2 ≡ 1) × IsBetween 1 7 (slice_index member 14)
 
--- the moves
+-- The moves
 
--- a move that a member may know
+-- A move that a member may know.
 abbrev pub may_be_known : ℕ → Bool
 may_be_known id = nat_le 1 id && nat_le id 164 && not (is_left_out id)
 
--- no move, or one with its PP that comes after moves, each another
+-- No move, or a move with its PP. Slots before a move hold other moves.
 abbrev pub PassesSlot : ℕ → List ℕ → Type 0
 PassesSlot slot member =
     ((slice_index member (14 + slot) ≡ 0) × (slice_index member (18 + slot) ≡ 0))
@@ -52,9 +52,9 @@ pub record PassesMember (rules : ℕ) (member : List ℕ) : Type 0 where
   pub status : PassesStatus rules member
   pub moves : PassesMoves member
 
--- the places
+-- The places
 
--- nobody, or a member that comes after a member
+-- No member, or a member. The place before a member holds a member.
 abbrev pub PassesPlace : ℕ → List ℕ → List ℕ → Type 0
 PassesPlace rules before member =
     All (λ byte. byte ≡ 0) member ⊎ (PassesMember rules member × (slice_index before 0 ≢ 0))

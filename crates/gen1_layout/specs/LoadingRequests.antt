@@ -10,30 +10,30 @@ lives member = nat_lt 0 (word member 4)
 abbrev pub any_lives : List ℕ → Bool
 any_lives side = any lives (places_of side)
 
--- the two requests: 0 is Pass, 1 Move, 2 Switch
+-- The two requests: 0 is Pass, 1 is Move, 2 is Switch.
 abbrev pub Asks : List ℕ → ℕ → ℕ → Type 0
 Asks header one two = (slice_index header 17 ≡ one) × (slice_index header 18 ≡ two)
 
--- before the first turn
+-- Before the first turn.
 pub record PassesStart (header : List ℕ) (one two : List ℕ) : Type 0 where
   pub ongoing : slice_index header 16 ≡ 0
   pub asks : Asks header 0 0
   pub first_one : lives (member_bytes 1 one) ≡ true
   pub first_two : lives (member_bytes 1 two) ≡ true
 
--- by whether the two that are out live; nobody is replaced after the last turn
+-- By whether the two members that are out live. No member is replaced after the last turn.
 abbrev pub PassesAsked : Bool → Bool → List ℕ → Type 0
 PassesAsked true true header = Asks header 1 1
 PassesAsked false true header = Asks header 2 0 × (word header 1 < word header 20)
 PassesAsked true false header = Asks header 0 2 × (word header 1 < word header 20)
 PassesAsked false false header = Asks header 2 2 × (word header 1 < word header 20)
 
--- the turn is the last and both sides live, or neither does
+-- The turn is the last and both sides live, or neither does.
 abbrev pub PassesTie : Bool → Bool → List ℕ → Type 0
 PassesTie one two header =
     ((one ≡ false) × (two ≡ false)) ⊎ ((word header 1 ≡ word header 20) × (one ≡ true) × (two ≡ true))
 
--- from turn 1 on; the outcomes are 0 Ongoing, 1 WinOne, 2 WinTwo, 3 Tie, 4 and 5 a fault
+-- From turn 1 on. The outcomes are 0 Ongoing, 1 WinOne, 2 WinTwo, 3 Tie, 4 and 5 a fault.
 pub record PassesLater (header : List ℕ) (one two : List ℕ) : Type 0 where
   pub ongoing :
       slice_index header 16 ≡ 0

@@ -6,7 +6,7 @@ use Rattle.gen1_machine.specs.Stages.{now_at}
 use Rattle.gen1_layout.specs.LoadingBytes.{active_bytes, word}
 use Rattle.gen1_layout.specs.LoadingActive.{out_bytes}
 
--- an unmodified stat at its stage, after so many penalties at most
+-- An unmodified stat at its stage, after at most this many penalties.
 pub record ComesFrom (unmodified stage : ℕ) (stat : Stat) (most current : ℕ) : Type 0 where
   pub times : ℕ
   pub few : times ≤ most
@@ -18,6 +18,6 @@ pub record PassesStats (member : List ℕ) (active : List ℕ) : Type 0 where
   pub speed : ComesFrom (word member 10) (slice_index active 5) Speed 5 (word active 13)
   pub special : ComesFrom (word member 12) (slice_index active 6) Special 0 (word active 15)
 
--- from turn 1 on
+-- The test from turn 1 on.
 pub record PassesStatsAt (turn : ℕ) (side : List ℕ) : Type 0 where
   pub later : 1 ≤ turn → PassesStats (out_bytes side) (active_bytes side)

@@ -6,7 +6,7 @@ use Rattle.gen1_stats.specs.Members.{Member}
 use Rattle.gen1_machine.specs.State.{nobody_out, Active}
 use Rattle.gen1_machine.specs.CurrentStats.{now}
 
--- at a place from 1, with two types, and after so many halvings of Attack and quarterings of Speed
+-- At a place from 1, with two types, and after this many halvings of Attack and quarterings of Speed.
 abbrev pub sent_as : ℕ → Element → Element → ℕ → ℕ → Active
 sent_as place first second halved quartered = record nobody_out {
   place = place;
@@ -16,10 +16,10 @@ sent_as place first second halved quartered = record nobody_out {
   speed_penalties = quartered;
 }
 
--- the four stats as they stand
+-- The four current stats.
 abbrev pub stats_of : Member → Active → List ℕ
 stats_of m a = now Attack m a ∷ now Defense m a ∷ now Speed m a ∷ now Special m a ∷ []
 
--- and a member's own
+-- The four own stats of a member.
 abbrev pub own_stats_of : Member → List ℕ
 own_stats_of m = m.attack ∷ m.defense ∷ m.speed ∷ m.special ∷ []

@@ -1,5 +1,6 @@
--- What code of an update has made: the bytes, the events so far and the generator stand for a battle in the middle of an
--- update. An operation is said by its phase: from what is shown before follows that its phase of it is shown after.
+-- What the code of an update shows: its bytes, the events so far and the generator represent a battle in the middle
+-- of an update. An operation is described by its phase. If something is shown before it, the phase of that is shown
+-- after it.
 use Rattle.std.specs.Prelude.{Bool, List, false, ℕ, ◌≡◌}
 use Rattle.gen1_rolls.specs.Draws.{StandsAt}
 use Rattle.gen1_rolls.specs.Streams.{Stream}
@@ -8,15 +9,16 @@ use Rattle.gen1_machine.specs.Progress.{Action, Phase, Progress}
 use Rattle.gen1_layout.specs.Parts.{Parts}
 use Rattle.gen1_layout.specs.Within.{Packs, Setting, Within}
 
--- what has been told of events: of a list that it is the one. What takes events says so of itself (gen1_events, `EventSink`)
+-- A property of a list of events, such as that they are the ones written. What receives the events defines it
+-- (gen1_events, `EventSink`).
 abbrev pub Telling : Type 1
 Telling = List Event → Type 0
 
--- these events and no others, where nobody has to know who takes them
+-- These events and no others, for lemmas that don't depend on what receives them.
 abbrev pub Told : List Event → Telling
 Told events told = events ≡ told
 
--- what is known beside the bytes and the events
+-- What is known in addition to the bytes and the events.
 pub record Frame : Type 0 where
   pub setting : Setting
   pub stream : Stream
@@ -24,7 +26,7 @@ pub record Frame : Type 0 where
   pub skips : Bool
   pub action : Action
 
--- the parts stand for p, its events have been told, and `stopped` tells whether p has stopped
+-- The parts represent p, its events have been written, and `stopped` says whether p has stopped.
 pub record Shows (g : Frame) (parts : Parts) (events : Telling) (stopped : Bool) (p : Progress) : Type 0 where
   pub within : Within g.setting parts p.field
   pub written : events p.events
@@ -34,7 +36,7 @@ pub record Shows (g : Frame) (parts : Parts) (events : Telling) (stopped : Bool)
   pub skips : p.skips ≡ g.skips
   pub action : p.action ≡ g.action
 
--- the same while a side may still have nobody out; nothing stops there
+-- The same while a side may have no member out. Nothing stops there.
 pub record ShowsPacked (g : Frame) (parts : Parts) (events : Telling) (p : Progress) : Type 0 where
   pub packs : Packs g.setting parts p.field
   pub written : events p.events
@@ -44,17 +46,18 @@ pub record ShowsPacked (g : Frame) (parts : Parts) (events : Telling) (p : Progr
   pub skips : p.skips ≡ g.skips
   pub action : p.action ≡ g.action
 
--- what is shown inside an update, with a generator, which stands exactly where p has drawn to; what the frame says of draws is then of no account
+-- What is shown inside an update with a generator, which is at the place that p has drawn to. What the frame says
+-- about draws doesn't matter then.
 pub record ShowsDrawn {A : Type 0} (byte : A → ℕ) (next : A → A) (width : ℕ) (origin : A) (g : Frame) (parts : Parts) (events : Telling) (now : A) (stopped : Bool) (p : Progress) : Type 0 where
   pub shows : Shows (record g { drawn = p.drawn }) parts events stopped p
   pub stands : StandsAt byte next width origin g.stream p.drawn now
 
--- code with no draws, from these parts and events to those, does what a phase does
+-- Code without draws, from these parts and events to those, does what a phase does.
 abbrev pub Does : Parts → Telling → Parts → Telling → Bool → Phase → Type 0
 Does parts events parts' events' stopped phase =
     (g : Frame) (p : Progress) → Shows g parts events false p → Shows g parts' events' stopped (phase p)
 
--- code with draws does what a phase does, whatever generator it was handed
+-- Code with draws does what a phase does, for any generator that it is given.
 abbrev pub DoesDrawing : {A : Type 0} → (A → ℕ) → (A → A) → ℕ → Parts → Telling → A → Parts → Telling → A → Bool → Phase → Type 0
 DoesDrawing {A = A} byte next width parts events old parts' events' new stopped phase =
     (origin : A) (g : Frame) (p : Progress) → ShowsDrawn byte next width origin g parts events old false p

@@ -1,6 +1,8 @@
--- What a field keeps to so that its bytes tell it (docs/LAYOUT.md): each number in its range, and one at most of Bide, thrashing
--- and trapping, whose turns share a byte. It is weaker than `IsField` of a battle inside an update, which also ties
--- conditions to the current move, and every write of a number in its range keeps it.
+-- What a field has to keep to so that its bytes determine it (docs/LAYOUT.md). Each number is in its range, and at
+-- most one of Bide, thrashing and trapping is on, since their turns share a byte.
+--
+-- This is weaker than `IsField` for a battle inside an update, which also ties conditions to the current move. Every
+-- write of a number in its range keeps it.
 use Rattle.std.specs.Prelude.{None, Option, Some, is_some, length, ℕ, ◌+◌, ◌≤◌}
 use Rattle.gen1_stats.specs.Members.{IsBetween}
 use Rattle.gen1_machine.specs.declared.picks.DisabledSlot.{DisabledSlot}
@@ -23,7 +25,7 @@ pub record IsStorableUnderway (u : Underway) : Type 0 where
   pub trapping : IsCount 0 4 u.trapping
   pub alone : bit_of (is_some u.bide) + bit_of (is_some u.thrash) + bit_of (is_some u.trapping) ≤ 1
 
--- for a member that knows so many moves
+-- For a member that knows this many moves.
 pub record IsStorableConditions (count : ℕ) (c : ActiveConditions) : Type 0 where
   pub underway : IsStorableUnderway c.underway
   pub confused : IsCount 0 5 c.confused

@@ -1,5 +1,5 @@
--- What the parts of a packed battle stand for (docs/LAYOUT.md, "The 384 bytes of a battle"): a state between two updates
--- (`Stands`), and a field inside an update (`Within`). Both are said by the machine's own packing, block by block.
+-- What the parts of a packed battle represent (docs/LAYOUT.md, "The 384 bytes of a battle"): a state between two
+-- updates (`Stands`), and a field inside an update (`Within`). Both use the machine's own packing, block by block.
 use Rattle.std.specs.Prelude.{List, ℕ, ◌≡◌, ◌≤◌}
 use Rattle.gen1_rolls.specs.Streams.{IsStream, Link}
 use Rattle.gen1_machine.specs.State.{Field, Party, State, Terms}
@@ -8,7 +8,7 @@ use Rattle.gen1_machine.specs.Valid.{IsMembersUnder, IsOutcome, IsState, IsTerms
 use Rattle.gen1_layout.specs.Parts.{Parts, SideParts}
 use Rattle.gen1_layout.specs.Storable.{IsStorable}
 
--- the packing, block by block; joined, the blocks are `bytes_of` of the machine
+-- The packing, block by block. The blocks, joined, are `bytes_of` of the machine
 
 abbrev pub side_blocks : Party → SideParts
 side_blocks t = record { members = member_blocks t.members; active = active_block_of t }
@@ -16,12 +16,12 @@ side_blocks t = record { members = member_blocks t.members; active = active_bloc
 abbrev pub blocks_of : State → Parts
 blocks_of s = record { header = header_block s; one = side_blocks s.field.one; two = side_blocks s.field.two }
 
--- a packed battle stands for a state
+-- A packed battle represents a state.
 pub record Stands (p : Parts) (s : State) : Type 0 where
   pub same : p ≡ blocks_of s
   pub valid : IsState s
 
--- what an update finds and the writes to a field leave alone: the terms, the seed, and the draws that the bytes tell
+-- What an update finds and writes to a field don't change: the terms, the seed, and the number of draws in the bytes.
 pub record Setting : Type 0 where
   pub terms : Terms
   pub seed : List ℕ
@@ -33,14 +33,14 @@ setting_of s = record { terms = s.terms; seed = s.seed; drawn = s.drawn }
 abbrev pub state_in : Setting → Field → State
 state_in g f = record { terms = g.terms; field = f; seed = g.seed; drawn = g.drawn }
 
--- inside an update, with a member out on both sides, the parts stand for a field
+-- Inside an update, with a member out on both sides, the parts represent a field.
 pub record Within (g : Setting) (p : Parts) (f : Field) : Type 0 where
   pub same : p ≡ blocks_of (state_in g f)
   pub terms : IsTerms g.terms
   pub seed : IsStream (Link g.seed)
   pub storable : IsStorable g.terms f
 
--- the same while a side may still have nobody out, as before the first update
+-- The same while a side may have no member out, as before the first update.
 pub record Packs (g : Setting) (p : Parts) (f : Field) : Type 0 where
   pub same : p ≡ blocks_of (state_in g f)
   pub terms : IsTerms g.terms

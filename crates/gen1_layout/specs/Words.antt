@@ -1,4 +1,4 @@
--- The words of contracts: one for each thing that many of them say, and those that they speak of, passed on.
+-- Words for the clauses of contracts, one for each common statement, and reexports of what the clauses are about.
 use Rattle.gen1_layout.specs.Parts.{Parts}
 use Rattle.std.specs.Prelude.{◌+◌, ◌≡◌, ◌≤◌}
 pub use Rattle.std.specs.Prelude.{Bool, IsTrue, List, None, Option, Some, [], false, is_some, length, map, nat_le, nat_lt, not, slice_index_or, slice_set, true, zero, ℕ}
@@ -14,23 +14,23 @@ pub use Rattle.gen1_machine.specs.Progress.{Phase, Progress, conditions, draw, s
 pub use Rattle.gen1_layout.specs.Within.{Packs, Setting, Within}
 pub use Rattle.gen1_layout.specs.Shows.{Does, DoesDrawing, Frame, Shows, ShowsDrawn, Telling, Told}
 
--- reading: wherever the parts stand for a field, a value is this of the field
+-- Reading: whenever the parts represent a field, a value is this value of the field
 
 abbrev pub Reads : {A : Type 0} → Parts → A → (Field → A) → Type 0
 Reads parts value read = (g : Setting) (f : Field) → Within g parts f → value ≡ read f
 
--- the same of what no write to a field changes
+-- The same for what no write to a field changes.
 abbrev pub ReadsSetting : {A : Type 0} → Parts → A → (Setting → A) → Type 0
 ReadsSetting parts value read = (g : Setting) (f : Field) → Within g parts f → value ≡ read g
 
--- of a field in which somebody may not be out yet
+-- The same for a field in which a member may not be out yet.
 abbrev pub ReadsPacked : {A : Type 0} → Parts → A → (Field → A) → Type 0
 ReadsPacked parts value read = (g : Setting) (f : Field) → Packs g parts f → value ≡ read f
 
 abbrev pub ReadsPackedSetting : {A : Type 0} → Parts → A → (Setting → A) → Type 0
 ReadsPackedSetting parts value read = (g : Setting) (f : Field) → Packs g parts f → value ≡ read g
 
--- changing: wherever the parts stood for a field, they now stand for what the change makes of it
+-- Changing: whenever the parts represented a field, they now represent the changed field
 
 abbrev pub Changes : Parts → Parts → (Field → Field) → Type 0
 Changes old new change = (g : Setting) (f : Field) → Within g old f → Within g new (change f)
@@ -38,8 +38,8 @@ Changes old new change = (g : Setting) (f : Field) → Within g old f → Within
 abbrev pub ChangesPacked : Parts → Parts → (Field → Field) → Type 0
 ChangesPacked old new change = (g : Setting) (f : Field) → Packs g old f → Packs g new (change f)
 
--- writing a part of a side: the same for each change that makes this of the old value, and where so much is asked of the
--- field, under that
+-- Writing a part of a side: the same for each change that gives this new value for the old one. The forms with `If`
+-- have a premise about the field
 
 abbrev pub WritesMember : Side → Parts → Parts → (Member → Member) → Type 0
 WritesMember s old new written =
@@ -71,13 +71,13 @@ WritesConditionsIf s old new written fits =
     (g : Setting) (f : Field) (change : ActiveConditions → ActiveConditions) → Within g old f
     → change (conditions_in s f) ≡ written (conditions_in s f) → fits g f → Within g new (changed_conditions s change f)
 
--- doing: what a phase does that depends on what there is, where code was handed this
+-- Doing: what a phase does that depends on a value of the battle, for code that was given that value
 
 abbrev pub DoesSeeing : {A : Type 0} → (Progress → A) → A → Parts → Telling → Parts → Telling → Bool → Phase → Type 0
 DoesSeeing read value parts events parts' events' stopped phase =
     (g : Frame) (p : Progress) → read p ≡ value → Shows g parts events false p → Shows g parts' events' stopped (phase p)
 
--- events: there is room for so many more; at most so many were added, or none
+-- Events: there is room for n more, at most n were added, or none were
 
 abbrev pub HasRoom : {S : Type 0} → (S → ℕ) → ℕ → S → Type 0
 HasRoom room n events = n ≤ room events

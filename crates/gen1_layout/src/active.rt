@@ -1,4 +1,4 @@
-//! The fields of an active block (docs/LAYOUT.md, "Active block"), but for conditions.
+//! The fields of an active block (docs/LAYOUT.md, "Active block"), without the conditions.
 ghost use Rattle.std.specs.Prelude.{◌≡◌, ◌≤◌};
 ghost use Rattle.gen1_layout.specs.Words.{Active, Field, Member, Packs, Reads, Setting, Within, WritesActive, WritesActiveIf, active_in, changed_active, false, has_number, length, member_at, member_in, now, now_in, party, stage_of, true, ℕ};
 ghost use Rattle.gen1_tables.specs.declared.effect.Stat.TheVariants.{Attack, Defense, Special, Speed};
@@ -14,21 +14,21 @@ use gen1_machine::{Side, UsedMove};
 use gen1_tables::{Element, Stat};
 
 impl Packed {
-    /// The first type of the member that is out, which need not be its species'.
+    /// The first type of the member that is out. It can differ from its species' type.
     pub fn first_type(&self, side: Side) -> Element
         ensures stands { Reads self.now result λ f. (active_in side f).first_type }
     {
         element_from(self.active(side)[1])
     }
 
-    /// Its second type.
+    /// The second type of the member that is out.
     pub fn second_type(&self, side: Side) -> Element
         ensures stands { Reads self.now result λ f. (active_in side f).second_type }
     {
         element_from(self.active(side)[2])
     }
 
-    /// A stage, from 0 to 12 with 6 in the middle.
+    /// A stage, 0 to 12. The middle is 6.
     pub fn stage(&self, side: Side, stat: Stat) -> u8
         ensures stands { Reads self.now result λ f. stage_of stat (active_in side f).stages }
     {
@@ -42,8 +42,8 @@ impl Packed {
         }
     }
 
-    /// A stat as it stands, at its stage and after its penalties, from 1 to 999; accuracy and evasion have no number and
-    /// give 1.
+    /// A current stat, at its stage and after its penalties, 1 to 999. For accuracy and evasion, which have no
+    /// number, it is 1.
     pub fn current_stat(&self, side: Side, stat: Stat) -> u16
         ensures stands { (g : Setting) (f : Field) → Within g self.now f → has_number stat ≡ true
             → result ≡ now_in stat side f }
@@ -59,21 +59,21 @@ impl Packed {
         }
     }
 
-    /// The move that was used last: none, a slot from 1 to 4, or Struggle.
+    /// The move that was used last: none, a slot 1 to 4, or Struggle.
     pub fn current_move(&self, side: Side) -> UsedMove
         ensures stands { Reads self.now result λ f. (active_in side f).current_move }
     {
         used_from(self.active(side)[29])
     }
 
-    /// The move that was picked last: none, a slot from 1 to 4, or Struggle.
+    /// The move that was picked last: none, a slot 1 to 4, or Struggle.
     pub fn picked_move(&self, side: Side) -> UsedMove
         ensures stands { Reads self.now result λ f. (active_in side f).picked_move }
     {
         used_from(self.active(side)[30])
     }
 
-    /// The accuracy byte that is kept for a move that goes on, from 0 to 255.
+    /// The accuracy byte that is kept for a move that goes on, 0 to 255.
     pub fn kept_accuracy(&self, side: Side) -> u8
         ensures stands { Reads self.now result λ f. (active_in side f).kept_accuracy }
     {
@@ -112,7 +112,7 @@ impl Packed {
         self.active_mut(side)[30] = byte;
     }
 
-    /// Writes the accuracy byte that is kept.
+    /// Writes the kept accuracy byte.
     pub fn put_kept_accuracy(&mut self, side: Side, byte: u8)
         ensures stands { WritesActive side self.old self.new λ a. record a
             { kept_accuracy = byte } }
@@ -120,7 +120,7 @@ impl Packed {
         self.active_mut(side)[31] = byte;
     }
 
-    /// Writes the stage of accuracy, from 0 to 12. There is no number beside it.
+    /// Writes the stage of accuracy, 0 to 12. It has no number.
     pub fn put_accuracy(&mut self, side: Side, stage: u8)
         ensures stands { WritesActiveIf side self.old self.new
             (λ a. record a { stages = record a.stages { accuracy = stage } }) λ g f. stage ≤ 12 }
@@ -128,7 +128,7 @@ impl Packed {
         self.active_mut(side)[7] = stage;
     }
 
-    /// Writes the stage of evasion, from 0 to 12.
+    /// Writes the stage of evasion, 0 to 12. It has no number.
     pub fn put_evasion(&mut self, side: Side, stage: u8)
         ensures stands { WritesActiveIf side self.old self.new
             (λ a. record a { stages = record a.stages { evasion = stage } }) λ g f. stage ≤ 12 }
@@ -136,7 +136,7 @@ impl Packed {
         self.active_mut(side)[8] = stage;
     }
 
-    /// Writes the stage of Attack, and the Attack that it gives, after any number of halvings.
+    /// Writes the stage of Attack, 0 to 12, and the Attack at it, after any number of halvings.
     pub fn put_attack(&mut self, side: Side, stage: u8, value: u16)
         ensures stands { (g : Setting) (f : Field) (change : Active → Active) (penalties : ℕ)
             → Within g self.old f
@@ -153,7 +153,7 @@ impl Packed {
         put_word!(active, 9..11, value);
     }
 
-    /// Writes the stage of Speed, and the Speed that it gives, after any number of quarterings.
+    /// Writes the stage of Speed, 0 to 12, and the Speed at it, after any number of quarterings.
     pub fn put_speed(&mut self, side: Side, stage: u8, value: u16)
         ensures stands { (g : Setting) (f : Field) (change : Active → Active) (penalties : ℕ)
             → Within g self.old f
@@ -170,7 +170,7 @@ impl Packed {
         put_word!(active, 13..15, value);
     }
 
-    /// Writes the stage of Defense, and the Defense that it gives.
+    /// Writes the stage of Defense, 0 to 12, and the Defense at it.
     pub fn put_defense(&mut self, side: Side, stage: u8, value: u16)
         ensures stands { (g : Setting) (f : Field) (change : Active → Active) → Within g self.old f
             → change (active_in side f) ≡ record (active_in side f)
@@ -183,7 +183,7 @@ impl Packed {
         put_word!(active, 11..13, value);
     }
 
-    /// Writes the stage of Special, and the Special that it gives.
+    /// Writes the stage of Special, 0 to 12, and the Special at it.
     pub fn put_special(&mut self, side: Side, stage: u8, value: u16)
         ensures stands { (g : Setting) (f : Field) (change : Active → Active) → Within g self.old f
             → change (active_in side f) ≡ record (active_in side f)
@@ -196,8 +196,10 @@ impl Packed {
         put_word!(active, 15..17, value);
     }
 
-    /// Sends out the member at a place from 1: with these types, all stages in the middle, its Attack, Defense, Speed and
-    /// Special as they stand, and no condition. Before the first update nobody needs to be out.
+    /// Sends out the member at a place from 1, with these types and these current stats.
+    ///
+    /// `stats` are its Attack, Defense, Speed and Special. All stages are in the middle, and no condition is on. A
+    /// side may have no member out before, as before the first update.
     pub fn put_sent_out(
         &mut self,
         side: Side,
@@ -230,7 +232,7 @@ fn sent_block(place: u8, first: Element, second: Element, stats: [u16; 4]) -> [u
         → stats ≡ stats_of m (sent_as place first second halved quartered)
         → result ≡ active_block m (sent_as place first second halved quartered) }
 {
-    // Behind place, types, stages and stats all is 0: no condition, no count, no move.
+    // After place, types, stages and stats all bytes are 0: no condition, no count, no move.
     let mut block = [0; 36];
     block[..17].copy_from_slice(&[
         place,

@@ -1,4 +1,4 @@
-//! The bytes that stand for a status, a type, a move in use and the like (docs/LAYOUT.md, "Header", "Member", "Active block").
+//! The bytes of a status, a type, a used move and the like (docs/LAYOUT.md, "Header", "Member", "Active block").
 ghost use Rattle.std.specs.Prelude.{unwrap_or, ℕ, ◌≡◌, ◌≤◌};
 ghost use Rattle.gen1_stats.specs.Members.{is_marked};
 ghost use Rattle.gen1_machine.specs.Rules.{bit_of};
@@ -22,7 +22,7 @@ pub(crate) fn outcome_from(byte: u8) -> Outcome
     }
 }
 
-/// The byte that stands for an outcome (docs/LAYOUT.md, "Header"), from 0 to 5.
+/// The byte of an outcome, 0 to 5 (docs/LAYOUT.md, "Header").
 pub fn byte_of_outcome(outcome: Outcome) -> u8
     ensures value { ((code : ℕ) → outcome ≡ Outcome.Fault code → code ≤ 2)
         → result ≡ outcome_byte outcome }
@@ -47,7 +47,7 @@ pub(crate) fn request_from(byte: u8) -> Request
     }
 }
 
-/// The byte that stands for what is asked of a side (docs/LAYOUT.md, "Header"), from 0 to 2.
+/// The byte of a request, 0 to 2 (docs/LAYOUT.md, "Header").
 pub fn byte_of_request(request: Request) -> u8
     ensures value { result ≡ request_byte request }
     ensures small { result ≤ 2 }

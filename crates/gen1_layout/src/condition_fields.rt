@@ -23,7 +23,7 @@ impl Packed {
         Conditions::from_bits_retain(long!(self.active(side), 17..21))
     }
 
-    /// Whether it has a condition.
+    /// Whether the member that is out has a condition.
     pub fn is_on(&self, side: Side, which: Conditions) -> bool
         ensures stands { (k : ℕ) → which.0 ≡ 2 ^ k
             → Reads self.now result λ f. slice_index_or (condition_bits (conditions_in side f)) k
@@ -32,8 +32,9 @@ impl Packed {
         self.conditions(side).has(which)
     }
 
-    /// Whether it has one at least of several conditions, by the places of their bits. Of two it is
-    /// `has_any(side, Conditions::MIST.union(Conditions::RAGE))`.
+    /// Whether the member that is out has at least one of several conditions, by the places of their bits.
+    ///
+    /// For two conditions it is `has_any(side, Conditions::MIST.union(Conditions::RAGE))`.
     pub fn has_any(&self, side: Side, which: Conditions) -> bool
         ensures stands { (places : List ℕ) → which.0 ≡ set_at places
             → Reads self.now result λ f. any_at places (condition_bits (conditions_in side f)) }
@@ -41,7 +42,7 @@ impl Packed {
         self.conditions(side).has_any(which)
     }
 
-    // The byte of the active block that belongs to a condition, where it is on.
+    // The byte of the active block that belongs to a condition, if the condition is on.
     fn count_of(&self, side: Side, which: Conditions, at: usize) -> Option<u8>
         requires { at < 36 }
         ensures stands { (k : ℕ) → which.0 ≡ 2 ^ k
@@ -56,28 +57,28 @@ impl Packed {
         }
     }
 
-    /// The HP of its Substitute, from 0 to 249. `None` without one.
+    /// The HP of the member's Substitute, 0 to 249, or `None` without one.
     pub fn substitute(&self, side: Side) -> Option<u8>
         ensures stands { Reads self.now result λ f. (conditions_in side f).substitute }
     {
         self.count_of(side, Conditions::SUBSTITUTE, 21)
     }
 
-    /// For how many turns more it is confused, at most 5. `None` where it is not.
+    /// The number of turns of confusion that are left, at most 5, or `None` without confusion.
     pub fn confused(&self, side: Side) -> Option<u8>
         ensures stands { Reads self.now result λ f. (conditions_in side f).confused }
     {
         self.count_of(side, Conditions::CONFUSED, 22)
     }
 
-    /// The counter that Toxic begins, from 0 to 64. `None` without bad poison.
+    /// The counter of bad poison, 0 to 64, or `None` without bad poison.
     pub fn bad_poison(&self, side: Side) -> Option<u8>
         ensures stands { Reads self.now result λ f. (conditions_in side f).bad_poison }
     {
         self.count_of(side, Conditions::BAD_POISON, 25)
     }
 
-    /// The slot that Disable bars, from 1 to 4, and for how many turns more, at most 8. `None` where it bars none.
+    /// The slot that Disable bars, 1 to 4, and the turns that are left, at most 8. `None` if no slot is barred.
     pub fn disabled(&self, side: Side) -> Option<DisabledSlot>
         ensures stands { Reads self.now result λ f. (conditions_in side f).disabled }
     {
@@ -92,35 +93,35 @@ impl Packed {
         }
     }
 
-    /// For how many turns more Bide stores, at most 3. `None` without Bide.
+    /// The number of turns that Bide still stores, at most 3, or `None` without Bide.
     pub fn bide(&self, side: Side) -> Option<u8>
         ensures stands { Reads self.now result λ f. turns_stored (underway_in side f).bide }
     {
         self.count_of(side, Conditions::BIDE, 26)
     }
 
-    /// For how many turns more it thrashes, at most 3. `None` where it does not.
+    /// The number of turns of thrashing that are left, at most 3, or `None` without thrashing.
     pub fn thrash(&self, side: Side) -> Option<u8>
         ensures stands { Reads self.now result λ f. (underway_in side f).thrash }
     {
         self.count_of(side, Conditions::THRASH, 26)
     }
 
-    /// For how many turns more it traps the foe, at most 4. `None` where it does not.
+    /// The number of turns of trapping the foe that are left, at most 4, or `None` without trapping.
     pub fn trapping(&self, side: Side) -> Option<u8>
         ensures stands { Reads self.now result λ f. (underway_in side f).trapping }
     {
         self.count_of(side, Conditions::TRAPPING, 26)
     }
 
-    /// The energy that Bide has stored, in HP of damage, from 0 to 65,535; 0 without Bide.
+    /// The energy that Bide has stored, in HP of damage, 0 to 65,535. It is 0 without Bide.
     pub fn energy(&self, side: Side) -> u16
         ensures stands { Reads self.now result λ f. energy_of (underway_in side f).bide }
     {
         word!(self.active(side), 27..29)
     }
 
-    // The byte of turns once one of Bide, thrashing and trapping is off.
+    // The byte of turns after one of Bide, thrashing and trapping is off.
     fn turns_without(&self, side: Side, which: Conditions) -> u8
         ensures bide { (g : Setting) (f : Field) → Within g self.now f → which.0 ≡ 1
             → result ≡ turns_byte None (underway_in side f).thrash (underway_in side f).trapping }
@@ -150,7 +151,7 @@ impl Packed {
         put_long!(self.active_mut(side), 17..21, now.bits());
     }
 
-    // Sets or clears a condition, the place of whose bit is k, and writes the byte of the active block that belongs to it.
+    // Sets or clears a condition, whose bit is at place k, and writes its byte of the active block.
     fn put_count(&mut self, side: Side, which: Conditions, on: bool, at: usize, byte: u8)
         requires first { 21 ≤ at }
         requires last { at < 29 }
@@ -169,7 +170,7 @@ impl Packed {
         active[at] = byte;
     }
 
-    /// Writes the HP of a Substitute, at most 249, or that there is none.
+    /// Writes the HP of a Substitute, at most 249, or clears the Substitute.
     pub fn put_substitute(&mut self, side: Side, hp: Option<u8>)
         ensures stands { WritesConditionsIf side self.old self.new
             (λ c. record c { substitute = hp }) λ g f. IsCount 0 249 hp }
@@ -178,7 +179,7 @@ impl Packed {
         self.put_count(side, Conditions::SUBSTITUTE, hp.is_some(), 21, byte);
     }
 
-    /// Writes for how many turns more it is confused, at most 5, or that it is not.
+    /// Writes the number of turns of confusion that are left, at most 5, or clears the confusion.
     pub fn put_confused(&mut self, side: Side, turns: Option<u8>)
         ensures stands { WritesConditionsIf side self.old self.new
             (λ c. record c { confused = turns }) λ g f. IsCount 0 5 turns }
@@ -187,7 +188,7 @@ impl Packed {
         self.put_count(side, Conditions::CONFUSED, turns.is_some(), 22, byte);
     }
 
-    /// Writes the counter that Toxic begins, at most 64, or that it is not badly poisoned.
+    /// Writes the counter of bad poison, at most 64, or clears the bad poison.
     pub fn put_bad_poison(&mut self, side: Side, count: Option<u8>)
         ensures stands { WritesConditionsIf side self.old self.new
             (λ c. record c { bad_poison = count }) λ g f. IsCount 0 64 count }
@@ -196,7 +197,7 @@ impl Packed {
         self.put_count(side, Conditions::BAD_POISON, count.is_some(), 25, byte);
     }
 
-    /// Writes what Disable bars, a slot that holds a move for at most 8 turns more, or that it bars none.
+    /// Writes what Disable bars, or clears it: a slot that holds a move, for at most 8 more turns.
     pub fn put_disabled(&mut self, side: Side, disabled: Option<DisabledSlot>)
         ensures stands { WritesConditionsIf side self.old self.new
             (λ c. record c { disabled = disabled }) λ g f. IsStorableDisabled
@@ -212,7 +213,7 @@ impl Packed {
         active[24] = turns;
     }
 
-    /// Writes that Bide stores, for so many turns more, at most 3, and with so much energy. Neither thrashing nor trapping is on.
+    /// Sets Bide, with at most 3 turns left and this much energy. Thrashing and trapping must be off.
     pub fn put_bide(&mut self, side: Side, turns: u8, energy: u16)
         ensures stands { (g : Setting) (f : Field) (change : ActiveConditions → ActiveConditions)
             → Within g self.old f
@@ -230,7 +231,7 @@ impl Packed {
         put_word!(active, 27..29, energy);
     }
 
-    /// Writes that Bide is off.
+    /// Clears Bide.
     pub fn end_bide(&mut self, side: Side)
         ensures stands { WritesConditions side self.old self.new λ c. record c
             { underway = record c.underway { bide = None } } }
@@ -243,7 +244,7 @@ impl Packed {
         put_word!(active, 27..29, 0);
     }
 
-    /// Writes that it thrashes for so many turns more, at most 3. Neither Bide nor trapping is on.
+    /// Sets thrashing, with at most 3 turns left. Bide and trapping must be off.
     pub fn put_thrash(&mut self, side: Side, turns: u8)
         ensures stands { (g : Setting) (f : Field) (change : ActiveConditions → ActiveConditions)
             → Within g self.old f
@@ -255,7 +256,7 @@ impl Packed {
         self.put_count(side, Conditions::THRASH, true, 26, turns);
     }
 
-    /// Writes that thrashing is off.
+    /// Clears thrashing.
     pub fn end_thrash(&mut self, side: Side)
         ensures stands { WritesConditions side self.old self.new λ c. record c
             { underway = record c.underway { thrash = None } } }
@@ -264,7 +265,7 @@ impl Packed {
         self.put_count(side, Conditions::THRASH, false, 26, turns);
     }
 
-    /// Writes that it traps the foe for so many turns more, at most 4. Neither Bide nor thrashing is on.
+    /// Sets trapping, with at most 4 turns left. Bide and thrashing must be off.
     pub fn put_trapping(&mut self, side: Side, turns: u8)
         ensures stands { (g : Setting) (f : Field) (change : ActiveConditions → ActiveConditions)
             → Within g self.old f
@@ -276,7 +277,7 @@ impl Packed {
         self.put_count(side, Conditions::TRAPPING, true, 26, turns);
     }
 
-    /// Writes that trapping is off.
+    /// Clears trapping.
     pub fn end_trapping(&mut self, side: Side)
         ensures stands { WritesConditions side self.old self.new λ c. record c
             { underway = record c.underway { trapping = None } } }
@@ -287,7 +288,7 @@ impl Packed {
         }
     }
 
-    /// Breaks off Bide, thrashing, trapping and charging.
+    /// Clears Bide, thrashing, trapping and charging.
     pub fn break_off(&mut self, side: Side)
         ensures stands { Changes self.old self.new (changed_conditions side broken_off) }
     {
@@ -303,7 +304,7 @@ impl Packed {
         put_word!(active, 27..29, 0);
     }
 
-    /// Takes away what Haze does: confusion, mist, focus energy, the seed, bad poison, both screens and Disable.
+    /// Clears what Haze clears: confusion, Mist, Focus Energy, the seed, bad poison, both screens and Disable.
     pub fn clear_by_haze(&mut self, side: Side)
         ensures stands { Changes self.old self.new (changed_conditions side after_haze) }
     {

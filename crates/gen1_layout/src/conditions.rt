@@ -5,10 +5,10 @@ ghost use Rattle.gen1_layout.specs.Flags.{any_at, set_at};
 
 use bitflags::{Flag, Flags, bitflag_items};
 
-/// The conditions of a member that is out (docs/MECHANICS.md, "Conditions"), as a set of 17 bits (docs/LAYOUT.md, "Condition
-/// bits").
+/// The conditions of a member that is out (docs/MECHANICS.md, "Conditions"), as a set of 17 bits (docs/LAYOUT.md,
+/// "Condition bits").
 ///
-/// A condition with a number of its own, as confusion, keeps it elsewhere in the active block.
+/// If a condition has a number, such as the turns of confusion, that number is elsewhere in the active block.
 #[derive(Clone, Copy, PartialEq, Eq, Debug)]
 pub struct Conditions(u32);
 
@@ -57,11 +57,12 @@ impl Flags for Conditions {
 }
 
 impl Conditions {
-    /// What keeps a member at its current move (docs/MECHANICS.md, "Picks"): recharging, rage, thrashing, charging, Bide
-    /// and trapping.
+    /// The conditions that keep a member at its current move (docs/MECHANICS.md, "Picks"): recharging, rage,
+    /// thrashing, charging, Bide and trapping.
     pub const CONTINUES: Conditions = Conditions(1024 | 2048 | 2 | 16 | 1 | 4);
 
-    /// What the gate looks for at the member itself (docs/MECHANICS.md, "Gate"): flinching, confusion, recharging and Disable.
+    /// The member's own conditions that the gate tests (docs/MECHANICS.md, "Gate"): flinching, confusion, recharging
+    /// and Disable.
     pub const GATED: Conditions = Conditions(8 | 64 | 1024 | 65536);
 
     /// These conditions with one of them set or cleared.
@@ -79,7 +80,7 @@ impl Conditions {
         now
     }
 
-    /// Whether a condition is among these.
+    /// Whether these conditions include a given one.
     pub fn has(self, which: Conditions) -> bool
         ensures { (k : ℕ) → which.0 ≡ 2 ^ k → (bits : List Bool)
             → self.0 ≡ number_of_bits bits → result ≡ slice_index_or bits k false }
@@ -87,7 +88,7 @@ impl Conditions {
         self.contains(which)
     }
 
-    /// Whether one at least of several conditions is among these.
+    /// Whether these conditions include at least one of several.
     pub fn has_any(self, which: Conditions) -> bool
         ensures { (places : List ℕ) → which.0 ≡ set_at places → (bits : List Bool)
             → self.0 ≡ number_of_bits bits → result ≡ any_at places bits }

@@ -13,14 +13,15 @@ use gen1_machine::{Rules, Side, TurnLimit};
 use gen1_stats::{KnownMove, Member, Team};
 
 impl Packed {
-    /// A battle of two teams before its first update, with the ten numbers of a seed, no rules and a turn limit of 1,000.
+    /// A battle of two teams before its first update, with the ten numbers of a seed. It has no clauses and a turn
+    /// limit of 1,000.
     pub fn new(one: &Team, two: &Team, seed: [u8; 10]) -> Packed
         ensures { Stands result (first_state usual_terms one.now two.now seed) }
     {
         Packed::with_rules(one, two, seed, Rules::default())
     }
 
-    /// The same under rules.
+    /// The same with rules.
     pub fn with_rules(one: &Team, two: &Team, seed: [u8; 10], rules: Rules) -> Packed
         ensures { Stands result
             (first_state (record { rules = rules; limit = 1000 }) one.now two.now seed) }
@@ -28,7 +29,7 @@ impl Packed {
         Packed::with_limit(one, two, seed, rules, TurnLimit::default())
     }
 
-    /// The same under rules and a turn limit.
+    /// The same with rules and a turn limit.
     pub fn with_limit(
         one: &Team,
         two: &Team,
@@ -113,7 +114,7 @@ fn header_bytes(seed: &[u8], rules: Rules, limit: TurnLimit) -> [u8; 24]
     ]
 }
 
-// The bytes of the member at a place from 1, or zeros.
+// The bytes of the member at a place from 1, or zeros if there is no member.
 fn block_of(members: &[Member], place: u8) -> [u8; 24]
     requires { 1 ≤ place }
     ensures { result ≡ member_block (slice_index_or members.now (place - 1) nobody) }

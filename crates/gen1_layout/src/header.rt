@@ -11,7 +11,7 @@ use gen1_machine::{Outcome, Request, Rules, Side};
 use gen1_rolls::LinkRandom;
 
 impl Packed {
-    /// The turn, from 0 to the turn limit.
+    /// The turn, 0 to the turn limit.
     pub fn turn(&self) -> u16
         ensures stands { Reads self.now result λ f. f.turn }
         ensures packs { ReadsPacked self.now result λ f. f.turn }
@@ -19,7 +19,7 @@ impl Packed {
         word!(self.header(), 1..3)
     }
 
-    /// The last damage in HP, of either side, from 0 to 65,535.
+    /// The last damage, in HP, 0 to 65,535. Both sides share it.
     pub fn last_damage(&self) -> u16
         ensures stands { Reads self.now result λ f. f.last_damage }
         ensures packs { ReadsPacked self.now result λ f. f.last_damage }
@@ -27,7 +27,7 @@ impl Packed {
         word!(self.header(), 3..5)
     }
 
-    /// How the battle stands: it goes on, side 1 or side 2 has won, it is a tie, or it ended by fault 1 or 2.
+    /// The outcome: the battle goes on, side 1 or side 2 has won, it is a tie, or it ended by fault 1 or 2.
     pub fn outcome(&self) -> Outcome
         ensures stands { Reads self.now result λ f. f.outcome }
         ensures packs { ReadsPacked self.now result λ f. f.outcome }
@@ -35,7 +35,7 @@ impl Packed {
         outcome_from(self.header()[16])
     }
 
-    /// What is asked of a side: nothing, a move, or a switch.
+    /// What a side is asked for: nothing, a move, or a switch.
     pub fn request(&self, side: Side) -> Request
         ensures stands { Reads self.now result (request_of side) }
         ensures packs { ReadsPacked self.now result (request_of side) }
@@ -46,7 +46,7 @@ impl Packed {
         }
     }
 
-    /// The last turn, from 1 to 9,999.
+    /// The last turn, 1 to 9,999.
     pub fn limit(&self) -> u16
         ensures stands { ReadsSetting self.now result λ g. g.terms.limit }
         ensures packs { ReadsPackedSetting self.now result λ g. g.terms.limit }
@@ -54,7 +54,7 @@ impl Packed {
         word!(self.header(), 20..22)
     }
 
-    /// The clauses that the battle is fought under.
+    /// The clauses of the battle.
     pub fn rules(&self) -> Rules
         ensures stands { ReadsSetting self.now result λ g. g.terms.rules }
         ensures packs { ReadsPackedSetting self.now result λ g. g.terms.rules }
@@ -65,7 +65,8 @@ impl Packed {
         }
     }
 
-    /// Whether a sleep move fails while an earlier one keeps a living member of the foe's side asleep.
+    /// Whether the sleep clause holds: a sleep move fails while an earlier one keeps a living member of the foe's
+    /// side asleep.
     pub fn sleep_clause(&self) -> bool
         ensures stands { ReadsSetting self.now result λ g. g.terms.rules.sleep_clause }
         ensures packs { ReadsPackedSetting self.now result λ g. g.terms.rules.sleep_clause }
@@ -73,7 +74,7 @@ impl Packed {
         self.header()[19] % 2 == 1
     }
 
-    /// Whether a freeze does nothing while a living member of the foe's side is frozen.
+    /// Whether the freeze clause holds: a freeze does nothing while a living member of the foe's side is frozen.
     pub fn freeze_clause(&self) -> bool
         ensures stands { ReadsSetting self.now result λ g. g.terms.rules.freeze_clause }
         ensures packs { ReadsPackedSetting self.now result λ g. g.terms.rules.freeze_clause }
@@ -89,7 +90,7 @@ impl Packed {
         put_word!(self.header_mut(), 3..5, damage);
     }
 
-    /// Writes how the battle stands.
+    /// Writes the outcome.
     pub fn put_outcome(&mut self, outcome: Outcome)
         ensures stands { (g : Setting) (f : Field) → Within g self.old f → IsOutcome outcome
             → Within g self.new (with_outcome outcome f) }
@@ -100,7 +101,7 @@ impl Packed {
         self.header_mut()[16] = byte;
     }
 
-    /// Writes what is asked of both sides.
+    /// Writes what both sides are asked for.
     pub fn put_requests(&mut self, one: Request, two: Request)
         ensures stands { Changes self.old self.new (with_requests one two) }
         ensures packs { ChangesPacked self.old self.new (with_requests one two) }
@@ -112,7 +113,7 @@ impl Packed {
         header[18] = two;
     }
 
-    /// Goes on to the next turn, which is the limit at most.
+    /// Advances to the next turn, which must be at most the limit.
     pub fn put_next_turn(&mut self)
         ensures stands { (g : Setting) (f : Field) → Within g self.old f → f.turn < g.terms.limit
             → Within g self.new (with_next_turn f) }
@@ -123,8 +124,7 @@ impl Packed {
         put_word!(self.header_mut(), 1..3, next);
     }
 
-    /// The generator as the bytes have it, with its index from 0 to 8. There is an answer wherever the bytes stand for a
-    /// battle.
+    /// The generator of the bytes, with its index 0 to 8. It is never `None` when the bytes represent a battle.
     pub fn generator(&self) -> Option<LinkRandom>
         ensures stands { ReadsSetting self.now result λ g. Some (ring_at g.seed g.drawn) }
         ensures packs { ReadsPackedSetting self.now result λ g. Some (ring_at g.seed g.drawn) }
@@ -139,7 +139,7 @@ impl Packed {
         )
     }
 
-    /// Writes where the generator stands after any number of draws.
+    /// Writes the index and the numbers of a generator, after any number of draws.
     pub fn put_generator(&mut self, generator: &LinkRandom)
         ensures stands { (g : Setting) (f : Field) (drawn : ℕ) → Within g self.old f
             → generator.now ≡ ring_at g.seed drawn

@@ -1,18 +1,18 @@
 //! The 384 bytes of a battle (docs/LAYOUT.md), changed in place.
 //!
-//! - `packed`: [`Packed`], the bytes, and the parts of it that are lent
+//! - `packed`: [`Packed`], the bytes, and the parts that can be borrowed from it
 //! - `header`: the fields of the header
 //! - `member`: the fields of a member
-//! - `active`: the fields of an active block, but for its conditions
-//! - `condition_fields`: its conditions, with their numbers
+//! - `active`: the fields of an active block, without its conditions
+//! - `condition_fields`: the conditions, with their numbers
 //! - `conditions`: the conditions as a set of bits
-//! - `codes`: bytes that stand for an outcome, a status, a type and the like
-//! - `event_fields`: what events tell of the bytes
+//! - `codes`: the bytes of an outcome, a status, a type and the like
+//! - `event_fields`: what events report, read from the bytes
 //! - `first_state`: a battle before its first update
 //! - `loading`: reading a battle from bytes
 #![tactic(auto)]
 
-// A number of 16 bits in a part, and one of 32.
+// Numbers of 16 bits and of 32 bits in a part.
 macro_rules! word {
     ($part:expr, $at:expr) => {
         LittleEndian::read_u16(&$part[$at])

@@ -14,35 +14,34 @@ mod stats;
 use crate::Packed;
 use thiserror::Error;
 
-/// Why bytes stand for no battle (docs/LAYOUT.md, "Loading"): the first of the seven tests that
-/// fails.
+/// Why bytes don't represent a battle (docs/LAYOUT.md, "Loading"): the first of the seven tests that fails.
 #[derive(Clone, Copy, Debug, PartialEq, Eq, Error)]
 pub enum LoadFault {
-    /// There are not 384 bytes.
+    /// There aren't exactly 384 bytes.
     #[error("a battle has 384 bytes")]
     Length,
-    /// The layout's version is none of 1, 2 and 3.
+    /// The version of the layout isn't 1, 2 or 3.
     #[error("the layout version is not 1, 2 or 3")]
     Version,
     /// A field of the header is out of its range.
     #[error("a field of the header is out of its range")]
     Header,
-    /// A place for a member holds neither a member nor zeros, or members do not come first.
+    /// A place for a member holds neither a member nor zeros, or a member comes after an empty place.
     #[error("a place holds no valid member")]
     Member,
     /// A field of an active block is out of its range.
     #[error("a field of an active block is out of its range")]
     Active,
-    /// A current stat does not come from the member's own stat and its stage.
+    /// A current stat doesn't come from the member's own stat and its stage.
     #[error("a current stat does not come from its stage")]
     Stat,
-    /// Turn, outcome, requests and living members do not fit together.
+    /// Turn, outcome, requests and living members don't fit together.
     #[error("turn, outcome, requests and living members do not fit together")]
     Request,
 }
 
 impl LoadFault {
-    /// The number of the test that failed, from 1 to 7.
+    /// The number of the test that failed, 1 to 7.
     pub fn number(self) -> u8
         ensures { result ≡ number_of self }
     {
@@ -59,12 +58,13 @@ impl LoadFault {
 }
 
 impl Packed {
-    /// Loads a battle (docs/LAYOUT.md, "Loading") from bytes of any of the three versions; it comes out in the
-    /// form of version 3.
+    /// Reads a battle from bytes of any of the three versions (docs/LAYOUT.md, "Loading"). The result is in the form
+    /// of version 3.
     ///
     /// # Errors
     ///
-    /// The first of the seven tests that the bytes fail. They pass all exactly where they stand for a valid state.
+    /// The first of the seven tests that the bytes fail. They pass all of them exactly if they represent a valid
+    /// state.
     pub fn load(bytes: &[u8]) -> Result<Packed, LoadFault>
         ensures tests { IsLoadedAs result bytes.now }
         ensures battle { IsOk result ↔ IsBattle bytes.now }
@@ -74,7 +74,7 @@ impl Packed {
     }
 }
 
-// The form of version 3 of bytes that stand for a valid state, or the first test that they fail.
+// The form of version 3 of bytes that represent a valid state, or the first test that they fail.
 fn form_of(bytes: &[u8]) -> Result<[u8; 384], LoadFault>
     ensures tests { IsReadAs result bytes.now }
     ensures battle { IsOk result ↔ IsBattle bytes.now }
@@ -82,7 +82,7 @@ fn form_of(bytes: &[u8]) -> Result<[u8; 384], LoadFault>
     tested(bytes)
 }
 
-// The seven tests, in their order.
+// The seven tests in order.
 fn tested(bytes: &[u8]) -> Result<[u8; 384], LoadFault>
     ensures { IsReadAs result bytes.now }
 {

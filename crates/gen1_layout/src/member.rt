@@ -1,4 +1,4 @@
-//! The fields of a member (docs/LAYOUT.md, "Member"): of any by its place, and of the one that is out.
+//! The fields of a member (docs/LAYOUT.md, "Member"): of any member by its place, and of the one that is out.
 ghost use Rattle.std.specs.Prelude.{◌-◌, ◌≡◌, ◌≤◌};
 ghost use Rattle.gen1_layout.specs.Words.{Field, Member, Reads, ReadsPacked, Setting, Within, WritesMember, WritesMemberIf, active_in, changed_member, is_living, known_in, length, member_at, member_in, party, slice_set, unmodified};
 ghost use Rattle.gen1_tables.specs.Types.{any};
@@ -16,7 +16,7 @@ use gen1_stats::Status;
 use gen1_tables::Stat;
 
 impl Packed {
-    /// The place of the member that is out, from 1 to 6.
+    /// The place of the member that is out, 1 to 6.
     pub fn place(&self, side: Side) -> u8
         ensures low { 1 ≤ result }
         ensures high { result ≤ 6 }
@@ -25,36 +25,36 @@ impl Packed {
         self.active(side)[0].max(1).min(6)
     }
 
-    /// The level of the member that is out, from 1 to 100.
+    /// The level of the member that is out, 1 to 100.
     pub fn level(&self, side: Side) -> u8
         ensures stands { Reads self.now result λ f. (member_in side f).level }
     {
         self.member_out(side)[1]
     }
 
-    /// The most HP that it can have, from 11 to 999.
+    /// The maximum HP of the member that is out, 11 to 999.
     pub fn max_hp(&self, side: Side) -> u16
         ensures stands { Reads self.now result λ f. (member_in side f).max }
     {
         word!(self.member_out(side), 2..4)
     }
 
-    /// Its HP, from 0 to its maximum HP.
+    /// The HP of the member that is out, 0 to its maximum HP.
     pub fn hp(&self, side: Side) -> u16
         ensures stands { Reads self.now result λ f. (member_in side f).hp }
     {
         word!(self.member_out(side), 4..6)
     }
 
-    /// Whether it has no HP left.
+    /// Whether the member that is out has no HP left.
     pub fn has_fallen(&self, side: Side) -> bool
         ensures stands { Reads self.now result (has_fallen_in side) }
     {
         self.hp(side) == 0
     }
 
-    /// Its own Attack, Defense, Speed or Special before stages, from 5 to 999; accuracy and evasion have no number of
-    /// their own, and give 0.
+    /// The own Attack, Defense, Speed or Special of the member that is out, before stages, 5 to 999. For accuracy and
+    /// evasion, which have no number, it is 0.
     pub fn unmodified(&self, side: Side, stat: Stat) -> u16
         ensures stands { Reads self.now result λ f. unmodified stat (member_in side f) }
     {
@@ -68,7 +68,7 @@ impl Packed {
         }
     }
 
-    /// Its status; a sleep has 1 to 7 turns left.
+    /// The status of the member that is out. A sleep has 1 to 7 turns left.
     #[inline(always)] // docs/SPEED.md, "Hints on inlining"
     pub fn status(&self, side: Side) -> Status
         ensures stands { Reads self.now result λ f. (member_in side f).status }
@@ -77,7 +77,8 @@ impl Packed {
         status_from(out[14], out[23])
     }
 
-    /// The number of the move in a slot from 1 to 4, itself from 1 to 164, or 0 where it has none there.
+    /// The number of the move in a slot, 1 to 4, of the member that is out. The number is 1 to 164, or 0 for an empty
+    /// slot.
     pub fn move_in(&self, side: Side, slot: u8) -> u8
         requires low { 1 ≤ slot }
         requires high { slot ≤ 4 }
@@ -86,7 +87,7 @@ impl Packed {
         self.member_out(side)[slot as usize + 14]
     }
 
-    /// The PP of the move in a slot from 1 to 4, from 0 to 63; 0 where it has none there.
+    /// The PP of the move in a slot, 1 to 4, of the member that is out: 0 to 63, and 0 for an empty slot.
     pub fn pp(&self, side: Side, slot: u8) -> u8
         requires low { 1 ≤ slot }
         requires high { slot ≤ 4 }
@@ -95,7 +96,8 @@ impl Packed {
         self.member_out(side)[slot as usize + 18]
     }
 
-    /// The number of the species of the member at a place from 1 to 6, itself from 1 to 151, or 0 where there is none.
+    /// The number of the species of the member at a place, 1 to 6. The number is 1 to 151, or 0 if there is no
+    /// member.
     pub fn species_at(&self, side: Side, place: u8) -> u8
         requires low { 1 ≤ place }
         requires high { place ≤ 6 }
@@ -105,7 +107,7 @@ impl Packed {
         self.member(side, place)[0]
     }
 
-    /// The HP of the member at a place from 1 to 6, from 0 to its maximum HP; 0 where there is none.
+    /// The HP of the member at a place, 1 to 6: 0 to its maximum HP, and 0 if there is no member.
     pub fn hp_at(&self, side: Side, place: u8) -> u16
         requires low { 1 ≤ place }
         requires high { place ≤ 6 }
@@ -115,7 +117,8 @@ impl Packed {
         word!(self.member(side, place), 4..6)
     }
 
-    /// The status of the member at a place from 1 to 6, with 1 to 7 turns for a sleep; healthy where there is none.
+    /// The status of the member at a place, 1 to 6. A sleep has 1 to 7 turns left. A place without a member is
+    /// healthy.
     pub fn status_at(&self, side: Side, place: u8) -> Status
         requires low { 1 ≤ place }
         requires high { place ≤ 6 }
@@ -126,7 +129,7 @@ impl Packed {
         status_from(member[14], member[23])
     }
 
-    /// The level of the member at a place from 1 to 6, from 1 to 100; 0 where there is none.
+    /// The level of the member at a place, 1 to 6: 1 to 100, or 0 if there is no member.
     pub fn level_at(&self, side: Side, place: u8) -> u8
         requires low { 1 ≤ place }
         requires high { place ≤ 6 }
@@ -135,7 +138,7 @@ impl Packed {
         self.member(side, place)[1]
     }
 
-    /// The most HP that the member at a place from 1 to 6 can have, from 11 to 999; 0 where there is none.
+    /// The maximum HP of the member at a place, 1 to 6: 11 to 999, or 0 if there is no member.
     pub fn max_hp_at(&self, side: Side, place: u8) -> u16
         requires low { 1 ≤ place }
         requires high { place ≤ 6 }
@@ -144,7 +147,8 @@ impl Packed {
         word!(self.member(side, place), 2..4)
     }
 
-    /// The own Attack, Defense, Speed and Special of the member at a place from 1 to 6, from 5 to 999; 0 where there is none.
+    /// The own Attack, Defense, Speed and Special of the member at a place, 1 to 6: each 5 to 999, or 0 if there is
+    /// no member.
     pub fn own_stats_at(&self, side: Side, place: u8) -> [u16; 4]
         requires low { 1 ≤ place }
         requires high { place ≤ 6 }
@@ -160,8 +164,8 @@ impl Packed {
         ]
     }
 
-    /// The number of the move that the member at a place from 1 to 6 has in a slot from 1 to 4, itself from 1 to 164; 0 where
-    /// there is none.
+    /// The number of the move in a slot, 1 to 4, of the member at a place, 1 to 6. The number is 1 to 164, or 0 for
+    /// an empty slot or place.
     pub fn move_at(&self, side: Side, place: u8, slot: u8) -> u8
         requires low { 1 ≤ place }
         requires high { place ≤ 6 }
@@ -173,7 +177,7 @@ impl Packed {
         self.member(side, place)[slot as usize + 14]
     }
 
-    /// The PP of that move, from 0 to 63; 0 where there is none.
+    /// The PP of that move, 0 to 63, or 0 for an empty slot or place.
     pub fn pp_at(&self, side: Side, place: u8, slot: u8) -> u8
         requires low { 1 ≤ place }
         requires high { place ≤ 6 }
@@ -185,7 +189,7 @@ impl Packed {
         self.member(side, place)[slot as usize + 18]
     }
 
-    /// Whether the member at a place from 1 to 6 sleeps by the foe's move, and the sleep clause counts it.
+    /// Whether the member at a place, 1 to 6, sleeps by the foe's move, and the sleep clause counts it.
     pub fn mark(&self, side: Side, place: u8) -> bool
         requires low { 1 ≤ place }
         requires high { place ≤ 6 }
@@ -237,7 +241,7 @@ impl Packed {
         member[23] = mark;
     }
 
-    /// Writes that the member that is out has fallen: it has no HP, and is healthy.
+    /// Makes the member that is out fall: its HP become 0, and it loses its status.
     pub fn put_fallen(&mut self, side: Side)
         ensures stands { WritesMember side self.old self.new λ m. record m
             { hp = 0; status = Healthy } }
@@ -249,7 +253,7 @@ impl Packed {
         member[23] = 0;
     }
 
-    /// Writes the PP of the move in a slot from 1 to 4, at most 63.
+    /// Writes the PP of the move in a slot, 1 to 4. They are at most 63.
     pub fn put_pp(&mut self, side: Side, slot: u8, pp: u8)
         requires low { 1 ≤ slot }
         requires high { slot ≤ 4 }

@@ -1,4 +1,4 @@
-//! A packed battle, and the parts of it that are lent and read (docs/LAYOUT.md, "The 384 bytes of a battle").
+//! A packed battle, and the parts that can be borrowed from it (docs/LAYOUT.md, "The 384 bytes of a battle").
 ghost use Rattle.std.specs.Prelude.{◌+◌, ◌-◌, ◌≡◌, ◌≤◌};
 ghost use Rattle.gen1_layout.specs.Words.{Field, Packs, Reads, ReadsPacked, Setting, active_in, length, member_at, member_in, other, party};
 ghost use Rattle.std.specs.Borrow.{sem};
@@ -12,9 +12,10 @@ use gen1_machine::Side;
 use std::alloc::AllocError;
 use std::marker::Model;
 
-/// A battle in 384 bytes (docs/LAYOUT.md), layout version 3.
+/// A battle in 384 bytes, in version 3 of the layout (docs/LAYOUT.md).
 ///
-/// A contract sees it as its parts (`specs/Parts.antt`): the header, and for each side six members and an active block.
+/// For contracts its value is its parts (`specs/Parts.antt`): the header, and for each side six members and an active
+/// block.
 #[derive(Drop)]
 #[repr(C)]
 pub struct Packed([u8; 384]);
@@ -33,7 +34,7 @@ impl Model for Packed {
 
     ghost inverse = { λ parts. record { 0 = joined parts } };
 
-    // So a battle may be lent by C, which has to lend 384 bytes.
+    // A battle can be passed in from C, which has to provide 384 bytes.
     ghost inverse_ok = { λ p long. ap (λ bytes. record { 0 = bytes }) (joined-parts p.0 long) };
 }
 
@@ -44,7 +45,7 @@ impl Clone for Packed {
 
     ghost is_infallible = { λ _. ⊤ };
 
-    /// The same 384 bytes.
+    /// A copy of the 384 bytes.
     fn clone(&self) -> Result<Packed, AllocError> {
         Ok(Packed(self.0))
     }
@@ -57,7 +58,7 @@ impl Packed {
         Packed(bytes)
     }
 
-    // The bytes from an offset up to another, for writing.
+    // The bytes from one offset up to another, for writing.
     fn part_mut(&mut self, from: usize, end: usize) -> &mut [u8]
         requires order { from ≤ end }
         requires within { end ≤ 384 }
@@ -79,7 +80,7 @@ impl Packed {
         self.part_mut(0, 24)
     }
 
-    /// The 180 bytes of a side, its members' and its active block, for writing.
+    /// The 180 bytes of a side, those of its members and of its active block, for writing.
     pub fn side_mut(&mut self, side: Side) -> &mut [u8]
         ensures* writes_back { sem 𝓛 (LendsSide side self.entry result) }
         ensures value { result.now ≡ bytes_of_side (side_of side self.old) }
@@ -89,7 +90,7 @@ impl Packed {
         self.part_mut(from, from + 180)
     }
 
-    /// The 360 bytes of both sides, side 1's and then side 2's, for writing.
+    /// The 360 bytes of both sides, first side 1 and then side 2, for writing.
     pub fn sides_mut(&mut self) -> &mut [u8]
         ensures* writes_back { sem 𝓛 (LendsSides self.entry result) }
         ensures value { result.now ≡ bytes_of_sides self.old }
@@ -100,7 +101,7 @@ impl Packed {
         self.part_mut(24, 384)
     }
 
-    /// The 180 bytes of a side and those of the side that it battles, both for writing at once.
+    /// The 180 bytes of a side and the 180 bytes of its foe, for writing both at once.
     pub fn both_mut(&mut self, side: Side) -> (&mut [u8], &mut [u8])
         ensures* writes_back { sem 𝓛 (LendsBothSides side self.entry result) }
         ensures value { (result.0.now ≡ bytes_of_side (side_of side self.old))
@@ -120,7 +121,7 @@ impl Packed {
         self.part_mut(from, from + 36)
     }
 
-    /// The 24 bytes of a member (docs/LAYOUT.md, "Member"), by its place from 1, for writing.
+    /// The 24 bytes of the member at a place from 1 (docs/LAYOUT.md, "Member"), for writing.
     pub fn member_mut(&mut self, side: Side, place: u8) -> &mut [u8]
         requires low { 1 ≤ place }
         requires high { place ≤ 6 }
@@ -132,7 +133,7 @@ impl Packed {
         self.part_mut(from, from + 24)
     }
 
-    /// The whole battle (docs/LAYOUT.md).
+    /// The 384 bytes (docs/LAYOUT.md).
     pub fn as_bytes(&self) -> &[u8]
         ensures value { result.now ≡ joined self.now }
         ensures stands { (s : State) → self.now ≡ blocks_of s → result.now ≡ bytes_of s }
@@ -171,7 +172,7 @@ impl Packed {
         &self.0[from..from + 36]
     }
 
-    /// The 24 bytes of a member, by its place from 1.
+    /// The 24 bytes of the member at a place from 1.
     pub fn member(&self, side: Side, place: u8) -> &[u8]
         requires low { 1 ≤ place }
         requires high { place ≤ 6 }
@@ -184,8 +185,8 @@ impl Packed {
         &self.0[from..from + 24]
     }
 
-    // Where the bytes of the member that is out begin. Its place is from 1 to 6; whatever the byte is, a place below 8 stays
-    // inside the 384 bytes.
+    // Where the bytes of the member that is out begin. Its place is 1 to 6. Whatever the byte is, the code takes a
+    // place below 8, which is inside the 384 bytes.
     fn start_of_out(&self, side: Side) -> usize
         ensures at { result ≡ out_at side self.now }
         ensures within { result + 24 ≤ 384 }
@@ -203,7 +204,7 @@ impl Packed {
         &self.0[at..at + 24]
     }
 
-    // The same, for writing.
+    // The 24 bytes of the member that is out, for writing.
     pub(crate) fn member_out_mut(&mut self, side: Side) -> &mut [u8]
         ensures* writes_back { sem 𝓛 (LendsOut side self.entry result) }
         ensures stands { Reads self.old result.now λ f. member_block (member_in side f) }
@@ -216,7 +217,8 @@ impl Packed {
     }
 }
 
-/// The bytes of both sides ([`Packed::sides_mut`]) in two: the 180 bytes of a side, and those of the side that it battles.
+/// Splits the bytes of both sides ([`Packed::sides_mut`]) in two: the 180 bytes of a side, and the 180 bytes of its
+/// foe.
 pub fn in_two(sides: &mut [u8], side: Side) -> (&mut [u8], &mut [u8])
     requires sides { length sides.old ≡ 360 }
     ensures* writes_back { sem 𝓛 (LendsInTwo side sides.entry result) }

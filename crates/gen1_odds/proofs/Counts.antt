@@ -1,11 +1,12 @@
--- How many of the 256 numbers that may be drawn are below a bound: as many as it says, also once they are rotated.
+-- How many of the 256 possible draws are below a bound: as many as the bound, even after the bits of the draws are
+-- rotated.
 use Rattle.std.proofs.Common.{Bool, None, Some, arith, false, inl, inr, nat_lt, refl, suc, true, zero, ℕ, ◌&&◌, ◌<◌, ◌==◌, ◌≡◌}
 use Rattle.std.proofs.lemmas.Bool.{cases_eq, eqb-true}
 use Rattle.gen1_machine.specs.CriticalHits.{rotated_left_3}
 use Rattle.gen1_machine.proofs.Costs.{and-left, and-right}
 use Rattle.gen1_odds.specs.Odds.{hits_by, how_many}
 
--- whether so many numbers meet the test of each bound below n as the bound says
+-- Whether, for each bound below n, the number of draws that pass its test is the bound.
 unfoldable counts : (ℕ → ℕ → Bool) → ℕ → Bool
 counts test zero = true
 counts test (suc n) = how_many (test n) == n && counts test n
@@ -21,7 +22,7 @@ counts-at test (suc n) bound all below =
       | inr other ↦ counts-at test n bound others (omega (arith, below, other))
     ]
 
--- by computing each count
+-- By computing each count
 
 below_all : counts (λ bound draw. nat_lt draw bound) 256 ≡ true
 unfolding counts how_many

@@ -1,2 +1,2 @@
--- How many of the 256 numbers that may be drawn are below a bound.
+-- How many of the 256 possible draws are below a bound.
 pub mod Counts

@@ -4,7 +4,7 @@ use Rattle.gen1_tables.specs.declared.effect.Effect.{Effect}
 use Rattle.gen1_tables.specs.declared.effect.Effect.TheVariants as effects
 use Rattle.gen1_machine.specs.Moves.{Move}
 
--- moves that fail, or that work on their user alone
+-- Moves that fail, or that affect only their user.
 abbrev pub acts_untested : Effect → Bool
 acts_untested effects.AlwaysFails = true
 acts_untested effects.Bide = true

@@ -1,4 +1,4 @@
--- What a use of a move would come to.
+-- The odds of a use of a move.
 pub mod Odds
 -- Which moves take the hit test.
 pub mod HitTests

@@ -1,4 +1,5 @@
--- What a use of a move would come to, as two members stand (docs/MECHANICS.md, "Critical hits" to "Hit test").
+-- The odds of a use of a move, for the present state of two members (docs/MECHANICS.md, "Critical hits" to "Hit
+-- test").
 use Rattle.std.specs.Prelude.{Bool, List, None, Option, Some, count_by, false, if◌then◌else◌, nat_lt, replicate, true, ℕ}
 use Rattle.std.specs.List.{range_with_len}
 use Rattle.gen1_machine.specs.declared.side.Side.{Side}
@@ -19,20 +20,20 @@ abbrev pub damages_or : Option (List ℕ) → Damages
 damages_or (Some list) = record { numbers = list; count = 39; code = 0 }
 damages_or None = no_damages 5
 
--- the damage at each factor, of a move that has the usual damage
+-- The damage at each factor, for a move with the usual damage.
 abbrev pub damages_in : Side → Move → Bool → Field → Damages
 damages_in side move critical f = if has_usual_damage move then damages_or (damages (numbers_in side move critical f)) else no_damages 3
 
--- of the 256 numbers that may be drawn, how many meet a test
+-- How many of the 256 possible draws pass a test.
 unfoldable pub how_many : (ℕ → Bool) → ℕ
 how_many test = count_by test (range_with_len 0 256)
 
--- a draw is critical where, rotated, it is below the bound
+-- A draw is critical if, with its bits rotated, it is below the bound.
 abbrev pub critical_draws : Side → Move → Field → ℕ
 critical_draws side move f =
     if has_usual_damage move then how_many (λ draw. nat_lt (rotated_left_3 draw) (critical_bound_in side move f)) else 0
 
--- a draw hits where it is below the byte, or whatever it is, where that is settled without one
+-- A draw hits if it is below the byte. If the test is settled without a draw, all draws hit or none does.
 abbrev pub hits_by : Option Bool → ℕ → ℕ → Bool
 hits_by (Some hits) byte draw = hits
 hits_by None byte draw = nat_lt draw byte

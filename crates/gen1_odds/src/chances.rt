@@ -1,4 +1,4 @@
-//! Whether a move takes the hit test, and how many of the 256 numbers that may be drawn let it hit and make a hit critical
+//! Whether a move takes the hit test, and how many of the 256 possible draws make it hit or make its hit critical
 //! (docs/MECHANICS.md, "Critical hits", "Hit test").
 ghost use Rattle.std.specs.Prelude.{◌≡◌};
 ghost use Rattle.gen1_layout.specs.Words.{Reads, move_at};
@@ -10,8 +10,10 @@ use gen1_layout::{Conditions, Packed};
 use gen1_machine::Side;
 use gen1_tables::{Effect, MoveId};
 
-/// Whether a move takes the hit test when it is used (docs/MECHANICS.md, "Hit test"), if nothing makes it fail before: moves that
-/// fail, or that work on their user alone, take none.
+/// Whether a move takes the hit test when it is used (docs/MECHANICS.md, "Hit test"), if nothing makes it fail
+/// before.
+///
+/// Moves that fail, and moves that affect only their user, take no hit test.
 pub fn takes_hit_test(id: MoveId) -> bool
     ensures { result ≡ takes_hit_test (move_at id) }
 {
@@ -38,8 +40,8 @@ fn acts_untested(effect: Effect) -> bool
     )
 }
 
-/// How many draws make a hit critical. A rotation of the bits takes each byte to another one, so these are as many as there are
-/// bytes below the bound.
+/// How many draws make a hit critical. Rotating the bits is a permutation of the bytes, so there are as many as there
+/// are bytes below the bound.
 pub(crate) fn critical_draws(battle: &Packed, side: Side, id: MoveId) -> u16
     ensures stands { Reads battle.now result (critical_draws side (move_at id)) }
 {
@@ -50,7 +52,7 @@ pub(crate) fn critical_draws(battle: &Packed, side: Side, id: MoveId) -> u16
     u16::from(critical_bound(battle.species(side), focused, id))
 }
 
-/// How many draws pass the hit test, where it is taken.
+/// How many draws pass the hit test, for a move that takes it.
 pub(crate) fn hit_draws(battle: &Packed, side: Side, id: MoveId) -> u16
     ensures stands { Reads battle.now result (hit_draws side (move_at id)) }
 {

@@ -1,8 +1,9 @@
-//! What a use of a move would come to, out of the bytes of a battle and without a draw (docs/MECHANICS.md, "Critical hits" to "Hit
-//! test"): the damage at each factor, and how many of the 256 numbers that may be drawn make it critical or let it hit.
+//! The odds of a use of a move, from the bytes of a battle and without a draw (docs/MECHANICS.md, "Critical hits" to
+//! "Hit test"). They are the damage at each factor, and how many of the 256 possible draws make it critical or make
+//! it hit.
 //!
-//! - `odds`: [`Odds`], of a move as both members that are out stand
-//! - `chances`: how many draws, and [`takes_hit_test`]
+//! - `odds`: [`Odds`] of a move, for the two members that are out
+//! - `chances`: the numbers of draws, and [`takes_hit_test`]
 #![tactic(auto)]
 
 mod chances;

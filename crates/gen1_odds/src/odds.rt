@@ -9,39 +9,41 @@ use gen1_layout::Packed;
 use gen1_machine::Side;
 use gen1_tables::MoveId;
 
-// Why there are no damages, as `gen1_damage` of gen1_c numbers it.
+// Why there are no damages, with the numbers of `gen1_damage` of gen1_c.
 const UNUSUAL: u8 = 3;
 
 const DIVISOR: u8 = 5;
 
-/// The damage of a hit at each factor from 217 to 255, all as likely as another, or why there is none.
+/// The damage of a hit at each factor from 217 to 255, which are equally likely, or why there is none.
 #[repr(C)]
 #[derive(Clone, Copy)]
 pub struct Damages {
-    /// In HP, rising; zeros where there are none.
+    /// The damages in HP, rising, or zeros if there are none.
     pub numbers: [u16; 39],
-    /// How many there are: 39, or 0.
+    /// How many damages there are: 39, or 0.
     pub count: u8,
-    /// 0; or why there are none: 3 where the move has no usual damage, 5 where it would be divided by 0.
+    /// 0 if there are damages. Otherwise 3 if the move has no usual damage, or 5 if it would be divided by 0.
     pub code: u8,
 }
 
-/// What a use of a move would come to.
+/// The odds of a use of a move (docs/MECHANICS.md, "Critical hits" to "Hit test").
 #[repr(C)]
 #[derive(Clone, Copy)]
 pub struct Odds {
-    /// The damage where the hit is not critical.
+    /// The damage of a hit that isn't critical.
     pub usual: Damages,
-    /// The damage where it is.
+    /// The damage of a critical hit.
     pub critical: Damages,
-    /// How many of 256 draws make it critical, 0 to 255; 0 for a move without usual damage.
+    /// How many of the 256 possible draws make the hit critical, 0 to 255. It is 0 for a move without usual damage.
     pub critical_draws: u16,
-    /// How many of 256 draws pass the hit test, 0 to 256, for a move that takes one (`takes_hit_test`).
+    /// How many of the 256 possible draws pass the hit test, 0 to 256, for a move that takes one (`takes_hit_test`).
     pub hit_draws: u16,
 }
 
-/// The odds of a move of a side against the foe, as both members that are out now stand. The member need not know the move.
-/// Accuracy is that of a new use: what is kept of a move that goes on is not looked at.
+/// The odds of a move of a side against the foe, for the present state of the two members that are out.
+///
+/// The member need not know the move. The accuracy is that of a new use: a kept accuracy of a move that goes on
+/// doesn't count. The battle stays as it is, and nothing is drawn.
 pub fn odds_of(battle: &Packed, side: Side, id: MoveId) -> Odds
     ensures stands { Reads battle.now result (odds_in side (move_at id)) }
 {

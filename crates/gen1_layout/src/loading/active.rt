@@ -1,4 +1,4 @@
-//! The test of the active blocks, but for their current stats (docs/LAYOUT.md, "Active block", "Condition bits").
+//! The test of the active blocks, without their current stats (docs/LAYOUT.md, "Active block", "Condition bits").
 ghost use Rattle.std.specs.Prelude.{◌≡◌, ◌↔◌, ◌<◌, ◌&&◌, ◌||◌, ◌==◌, IsTrue, length};
 ghost use Rattle.gen1_machine.specs.Valid.{OnlyWith};
 ghost use Rattle.gen1_layout.specs.LoadingBytes.{active_bytes, long, word};
@@ -8,7 +8,7 @@ ghost use Rattle.gen1_layout.specs.LoadingActive.{effect_in, has, CountFits, Dis
 use crate::loading::bytes::{active_bytes, are_zero, long, member_bytes, word};
 use gen1_tables::{Effect, MoveId};
 
-// The places of the condition bits that come with a number or belong to the current move.
+// The places of the condition bits that have a number or belong to the current move.
 const BIDE: u32 = 0;
 
 const THRASH: u32 = 1;
@@ -38,7 +38,7 @@ pub(crate) fn pass(form: &[u8]) -> bool
     is_active_at(&form[24..204], turn) && is_active_at(&form[204..384], turn)
 }
 
-// Whether nobody is out at turn 0, and a member from turn 1 on.
+// Whether no member is out at turn 0, and a valid member is out from turn 1 on.
 fn is_active_at(side: &[u8], turn: u16) -> bool
     requires { length side.now ≡ 180 }
     ensures { IsTrue result ↔ PassesActiveAt turn side.now }
@@ -75,7 +75,7 @@ fn is_out(member: &[u8], active: &[u8]) -> bool
         && is_underway(effect_in(member, active[29]), active)
 }
 
-// Whether the parts that need no other part are in their ranges.
+// Whether the fields that depend on no other part are in their ranges.
 fn has_fixed(active: &[u8]) -> bool
     requires { length active.now ≡ 36 }
     ensures { IsTrue result ↔ PassesFixed active.now }
@@ -108,7 +108,7 @@ fn has(active: &[u8], bit: u32) -> bool
     (long(active, 17) >> bit) % 2 == 1
 }
 
-// Whether the conditions that end on their own have their numbers.
+// Whether the conditions with counts have their numbers.
 fn has_counts(member: &[u8], active: &[u8]) -> bool
     requires member { length member.now ≡ 24 }
     requires active { length active.now ≡ 36 }
@@ -143,7 +143,7 @@ fn is_energy(bide: bool, energy: u16) -> bool
     bide || energy == 0
 }
 
-// Whether a count is in its range with its condition, and 0 without.
+// Whether a count is in its range if its condition is on, and 0 otherwise.
 fn is_count(on: bool, low: u8, high: u8, count: u8) -> bool
     ensures { IsTrue result ↔ CountFits on low high count }
 {
@@ -154,7 +154,7 @@ fn is_count(on: bool, low: u8, high: u8, count: u8) -> bool
     }
 }
 
-// Whether the turns are those of Bide or thrashing, or else of trapping.
+// Whether the turns are those of Bide or thrashing, or otherwise those of trapping.
 fn are_turns(long: bool, trapping: bool, turns: u8) -> bool
     ensures { IsTrue result ↔ TurnsFit long trapping turns }
 {
@@ -210,7 +210,7 @@ fn is_explained(explained: bool, on: bool) -> bool
     !on || explained
 }
 
-// The effect of the move in a slot; none for no slot, or for Struggle's.
+// The effect of the move in a slot. No slot has none, and neither has Struggle's.
 fn effect_in(member: &[u8], slot: u8) -> Effect
     requires { length member.now ≡ 24 }
     ensures { result ≡ effect_in member.now slot }

@@ -1,10 +1,10 @@
-//! Numbers and parts of the bytes that are tested (docs/LAYOUT.md, "The 384 bytes of a battle").
+//! Numbers and parts of the tested bytes (docs/LAYOUT.md, "The 384 bytes of a battle").
 ghost use Rattle.std.specs.Prelude.{◌≡◌, ◌+◌, ◌≤◌, ◌↔◌, All, IsTrue, length};
 ghost use Rattle.gen1_layout.specs.LoadingBytes.{active_bytes, long, member_bytes, word};
 
 use byteorder::{ByteOrder, LittleEndian};
 
-// The number of two bytes.
+// The number of two bytes, the low one first.
 pub(crate) fn word(bytes: &[u8], at: usize) -> u16
     requires { at + 2 ≤ length bytes.now }
     ensures { result ≡ word bytes.now at }
@@ -12,7 +12,7 @@ pub(crate) fn word(bytes: &[u8], at: usize) -> u16
     LittleEndian::read_u16(&bytes[at..at + 2])
 }
 
-// The number of four bytes.
+// The number of four bytes, the lowest first.
 pub(crate) fn long(bytes: &[u8], at: usize) -> u32
     requires { at + 4 ≤ length bytes.now }
     ensures { result ≡ long bytes.now at }
@@ -20,7 +20,7 @@ pub(crate) fn long(bytes: &[u8], at: usize) -> u32
     LittleEndian::read_u32(&bytes[at..at + 4])
 }
 
-// The bytes of the place for a member, from 1 to 6.
+// The bytes of the place for a member, 1 to 6.
 pub(crate) fn member_bytes(side: &[u8], place: u8) -> &[u8]
     requires side { length side.now ≡ 180 }
     requires first { 1 ≤ place }

@@ -6,14 +6,14 @@ ghost use Rattle.gen1_layout.specs.LoadingHeader.{version_three, PassesHeader, P
 
 use crate::loading::bytes::word;
 
-// Whether there is such a version.
+// Whether the version exists.
 pub(crate) fn has_version(version: u8) -> bool
     ensures { IsTrue result ↔ IsBetween 1 3 version }
 {
     (1..=3).contains(&version)
 }
 
-// Whether bytes keep to their version, and the header of their form of version 3 to its ranges.
+// Whether the bytes keep to their version, and the header of their form of version 3 to its ranges.
 pub(crate) fn pass(bytes: &[u8], form: &[u8]) -> bool
     requires bytes { length bytes.now ≡ 384 }
     requires form { length form.now ≡ 384 }
@@ -22,7 +22,7 @@ pub(crate) fn pass(bytes: &[u8], form: &[u8]) -> bool
     keeps_version(bytes) && is_header(&form[..24])
 }
 
-// Whether bytes that came later than their version are zeros.
+// Whether bytes that a version doesn't use are zeros.
 fn keeps_version(bytes: &[u8]) -> bool
     requires { length bytes.now ≡ 384 }
     ensures { IsTrue result ↔ PassesVersion bytes.now }
@@ -34,7 +34,7 @@ fn keeps_version(bytes: &[u8]) -> bool
     }
 }
 
-// The bytes in the form of version 3: a battle of an older version has 1,000 turns at most.
+// The bytes in the form of version 3. A battle of an older version has a limit of 1,000 turns.
 pub(crate) fn version_three(bytes: &[u8]) -> [u8; 384]
     requires { length bytes.now ≡ 384 }
     ensures { result ≡ version_three bytes.now }

@@ -16,7 +16,7 @@ pub(crate) fn pass(form: &[u8]) -> bool
     are_members(&form[24..204], form[19]) && are_members(&form[204..384], form[19])
 }
 
-// Whether the six places hold members, and after the last one zeros.
+// Whether the six places hold members first, and zeros after the last one.
 fn are_members(side: &[u8], rules: u8) -> bool
     requires { length side.now ≡ 180 }
     ensures { IsTrue result ↔ PassesMembers rules side.now }
@@ -36,7 +36,7 @@ fn are_members(side: &[u8], rules: u8) -> bool
     true
 }
 
-// Whether a place holds zeros, or a member that comes after a member.
+// Whether a place holds zeros, or a member whose place before holds a member too.
 fn is_place(before: &[u8], block: &[u8], rules: u8) -> bool
     requires before { length before.now ≡ 24 }
     requires block { length block.now ≡ 24 }
@@ -107,7 +107,7 @@ fn has_moves(block: &[u8]) -> bool
         && is_slot(block, 4)
 }
 
-// Whether a slot is empty, or has a move that comes after other moves.
+// Whether a slot is empty, or holds a move after slots with other moves.
 fn is_slot(block: &[u8], slot: u8) -> bool
     requires block { length block.now ≡ 24 }
     requires first { 1 ≤ slot }
@@ -122,7 +122,7 @@ fn is_slot(block: &[u8], slot: u8) -> bool
     may_be_known(id) && pp <= 63 && come_before(&block[15..14 + slot], id)
 }
 
-// Whether a move is none of those in the slots before it, which all hold one.
+// Whether all slots before hold a move, and none of them this one.
 fn come_before(earlier: &[u8], id: u8) -> bool
     ensures { IsTrue result ↔ All (λ other. (other ≢ 0) × (other ≢ id)) earlier.now }
 {

@@ -8,7 +8,7 @@ ghost use Rattle.gen1_layout.specs.LoadingRequests.{any_lives, lives, Asks, Pass
 
 use crate::loading::bytes::{member_bytes, word};
 
-// Whether a battle asks for what its turn, its outcome and its living members say.
+// Whether a battle asks for what fits its turn, its outcome and its living members.
 pub(crate) fn pass(form: &[u8]) -> bool
     requires form { length form.now ≡ 384 }
     requires active { PassesOfActives form.now }
@@ -55,7 +55,7 @@ fn is_later(header: &[u8], one: &[u8], two: &[u8]) -> bool
     }
 }
 
-// Whether the requests are those of a battle that goes on, by whether the two that are out live.
+// Whether the requests fit a battle that goes on, by whether the two members that are out live.
 fn is_asked(one: bool, two: bool, header: &[u8]) -> bool
     requires { length header.now ≡ 24 }
     ensures { IsTrue result ↔ PassesAsked one two header.now }
@@ -76,7 +76,7 @@ fn is_tie(one: bool, two: bool, header: &[u8]) -> bool
     !one && !two || word(header, 1) == word(header, 20) && one && two
 }
 
-// Whether these are the two requests.
+// Whether the two requests are these.
 fn asks(header: &[u8], one: u8, two: u8) -> bool
     requires { length header.now ≡ 24 }
     ensures { IsTrue result ↔ Asks header.now one two }

@@ -10,12 +10,12 @@ use crate::loading::bytes::{active_bytes, member_bytes, word};
 use gen1_machine::now;
 use gen1_tables::Stat;
 
-// A stat of at most 999 is 1 after so many penalties, and stays so.
+// A stat of at most 999 is 1 after this many penalties, and stays 1.
 const HALVINGS: u8 = 9;
 
 const QUARTERINGS: u8 = 5;
 
-// Whether the current stats of both sides come from their members' own.
+// Whether the current stats of both sides come from their members' own stats.
 pub(crate) fn pass(form: &[u8]) -> bool
     requires form { length form.now ≡ 384 }
     requires active { PassesOfActives form.now }
@@ -25,7 +25,7 @@ pub(crate) fn pass(form: &[u8]) -> bool
     are_stats_at(&form[24..204], turn) && are_stats_at(&form[204..384], turn)
 }
 
-// Whether from turn 1 on the current stats come from the stats of the member that is out.
+// Whether, from turn 1 on, the current stats come from the stats of the member that is out.
 fn are_stats_at(side: &[u8], turn: u16) -> bool
     requires side { length side.now ≡ 180 }
     requires active { PassesActiveAt turn side.now }
@@ -71,7 +71,7 @@ fn are_stats(member: &[u8], active: &[u8]) -> bool
     attack && defense && speed && special
 }
 
-// Whether a current stat is the unmodified one at its stage, after so many penalties at most.
+// Whether a current stat is the unmodified stat at its stage, after at most this many penalties.
 fn comes_from(unmodified: u16, stage: u8, stat: Stat, most: u8, current: u16) -> bool
     requires stage { stage ≤ 12 }
     requires most { most ≤ 9 }
@@ -85,7 +85,7 @@ fn comes_from(unmodified: u16, stage: u8, stat: Stat, most: u8, current: u16) ->
     false
 }
 
-// A stat at a stage from 0 to 12, after so many penalties.
+// A stat at a stage, 0 to 12, after this many penalties.
 fn at_stage(unmodified: u16, stage: u8, stat: Stat, times: u8) -> u16
     requires { stage ≤ 12 }
     ensures { result ≡ now_at unmodified stage stat times }

@@ -1,5 +1,6 @@
--- `both_mut` lends the bytes of both sides, and of them a pair. The borrow checker shows no clause for a pair of loans of a
--- struct, so this proof walks the code by hand: two calls, and what their loans make of the battle, put together.
+-- `both_mut` borrows the bytes of both sides, and a pair from them. The borrow checker gives no clause for a pair of
+-- borrows from a struct. So this proof steps through the code: two calls, and the joint effect of their borrows on
+-- the battle.
 use mathlib.Core.List.{List, [], ◌++◌, ◌∷◌}
 use mathlib.Core.Path.{◌≡◌, ap, refl, sym, ◌∙◌}
 use Prim.Native.Nat.{ℕ}
@@ -85,7 +86,7 @@ both_mut_spec 𝓤 𝓛 𝓜 𝓡 wired =
     ⊛ some (λ (ws : Lasts g.ended κs z.0.3). ‵ (lasts g.ended κs z.0.3 ws) ⊛ (‵ (follows Row (Array u8 0) γ r.ghost_name (λ w. with_sides w p))
     ⊛ raw (fact 𝓤 (r.now ≡ bytes_of_sides p)) ⊛ raw (fact 𝓤 (length r.now ≡ 360)) ⊛ raw (fact 𝓤 ((length (bytes_of_side p.one) ≡ 180) × (length (bytes_of_side p.two) ≡ 180)))))))) (id⊢ 𝓤 _) $ await ! tt $ pick ! (λ r.
     split ! $ move ! (1 ∷ []) $ pick ! (λ _. split ! $ drop ! $ split ! $ move ! (1 ∷ []) $ split3 ! $ heard ! _ (λ seen. heard ! _ (λ many. heard ! _ (λ long.
-    -- [what the battle becomes; the token, and the bytes of both; side; nothing]
+    -- [the battle's final value; the token, and the bytes of both; side; nothing]
     move ! (1 ∷ []) $ split ! $ move ! (1 ∷ []) $ peeks ! Slice (Is Slice) (shows 𝓛 Slice) r (v ∷ []) (λ is.
     lands_as ! (ap only is.0.0) refl (tt, (tt, (record { fits = is.0.1.0 }, tt))) $
     rewrite ! 0 (λ (vs : List Val). ‵ (Slice.own_val r vs)) is.0.0 refl $
@@ -99,16 +100,17 @@ both_mut_spec 𝓤 𝓛 𝓜 𝓡 wired =
     ⊛ some (λ (ws : Lasts h.ended κs x.0.3). ‵ (lasts h.ended κs x.0.3 ws) ⊛ (‵ (follows_both (Array u8 0) (Array u8 0) (Array u8 0) r.ghost_name t.0.ghost_name t.1.ghost_name (in_order s))
     ⊛ raw (fact 𝓤 (r.now ≡ in_order s t.0.now t.1.now)) ⊛ raw (fact 𝓤 ((length t.0.now ≡ 180) × (length t.1.now ≡ 180)))))))) (id⊢ 𝓤 _) $ await ! tt $ pick ! (λ t.
     split ! $ move ! (1 ∷ []) $ pick ! (λ _. split ! $ drop ! $ split ! $ move ! (1 ∷ []) $ split ! $ heard ! _ (λ cut. heard ! _ (λ halves.
-    -- [what the bytes become; the token, and the pair; what the battle becomes; nothing]
+    -- [the final bytes; the token, and the pair; the battle's final value; nothing]
     move ! (2 ∷ 0 ∷ []) $ use2 𝓛 (‵ (follows_both Row (Array u8 0) (Array u8 0) γ t.0.ghost_name t.1.ghost_name becomes))
     (both_then 𝓛 Row (Array u8 0) (Array u8 0) (Array u8 0) (λ w. with_sides w p) (in_order s) γ r.ghost_name t.0.ghost_name t.1.ghost_name) $
     move ! (1 ∷ []) $ split ! $ move ! (1 ∷ []) $ fpick ! (λ vss. fsplit ! $ feq_l ! (λ whole. fsplit ! $
     peeks ! Slice (Is Slice) (shows 𝓛 Slice) t.0 vss.0 (λ one. move ! (1 ∷ []) $ fsplit ! $ peeks ! Slice (Is Slice) (shows 𝓛 Slice) t.1 vss.1.0 (λ two.
-    -- [the second; nothing; the first; the token; what the battle becomes; nothing]
+    -- [the second; nothing; the first; the token; the battle's final value; nothing]
     move ! (3 ∷ []) $ split ! $ move ! (4 ∷ 0 ∷ []) $
     use2 𝓛 (anew t.0) (lent_anew 𝓛 κ q t.0 vss.0) $ await ! tt $ pick ! (λ δ. split3 ! $ move ! (4 ∷ 1 ∷ []) $
     use2 𝓛 (anew t.1) (lent_anew 𝓛 κ q t.1 vss.1.0) $ await ! tt $ pick ! (λ ε. split3 ! $
-    -- [the second; the token; what it becomes; the first; what it becomes; nothing twice; what the battle becomes; nothing]
+    -- [the second; the token; its final value; the first; its final value; nothing twice; the battle's final value;
+    -- nothing]
     move ! (7 ∷ 4 ∷ 2 ∷ []) $ use3 𝓛 (‵ (follows_both Row (Array u8 0) (Array u8 0) γ δ ε (λ v w. becomes (refill (length t.0.now) t.0.now v) (refill (length t.1.now) t.1.now w))))
     (both_behind 𝓛 Row (Array u8 0) (Array u8 0) becomes (refill (length t.0.now) t.0.now) (refill (length t.1.now) t.1.now) γ t.0.ghost_name t.1.ghost_name δ ε) $
     let is_own = both-value p long s t.0.now t.1.now (sym seen ∙ cut) halves.0 halves.1 in
@@ -120,7 +122,7 @@ both_mut_spec 𝓤 𝓛 𝓜 𝓡 wired =
     lands_as ! (ap only whole ∙ (λ i. vstruct (of_list (one.0.0 i ++ (two.0.0 i ++ []))))) refl (tt, ((tt, (record { fits = one.0.1.0 }, tt)), ((tt, (record { fits = two.0.1.0 }, tt)), tt))) $
     nothing ! $ move ! (2 ∷ 0 ∷ []) $ fjoin ! $ move ! (3 ∷ 0 ∷ []) $ fjoin ! $ feq_i ! (List Val) (pair ∷ []) (pair ∷ []) refl $ fjoin ! $
     fpack ! (Valss (Slice ∷ Slice ∷ [])) (within (shape (tuple_type (Slice ∷ Slice ∷ []))) (own, (others, tt)) (pair ∷ [])) (mut_slice_vals t.0, (mut_slice_vals t.1, tt)) $
-    -- [the pair; what the battle becomes; the token; nothing, three times]
+    -- [the pair; the battle's final value; the token; nothing, three times]
     returns ! (look_at ! 0 refl) $ free_all ! refl $ keep ! (0 ∷ 1 ∷ 2 ∷ 3 ∷ []) $
     suffices ! _ (ends_at 𝓛 f.ended stayed c y pair (own, others) (tt, (tt, tt)) (tt, (tt, tt))) $
     nothing ! $ nothing ! $ fjoin ! $ nothing ! $ fjoin ! $ move ! (0 ∷ 1 ∷ []) $ join ! $ move ! (2 ∷ 3 ∷ []) $ join ! $ move ! (0 ∷ 1 ∷ []) $ join ! $

@@ -1,5 +1,5 @@
--- `part_mut` lends a part of the array as a slice. The borrow checker shows no write-back clause for that, so this proof
--- walks the code by hand.
+-- `part_mut` borrows a part of the array as a slice. The borrow checker gives no write-back clause for that. So this
+-- proof steps through the code.
 use mathlib.Core.List.{List, [], ◌++◌, ◌∷◌}
 use mathlib.Core.Path.{◌≡◌, ap, refl, sym, ◌∙◌}
 use Prim.Native.Nat.{ℕ, ◌+◌, ◌-◌, ◌<◌, ◌^◌, ◌≤◌}
@@ -71,7 +71,7 @@ module _ {M : Type 1} {𝓤 : Ura M} (𝓛 : Logic 𝓤) (κ : Lft) (q : Share) 
   abbrev past : ℕ → ℕ → ℕ
   past p = at p (mem u8).size
 
-  -- where the part lies
+  -- Where the part begins.
   abbrev spot : ℕ
   spot = from + start o
 
@@ -128,7 +128,7 @@ module _ {M : Type 1} {𝓤 : Ura M} (𝓛 : Logic 𝓤) (κ : Lft) (q : Share) 
       split ! $ move ! (1 ∷ []) $ rewrite ! 0 (λ (k : ℕ). ‵ (elements (drop_list from bytes) k)) here refl $
       rewrite ! 0 (λ (l : List ℕ). ‵ (elements l spot)) (sym (take-append-drop count (drop_list from bytes))) refl $
       use1 𝓛 (‵ (elements middle spot) ⊛ ‵ (elements back (past spot (length middle)))) (cut_app 𝓛 (mem u8) middle back b spot) $
-      -- [middle; back; front; what is left of the struct; the open borrow]
+      -- [middle; end; beginning; the remaining part of the struct; the open borrow]
       split ! $ move ! (1 ∷ 3 ∷ []) $ join ! $ move ! (2 ∷ 0 ∷ []) $ join ! $ move ! (2 ∷ 3 ∷ 4 ∷ 1 ∷ 0 ∷ []) $ group ! 5 $
       use1 𝓛 (later (some (lent_as (length middle))))
       (lends_Elements 𝓛 Row u8 after (named 0) κ q b o b spot γ middle room Rest (put order within long) (Row.coded.code d) (Row.coded.code d)) $
