@@ -1,4 +1,4 @@
--- A foe is immune where one of the factors of its types is 0.
+-- A foe is immune if one of the factors of its types is 0.
 use Rattle.std.proofs.Common.{length, ◌==◌, ◌||◌, ◌∷◌, ◌≡◌, ◌≤◌}
 use Rattle.gen1_layout.proofs.Words.{List, [], arith, false, refl, true, ℕ}
 use Rattle.gen1_tables.specs.Types.{TypeRow, any, tenths_of}

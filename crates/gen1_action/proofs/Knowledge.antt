@@ -1,5 +1,5 @@
--- How what is shown, beside what is known of the action, goes through phases. What gen1_layout's Chain says of a frame holds of
--- `knowing k g`: a change of what is known is one of that frame, by computation.
+-- How shown facts, with what is known of the action, pass through phases. The lemmas of gen1_layout's Chain about a
+-- frame hold for `knowing k g`: a change of what is known is, by computation, a change of that frame.
 use Rattle.std.proofs.Common.{◌≡◌}
 use Rattle.gen1_layout.proofs.Words.{Bool, Frame, Parts, Phase, Progress, Side, Telling, drawn_stops, false, refl, still, true, ℕ, ◌▸◌}
 use Rattle.gen1_machine.specs.Progress.{on_action, unless_stopped}
@@ -10,19 +10,19 @@ use Rattle.gen1_action.specs.Alone.{Leaves}
 use Rattle.gen1_action.specs.Knowing.{begun, knowing, DoesKnowing, ShowsKnown, ShowsOver}
 
 module _ {A : Type 0} {byte : A → ℕ} {next : A → A} {width : ℕ} {origin : A} where
-  -- what code without draws does, beside a generator
+  -- What code without draws does, with a generator that hasn't moved.
   pub does_still : {k k' : Known} (g : Frame) {parts parts' : Parts} {events events' : Telling} {now : A} {b : Bool} {p : Progress} (f : Phase)
       → DoesKnowing parts events k parts' events' k' b f → ShowsKnown byte next width origin k g parts events now false p
       → ShowsKnown byte next width origin k' g parts' events' now b (f p)
   does_still {k' = k'} g {p = p} f does h = still {g' = knowing k' g} h (does (record g { drawn = p.drawn }) p h.shows) refl
 
-  -- the same of code that comes to know nothing
+  -- The same for code that learns nothing.
   pub plain_still : (k : Known) (g : Frame) {parts parts' : Parts} {events events' : Telling} {now : A} {b : Bool} {p : Progress} (f : Phase)
       → Does parts events parts' events' b f → ShowsKnown byte next width origin k g parts events now false p
       → ShowsKnown byte next width origin k g parts' events' now b (f p)
   plain_still k g f does h = does_still {k = k} {k' = k} g f (λ x p. does (knowing k x) p) h
 
-  -- what is known lasts
+  -- What is known stays known.
   pub over : (k : Known) (g : Frame) {parts : Parts} {events : Telling} {now : A} {b : Bool} {p : Progress}
       → ShowsKnown byte next width origin k g parts events now b p → ShowsOver byte next width origin k g parts events now b p
   over k g a = (k.broke, a)
@@ -31,12 +31,12 @@ module _ {A : Type 0} {byte : A → ℕ} {next : A → A} {width : ℕ} {origin 
       → ShowsOver byte next width origin k g parts events now true (f p) → ShowsOver byte next width origin k g parts events now true ((f ▸ h) p)
   over_stops k g f h a = (a.0, drawn_stops f h a.1)
 
-  -- what is left where nobody asks what is known
+  -- What is left if what is known doesn't matter.
   pub leaves : {k : Known} (g : Frame) {parts : Parts} {events : Telling} {now : A} {b : Bool} {p : Progress}
       → ShowsKnown byte next width origin k g parts events now b p → Leaves byte next width origin g parts events now p
   leaves g h = record { within = h.shows.within; written = h.shows.written; stands = h.stands }
 
-  -- an action begins
+  -- An action begins.
   pub begun_so : (k k' : Known) (g : Frame) {parts : Parts} {events : Telling} {now : A} {b : Bool} {p : Progress} (s : Side) → k' ≡ begun s k
       → ShowsOver byte next width origin k g parts events now b p → ShowsKnown byte next width origin k' g parts events now b (begin s p)
   unfolding begin on_action
@@ -47,7 +47,7 @@ module _ {A : Type 0} {byte : A → ℕ} {next : A → A} {width : ℕ} {origin 
         stands = a.stands;
       })
 
--- a phase whose last part always stops
+-- A phase whose last part always stops.
 pub stops-then : (f k : Phase) → ((p : Progress) → (k p).stopped ≡ true) → (p : Progress) → ((f ▸ k) p).stopped ≡ true
 unfolding ◌▸◌ unless_stopped
 stops-then f k all p = by (f p).stopped refl

@@ -1,5 +1,5 @@
--- How what is planned goes through the parts of an action, by the pick that it is taken by. What stands in gen1_machine's Acts
--- says the same of a whole action.
+-- How plans pass through the parts of an action, by its pick. Acts of gen1_machine says the same about a whole
+-- action.
 use Rattle.std.proofs.Common.{All, Bool, List, None, Option, Some, ap, arith, false, is_some, length, refl, subst, sym, true, ℕ, ◌-◌, ◌∙◌, ◌≡◌, ◌≢◌}
 use Rattle.std.proofs.lemmas.Bool.{false≢true}
 use Rattle.gen1_tables.specs.declared.effect.Effect.{Effect}
@@ -36,7 +36,7 @@ use Rattle.gen1_machine.proofs.Acts.{bide-quiet, either, end_charge-keeps, leads
 use Rattle.gen1_action.specs.Planned.{Before, Follows, Takes}
 use Rattle.gen1_action.proofs.Knowledge.{stops-then}
 
--- which move a pick takes
+-- The move that a pick takes
 
 pub used-fits : (terms : Terms) (plan : Side → Plan) (s : Side) (pick : Pick) (e : Effect) (f : Field) (a : Action) (w : Stream) → Takes pick e (plan s)
     → IsPlanned terms plan f a w → IsUsedMove (length (member_in s f).moves) (used_by pick (active_in s f).current_move)
@@ -100,7 +100,7 @@ module _ (terms : Terms) (plan : Side → Plan) (s : Side) (move : Move) (is : I
   unfolding lead_up
   lead_up-passes pick taking = passes-then (charge-passes pick) (passes-then (leads-passes (use_move-leads pick taking) (λ f a w h. tt)) begin_move-passes)
 
--- what holds where a phase goes on
+-- What holds if a phase goes on.
 pub went-on : {P Q R : Field → Action → Stream → Type 0} (f : Phase) (p : Progress) → Passes P Q R f → (f p).stopped ≡ false → P p.field p.action p.stream
     → Q (f p).field (f p).action (f p).stream
 went-on {P} {Q} {R} f p k e h =
@@ -126,7 +126,7 @@ module _ (terms : Terms) (plan : Side → Plan) (s : Side) (move : Move) (is : I
         (replanned s (Doing move.effect) p.field p.action p.stream (planned-holds s p.field p.action p.stream e h) h);
   }
 
-  -- once the move was led up to, it is the current one
+  -- After the lead-up the move is the current one.
   pub led_up : (pick : Pick) (p : Progress) → Takes pick move.effect (plan s) → Before pick terms plan p
       → (unless lets_energy_go (lead_up s pick move) p).stopped ≡ false → Follows terms (next terms plan s move is) (unless lets_energy_go (lead_up s pick move) p)
   led_up (Use used) p taking h e =
@@ -137,7 +137,7 @@ module _ (terms : Terms) (plan : Side → Plan) (s : Side) (move : Move) (is : I
   led_up Idle p taking h e = went-on _ p (passes-choose _ (stays-passes taking) (lead_up-passes terms plan s move is Idle taking)) e h
   led_up Held p taking h e = went-on _ p (passes-choose _ (stays-passes taking) (lead_up-passes terms plan s move is Held taking)) e h
 
--- what is planned as an action begins, and which move is taken
+-- The plan at the beginning of an action, and the move that is taken
 
 pub slot-number : (moves : List KnownMove) (k : ℕ) → All (λ (m : KnownMove). IsBetween 1 165 m.id) moves → IsBetween 1 (length moves) k → IsBetween 1 165 (number_in (Slot k) moves)
 slot-number moves k all h = all (k - 1) nothing_known (omega (arith, h.0, h.1))
@@ -192,7 +192,7 @@ before-from Continue p h e = h
 before-from Idle p h e = h
 before-from Held p h e = h
 
--- who picked nothing, or is held, does not come through the gate
+-- A side that picked nothing or is held doesn't pass the gate
 
 idle-stops : (s : Side) (p : Progress) → (gate s Idle p).stopped ≡ true
 unfolding gate gate_of_move stop choose
@@ -209,7 +209,7 @@ awake s Continue p e = refl
 awake s Idle p e = absurd (false≢true (sym e ∙ idle-stops s p))
 awake s Held p e = absurd (false≢true (sym e ∙ held-stops s _ p))
 
--- what the gate, and the look at what goes on, keep
+-- What the gate and the test for going on keep
 
 pub gates : (terms : Terms) (plan : Side → Plan) (s : Side) (pick : Pick) → Keeps (Quiet terms plan) (gate_or_held s pick)
 gates terms plan s pick = gate_or_held-sound (quiet-sound terms plan) s pick
@@ -220,7 +220,7 @@ sees terms plan s pick = see_if_going_on-sound (quiet-sound terms plan) s pick
 pub damages : (terms : Terms) (plan : Side → Plan) (s : Side) (move : Move) → IsMove move → Keeps (IsPlanned terms plan) (unless (lands_at_once move) (damage_of s move move.effect))
 damages terms plan s move is = choose-keeps _ stay-keeps (damage_of-sound (planned-sound terms plan) s move move.effect is)
 
--- where a part falls away, all is as before
+-- If a part is skipped, everything is as before.
 pub unchosen-valid : (terms : Terms) (plan : Side → Plan) (b : Bool) (f : Phase) (p : Progress) → b ≡ false → Follows terms plan p → Follows terms plan (only b f p)
 unfolding stay
 unchosen-valid terms plan b f p e h = subst (λ (q : Progress). Follows terms plan q) (sym (choose-false (λ q. b) f stay p e)) h
@@ -230,7 +230,7 @@ not-both effects.Trapping h = refl
 not-both effects.Thrash h = absurd (false≢true h)
 not-both _ h = refl
 
--- what a trapping move finds underway
+-- What a trapping move finds underway
 
 pub nothing-there : {A : Type 0} (o : Option A) → (is_some o ≡ true → false ≡ true) → o ≡ None
 nothing-there None k = refl

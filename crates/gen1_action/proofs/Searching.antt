@@ -1,4 +1,4 @@
--- How what is shown goes through draws until one meets a test.
+-- How shown facts pass through draws until one passes a test.
 use Rattle.std.proofs.Common.{◌+◌, ◌≡◌}
 use Rattle.gen1_layout.proofs.Words.{Bool, Frame, None, Option, Parts, Phase, Progress, ShowsDrawn, Some, Telling, ap, false, refl, sym, ℕ, ◌∙◌}
 use Rattle.gen1_rolls.specs.Draws.{FindsDraw, FindsNone}
@@ -6,7 +6,7 @@ use Rattle.gen1_rolls.specs.Streams.{Stream, byte_at, first, span}
 use Rattle.gen1_rolls.proofs.Standing.{found_then, none_then, stands_there}
 use Rattle.gen1_machine.specs.Progress.{draw_until}
 
--- what a search comes to
+-- The result of a search
 
 searched : (test : ℕ → Bool) (f : ℕ → Phase) (p : Progress) (o : Option ℕ) → first p.stream p.drawn test ≡ o
     → draw_until test f p ≡ elim o as (λ _. Progress) [ Some k ↦ f (byte_at p.stream k) (record p { drawn = k + 1 }) | None ↦ record p { drawn = p.drawn + span p.stream } ]
@@ -15,7 +15,7 @@ searched test f p o e =
     ap (λ (x : Option ℕ). elim x as (λ _. Progress) [ Some k ↦ f (byte_at p.stream k) (record p { drawn = k + 1 }) | None ↦ record p { drawn = p.drawn + span p.stream } ]) e
 
 module _ {A : Type 0} {byte : A → ℕ} {next : A → A} {width : ℕ} {origin : A} {g : Frame} {parts : Parts} {events : Telling} {old new : A} {p : Progress} where
-  -- a byte was found, and what it leads to begins behind it
+  -- A byte was found, and what follows it begins at the next place.
   pub found_by_drawing : {found : ℕ} (test : ℕ → Bool) (f : ℕ → Phase)
       → ShowsDrawn byte next width origin g parts events old false p → FindsDraw byte next width test old found new
       → (n : ℕ) × ShowsDrawn byte next width origin g parts events new false (record p { drawn = n }) × (draw_until test f p ≡ f found (record p { drawn = n }))
@@ -40,7 +40,7 @@ module _ {A : Type 0} {byte : A → ℕ} {next : A → A} {width : ℕ} {origin 
       let x = found_by_drawing test f a finds in
       rw x.2 (then (record p { drawn = x.0 }) x.1)
 
-  -- none was
+  -- No byte was found.
   pub drawn_none : (test : ℕ → Bool) (f : ℕ → Phase) → ShowsDrawn byte next width origin g parts events old false p → FindsNone byte next width test old new
       → ShowsDrawn byte next width origin g parts events new false (draw_until test f p)
   drawn_none test f a finds =

@@ -1,4 +1,4 @@
--- Whether any living member meets a test, place by place.
+-- Whether any living member passes a test, place by place.
 use Rattle.std.proofs.Common.{Bool, List, [], arith, length, get_or, refl, ◌&&◌, ◌||◌, ◌∷◌, ◌≡◌, ◌≤◌}
 use Rattle.std.proofs.Math.Bool.{or-false}
 use Rattle.gen1_tables.specs.Types.{any}

@@ -1,5 +1,5 @@
--- What a call shows that stands for itself: an operation of an action that has just begun, of which nothing is known yet. It
--- leaves the bytes, the events and the generator of its phase; what the phase comes to know besides is of no account.
+-- What a call by itself shows: an operation of an action that has just begun, of which nothing is known yet. Its
+-- bytes, events and generator are those of its phase. What the phase learns in addition doesn't matter.
 use Rattle.std.specs.Prelude.{◌≡◌}
 use Rattle.gen1_layout.specs.Words.{Frame, Phase, Progress, Side, Telling, Within, false, ℕ}
 use Rattle.gen1_tables.specs.declared.effect.Effect.{Effect}
@@ -11,23 +11,23 @@ use Rattle.gen1_action.specs.declared.known.Known.{Known}
 use Rattle.gen1_action.specs.Knowing.{begun, nothing_yet, ShowsKnown}
 use Rattle.gen1_action.specs.Planned.{Follows}
 
--- what is known as a side's action begins, the first of its update
+-- What is known when a side's action, the first of its update, begins.
 abbrev pub just_begun : Side → Known
 just_begun s = begun s nothing_yet
 
--- the bytes, the events and the generator are those of a battle in the middle of an update
+-- The bytes, the events and the generator are those of a battle in the middle of an update.
 pub record Leaves {A : Type 0} (byte : A → ℕ) (next : A → A) (width : ℕ) (origin : A) (g : Frame) (parts : Parts) (events : Telling) (now : A) (p : Progress) : Type 0 where
   pub within : Within g.setting parts p.field
   pub written : events p.events
   pub stands : StandsAt byte next width origin g.stream p.drawn now
 
--- code leaves what a phase makes of an action that has just begun, under the rules of the battle
+-- The code leaves what a phase makes of an action that has just begun, under the rules of the battle.
 abbrev pub DoesAlone : {A : Type 0} → (A → ℕ) → (A → A) → ℕ → Side → Parts → Telling → A → Parts → Telling → A → (Ruling → Phase) → Type 0
 DoesAlone {A = A} byte next width side parts events old parts' events' new phase =
     (origin : A) (g : Frame) (p : Progress) → ShowsKnown byte next width origin (just_begun side) g parts events old false p
     → Leaves byte next width origin g parts' events' new (phase (ruling_of g.setting.terms) p)
 
--- the same for a side that is using a move with this effect
+-- The same for a side that is using a move with this effect.
 abbrev pub DoesAloneAt : {A : Type 0} → (A → ℕ) → (A → A) → ℕ → Side → Effect → Parts → Telling → A → Parts → Telling → A → (Ruling → Phase) → Type 0
 DoesAloneAt {A = A} byte next width side effect parts events old parts' events' new phase =
     (origin : A) (g : Frame) (p : Progress) (plan : Side → Plan) → plan side ≡ Doing effect → Follows g.setting.terms plan p

@@ -1,4 +1,4 @@
--- What the clauses of the rules count of living members (docs/MECHANICS.md, "Rules (sleep clause, freeze clause)").
+-- What the clauses count among living members (docs/MECHANICS.md, "Rules (sleep clause, freeze clause)").
 use Rattle.std.specs.Prelude.{Bool}
 use Rattle.gen1_stats.specs.declared.status.Status.{Status}
 use Rattle.gen1_stats.specs.Members.{is_frozen, is_marked}

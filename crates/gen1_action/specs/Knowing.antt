@@ -1,6 +1,6 @@
--- What an action knows, as the code holds it: the machine's record of the action, and whether Haze met a sleeper. An operation
--- that comes to know something is said by its phase, as every other: from what is shown before, beside what was known, follows
--- what is shown after, beside what is known then.
+-- What is known of an action, in the form of the code: the machine's record of the action, and whether Haze met a
+-- sleeper. An operation that learns something is described by its phase like any other. If something is shown with
+-- what was known before it, the result of the phase is shown with what is known after it.
 use Rattle.std.specs.Prelude.{◌≡◌}
 use Rattle.gen1_layout.specs.Words.{Bool, Frame, None, Phase, Progress, Shows, ShowsDrawn, Side, Telling, false, ℕ}
 use Rattle.gen1_machine.specs.declared.side.Side.TheVariants.{One}
@@ -22,7 +22,7 @@ action_of k = record {
   accuracy_tested = k.accuracy_tested;
 }
 
--- before the first action of an update
+-- Before the first action of an update.
 abbrev pub nothing_yet : Known
 nothing_yet = record {
   side = One;
@@ -38,20 +38,20 @@ nothing_yet = record {
   skips = false;
 }
 
--- a new action knows nothing of the last, and who is skipped is known for the update
+-- A new action knows nothing of the last. Which side is skipped stays known for the update.
 abbrev pub begun : Side → Known → Known
 begun s k = record nothing_yet { side = s; skips = k.skips }
 
--- a frame, with what is known in the place of what it says of the action
+-- A frame in which what is known replaces what it says about the action.
 abbrev pub knowing : Known → Frame → Frame
 knowing k g = record g { skips = k.skips; action = action_of k }
 
--- code with no draws, from these parts, events and knowledge to those, does what a phase does
+-- Code without draws, from these parts, events and knowledge to those, does what a phase does.
 abbrev pub DoesKnowing : Parts → Telling → Known → Parts → Telling → Known → Bool → Phase → Type 0
 DoesKnowing parts events k parts' events' k' stopped phase =
     (g : Frame) (p : Progress) → Shows (knowing k g) parts events false p → Shows (knowing k' g) parts' events' stopped (phase p)
 
--- code with draws, whatever generator it was handed
+-- Code with draws, for any generator that it is given.
 abbrev pub ShowsKnown : {A : Type 0} → (A → ℕ) → (A → A) → ℕ → A → Known → Frame → Parts → Telling → A → Bool → Progress → Type 0
 ShowsKnown byte next width origin k g parts events now stopped p = ShowsDrawn byte next width origin (knowing k g) parts events now stopped p
 
@@ -60,7 +60,7 @@ DoesKnowingDrawing {A = A} byte next width parts events old k parts' events' new
     (origin : A) (g : Frame) (p : Progress) → ShowsKnown byte next width origin k g parts events old false p
     → ShowsKnown byte next width origin k' g parts' events' new stopped (phase p)
 
--- once an action is over, nobody asks any more whether a substitute broke in it
+-- After an action is over, it no longer matters whether a substitute broke in it.
 abbrev pub with_broke : Bool → Known → Known
 with_broke broke k = record k { broke = broke }
 
@@ -68,6 +68,6 @@ abbrev pub ShowsOver : {A : Type 0} → (A → ℕ) → (A → A) → ℕ → A 
 ShowsOver byte next width origin k g parts events now stopped p =
     (broke : Bool) × ShowsKnown byte next width origin (with_broke broke k) g parts events now stopped p
 
--- no hit was made yet, nor planned
+-- No hit has been made or planned yet.
 abbrev pub IsUncounted : Known → Type 0
 IsUncounted k = (k.hits_made ≡ 0) × (k.hits_planned ≡ None)

@@ -1,10 +1,10 @@
--- What an action knows, and what its operations show beside it.
+-- What is known of an action, and what its operations show.
 pub mod Knowing
--- What is planned by the side that acts.
+-- The plan of the side that acts.
 pub mod Planned
--- What a call shows that stands for itself.
+-- What a call by itself shows.
 pub mod Alone
--- How often a move hits or holds.
+-- How many times a move hits or holds.
 pub mod Counts
--- What the clauses of the rules count.
+-- What the clauses count.
 pub mod Clauses

@@ -1,5 +1,5 @@
--- What operations show for a side that plans a move: which move it is about to use, or is using, so that what the move begins
--- is explained by it (gen1_machine, `Plans.antt`). What they ask for is a premise, which their callers hand on.
+-- What operations show for a side that plans a move: the move that it is about to use, or is using, explains what the
+-- move begins (gen1_machine, `Plans.antt`). What operations need is a premise, which their callers pass on.
 use Rattle.std.specs.Prelude.{◌≡◌}
 use Rattle.gen1_layout.specs.Words.{Bool, Frame, Phase, Progress, Side, Telling, false, ℕ}
 use Rattle.gen1_tables.specs.declared.effect.Effect.{Effect}
@@ -12,34 +12,35 @@ use Rattle.gen1_layout.specs.Parts.{Parts}
 use Rattle.gen1_action.specs.declared.known.Known.{Known}
 use Rattle.gen1_action.specs.Knowing.{ShowsKnown}
 
--- a battle in the middle of an update is valid, and each side's plan holds of it
+-- A battle in the middle of an update is valid, and each side's plan holds.
 abbrev pub Follows : Terms → (Side → Plan) → Progress → Type 0
 Follows terms plan p = IsPlanned terms plan p.field p.action p.stream
 
--- what is planned where a pick is about to take up a move with this effect: a move that is picked anew is yet to be used
+-- The plan of a side whose pick is about to take a move with this effect. A move that is picked for this turn is not
+-- used yet.
 abbrev pub Takes : Pick → Effect → Plan → Type 0
 Takes (Use used) e x = x ≡ Plans used e
 Takes _ e x = x ≡ Doing e
 
--- and no energy is let go where it is picked anew
+-- If the move is picked for this turn, no energy is let out.
 abbrev pub Before : Pick → Terms → (Side → Plan) → Progress → Type 0
 Before (Use used) terms plan p = Follows terms plan p × (p.action.letting_go ≡ false)
 Before _ terms plan p = Follows terms plan p
 
--- code does what a phase does under the rules of the battle
+-- The code does what a phase does under the rules of the battle.
 abbrev pub DoesUnder : {A : Type 0} → (A → ℕ) → (A → A) → ℕ → Parts → Telling → A → Known → Parts → Telling → A → Known → Bool → (Ruling → Phase) → Type 0
 DoesUnder {A = A} byte next width parts events old k parts' events' new k' stopped phase =
     (origin : A) (g : Frame) (p : Progress) → ShowsKnown byte next width origin k g parts events old false p
     → ShowsKnown byte next width origin k' g parts' events' new stopped (phase (ruling_of g.setting.terms) p)
 
--- the same for a side that is using a move with this effect
+-- The same for a side that is using a move with this effect.
 abbrev pub DoesAt : {A : Type 0} → (A → ℕ) → (A → A) → ℕ → Side → Effect → Parts → Telling → A → Known → Parts → Telling → A → Known → Bool → (Ruling → Phase) → Type 0
 DoesAt {A = A} byte next width side effect parts events old k parts' events' new k' stopped phase =
     (origin : A) (g : Frame) (p : Progress) (plan : Side → Plan) → plan side ≡ Doing effect → Follows g.setting.terms plan p
     → ShowsKnown byte next width origin k g parts events old false p
     → ShowsKnown byte next width origin k' g parts' events' new stopped (phase (ruling_of g.setting.terms) p)
 
--- the same for a side whose pick is about to take up such a move
+-- The same for a side whose pick is about to take such a move.
 abbrev pub DoesTaking : {A : Type 0} → (A → ℕ) → (A → A) → ℕ → Side → Pick → Effect → Parts → Telling → A → Known → Parts → Telling → A → Known → Bool → (Ruling → Phase) → Type 0
 DoesTaking {A = A} byte next width side pick effect parts events old k parts' events' new k' stopped phase =
     (origin : A) (g : Frame) (p : Progress) (plan : Side → Plan) → Takes pick effect (plan side) → Before pick g.setting.terms plan p

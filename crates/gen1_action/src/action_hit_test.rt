@@ -1,4 +1,4 @@
-//! The hit test of an action, and how a miss is told (docs/MECHANICS.md, "Hit test", "Action").
+//! The hit test of an action, and how a miss is reported (docs/MECHANICS.md, "Hit test", "Action").
 ghost use Rattle.gen1_layout.specs.Words.{AddsAtMost, AddsNone, Does, Event, HasRoom, List, Reads, Told, active_in, false, move_at, true};
 ghost use Rattle.std.specs.Prelude.{if◌then◌else◌, ◌≡◌};
 ghost use Rattle.gen1_machine.specs.Moves.{accuracy_byte};
@@ -14,10 +14,12 @@ use gen1_machine::{Event, Side};
 use gen1_rolls::Rolls;
 use gen1_tables::MoveId;
 
-/// The hit test of a move of `side`, at its accuracy byte, or at the kept accuracy where the action goes on
-/// (docs/MECHANICS.md, "Hit test"). At most one draw is taken. What is known then is the byte that was tested, and whether
-/// the action has missed: what missed before still has. A miss sets the last damage to 0 and ends the user's Trapping; nothing
-/// else of the battle changes.
+/// The hit test of a move of `side`, at its accuracy byte, or at the kept accuracy if the action goes on
+/// (docs/MECHANICS.md, "Hit test").
+///
+/// It takes at most one draw. `known` then holds the byte that was tested, and whether the action has missed. An
+/// earlier miss stays. A miss sets the last damage to 0 and ends the user's Trapping. Nothing else of the battle
+/// changes.
 pub fn hit_or_miss<R: Rolls>(
     battle: &mut Packed,
     side: Side,
@@ -36,8 +38,10 @@ pub fn hit_or_miss<R: Rolls>(
     known.accuracy_tested = Some(test.kept);
 }
 
-/// The same, as a test whose miss ends the action: a miss is told, and `true` answered (docs/MECHANICS.md, "Early effects",
-/// "Late effects"). One event is written at most, and none where it hits; a place in `events` is to be free for it.
+/// The same for a test whose miss ends the action (docs/MECHANICS.md, "Early effects", "Late effects").
+///
+/// A miss is reported, and `true` is returned. It writes at most one event, and none on a hit. It needs one free
+/// place in `events`.
 pub fn must_hit<R: Rolls, S: EventSink>(
     battle: &mut Packed,
     side: Side,
@@ -62,8 +66,10 @@ pub fn must_hit<R: Rolls, S: EventSink>(
     true
 }
 
-/// Tells of a miss of `side`: `Immune` of the foe, where a type row of 0 has the move's type and a type of the foe, else
-/// `Miss` of the user (docs/MECHANICS.md, "Action", step 9). A place in `events` is to be free for it. Nothing else changes.
+/// Reports a miss of `side` (docs/MECHANICS.md, "Action", step 9).
+///
+/// The event is `Immune` of the foe if a type row of 0 has the move's type and a type of the foe. Otherwise it is
+/// `Miss` of the user. It needs one free place in `events`. Nothing else changes.
 pub fn note_miss<S: EventSink>(battle: &Packed, side: Side, id: MoveId, events: &mut S)
     requires room { HasRoom S.room 1 events.old }
     ensures shown { Does battle.now (S.tells events.old) battle.now (S.tells events.new) false
@@ -84,7 +90,7 @@ fn miss_event(battle: &Packed, side: Side, id: MoveId) -> Event
     Event::Miss(battle.who(side))
 }
 
-// What the test is made at (docs/MECHANICS.md, "Hit test", "Kept accuracy").
+// The base of the test (docs/MECHANICS.md, "Hit test", "Kept accuracy").
 fn base_of(battle: &Packed, side: Side, id: MoveId, going_on: bool) -> u8
     ensures stands { Reads battle.now result λ f.
         (if going_on then (active_in side f).kept_accuracy else accuracy_byte (move_at id)) }

@@ -1,5 +1,5 @@
-//! What the clauses count: living members of a side that sleep by the foe's moves, or are frozen (docs/MECHANICS.md, "Rules
-//! (sleep clause, freeze clause)").
+//! What the clauses count: living members of a side that sleep by the foe's moves, or that are frozen
+//! (docs/MECHANICS.md, "Rules (sleep clause, freeze clause)").
 ghost use Rattle.std.specs.Prelude.{◌&&◌, ◌≡◌, ◌≤◌};
 ghost use Rattle.gen1_layout.specs.Words.{Reads, ReadsPacked, is_frozen, is_living, member_at, party};
 ghost use Rattle.gen1_stats.specs.Members.{is_marked};
@@ -10,15 +10,17 @@ use gen1_layout::Packed;
 use gen1_machine::Side;
 use gen1_stats::Status;
 
-// The two clauses, by what each of them counts.
+// The two clauses, by what each counts.
 #[derive(Clone, Copy)]
 pub(crate) enum Clause {
     Sleep,
     Freeze,
 }
 
-/// Whether a living member of `side`, also the one that is out, sleeps by a move of the foe that the sleep clause counts
-/// (docs/MECHANICS.md, "Rules (sleep clause, freeze clause)"). Whether the battle is under that clause is not asked.
+/// Whether a living member of `side` sleeps by a move of the foe that the sleep clause counts (docs/MECHANICS.md,
+/// "Rules (sleep clause, freeze clause)").
+///
+/// The member that is out counts too. It doesn't matter whether the battle is under that clause.
 pub fn has_marked_sleeper(battle: &Packed, side: Side) -> bool
     ensures stands { Reads battle.now result λ f. any_living (λ m. is_marked m.status)
         (party side f) }
@@ -26,8 +28,9 @@ pub fn has_marked_sleeper(battle: &Packed, side: Side) -> bool
     any_living(battle, side, Clause::Sleep)
 }
 
-/// Whether a living member of `side`, also the one that is out, is frozen (docs/MECHANICS.md, "Rules (sleep clause, freeze
-/// clause)"). Whether the battle is under the freeze clause is not asked.
+/// Whether a living member of `side` is frozen (docs/MECHANICS.md, "Rules (sleep clause, freeze clause)").
+///
+/// The member that is out counts too. It doesn't matter whether the battle is under the freeze clause.
 pub fn has_frozen_member(battle: &Packed, side: Side) -> bool
     ensures stands { Reads battle.now result λ f. any_living (λ m. is_frozen m.status)
         (party side f) }

@@ -7,8 +7,10 @@ use gen1_layout::Packed;
 use gen1_machine::{Event, Side, Volatile};
 use gen1_rolls::Rolls;
 
-/// Confuses the member of `side` that is out, for the two to five turns of one draw, whether or not it is confused already
-/// (docs/MECHANICS.md, "Early effects"). A place in `events` is to be free for the `Start`; nothing else changes.
+/// Confuses the member of `side` that is out for two to five turns, by one draw (docs/MECHANICS.md, "Early effects").
+///
+/// It doesn't matter whether the member is confused already. `Start` is written, for which it needs one free place in
+/// `events`. Nothing else changes.
 pub fn confuse<R: Rolls, S: EventSink>(
     battle: &mut Packed,
     side: Side,

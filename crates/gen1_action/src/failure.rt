@@ -6,8 +6,8 @@ use gen1_events::EventSink;
 use gen1_layout::Packed;
 use gen1_machine::{Event, Side};
 
-/// Tells that the move of `side` fails, which ends its action. A place in `events` is to be free for it; nothing else
-/// changes.
+/// Reports that the move of `side` fails, which ends its action (docs/MECHANICS.md, "Order of events"). It needs one
+/// free place in `events`. Nothing else changes.
 pub fn fail<S: EventSink>(battle: &Packed, side: Side, events: &mut S)
     requires room { HasRoom S.room 1 events.old }
     ensures shown { Does battle.now (S.tells events.old) battle.now (S.tells events.new) true (fail side) }

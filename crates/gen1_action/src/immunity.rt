@@ -1,4 +1,4 @@
-//! Which types a move has no effect on (docs/MECHANICS.md, "Types").
+//! Which members a move has no effect on (docs/MECHANICS.md, "Types").
 ghost use Rattle.gen1_layout.specs.Words.{Reads, active_in};
 ghost use Rattle.gen1_machine.specs.HitTest.{is_immune};
 

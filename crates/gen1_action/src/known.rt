@@ -1,39 +1,40 @@
-//! What is known of the action that is being taken, beside the bytes of the battle (docs/MECHANICS.md, "Action").
+//! What is known of the action in progress, apart from the bytes of the battle (docs/MECHANICS.md, "Action").
 ghost use Rattle.std.specs.Prelude.{◌≡◌};
 ghost use Rattle.gen1_action.specs.Knowing.{begun, nothing_yet};
 
 use gen1_machine::Side;
 
-/// What is known of the action that is being taken, and stands nowhere in the bytes (docs/MECHANICS.md, "Action"). It lasts
-/// for an update: each action begins it anew, but for `skips`.
+/// What is known of the action in progress and isn't in the bytes (docs/MECHANICS.md, "Action").
+///
+/// It lasts for one update. Each action resets it, except for `skips`.
 #[derive(Clone, Copy, Debug, PartialEq, Eq)]
 pub struct Known {
-    /// Who acts.
+    /// The side that acts.
     pub side: Side,
-    /// It goes on, and was not picked anew: Thrash, Trapping or Rage (docs/MECHANICS.md, "Going on").
+    /// The action goes on from an earlier turn, by Thrash, Trapping or Rage (docs/MECHANICS.md, "Going on").
     pub going_on: bool,
-    /// It lets out the energy of Bide.
+    /// The action lets out the energy of Bide.
     pub letting_go: bool,
-    /// It has missed: by its hit test, by its damage, or by a rule of its move.
+    /// The action has missed: by its hit test, by its damage, or by a rule of its move.
     pub missed: bool,
-    /// Its hit is critical.
+    /// The hit is critical.
     pub critical: bool,
-    /// Its damage went through the type rows, so that the rows tell how it did.
+    /// The damage went through the type rows, so they give its effectiveness.
     pub through_types: bool,
-    /// It broke a substitute, which cancels the rest of the move's effect (docs/MECHANICS.md, "Landing").
+    /// The action broke a substitute, which cancels the rest of the move's effect (docs/MECHANICS.md, "Landing").
     pub broke: bool,
-    /// How many hits it made.
+    /// The number of hits so far.
     pub hits_made: u8,
-    /// How many it is to make, from 2 to 5, where the move makes several and has drawn how many.
+    /// The number of hits to make, 2 to 5, if the move makes several and their number is settled.
     pub hits_planned: Option<u8>,
-    /// The accuracy byte of its hit test, where it has made one (docs/MECHANICS.md, "Kept accuracy").
+    /// The accuracy byte of the hit test, if there was one (docs/MECHANICS.md, "Kept accuracy").
     pub accuracy_tested: Option<u8>,
-    /// Haze met the foe asleep or frozen, so that the foe does not act this turn (docs/MECHANICS.md, "Early effects").
+    /// Haze met the foe asleep or frozen, so the foe doesn't act this turn (docs/MECHANICS.md, "Early effects").
     pub skips: bool,
 }
 
 impl Known {
-    /// What is known as an update begins: nothing, and nobody is to be skipped.
+    /// What is known when an update begins: nothing, and no side is skipped.
     pub fn new() -> Known
         ensures { result ≡ nothing_yet }
     {
@@ -52,7 +53,7 @@ impl Known {
         }
     }
 
-    /// What is known as an action of `side` begins: nothing of it, and who is skipped as before.
+    /// What is known when an action of `side` begins: nothing of the action, and the skipped side as before.
     pub fn begun(self, side: Side) -> Known
         ensures { result ≡ begun side self }
     {

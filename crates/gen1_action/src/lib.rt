@@ -1,13 +1,13 @@
-//! What is known of the action that is being taken, and the hit test that it makes (docs/MECHANICS.md, "Action"). The effects
-//! of moves, the moves that last, and a turn stand on this.
+//! What is known of the action in progress, and its hit test (docs/MECHANICS.md, "Action"). The effects of moves, the
+//! moves that last, and turns build on this.
 //!
 //! - `known`: what is known
-//! - `action_hit_test`: the hit test, and how a miss is told
+//! - `action_hit_test`: the hit test, and how a miss is reported
 //! - `clauses`: what the sleep clause and the freeze clause count
 //! - `confusion`: confusion that begins
-//! - `counts`: how often a move hits or holds
+//! - `counts`: how many times a move hits or holds
 //! - `failure`: a move that fails
-//! - `immunity`: which types a move has no effect on
+//! - `immunity`: which members a move has no effect on
 #![tactic(auto)]
 
 mod action_hit_test;

@@ -1,4 +1,4 @@
--- An operation that stands for itself, from an action that has just begun; that its action then ends is of no account.
+-- An operation by itself, from an action that has just begun. It doesn't matter that its action then ends.
 use Rattle.std.proofs.Common.{◌≡◌}
 use Rattle.gen1_layout.proofs.Words.{Bool, Frame, Parts, Phase, Progress, Side, Telling, false, refl, stop, subst, then-goes, then-stops, true, ℕ, ◌▸◌}
 use Rattle.gen1_action.specs.declared.known.Known.{Known}

@@ -1,4 +1,4 @@
--- How what is shown goes through a draw by chance, and through draws until a byte meets a test.
+-- How shown facts pass through a draw by chance, and through draws until a byte passes a test.
 use Rattle.std.proofs.Common.{◌+◌, ◌≡◌}
 use Rattle.gen1_layout.proofs.Words.{Bool, Frame, None, Option, Parts, Phase, Progress, ShowsDrawn, Some, Telling, ap, choose-false, drawing, drawn_if_not, drawn_if_so, drawn_stays, false, nat_lt, refl, stay, sym, then-goes, true, ℕ, ◌∙◌, ◌▸◌}
 use Rattle.gen1_rolls.specs.Draws.{FindsDraw, FindsNone}
@@ -24,7 +24,7 @@ none-is test f p e =
       | None ↦ record p { drawn = p.drawn + span p.stream }
     ]) e
 
--- a test that does not hold, with a generator
+-- A test that fails, with a generator.
 module _ {A : Type 0} {byte : A → ℕ} {next : A → A} {width : ℕ} {origin : A} where
   pub drawn_past : {g g' : Frame} {parts parts' : Parts} {events events' : Telling} {now now' : A} {b : Bool} {p : Progress} (test : Progress → Bool) (f k : Phase) → test p ≡ false
       → ShowsDrawn byte next width origin g parts events now false p → ShowsDrawn byte next width origin g' parts' events' now' b (k p)
@@ -35,7 +35,7 @@ module _ {A : Type 0} {byte : A → ℕ} {next : A → A} {width : ℕ} {origin 
       rw (then-goes (when test f) k p (ap (λ (q : Progress). q.stopped) is ∙ h.shows.ends) ∙ ap k is) a
 
 module _ {A : Type 0} {byte : A → ℕ} {next : A → A} {width : ℕ} {origin : A} {g : Frame} {parts : Parts} {events : Telling} {old new : A} {b : Bool} {p : Progress} where
-  -- the draw was below the bound
+  -- The draw was below the bound.
   pub comes : {g' : Frame} {parts' : Parts} {events' : Telling} {now : A} {b' result : Bool} (bound : ℕ) (f : Phase)
       → ShowsDrawn byte next width origin g parts events old b p → result ≡ nat_lt (byte old) bound → new ≡ next old → result ≡ true
       → (ShowsDrawn byte next width origin g parts events new b (record p { drawn = p.drawn + 1 })
@@ -45,7 +45,7 @@ module _ {A : Type 0} {byte : A → ℕ} {next : A → A} {width : ℕ} {origin 
   comes bound f h is left e then =
       drawing (happens_below bound f) {drawn = byte old} h refl left (λ d. drawn_if_so (λ q. nat_lt (byte old) bound) f stay (sym is ∙ e) (then d))
 
-  -- it was not
+  -- The draw wasn't below the bound.
   pub passes : {result : Bool} (bound : ℕ) (f : Phase)
       → ShowsDrawn byte next width origin g parts events old b p → result ≡ nat_lt (byte old) bound → new ≡ next old → result ≡ false
       → ShowsDrawn byte next width origin g parts events new b (by_chance bound f p)
@@ -53,7 +53,7 @@ module _ {A : Type 0} {byte : A → ℕ} {next : A → A} {width : ℕ} {origin 
   passes bound f h is left e =
       drawing (happens_below bound f) {drawn = byte old} h refl left (λ d. drawn_if_not (λ q. nat_lt (byte old) bound) f stay (sym is ∙ e) (drawn_stays d))
 
-  -- a byte met the test
+  -- A byte passed the test.
   pub finding : {g' : Frame} {parts' : Parts} {events' : Telling} {now : A} {b' : Bool} {x : ℕ} (test : ℕ → Bool) (f : ℕ → Phase)
       → ShowsDrawn byte next width origin g parts events old b p → FindsDraw byte next width test old x new
       → ((m : ℕ) → test x ≡ true → ShowsDrawn byte next width origin g parts events new b (record p { drawn = m + 1 })
@@ -70,7 +70,7 @@ module _ {A : Type 0} {byte : A → ℕ} {next : A → A} {width : ℕ} {origin 
       } in
       rw (found-is test f p m at, ← is) (then m (ap test d.is ∙ d.first.meets) found)
 
-  -- none did
+  -- No byte passed the test.
   pub finding_none : (test : ℕ → Bool) (f : ℕ → Phase) → ShowsDrawn byte next width origin g parts events old b p → FindsNone byte next width test old new
       → ShowsDrawn byte next width origin g parts events new b (draw_until test f p)
   finding_none test f a d =

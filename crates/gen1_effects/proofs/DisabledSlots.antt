@@ -1,4 +1,5 @@
--- Which slots Disable may draw: the first four of a list are all there are, and a slot holds a move where a number stands in it.
+-- The slots that Disable may draw. The first four of a list are all there are, and a slot holds a move if it has a
+-- number.
 use Rattle.gen1_layout.proofs.Words.{Bool, IsBetween, List, [], ap, arith, false, inl, inr, known_in, length, nat_lt, nat_tests, refl, suc, sym, true, zero, ℕ, ◌∙◌}
 use Rattle.std.proofs.Common.{All, add-zero, get_or, ◌%◌, ◌&&◌, ◌+◌, ◌-◌, ◌<◌, ◌||◌, ◌∷◌, ◌≡◌, ◌≤◌, ◌⊎◌}
 use Rattle.gen1_stats.specs.declared.known_move.KnownMove.{KnownMove}
@@ -50,7 +51,7 @@ holds_move moves k h =
       | inr past ↦ not_below k (length moves) past ∙ sym (ap (λ (m : KnownMove). nat_lt 0 m.id) (beyond moves k past))
     ])
 
--- a slot that a byte names holds a move
+-- A slot that a byte names holds a move.
 pub named_holds : (moves : List KnownMove) (b : ℕ) → names_slot moves b ≡ true → b % 4 < length moves
 named_holds moves b h = by (nat_lt (b % 4) (length moves)) _ h refl
   where

@@ -1,4 +1,4 @@
--- An early effect is that of its way.
+-- An early effect is the effect of its way.
 use Rattle.std.proofs.Common.{◌≡◌}
 use Rattle.gen1_layout.proofs.Words.{Phase, Side, ap, true}
 use Rattle.gen1_tables.specs.declared.effect.Effect.{Effect}

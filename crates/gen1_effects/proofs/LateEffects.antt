@@ -1,4 +1,4 @@
--- What a late effect comes to, by the effect of the move.
+-- The result of a late effect, by the effect of the move.
 use Rattle.std.proofs.Common.{◌≡◌}
 use Rattle.gen1_layout.proofs.Words.{Bool, Phase, Progress, Side, ap, false, refl, stop, true, ℕ, ◌▸◌}
 use Rattle.std.proofs.lemmas.Bool.{false≢true}
@@ -14,7 +14,7 @@ use Rattle.gen1_machine.specs.StageShift.{raise_stage}
 use Rattle.gen1_effects.specs.LateEffects.{is_late_but_bide}
 
 module _ (r : Ruling) (s : Side) (move : Move) (e : Effect) (p : Progress) where
-  -- the action ends with whatever the effect comes to
+  -- The action ends with the result of the effect.
   ends_with : (f : Phase) → late_effect r s move e ≡ f → (late_effect r s move e ▸ stop) p ≡ (f ▸ stop) p
   ends_with f so = ap (λ (h : Phase). (h ▸ stop) p) so
 
@@ -30,7 +30,7 @@ module _ (r : Ruling) (s : Side) (move : Move) (e : Effect) (p : Progress) where
   unfolding late_effect
   sleeps is = ends_with (put_to_sleep r s move) (ap (late_effect r s move) is)
 
--- there are no others
+-- There are no other late effects.
 pub no_other : (e : Effect) → is_late_but_bide e ≡ true → ((stat : Stat) (by : ℕ) → e ≡ effects.StatUp stat by → ⊥)
     → ((stat : Stat) (by : ℕ) → e ≡ effects.StatDown stat by → ⊥) → (e ≡ effects.InflictSleep → ⊥) → ⊥
 no_other (effects.StatUp stat by) tie up down sleep = up stat by refl
@@ -38,7 +38,7 @@ no_other (effects.StatDown stat by) tie up down sleep = down stat by refl
 no_other effects.InflictSleep tie up down sleep = sleep refl
 no_other _ tie up down sleep = false≢true tie
 
--- sleep by the rules of the battle
+-- Sleep by the rules of the battle
 
 pub sleeps-one : (clause : Bool) (s : Side) (p : Progress) → clause ≡ true → sleeps_under clause s p ≡ sleep_only_one s p
 unfolding sleeps_under

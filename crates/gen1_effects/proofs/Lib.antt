@@ -1,10 +1,10 @@
--- How far the moves of the table move a stage.
+-- How far moves shift a stage.
 pub mod ShiftingMoves
--- Draws until one meets a test, and the end of an action.
+-- Draws until one passes a test, and the end of an action.
 pub mod Searching
 -- Late effects, by the effect of the move.
 pub mod LateEffects
--- What a call shows that stands for itself.
+-- What a call by itself shows.
 pub mod BegunAlone
 -- A move that fails, and an action that ends.
 pub mod Failing
@@ -14,13 +14,13 @@ pub mod Setting
 pub mod Partly
 -- Stages that go back to the middle.
 pub mod StageReset
--- Who is skipped.
+-- The side that is skipped.
 pub mod Skipping
 -- An early effect by its way.
 pub mod EarlyEffects
--- What happens by chance, and what is drawn until a byte meets a test.
+-- Effects by chance, and draws until a byte passes a test.
 pub mod Chances
--- What a move may do besides its damage.
+-- What a move may do in addition to its damage.
 pub mod SideEffects
--- Which slots Disable may draw.
+-- The slots that Disable may draw.
 pub mod DisabledSlots

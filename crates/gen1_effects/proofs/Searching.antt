@@ -1,8 +1,8 @@
--- How what is shown goes through draws until one meets a test, and through the end of an action.
+-- How shown facts pass through draws until one passes a test, and through the end of an action.
 use Rattle.gen1_layout.proofs.Words.{Bool, Frame, Parts, Phase, Progress, ShowsDrawn, Telling, drawn_goes, drawn_stops, false, halted, refl, still, stop, true, ℕ, ◌▸◌}
 pub use Rattle.gen1_action.proofs.Searching.{drawn_none, drawn_until}
 
--- an action ends, whether or not it stopped before
+-- An action ends, whether or not it stopped before
 
 module _ {A : Type 0} {byte : A → ℕ} {next : A → A} {width : ℕ} {origin : A} {parts : Parts} {events : Telling} {now : A} {p : Progress} where
   pub ended : (g : Frame) (b : Bool) (f : Phase) → ShowsDrawn byte next width origin g parts events now b (f p)

@@ -1,4 +1,4 @@
--- A condition without a number is set, and all numbers stay.
+-- Setting a condition without a number keeps all numbers.
 use Rattle.std.proofs.Common.{refl}
 use Rattle.gen1_machine.specs.Conditions.{with_focus_energy, with_light_screen, with_mist, with_reflect, with_seed, ActiveConditions}
 use Rattle.gen1_layout.specs.Flags.{SameNumbers}

@@ -1,4 +1,4 @@
--- The moves of the table that move a stage move it by one or two.
+-- The moves of the table that shift a stage shift it by one or two.
 use Rattle.std.proofs.Common.{◌&&◌, ◌-◌, ◌∷◌, ◌≡◌}
 use Rattle.gen1_layout.proofs.Words.{Bool, IsBetween, List, [], ap, arith, nat_le, nat_tests, refl, suc, sym, true, zero, ℕ, ◌∙◌}
 use Rattle.std.specs.Prelude.{slice_index_or}

@@ -1,4 +1,4 @@
--- What a move may do besides its damage, by the way of its effect; and conditions without a number that begin.
+-- What a move may do in addition to its damage, by the way of its effect, and conditions without a number that begin.
 use Rattle.std.proofs.Common.{◌&&◌, ◌≡◌}
 use Rattle.gen1_layout.proofs.Words.{ActiveConditions, Bool, Frame, Parts, Phase, Progress, Shows, Side, Telling, false, if_not, if_so, refl, stay, stays, true}
 use Rattle.gen1_tables.specs.declared.effect.Effect.{Effect}
@@ -44,7 +44,7 @@ side_effect-is r s move e = rw (kept_away_effect-is r s move e) refl
 pub side_effect-by : (r : Ruling) (s : Side) (move : Move) (e : Effect) (way : Way) → way ≡ way_of e → side_effect r s move e ≡ way_phase r s move way
 side_effect-by r s move e way is = rw is (side_effect-is r s move e)
 
--- what is no freeze is inflicted
+-- A status other than a freeze is inflicted.
 pub inflicted : (r : Ruling) (s : Side) (kind : Kind) → is_freeze kind ≡ false → afflict r s kind ≡ inflict (other s) (status_of_kind kind 0) kind
 inflicted r s kinds.Freeze e = cc
 inflicted r s kinds.Sleep e = refl
@@ -67,7 +67,7 @@ pub recharging-same : (c : ActiveConditions) → SameNumbers (with_recharge c) c
 unfolding with_recharge
 recharging-same c = record { bide = refl; thrash = refl; trapping = refl; confused = refl; substitute = refl; bad_poison = refl; disabled = refl }
 
--- by the freeze clause
+-- By the freeze clause
 
 module _ {g : Frame} {parts : Parts} {events : Telling} where
   pub refuses : (clause : Bool) (s : Side) (p : Progress) → (clause && has_frozen_member (other s) p) ≡ true → Shows g parts events false p

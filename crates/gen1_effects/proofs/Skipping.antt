@@ -1,4 +1,4 @@
--- What is known of who is skipped.
+-- What is known of the side that is skipped.
 use Rattle.gen1_layout.proofs.Words.{Bool, Frame, Parts, Progress, Shows, Telling, refl}
 use Rattle.gen1_machine.specs.EarlyEffects.{set_skips}
 

@@ -1,4 +1,5 @@
--- The early effects that are played together: all but Substitute, which costs HP (docs/MECHANICS.md, "Early effects").
+-- The early effects that one function handles: all but Substitute, which costs HP (docs/MECHANICS.md, "Early
+-- effects").
 use Rattle.std.specs.Prelude.{Bool, false}
 use Rattle.gen1_tables.specs.declared.effect.Effect.{Effect}
 use Rattle.gen1_tables.specs.declared.effect.Effect.TheVariants as effects
@@ -10,7 +11,7 @@ abbrev pub is_early_but_substitute : Effect → Bool
 is_early_but_substitute effects.Substitute = false
 is_early_but_substitute effect = is_early effect
 
--- by which way such an effect goes
+-- The way of such an effect.
 abbrev pub way_of : Effect → Way
 way_of effects.Conversion = ways.Conversion
 way_of effects.Mist = ways.Mist

@@ -1,4 +1,4 @@
--- Moves that act where others deal their damage (docs/MECHANICS.md, "Late effects"), but for Bide, which lasts.
+-- Moves that act at the place of the damage (docs/MECHANICS.md, "Late effects"), without Bide, which lasts.
 use Rattle.std.specs.Prelude.{Bool, false, true}
 use Rattle.gen1_tables.specs.declared.effect.Effect.{Effect}
 use Rattle.gen1_tables.specs.declared.effect.Effect.TheVariants as effects

@@ -1,6 +1,6 @@
--- Which effects come in place of damage.
+-- Which effects replace damage.
 pub mod LateEffects
 -- Which effects are early.
 pub mod EarlyEffects
--- What a move may do besides its damage.
+-- What a move may do in addition to its damage.
 pub mod SideEffects

@@ -1,5 +1,5 @@
--- What a move may do besides its damage (docs/MECHANICS.md, "Side effects"): what code does under a battle's rules, and the
--- ways in which effects go.
+-- What a move may do in addition to its damage (docs/MECHANICS.md, "Side effects"): what code does under a battle's
+-- rules, and the ways of effects.
 use Rattle.gen1_layout.specs.Words.{Bool, Frame, Phase, Progress, ShowsDrawn, Side, Telling, false, other, true, ℕ}
 use Rattle.gen1_tables.specs.declared.effect.Effect.{Effect}
 use Rattle.gen1_tables.specs.declared.effect.Effect.TheVariants as effects
@@ -18,13 +18,14 @@ use Rattle.gen1_effects.specs.declared.side_effects.Harm.TheVariants as harm
 use Rattle.gen1_effects.specs.declared.side_effects.Way.{Way}
 use Rattle.gen1_effects.specs.declared.side_effects.Way.TheVariants as ways
 
--- code with draws does what a phase does under the rules of the battle, whatever generator it was handed, and does not stop
+-- Code with draws does what a phase does under the rules of the battle, for any generator that it is given, and
+-- doesn't stop.
 abbrev pub DoesByRules : {A : Type 0} → (A → ℕ) → (A → A) → ℕ → Parts → Telling → A → Parts → Telling → A → (Ruling → Phase) → Type 0
 DoesByRules {A = A} byte next width parts events old parts' events' new phase =
     (origin : A) (g : Frame) (p : Progress) → ShowsDrawn byte next width origin g parts events old false p
     → ShowsDrawn byte next width origin g parts' events' new false (phase (ruling_of g.setting.terms) p)
 
--- a status of a kind, for the foe; a freeze goes by the rules
+-- A status of a kind for the foe. A freeze depends on the rules.
 abbrev pub is_freeze : Kind → Bool
 is_freeze kinds.Freeze = true
 is_freeze _ = false
@@ -33,11 +34,11 @@ abbrev pub afflict : Ruling → Side → Kind → Phase
 afflict r s kinds.Freeze = r.freezes s
 afflict r s kind = inflict (other s) (status_of_kind kind 0) kind
 
--- Disable once it has hit, and nothing is disabled yet
+-- Disable after it has hit, if nothing is disabled yet.
 abbrev pub draw_slot : Side → Phase
 draw_slot s = given (λ p. (member (other s) p).moves) λ moves. draw_until (names_slot moves) (disable_slot s moves)
 
--- the ways of effects
+-- The ways of effects
 
 abbrev pub harm_of : Effect → Harm
 harm_of (effects.PoisonChance n) = harm.Poison n
@@ -55,7 +56,7 @@ way_of effects.Disable = ways.Disable
 way_of effects.Recharge = ways.Recharge
 way_of e = ways.Harm (harm_of e)
 
--- what each of them does
+-- What each of them does
 
 abbrev pub harms : Ruling → Side → Move → Harm → Phase
 harms r s move (harm.Poison n) = may_poison s n

@@ -1,4 +1,4 @@
-//! Effects that act before any damage, and end the action (docs/MECHANICS.md, "Early effects").
+//! Effects that act before any damage and end the action (docs/MECHANICS.md, "Early effects").
 mod confusion_moves;
 mod conversion;
 mod dispatch;

@@ -1,5 +1,5 @@
-//! Moves that act where others deal their damage: stages that rise and fall, and sleep (docs/MECHANICS.md, "Late effects").
-//! Bide, which lasts, is none of these.
+//! Moves that act at the place of the damage: they raise and lower stages, and put the foe to sleep
+//! (docs/MECHANICS.md, "Late effects"). Bide, which lasts, isn't one of these.
 ghost use Rattle.std.specs.Prelude.{◌≡◌};
 ghost use Rattle.gen1_layout.specs.Words.{AddsAtMost, HasRoom, move_at, stop, true, ◌▸◌};
 ghost use Rattle.gen1_machine.specs.LateEffects.{late_effect};
@@ -20,8 +20,8 @@ mod stat_moves;
 use sleep_moves::put_to_sleep;
 use stat_moves::{lower_foes_stat, raise_own_stat};
 
-/// Whether an effect is one of these: of a move that raises a stat of the user's, lowers one of the foe's, or puts the foe to
-/// sleep (docs/MECHANICS.md, "Late effects").
+/// Whether an effect raises a stat of the user, lowers a stat of the foe, or puts the foe to sleep
+/// (docs/MECHANICS.md, "Late effects").
 pub fn is_late_but_bide(effect: Effect) -> bool
     ensures { result ≡ is_late_but_bide effect }
 {
@@ -31,9 +31,11 @@ pub fn is_late_but_bide(effect: Effect) -> bool
     )
 }
 
-/// What a move of `side` does that raises a stat of the user's, lowers one of the foe's, or puts the foe to sleep
-/// (docs/MECHANICS.md, "Late effects"), from the beginning of its action. The hit test, where it makes one, and a count of
-/// sleep are drawn; two places in `events` are to be free. What the effect leaves alone stays as it is.
+/// Plays a move of `side` that raises a stat of the user, lowers a stat of the foe, or puts the foe to sleep
+/// (docs/MECHANICS.md, "Late effects").
+///
+/// The action has just begun. The hit test, if there is one, and a count of sleep are drawn. It needs two free places
+/// in `events`. What the effect doesn't change stays as it is.
 pub fn late_effect<R: Rolls, S: EventSink>(
     battle: &mut Packed,
     side: Side,
@@ -52,7 +54,8 @@ pub fn late_effect<R: Rolls, S: EventSink>(
     late_effect_knowing(battle, side, id, &mut known, random, events);
 }
 
-/// The same in the middle of an action, of which more may be known. The action ends with it (docs/MECHANICS.md, "Action").
+/// The same in the middle of an action, of which more may be known. The action ends with it (docs/MECHANICS.md,
+/// "Action").
 pub fn late_effect_knowing<R: Rolls, S: EventSink>(
     battle: &mut Packed,
     side: Side,

@@ -1,9 +1,9 @@
-//! What moves do besides their damage, in the turn that they are used (docs/MECHANICS.md, "Early effects", "Late effects",
-//! "Side effects").
+//! What moves do in addition to their damage or instead of it, in the turn of their use (docs/MECHANICS.md, "Early
+//! effects", "Late effects", "Side effects").
 //!
-//! - `early_effects`: those that act before any damage
-//! - `late_effects`: those that act where others deal their damage
-//! - `side_effects`: what comes beside damage
+//! - `early_effects`: effects before any damage
+//! - `late_effects`: effects at the place of the damage
+//! - `side_effects`: effects in addition to damage
 //! - `targets`: what a move finds at a member
 #![tactic(auto)]
 

@@ -1,4 +1,4 @@
-//! What a move may do besides its damage (docs/MECHANICS.md, "Side effects").
+//! What a move may do in addition to its damage (docs/MECHANICS.md, "Side effects").
 ghost use Rattle.std.specs.Prelude.{◌≡◌};
 ghost use Rattle.gen1_layout.specs.Words.{AddsAtMost, HasRoom, move_at};
 ghost use Rattle.gen1_machine.specs.SideEffects.{side_effect};
@@ -28,13 +28,13 @@ use recharge::must_recharge;
 use stat_drops::may_lower;
 use status_chance::{may_inflict, may_poison};
 
-// What a move may do besides its damage. The numbers are the bounds of draws.
+// What a move may do in addition to its damage. The numbers are the bounds of draws.
 #[derive(Clone, Copy)]
 pub(crate) enum Way {
     Confuse(u8),
     Disable,
     Recharge,
-    // Harm that a Substitute of the foe's keeps away.
+    // Effects that a Substitute of the foe keeps away.
     Harm(Harm),
 }
 
@@ -49,8 +49,9 @@ pub(crate) enum Harm {
     Nothing,
 }
 
-/// The side effect of a move of `side` that has just begun its action (docs/MECHANICS.md, "Side effects"). A move without one
-/// does nothing. A place in `events` is to be free; the bytes, the events and the generator are left as the section says.
+/// The side effect of a move of `side` whose action has just begun (docs/MECHANICS.md, "Side effects").
+///
+/// A move without one does nothing. It needs one free place in `events`.
 pub fn side_effect<R: Rolls, S: EventSink>(
     battle: &mut Packed,
     side: Side,
@@ -68,8 +69,10 @@ pub fn side_effect<R: Rolls, S: EventSink>(
     side_effect_knowing(battle, side, id, &mut known, random, events);
 }
 
-/// The side effect of a move of `side`, by what is known of its action, which only the hit test of Disable changes. True where
-/// it ended the action: where Disable missed or failed (docs/MECHANICS.md, "Side effects"). A place in `events` is to be free.
+/// The side effect of a move of `side`, with what is known of its action (docs/MECHANICS.md, "Side effects").
+///
+/// Returns whether it ended the action, which happens if Disable missed or failed. Only the hit test of Disable
+/// changes what is known. It needs one free place in `events`.
 pub fn side_effect_knowing<R: Rolls, S: EventSink>(
     battle: &mut Packed,
     side: Side,
@@ -102,7 +105,7 @@ pub fn side_effect_knowing<R: Rolls, S: EventSink>(
     }
 }
 
-// A Substitute of the foe's keeps harm away, without a draw.
+// A Substitute of the foe keeps these effects away, without a draw.
 fn harm_unless_away<R: Rolls, S: EventSink>(
     battle: &mut Packed,
     side: Side,

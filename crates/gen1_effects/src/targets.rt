@@ -36,7 +36,7 @@ pub(crate) fn has_type(battle: &Packed, side: Side, kind: Element) -> bool
     kind == first || kind == second
 }
 
-// A move of type Electric does not paralyse type Ground.
+// An Electric move doesn't paralyse a Ground type.
 pub(crate) fn is_grounded(battle: &Packed, side: Side, kind: Element) -> bool
     ensures stands { Reads battle.now result λ f.
         (same_type kind Electric && has_type Ground (active_in side f)) }

@@ -1,1 +1,1 @@
--- The landing of the last damage, for who calls `land` with it.
+-- The landing of the last damage, for callers that pass it to `land`.

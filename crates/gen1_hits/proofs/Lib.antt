@@ -1,3 +1,3 @@
--- What an operation that draws a factor shows, and one that lands the last damage.
+-- What an operation shows that draws a factor, and one that lands the last damage.
 pub mod Varying
 pub mod Landings

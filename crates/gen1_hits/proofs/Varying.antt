@@ -1,4 +1,4 @@
--- The machine's factor, and what is shown of it once `factor` has drawn and its result was written as the last damage.
+-- The machine's factor, and what is shown after `factor` has drawn and its result is the last damage.
 use Rattle.std.proofs.Common.{◌+◌, ◌≡◌}
 use Rattle.gen1_layout.proofs.Words.{Bool, Frame, None, Option, Parts, Phase, Progress, Shows, ShowsDrawn, Some, Telling, Within, ap, choose-false, choose-true, false, nat_le, on_field, put_damage, refl, set_last_damage, true, with_last_damage, ℕ, ◌∙◌}
 use Rattle.gen1_rolls.specs.Streams.{Stream, byte_at, first, span}
@@ -6,7 +6,7 @@ use Rattle.gen1_machine.specs.Damage.{is_factor, rotated_right_1, times_factor, 
 use Rattle.gen1_machine.specs.Progress.{draw_until}
 use Rattle.gen1_hits.specs.Factors.{Varies}
 
--- the machine's factor, where none is drawn, and where one is found at m
+-- The machine's factor, if none is drawn and if one is found at m
 
 pub vary-keeps : (d n : ℕ) (p : Progress) → nat_le d 1 ≡ true → p.drawn ≡ n → vary d p ≡ set_last_damage d (record p { drawn = n })
 unfolding vary
@@ -23,7 +23,7 @@ unfolding vary varied_by
 vary-draws d n m stream p large same at e =
     choose-false _ _ _ p large ∙ found is_factor (varied_by d) p m (rw (same, at) e) ∙ rw same refl
 
--- what is shown once a factor was drawn
+-- What is shown after a factor was drawn.
 pub varying : {A : Type 0} {byte : A → ℕ} {next : A → A} {width : ℕ} {origin : A} {g : Frame} {parts parts' : Parts} {events : Telling} {old new : A} {b : Bool} {p : Progress}
     → (damage result : ℕ) → ShowsDrawn byte next width origin g parts events old b p → Varies byte next width damage old result new
     → Within g.setting parts' (with_last_damage result p.field) → ShowsDrawn byte next width origin g parts' events new b (vary damage p)

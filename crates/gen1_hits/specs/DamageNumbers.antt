@@ -1,5 +1,5 @@
--- How the code's numbers of a hit are those of the machine, which names each of the four types (docs/MECHANICS.md, "Damage
--- numbers").
+-- How the code's numbers of a hit become those of the machine, which names each of the four types (docs/MECHANICS.md,
+-- "Damage numbers").
 use Rattle.std.specs.Prelude.{List, [], ◌∷◌, length, refl, slice_index_or, ◌≡◌}
 use Rattle.std.proofs.Common.{sym}
 use Rattle.std.proofs.lemmas.List.FromFn.{fill_by_all}
@@ -22,7 +22,7 @@ numbers_of n = record {
   halved = n.halved;
 }
 
--- and back
+-- From the machine's numbers to the code's.
 abbrev pub parts_of : DamageNumbers → Inside
 parts_of n = record {
   level = n.level;
@@ -35,7 +35,7 @@ parts_of n = record {
   halved = n.halved;
 }
 
--- a list of two is its two elements
+-- A list of two is its two elements.
 two : (xs : List Element) → length xs ≡ 2 → slice_index_or xs 0 Normal ∷ slice_index_or xs 1 Normal ∷ [] ≡ xs
 two xs long = sym (fill_by_all (λ k. slice_index_or xs k Normal) xs 2 Normal long (λ k lt. refl))
 

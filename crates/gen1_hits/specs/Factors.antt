@@ -1,4 +1,5 @@
--- What the code's factors are of the machine's (docs/MECHANICS.md, "Factors"): a draw of one, and the list of all.
+-- How the code's factors relate to those of the machine (docs/MECHANICS.md, "Factors"): a draw of one, and the list
+-- of all.
 use Rattle.std.specs.Prelude.{List, Option, if◌then◌else◌, map, nat_le, option_map, ℕ, ◌≡◌}
 use Rattle.std.specs.List.{range_with_len}
 use Rattle.gen1_rolls.specs.Draws.{StandsAt}
@@ -6,22 +7,22 @@ use Rattle.gen1_rolls.specs.Streams.{Stream}
 use Rattle.gen1_machine.specs.Damage.{DamageNumbers, before_types, times_factor, type_steps, vary}
 use Rattle.gen1_machine.specs.Progress.{Progress, set_last_damage}
 
--- what the machine's phase does to damage is to draw up to where the generator now stands, and to set the last damage to the result
+-- The machine's phase draws up to where the generator now is, and sets the last damage to the result.
 pub record VariesFrom {A : Type 0} (byte : A → ℕ) (next : A → A) (width : ℕ) (origin : A) (stream : Stream) (n damage result : ℕ) (new : A) : Type 0 where
   pub drawn : ℕ
   pub stands : StandsAt byte next width origin stream drawn new
   pub sets : (p : Progress) → p.stream ≡ stream → p.drawn ≡ n → vary damage p ≡ set_last_damage result (record p { drawn = drawn })
 
--- wherever the generator stood
+-- This holds for any place of the generator.
 abbrev pub Varies : {A : Type 0} → (A → ℕ) → (A → A) → ℕ → ℕ → A → ℕ → A → Type 0
 Varies {A = A} byte next width damage old result new =
     (origin : A) (stream : Stream) (n : ℕ) → StandsAt byte next width origin stream n old
     → VariesFrom byte next width origin stream n damage result new
 
--- damage times a factor; 0 and 1 are kept
+-- Damage times a factor. 0 and 1 stay as they are.
 abbrev pub varied : ℕ → ℕ → ℕ
 varied factor damage = if nat_le damage 1 then damage else times_factor factor damage
 
--- the damage of a hit at each factor from 217 to 255; none where the divisor is 0
+-- The damage of a hit at each factor from 217 to 255. There is none where the divisor is 0.
 abbrev pub damages : DamageNumbers → Option (List ℕ)
 damages n = option_map (λ damage. map (λ factor. varied factor (type_steps damage n)) (range_with_len 217 39)) (before_types n)

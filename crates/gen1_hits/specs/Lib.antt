@@ -1,9 +1,9 @@
--- What a hit is made of, as the code holds it.
+-- The numbers of a hit, in the form of the code.
 pub mod DamageNumbers
--- The damage at each factor, and what is drawn for one.
+-- The damage at each factor, and the draws for one.
 pub mod Factors
 -- Which moves have the usual damage.
 pub mod UsualDamage
--- What an action knows after a landing, and after a hit test.
+-- What is known of an action after a landing, and after a hit test.
 pub mod Landing
 pub mod HitTests

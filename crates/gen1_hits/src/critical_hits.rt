@@ -18,8 +18,10 @@ const CRABHAMMER: u8 = 152;
 
 const SLASH: u8 = 163;
 
-/// Takes the critical draw for a move of `side`, and tells whether the hit is critical. The battle stays as it is, and no
-/// event is written (docs/MECHANICS.md, "Critical hits").
+/// Takes the critical draw for a move of `side`, and returns whether the hit is critical (docs/MECHANICS.md,
+/// "Critical hits").
+///
+/// It takes one draw. The battle stays as it is, and no event is written.
 #[inline(always)] // docs/SPEED.md, "Hints on inlining"
 pub fn critical<R: Rolls>(battle: &Packed, side: Side, id: MoveId, random: &mut R) -> bool
     ensures shown { (origin : R) (g : Frame) (events : List Event) (p : Progress)
@@ -33,8 +35,10 @@ pub fn critical<R: Rolls>(battle: &Packed, side: Side, id: MoveId, random: &mut 
     rotated < critical_bound(battle.species(side), focused, id)
 }
 
-/// What a draw, rotated left by 3 bits, must be below for a critical hit by a move of this species, from 0 to 255. Under
-/// Focus Energy, `focused`, it is less (docs/MECHANICS.md, "Critical hits").
+/// The bound of a critical hit, 0 to 255: a draw, rotated left by 3 bits, must be below it (docs/MECHANICS.md,
+/// "Critical hits").
+///
+/// With Focus Energy (`focused`) it is smaller.
 pub fn critical_bound(species: Species, focused: bool, id: MoveId) -> u8
     ensures { result ≡ critical_bound (species_row species).speed focused (is_often_critical id) }
 {

@@ -1,14 +1,14 @@
-//! The numbers that damage is made of, and the formula over them (docs/MECHANICS.md, "Damage numbers", "Damage formula").
+//! The numbers of a hit, and the formula for its damage (docs/MECHANICS.md, "Damage numbers", "Damage formula").
 ghost use Rattle.std.specs.Prelude.{IfSome, ◌≡◌, ◌≤◌};
 ghost use Rattle.gen1_machine.specs.Damage.{before_types};
 
 use gen1_tables::Element;
 use std::marker::Model;
 
-/// What the damage of one hit is made of (docs/MECHANICS.md, "Damage numbers").
+/// The inputs of the damage formula for one hit (docs/MECHANICS.md, "Damage numbers").
 #[derive(Clone, Copy, PartialEq, Eq, Debug, Drop)]
 pub struct Numbers {
-    /// The user's level from 1 to 100, doubled on a critical hit.
+    /// The user's level, 1 to 100, doubled for a critical hit.
     pub level: u8,
     /// The move's power.
     pub power: u8,
@@ -18,11 +18,11 @@ pub struct Numbers {
     pub defense: u8,
     /// The move's type.
     pub kind: Element,
-    /// The user's types, twice the same where it has one.
+    /// The user's two types, which are equal if it has one.
     pub own: [Element; 2],
-    /// The foe's types.
+    /// The foe's two types, which are equal if it has one.
     pub foe: [Element; 2],
-    /// Whether the move is an explosion, which halves the defense.
+    /// Whether the move explodes, which halves the defense.
     pub halved: bool,
 }
 
@@ -43,7 +43,7 @@ impl Model for Numbers {
     ghost inverse_ok = { λ n h. parts_of-numbers_of n h.0 h.1 };
 }
 
-/// The damage before types, at most 999 (docs/MECHANICS.md, "Damage formula"). `None` where the divisor is 0.
+/// The damage before types, 2 to 999 (docs/MECHANICS.md, "Damage formula"). Returns `None` if the divisor is 0.
 pub fn damage(numbers: &Numbers) -> Option<u16>
     ensures is { result ≡ before_types numbers.now }
     ensures small { IfSome result (λ damage. damage ≤ 999) }

@@ -1,4 +1,4 @@
-//! The numbers of a hit, out of a battle (docs/MECHANICS.md, "Damage numbers").
+//! The numbers of a hit, from a battle (docs/MECHANICS.md, "Damage numbers").
 ghost use Rattle.std.specs.Prelude.{◌∷◌, ◌≡◌};
 ghost use Rattle.gen1_layout.specs.Words.{Reads, [], active_in, conditions_in, member_in, move_at, now_in, other, unmodified};
 ghost use Rattle.gen1_machine.specs.Damage.{attacking, defending, doubled_if, fitted_attack, fitted_defense, is_screened, numbers_in, quartered};
@@ -9,8 +9,9 @@ use gen1_layout::{Conditions, Packed};
 use gen1_machine::Side;
 use gen1_tables::{Element, MoveId, Stat};
 
-/// The numbers of a hit on the foe (docs/MECHANICS.md, "Damage numbers"). A critical hit doubles the level and takes the
-/// own stats, past stages, penalties and screens.
+/// The numbers of a hit on the foe (docs/MECHANICS.md, "Damage numbers").
+///
+/// A critical hit doubles the level and takes the own stats. Stages, penalties and screens don't matter for it.
 #[inline(always)] // docs/SPEED.md, "Hints on inlining"
 pub fn numbers(battle: &Packed, side: Side, id: MoveId, critical: bool) -> Numbers
     ensures stands { Reads battle.now result (numbers_in side (move_at id) critical) }
@@ -34,8 +35,9 @@ pub fn numbers(battle: &Packed, side: Side, id: MoveId, critical: bool) -> Numbe
     }
 }
 
-/// The numbers of a confused user's hit on itself (docs/MECHANICS.md, "Hit on itself"): power 40, its Attack against its
-/// own Defense, which the foe's Reflect doubles.
+/// The numbers of a confused user's hit on itself (docs/MECHANICS.md, "Hit on itself").
+///
+/// The power is 40, and the user's Attack works against its own Defense, which the foe's Reflect doubles.
 pub fn own_numbers(battle: &Packed, side: Side) -> Numbers
     ensures stands { Reads battle.now result (own_numbers_in side) }
 {
@@ -55,7 +57,7 @@ pub fn own_numbers(battle: &Packed, side: Side) -> Numbers
     }
 }
 
-// A level is at most 100, so nothing is cut here.
+// A level is at most 100, so doubling it doesn't overflow.
 fn level(battle: &Packed, side: Side, critical: bool) -> u8
     ensures stands { Reads battle.now result λ f. doubled_if critical (member_in side f).level }
 {
@@ -81,7 +83,7 @@ fn own_stats(battle: &Packed, side: Side, kind: Element) -> (u32, u32)
     (attack, defense)
 }
 
-// The same as they stand, with the foe's screen.
+// The current stats of both, with the foe's screen.
 fn current_stats(battle: &Packed, side: Side, kind: Element) -> (u32, u32)
     ensures attack { Reads battle.now result.0 (now_in (attacking kind) side) }
     ensures defense { Reads battle.now result.1 λ f. doubled_if
@@ -137,7 +139,7 @@ fn doubled_if(doubles: bool, number: u16) -> u32
     }
 }
 
-// Both are divided by 4 where one is above a byte, and of both only the low byte is kept.
+// If one of the two doesn't fit a byte, both are divided by 4. Then only their low bytes count.
 fn fitted_attack(attack: u32, defense: u32) -> u8
     ensures { result ≡ fitted_attack attack defense }
 {

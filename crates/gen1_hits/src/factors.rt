@@ -1,4 +1,4 @@
-//! The factor of a hit's damage (docs/MECHANICS.md, "Factors"): one that is drawn, and all of them.
+//! The factor of a hit's damage (docs/MECHANICS.md, "Factors"): a drawn one, and all of them.
 ghost use Rattle.std.specs.Prelude.{map, ◌≡◌, ◌≤◌};
 ghost use Rattle.std.specs.List.{range_with_len};
 ghost use Rattle.gen1_machine.specs.Damage.{is_factor, rotated_right_1, times_factor};
@@ -8,7 +8,10 @@ use crate::damage_formula::{Numbers, damage};
 use crate::types::type_steps;
 use gen1_rolls::{Rolls, until};
 
-/// Damage times a factor that is drawn, in 255ths (docs/MECHANICS.md, "Factors"). Damage 0 and 1 are kept, without a draw.
+/// Damage times a drawn factor, in 255ths (docs/MECHANICS.md, "Factors").
+///
+/// Damage of 0 and 1 stays as it is, without a draw. Otherwise it draws until a byte is a factor, at most `R::SPAN`
+/// times.
 pub fn factor<R: Rolls>(damage: u16, random: &mut R) -> u16
     ensures varies { Varies R.byte R.next R.SPAN damage random.old result random.new }
     ensures most { result ≤ damage }
@@ -22,8 +25,9 @@ pub fn factor<R: Rolls>(damage: u16, random: &mut R) -> u16
     }
 }
 
-/// The damage of a hit at each factor from 217 to 255, in this order (docs/MECHANICS.md, "Factors"): 39 times the same
-/// where it is 0 or 1. `None` where the divisor is 0.
+/// The damage of a hit at each factor from 217 to 255, in this order (docs/MECHANICS.md, "Factors").
+///
+/// Damage of 0 or 1 gives 39 equal values. Returns `None` if the divisor is 0.
 pub fn damage_list(numbers: &Numbers) -> Option<[u16; 39]>
     ensures { result ≡ damages numbers.now }
 {
@@ -57,7 +61,7 @@ fn times_factor(factor: u8, damage: u16) -> u16
     (u32::from(damage) * u32::from(factor) / 255) as u16
 }
 
-/// Whether a byte that is drawn, rotated right by 1 bit, is a factor: at least 217 (docs/MECHANICS.md, "Factors").
+/// Whether a drawn byte is a factor: rotated right by 1 bit, it is at least 217 (docs/MECHANICS.md, "Factors").
 pub fn is_factor(byte: u8) -> bool
     ensures { result ≡ is_factor byte }
 {

@@ -11,25 +11,26 @@ use gen1_rolls::Rolls;
 use gen1_stats::Status;
 use gen1_tables::{Effect, MoveId, Stat};
 
-// What the stages from -6 to +6 make of a number, in percent (docs/MECHANICS.md, "Stages").
+// The percentages of the stages from -6 to +6 (docs/MECHANICS.md, "Stages").
 const PERCENTS: [u32; 13] = [25, 28, 33, 40, 50, 66, 100, 150, 200, 250, 300, 350, 400];
 
 // A stage of 0, as it is stored.
 const LEVEL: u8 = 6;
 
-/// What a hit test came to.
+/// The result of a hit test (docs/MECHANICS.md, "Hit test").
 #[derive(Clone, Copy, Debug, PartialEq, Eq, Drop)]
 pub struct Hit {
     /// Whether the move hits.
     pub hit: bool,
-    /// The byte that the draw was compared with, or the base where the test was settled without a draw: what is kept for a
+    /// The byte that the draw was compared with, or the base if the test was settled without a draw. It is kept for a
     /// move that goes on (docs/MECHANICS.md, "Kept accuracy").
     pub kept: u8,
 }
 
-/// Tests whether a move of `side` hits its foe, with `base` as its accuracy byte. At most one draw is taken. A miss sets the
-/// last damage to 0 and ends the user's Trapping; nothing else of the battle changes, and no event is written
-/// (docs/MECHANICS.md, "Hit test").
+/// Tests whether a move of `side` hits its foe, with `base` as its accuracy byte (docs/MECHANICS.md, "Hit test").
+///
+/// It takes at most one draw. A miss sets the last damage to 0 and ends the user's Trapping. Nothing else of the
+/// battle changes, and no event is written.
 pub fn hit_test<R: Rolls>(
     battle: &mut Packed,
     side: Side,
@@ -62,8 +63,8 @@ pub fn hit_test<R: Rolls>(
     }
 }
 
-/// Whether a move of `side` hits its foe, where that is settled without a draw: `None` where the hit test draws
-/// (docs/MECHANICS.md, "Hit test").
+/// Whether a move of `side` hits its foe, if that is settled without a draw (docs/MECHANICS.md, "Hit test"). Returns
+/// `None` if the hit test draws.
 pub fn settled_hit(battle: &Packed, side: Side, id: MoveId) -> Option<bool>
     ensures stands { Reads battle.now result (settled_hit_in side (move_at id)) }
 {
@@ -84,7 +85,7 @@ pub fn settled_hit(battle: &Packed, side: Side, id: MoveId) -> Option<bool>
     None
 }
 
-// Only Dream Eater asks for the foe's status.
+// Only Dream Eater needs the foe's status.
 fn finds_no_dream(battle: &Packed, foe: Side, effect: Effect) -> bool
     ensures stands { Reads battle.now result λ f.
         (eats_dreams effect && not (is_asleep (status_in foe f))) }
@@ -119,8 +120,9 @@ fn is_misted(effect: Effect, mist: bool) -> bool
     matches!(effect, Effect::StatDown(..)) && mist
 }
 
-/// The byte that a draw must be below for a hit: `base` scaled by the accuracy stage of `side`, and by the evasion stage of
-/// its foe with its sign turned, from 1 to 255 (docs/MECHANICS.md, "Hit test").
+/// The byte that a draw must be below for a hit, 1 to 255 (docs/MECHANICS.md, "Hit test").
+///
+/// It is `base` scaled by the accuracy stage of `side`, and by the negated evasion stage of its foe.
 pub fn scaled_accuracy(battle: &Packed, side: Side, base: u8) -> u8
     ensures stands { Reads battle.now result (scaled_in side base) }
 {
@@ -130,11 +132,11 @@ pub fn scaled_accuracy(battle: &Packed, side: Side, base: u8) -> u8
         return base.max(1);
     }
     let aimed = at_percent(base.into(), percent_at(accuracy));
-    // A stage is stored as 0 to 12, so 12 less it is the one with its sign turned.
+    // A stage is stored as 0 to 12, so 12 minus it is the negated stage.
     at_percent(aimed, percent_at(12_u8.saturating_sub(evasion))).min(255) as u8
 }
 
-// So many percent of a number, at least 1.
+// This percentage of a number, at least 1.
 fn at_percent(number: u32, percent: u32) -> u32
     requires number { number ≤ 1021 }
     requires percent { percent ≤ 400 }
@@ -151,7 +153,7 @@ fn percent_at(stage: u8) -> u32
     PERCENTS.get(stage as usize).copied().unwrap_or(0)
 }
 
-// Draws, and tells whether the draw is below the byte; else the move misses.
+// Draws, and returns whether the draw is below the byte. Otherwise the move misses.
 fn draw_below<R: Rolls>(battle: &mut Packed, side: Side, byte: u8, random: &mut R) -> bool
     ensures shown { (origin : R) (g : Frame) (events : List Event) (p : Progress)
         → ShowsDrawn R.byte R.next R.SPAN origin g battle.old (Told events) random.old false p

@@ -1,4 +1,4 @@
-//! HP that the member that is out loses and gains, and the events that tell of it (docs/MECHANICS.md, "Order of events").
+//! HP that the member that is out loses and gains, with their events (docs/MECHANICS.md, "Order of events").
 ghost use Rattle.std.specs.Prelude.{◌&&◌};
 ghost use Rattle.gen1_layout.specs.Words.{AddsAtMost, Changes, Does, HasRoom, Reads, changed_member, false, healed_by, hurt_by, is_living, member_in, nat_lt};
 ghost use Rattle.gen1_machine.specs.Progress.{gain_hp, lose_hp};
@@ -7,9 +7,11 @@ use gen1_events::EventSink;
 use gen1_layout::Packed;
 use gen1_machine::{DamageSource, Event, Side};
 
-/// Takes HP from the member of `side` that is out: `amount`, or as many as there are. `Damage` with the health after it and
-/// the source is written where that takes any, and one place in `events` is to be free for it (docs/MECHANICS.md, "Landing",
-/// "Residual damage"). Nothing else changes.
+/// Takes `amount` HP from the member of `side` that is out, or all HP that it has (docs/MECHANICS.md, "Landing",
+/// "Residual damage").
+///
+/// If that takes any, it writes `Damage` with the health after it and the source. It needs one free place in
+/// `events`. Nothing else changes.
 #[inline(always)] // docs/SPEED.md, "Hints on inlining"
 pub fn lose_hp<S: EventSink>(
     battle: &mut Packed,
@@ -32,7 +34,7 @@ pub fn lose_hp<S: EventSink>(
     }
 }
 
-// Whether taking so many HP takes any.
+// Whether a loss of this many HP takes any.
 fn loses(battle: &Packed, side: Side, amount: u16) -> bool
     ensures stands { Reads battle.now result λ f.
         (nat_lt 0 amount && is_living (member_in side f)) }
@@ -47,9 +49,11 @@ fn hurt(battle: &mut Packed, side: Side, amount: u16)
     battle.put_hp(side, left);
 }
 
-/// Gives HP to the member of `side` that is out: `amount`, or as many as it lacks. `Heal` with the health after it is
-/// written where that gives any, and one place in `events` is to be free for it (docs/MECHANICS.md, "Recoil, drain and
-/// explosion", "Residual damage"). Nothing else changes.
+/// Gives `amount` HP to the member of `side` that is out, or as many as it lacks (docs/MECHANICS.md, "Recoil, drain
+/// and explosion", "Residual damage").
+///
+/// If that gives any, it writes `Heal` with the health after it. It needs one free place in `events`. Nothing else
+/// changes.
 pub fn gain_hp<S: EventSink>(battle: &mut Packed, side: Side, amount: u16, events: &mut S)
     requires room { HasRoom S.room 1 events.old }
     ensures shown { Does battle.old (S.tells events.old) battle.new (S.tells events.new) false
@@ -65,7 +69,7 @@ pub fn gain_hp<S: EventSink>(battle: &mut Packed, side: Side, amount: u16, event
     }
 }
 
-// Whether giving so many HP gives any.
+// Whether a gain of this many HP gives any.
 fn gains(battle: &Packed, side: Side, amount: u16) -> bool
     ensures stands { Reads battle.now result λ f.
         (nat_lt 0 amount && nat_lt (member_in side f).hp (member_in side f).max) }

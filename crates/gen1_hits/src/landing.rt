@@ -1,4 +1,4 @@
-//! Where damage lands (docs/MECHANICS.md, "Landing"): on the HP, or on a Substitute.
+//! Where damage lands (docs/MECHANICS.md, "Landing"): on HP, or on a Substitute.
 ghost use Rattle.std.specs.Prelude.{◌≡◌};
 ghost use Rattle.gen1_layout.specs.Words.{AddsAtMost, Does, Frame, HasRoom, Progress, Reads, Shows, Some, conditions_in, false, nat_lt, other};
 ghost use Rattle.gen1_machine.specs.Progress.{only};
@@ -9,20 +9,22 @@ use gen1_events::EventSink;
 use gen1_layout::Packed;
 use gen1_machine::{DamageSource, Event, Side, Volatile};
 
-/// Where damage landed.
+/// Where damage landed (docs/MECHANICS.md, "Landing").
 #[derive(Clone, Copy, Debug, PartialEq, Eq, Drop)]
 pub enum Landed {
-    /// On the HP; also where the damage was 0.
+    /// On HP. Damage of 0 counts as this too.
     Hp,
-    /// On a Substitute that stays, perhaps with 0 HP.
+    /// On a Substitute that holds, perhaps with 0 HP.
     Kept,
     /// On a Substitute, which broke.
     Broke,
 }
 
-/// Lands `damage` on the foe of `user`: on its Substitute where it has one, else on its HP, which cuts the last damage to
-/// what was there. Damage 0 changes nothing. At most one event is written, and one place in `events` is to be free for it
-/// (docs/MECHANICS.md, "Landing").
+/// Lands `damage` on the foe of `user`: on its Substitute if it has one, otherwise on its HP (docs/MECHANICS.md,
+/// "Landing").
+///
+/// On HP the last damage becomes at most the HP that were there. Damage of 0 changes nothing. At most one event is
+/// written, and it needs one free place in `events`.
 pub fn land<S: EventSink>(battle: &mut Packed, user: Side, damage: u16, events: &mut S) -> Landed
     requires room { HasRoom S.room 1 events.old }
     ensures shown { (g : Frame) (p : Progress) → Shows g battle.old (S.tells events.old) false p
@@ -51,9 +53,11 @@ pub fn land<S: EventSink>(battle: &mut Packed, user: Side, damage: u16, events: 
     }
 }
 
-/// Lands `damage` on the Substitute of `target`, which has `hp` HP, and tells whether it broke. Damage above its HP, or
-/// above 255, breaks it, and `End` is written; else it keeps the rest, perhaps 0, and `Activate` is written. One place in
-/// `events` is to be free. The last damage stays (docs/MECHANICS.md, "Landing").
+/// Lands `damage` on the Substitute of `target`, which has `hp` HP, and returns whether it broke (docs/MECHANICS.md,
+/// "Landing").
+///
+/// Damage above its HP or above 255 breaks it, and `End` is written. Otherwise it keeps the rest, perhaps 0, and
+/// `Activate` is written. It needs one free place in `events`. The last damage stays as it is.
 pub fn land_on_substitute<S: EventSink>(
     battle: &mut Packed,
     target: Side,
@@ -85,9 +89,10 @@ fn breaks(damage: u16, hp: u8) -> bool
     255 < damage || u16::from(hp) < damage
 }
 
-/// Lands `damage` on the HP of `target`. The last damage becomes what is taken, the damage or as many HP as there are;
-/// `Damage` with the source is written where that is any, and one place in `events` is to be free for it (docs/MECHANICS.md,
-/// "Landing").
+/// Lands `damage` on the HP of `target` (docs/MECHANICS.md, "Landing").
+///
+/// The last damage becomes what is taken: the damage, or all HP that there are. If that is more than 0, it writes
+/// `Damage` with the source. It needs one free place in `events`.
 #[inline(always)] // docs/SPEED.md, "Hints on inlining"
 pub fn land_on_hp<S: EventSink>(
     battle: &mut Packed,

@@ -1,11 +1,11 @@
-//! What a hit comes to, over the bytes of a battle (docs/MECHANICS.md, "Critical hits" to "Landing"): whether it is critical,
-//! its damage, whether it hits, and where it lands.
+//! A hit, over the bytes of a battle (docs/MECHANICS.md, "Critical hits" to "Landing"): whether it is critical, its
+//! damage, whether it hits, and where it lands.
 //!
 //! - `critical_hits`: whether a hit is critical
-//! - `damage_numbers`: the numbers of a hit, out of the battle
-//! - `damage_formula`: the damage that these numbers give
-//! - `types`: what the types make of the damage
-//! - `factors`: the factor of the damage that is drawn
+//! - `damage_numbers`: the numbers of a hit, from the battle
+//! - `damage_formula`: the damage for these numbers
+//! - `types`: the damage after types
+//! - `factors`: the drawn factor of the damage
 //! - `usual_damage`: which moves have damage of this kind
 //! - `hit_tests`: whether the move hits
 //! - `landing`: where the damage lands

@@ -5,8 +5,10 @@ ghost use Rattle.gen1_hits.specs.UsualDamage.{has_own_damage, has_usual_damage};
 
 use gen1_tables::{Effect, MoveId};
 
-/// Whether a move has the usual damage, of which damage numbers can tell: it has power, and deals no damage of its own rule
-/// (docs/MECHANICS.md, "Fixed damage and one-hit moves", "Counter").
+/// Whether a move has the usual damage, as the damage numbers give it (docs/MECHANICS.md, "Fixed damage and one-hit
+/// moves", "Counter").
+///
+/// Such a move has power, and no damage rule of its own.
 pub fn has_usual_damage(id: MoveId) -> bool
     ensures { result ≡ has_usual_damage (move_at id) }
 {

@@ -1,4 +1,4 @@
--- A condition without a number goes, and all numbers stay.
+-- Clearing a condition without a number keeps all numbers.
 use Rattle.std.proofs.Common.{refl}
 use Rattle.gen1_machine.specs.Conditions.{without_charging, without_flinch, without_invulnerability, without_recharge, ActiveConditions}
 use Rattle.gen1_layout.specs.Flags.{SameNumbers}

@@ -1,4 +1,4 @@
--- Tests of numbers, by what they test, and one test or another.
+-- Tests of numbers by their meaning, and a test that one of two holds.
 use Rattle.std.proofs.Common.{◌<◌, ◌≡◌, ◌≤◌}
 use Rattle.gen1_layout.proofs.Words.{arith, false, nat_le, nat_lt, nat_tests, true, ℕ}
 

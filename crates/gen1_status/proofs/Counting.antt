@@ -1,4 +1,4 @@
--- What a turn makes of a count.
+-- A count after one turn.
 use Rattle.std.proofs.Common.{◌-◌, ◌≡◌}
 use Rattle.gen1_layout.proofs.Words.{ActiveConditions, DisabledSlot, Some, refl, ℕ}
 use Rattle.gen1_machine.specs.Conditions.{with_confusion_one_less, with_disable_one_less}

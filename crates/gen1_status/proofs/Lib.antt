@@ -1,14 +1,15 @@
--- The gate: what its answers tell, who is held or free, draws and what they are compared with, conditions that are cleared, sleep, counts.
+-- The gate: the meaning of its results, members that are held or free, draws and their comparisons, cleared
+-- conditions, sleep, counts.
 pub mod Told
 pub mod Untested
 pub mod Comparing
 pub mod Clearing
 pub mod Sleeping
 pub mod Counting
--- A stage that moves, and the number at it.
+-- A stage that moves, and the stat at it.
 pub mod Unchanged
 pub mod Staying
 pub mod Restaging
 pub mod Shifting
--- Statuses, counters and stages in their ranges.
+-- Statuses, counters and stages are in their ranges.
 pub mod Fitting

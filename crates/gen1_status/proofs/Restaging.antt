@@ -1,4 +1,4 @@
--- A member that is out at another stage, and the number that then stands there.
+-- A member that is out at another stage, and its stat at that stage.
 use Rattle.std.proofs.Common.{◌≡◌}
 use Rattle.gen1_layout.proofs.Words.{Active, Field, Member, Side, refl, true, ℕ}
 use Rattle.std.proofs.lemmas.Bool.{eqb-true}

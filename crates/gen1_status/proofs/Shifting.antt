@@ -1,4 +1,4 @@
--- What a shift comes to: it fails at once, it fails once the stage has moved and moved back, or it succeeds.
+-- The result of a shift: it fails at once, or it fails after the stage has moved and moved back, or it succeeds.
 use Rattle.gen1_layout.proofs.Words.{Bool, Frame, IsBetween, Parts, Phase, Progress, Shows, Side, Telling, add-one, arith, choose, choose-false, choose-true, false, goes, nat_tests, on_active, refl, subst, then-goes, true, ℕ, ◌∙◌, ◌▸◌}
 use Rattle.std.proofs.Common.{negsuc, pos, ℤ, ◌≡◌}
 use Rattle.gen1_status.specs.StageShift.{IsShift, ShowsShifted, shift_stage}
@@ -9,14 +9,15 @@ use Rattle.gen1_machine.specs.CurrentStats.{at_new_stage}
 use Rattle.gen1_machine.specs.Progress.{stay}
 use Rattle.gen1_machine.specs.StageShift.{lower_stage, shift_to}
 
--- a shift by a number that is not above 0 goes down
+-- A shift by a number that isn't above 0 goes down.
 pub shift_stage-down : (user target : Side) (stat : Stat) (stages : ℕ) (by : ℤ) → IsShift by → lt_z (pos 0) by ≡ false → stages ≡ nat_abs by
     → IsBetween 1 2 stages × (shift_stage user target stat by ≡ lower_stage user target stat stages)
 shift_stage-down user target stat stages (pos n) is down e = absurd (grind (arith, nat_tests))
 shift_stage-down user target stat stages (negsuc n) is down e = ((omega arith, omega arith), rw (e, add-one) refl)
 
--- a stage that moves, or moves back: at the last stage the shift fails; where the stat is stuck at its last value the stage
--- moves back, and the shift fails; else it succeeds. This is `raise_stage` and `lower_stage` alike, by their numbers.
+-- At the last stage a shift fails. If the stat is stuck at its last value, the stage moves, moves back, and the shift
+-- fails. Otherwise the stage moves, and the shift succeeds. This covers `raise_stage` and `lower_stage`, by their
+-- numbers.
 module _ (user target : Side) (stat : Stat) (tell : ℕ → Phase) (last stuck : Bool) (back back_by new new_by : ℕ) where
   abbrev moves : Phase → Phase
   moves failing =
@@ -44,19 +45,19 @@ module _ (user target : Side) (stat : Stat) (tell : ℕ → Phase) (last stuck :
         let is : moves failing p ≡ (shift_to user target stat stage ▸ tell stages) p = rw (at, by) (choose-false _ _ _ p e ∙ choose-false _ _ _ p free) in
         rw is (goes _ _ moved told)
 
--- for a caller: what is shown once it knows whether the shift succeeded
+-- For a caller: what is shown when it knows whether the shift succeeded.
 module _ {g : Frame} {parts : Parts} {events : Telling} {result : Bool} {failing : Phase} {p : Progress} where
   pub succeeds : (shift : Phase → Phase) → result ≡ true → ShowsShifted g parts events result shift failing p → Shows g parts events false (shift failing p)
   succeeds shift e h = subst (λ (b : Bool). ShowsShifted g parts events b shift failing p) e h
 
-  -- where it failed, what happens then is shown from where the shift left off
+  -- If the shift failed, what happens then is shown from where the shift ended.
   pub fails : {g' : Frame} {parts' : Parts} {events' : Telling} {b : Bool} (shift : Phase → Phase) → result ≡ false → ShowsShifted g parts events result shift failing p
       → ((q : Progress) → Shows g parts events false q → Shows g' parts' events' b (failing q)) → Shows g' parts' events' b (shift failing p)
   fails shift e h then =
       let w = subst (λ (b : Bool). ShowsShifted g parts events b shift failing p) e h in
       rw w.2 (then w.0 w.1)
 
--- a shift that is let fail
+-- A shift that may fail.
 pub shifted : (g : Frame) (parts : Parts) (events : Telling) (b : Bool) (shift : Phase → Phase) (p : Progress) → ShowsShifted g parts events b shift stay p → Shows g parts events false (shift stay p)
 unfolding stay
 shifted g parts events true shift p h = h

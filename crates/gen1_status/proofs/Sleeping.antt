@@ -1,4 +1,4 @@
--- What a turn of sleep makes of a sleeper.
+-- A sleeper after one turn of sleep.
 use Rattle.std.proofs.Common.{◌-◌, ◌<◌, ◌≡◌, ◌≤◌}
 use Rattle.gen1_layout.proofs.Words.{Bool, Member, arith, refl, ℕ}
 use Rattle.gen1_stats.specs.declared.status.Status.TheVariants.{Asleep, Healthy}

@@ -1,4 +1,5 @@
--- A stat of 999 stays 999 at a higher stage, and one of 1 stays 1 at a lower: a stat rises with its stage, from 1 to 999.
+-- A stat of 999 stays 999 at a higher stage, and one of 1 stays 1 at a lower stage. A stat rises with its stage, from
+-- 1 to 999.
 use Rattle.std.proofs.Common.{arith, inl, inr, lit≤, subst, suc, zero, ℕ, ◌<◌, ◌≡◌, ◌≤◌}
 use Rattle.std.proofs.Math.Nat.{mul-le-mul_left}
 use Rattle.std.proofs.lemmas.Bool.{cases_lt}
@@ -40,7 +41,7 @@ penalties_rise Special k v w h = h
 penalties_rise Accuracy k v w h = h
 penalties_rise Evasion k v w h = h
 
--- halved or quartered, a number from 1 to 999 is one still
+-- A number from 1 to 999 that is halved or quartered is still in that range
 
 halved_between : (k v : ℕ) → 1 ≤ v → v ≤ 999 → (1 ≤ divided_times 2 k v) × (divided_times 2 k v ≤ 999)
 halved_between zero v low high = (low, high)
@@ -64,7 +65,7 @@ now_between stat u n k = penalties_between stat k (at_stage n u) (omega arith) (
 pub now_rises : (stat : Stat) (u n k : ℕ) → n < 12 → now_at u n stat k ≤ now_at u (suc n) stat k
 now_rises stat u n k h = penalties_rise stat k (at_stage n u) (at_stage (suc n) u) (staged_rises n u h)
 
--- at the same stage or the next
+-- At the same stage or the next one.
 pub most_stays : (stat : Stat) (u n m k : ℕ) → n < 12 → n ≤ m → m ≤ suc n → now_at u n stat k ≡ 999 → now_at u m stat k ≡ 999
 most_stays stat u n m k h low high is = elim (cases_lt n m) [
   | inl up ↦
@@ -75,7 +76,7 @@ most_stays stat u n m k h low high is = elim (cases_lt n m) [
   | inr same ↦ (let e : m ≡ n = omega arith in rw e is)
 ]
 
--- at the same stage or the one before
+-- At the same stage or the one before.
 pub least_stays : (stat : Stat) (u n m k : ℕ) → n ≤ 12 → m ≤ n → n ≤ suc m → now_at u n stat k ≡ 1 → now_at u m stat k ≡ 1
 least_stays stat u n m k h low high is = elim (cases_lt m n) [
   | inl down ↦

@@ -1,4 +1,4 @@
--- How answers of the gate go through phases; and no test but the hit on itself says how the battle stands.
+-- How results of the gate pass through phases. Only the hit on itself can change the outcome.
 use Rattle.std.proofs.Common.{◌+◌, ◌≡◌}
 use Rattle.gen1_layout.proofs.Words.{Action, ActiveConditions, Bool, Field, Frame, Parts, Phase, Progress, Shows, ShowsDrawn, Side, Some, Telling, ap, changed_active, changed_conditions, changed_member, choose, choose-false, choose-true, draw, false, given, refl, still, subst, sym, then-goes, then-stops, true, with_last_damage, ℕ, ◌∙◌, ◌▸◌}
 use Rattle.gen1_rolls.specs.Streams.{Stream, byte_at}
@@ -12,7 +12,7 @@ use Rattle.gen1_status.specs.declared.gate_answer.Gate.{Gate}
 use Rattle.gen1_status.specs.declared.gate_answer.Gate.TheVariants.{Go, Stop, Fault}
 use Rattle.gen1_status.specs.GateAnswer.{Tells, TellsDrawn, action_after, frame_after, outcome_after, stopped_by}
 
--- how the battle stands
+-- The outcome
 
 abbrev pub StaysAs : Outcome → Field → Action → Stream → Type 0
 StaysAs outcome f a w = f.outcome ≡ outcome
@@ -35,7 +35,7 @@ pub outcome-breaks : (outcome : Outcome) (s : Side) → Breaks (StaysAs outcome)
 unfolding changed_conditions changed_active
 outcome-breaks outcome s = record { broken = record { spared = λ f a w h. outcome-stays s _ f ∙ h } }
 
--- any change of conditions, and the hit on itself by a number
+-- A change of conditions, and the hit on itself by a number.
 pub conditions-spare : (outcome : Outcome) (s : Side) (change : ActiveConditions → ActiveConditions) → Spares (StaysAs outcome) (changed_conditions s change)
 unfolding changed_conditions changed_active
 conditions-spare outcome s change = record { spared = λ f a w h. outcome-stays s _ f ∙ h }
@@ -47,7 +47,7 @@ hit-keeps outcome s damage =
     then-keeps (set_last_damage-keeps damage (steady.damage damage))
     (choose-keeps _ (given-keeps _ (λ hp. land_on_foes_substitute-steady steady s damage hp)) (land_on_hp-steady steady s _ damage (outcome-hurts outcome)))
 
--- what is known of the action
+-- What is known of the action
 
 known : (answer : Gate) (found left : Action) → left ≡ found → left ≡ action_after answer found left
 known Go found left e = e
@@ -57,7 +57,7 @@ known Fault found left e = e ∙ ap (λ (a : Action). record found { broke = a.b
 pub known_so : {g : Frame} {parts : Parts} {events : Telling} {b : Bool} {p : Progress} (answer : Gate) → Shows g parts events b p → Shows (frame_after answer p g) parts events b p
 known_so answer h = record { within = h.within; written = h.written; ends = h.ends; stream = h.stream; drawn = h.drawn; skips = h.skips; action = known answer _ _ h.action }
 
--- a substitute may have been broken
+-- A substitute may have been broken.
 pub broken_so : (g : Frame) {parts : Parts} {events : Telling} {b : Bool} {p : Progress} (broke : Bool)
     → Shows (record g { action = record g.action { broke = broke } }) parts events b p → Shows (frame_after Stop p g) parts events b p
 broken_so g broke h = record {
@@ -75,14 +75,14 @@ gone Go e = refl
 gone Stop e = cc
 gone Fault e = cc
 
--- without draws
+-- Without draws
 
 module _ {g : Frame} {parts : Parts} {events : Telling} {p : Progress} where
   pub tells : (answer : Gate) (f : Phase) → outcome_after answer p.field.outcome ≡ p.field.outcome → Keeps (StaysAs p.field.outcome) f
       → Shows g parts events (stopped_by answer) (f p) → Tells g parts events answer p (f p)
   tells answer f e k h = record { shows = known_so answer h; outcome = k.kept p refl ∙ sym e }
 
-  -- a phase that stops, and may have broken a substitute
+  -- A phase that stops, and may have broken a substitute.
   pub tells_broken : (broke : Bool) (f : Phase) → Keeps (StaysAs p.field.outcome) f
       → Shows (record g { action = record g.action { broke = broke } }) parts events true (f p) → Tells g parts events Stop p (f p)
   tells_broken broke f k h = record { shows = broken_so g broke h; outcome = k.kept p refl }
@@ -97,15 +97,15 @@ module _ {g : Frame} {parts : Parts} {events : Telling} {p : Progress} where
   then_tells {answer = answer} f k keeps h a =
       rw (then-goes f k p h.ends) (record { shows = a.shows; outcome = a.outcome ∙ ap (outcome_after answer) (keeps.kept p refl) })
 
--- with a generator
+-- With a generator
 
 module _ {A : Type 0} {byte : A → ℕ} {next : A → A} {width : ℕ} {origin : A} {g : Frame} {parts : Parts} {events : Telling} {now : A} {p : Progress} where
-  -- what code without draws told, for a generator that has not moved
+  -- What code without draws reported, for a generator that hasn't moved.
   pub still_tells : {parts' : Parts} {events' : Telling} {answer : Gate} {b : Bool} {q : Progress} → ShowsDrawn byte next width origin g parts events now b p
       → Tells (record g { drawn = p.drawn }) parts' events' answer p q → TellsDrawn byte next width origin g parts' events' now answer p q
   still_tells {answer = answer} {q = q} h a = record { shows = still {g' = frame_after answer q g} h a.shows refl; outcome = a.outcome }
 
-  -- a phase that shows, and keeps how the battle stands
+  -- A phase that is shown and keeps the outcome.
   pub drawn_tells : (answer : Gate) (f : Phase) → outcome_after answer p.field.outcome ≡ p.field.outcome → Keeps (StaysAs p.field.outcome) f
       → ShowsDrawn byte next width origin g parts events now (stopped_by answer) (f p) → TellsDrawn byte next width origin g parts events now answer p (f p)
   drawn_tells answer f e k h = record { shows = record { shows = known_so answer h.shows; stands = h.stands }; outcome = k.kept p refl ∙ sym e }
@@ -133,7 +133,7 @@ module _ {A : Type 0} {byte : A → ℕ} {next : A → A} {width : ℕ} {origin 
   unfolding given
   tells_seeing read f e h = rw (← e) h
 
-  -- a draw
+  -- A draw.
   pub tells_drawing : {g' : Frame} {parts' : Parts} {events' : Telling} {old now' : A} {b : Bool} {answer : Gate} (f : ℕ → Phase) {drawn : ℕ}
       → ShowsDrawn byte next width origin g parts events old b p → drawn ≡ byte old → now ≡ next old
       → (ShowsDrawn byte next width origin g parts events now b (record p { drawn = p.drawn + 1 })
@@ -149,7 +149,7 @@ module _ {A : Type 0} {byte : A → ℕ} {next : A → A} {width : ℕ} {origin 
       }) in
       rw (← at) (record { shows = told.shows; outcome = told.outcome })
 
-  -- an answer that does not stop is Go
+  -- A result that doesn't stop is Go.
   pub went : {answer : Gate} {q : Progress} → stopped_by answer ≡ false
       → TellsDrawn byte next width origin g parts events now answer p q → TellsDrawn byte next width origin g parts events now Go p q
   went {answer = answer} {q = q} e a = subst (λ (x : Gate). TellsDrawn byte next width origin g parts events now x p q) (gone answer e) a

@@ -1,4 +1,4 @@
--- A change that leaves what is there changes nothing.
+-- Writing the value that is there already changes nothing.
 use Rattle.std.proofs.Common.{◌≡◌}
 use Rattle.gen1_layout.proofs.Words.{Active, Field, Side, active_in, ap, changed_active}
 use Rattle.gen1_machine.specs.declared.side.Side.TheVariants.{One, Two}

@@ -1,5 +1,5 @@
--- Where there is nothing to test or to take: the gate of a member that is held, that of one that nothing but its status can
--- keep from acting, and the residual of one that has nothing to suffer from.
+-- Cases with nothing to do: the gate of a member that is held, the gate of a member that only its status can stop,
+-- and the residual damage of a member without any.
 use Rattle.std.proofs.Common.{◌||◌, ◌∷◌, ◌≡◌}
 use Rattle.gen1_layout.proofs.Words.{Bool, DisabledSlot, Field, None, Option, Phase, Progress, Side, Some, [], active_in, ap, choose, choose-false, conditions_in, false, given, is_some, member_in, refl, stay, stop, then-goes, true, underway_in, ◌∙◌, ◌▸◌}
 use Rattle.gen1_stats.specs.declared.status.Status.{Status}
@@ -19,7 +19,7 @@ use Rattle.gen1_machine.specs.ResidualDamage.{residual, suffer_seed, suffer_stat
 use Rattle.gen1_status.specs.ResidualDamage.{takes_hp}
 use Rattle.gen1_status.specs.Gate.{ActsAtOnce, IsFree, is_held, keeps_from_acting}
 
--- who is held
+-- A member that is held
 
 pub held-is : (s : Side) (pick : Pick) → is_held pick ≡ true → gate_or_held s pick ≡ cant s reasons.PartiallyTrapped
 unfolding gate_or_held
@@ -35,7 +35,7 @@ held-not s (Use used) e = refl
 held-not s Continue e = refl
 held-not s Idle e = refl
 
--- who is free
+-- A member that is free
 
 skips : (f k : Phase) (p : Progress) → f p ≡ p → p.stopped ≡ false → (f ▸ k) p ≡ k p
 skips f k p e goes = then-goes f k p (ap (λ (q : Progress). q.stopped) e ∙ goes) ∙ ap k e
@@ -97,7 +97,7 @@ module _ (s : Side) (p : Progress) (free : IsFree s p.field) (goes : p.stopped �
       ∙ skips confusion rest p (ap (λ o. confusion_test s o p) free.unconfused) goes
       ∙ skips (disabled_test s pick) last p (choose-false _ _ _ p (unbarred s pick p free.undisabled)) goes
 
--- who acts at once passes the gate as it was
+-- A member that acts at once passes the gate without a change.
 pub gate-acts : (s : Side) (pick : Pick) (p : Progress) → ActsAtOnce s pick p.field → p.stopped ≡ false → gate s pick p ≡ p
 unfolding paralysis_test stay
 gate-acts s pick p at_once goes =
@@ -105,7 +105,7 @@ gate-acts s pick p at_once goes =
     gate-free s p at_once.free goes pick able.0
     ∙ skips (paralysis_test s) (only (is_idle pick) stop) p (choose-false _ _ _ p able.1) goes ∙ choose-false _ _ _ p at_once.busy
 
--- of several conditions none is on
+-- None of several conditions is on
 
 none-of : {A : Type 0} (o : Option A) → is_some o ≡ false → o ≡ None
 none-of None e = refl
@@ -130,7 +130,7 @@ free-is s f held e =
       unconfused = none-of c.confused one.1;
     }
 
--- who has neither poison nor a burn nor a seed loses nothing
+-- A member without poison, a burn or a seed loses nothing
 
 unhurt : (s : Side) (status : Status) (p : Progress) → takes_hp status ≡ false → suffer_status s status p ≡ p
 unfolding suffer_status stay

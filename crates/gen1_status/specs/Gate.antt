@@ -1,4 +1,5 @@
--- Who is held, who is free but for its status, and who acts with no test (docs/MECHANICS.md, "Gate").
+-- Which members are held, which are free apart from their status, and which act without a test (docs/MECHANICS.md,
+-- "Gate").
 use Rattle.std.specs.Prelude.{◌≡◌}
 use Rattle.gen1_layout.specs.Words.{Bool, Field, None, Side, conditions_in, false, other, status_in, true, underway_in}
 use Rattle.gen1_stats.specs.declared.status.Status.{Status}
@@ -11,14 +12,14 @@ abbrev pub is_held : Pick → Bool
 is_held Held = true
 is_held _ = false
 
--- the statuses that can
+-- The statuses that can stop a member.
 abbrev pub keeps_from_acting : Status → Bool
 keeps_from_acting (Asleep turns marked) = true
 keeps_from_acting Frozen = true
 keeps_from_acting Paralysed = true
 keeps_from_acting _ = false
 
--- nothing but its status can keep the member from acting
+-- Nothing but its status can keep the member from acting.
 pub record IsFree (s : Side) (f : Field) : Type 0 where
   pub untrapped : (underway_in (other s) f).trapping ≡ None
   pub unflinching : (conditions_in s f).flinch ≡ false
@@ -26,7 +27,7 @@ pub record IsFree (s : Side) (f : Field) : Type 0 where
   pub undisabled : (conditions_in s f).disabled ≡ None
   pub unconfused : (conditions_in s f).confused ≡ None
 
--- nor can its status, and it has picked something
+-- Its status can't keep it from acting either, and it has picked something.
 pub record ActsAtOnce (s : Side) (pick : Pick) (f : Field) : Type 0 where
   pub free : IsFree s f
   pub able : keeps_from_acting (status_in s f) ≡ false

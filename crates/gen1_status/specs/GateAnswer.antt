@@ -1,5 +1,5 @@
--- What an answer of the gate tells of the phase that it stands for (docs/MECHANICS.md, "Gate"): whether that stopped, and how
--- the battle stands then.
+-- What the gate's result says about its phase (docs/MECHANICS.md, "Gate"): whether the phase stopped, and the outcome
+-- after it.
 use Rattle.std.specs.Prelude.{◌≡◌}
 use Rattle.gen1_layout.specs.Words.{Bool, Frame, Phase, Progress, Shows, ShowsDrawn, Telling, false, true, ℕ}
 use Rattle.gen1_machine.specs.declared.terms.Outcome.{Outcome}
@@ -13,7 +13,7 @@ abbrev pub stopped_by : Gate → Bool
 stopped_by Go = false
 stopped_by _ = true
 
--- a hit on itself that ends the action may have broken the foe's substitute
+-- A hit on itself that ends the action may have broken the foe's substitute.
 abbrev pub action_after : Gate → Action → Action → Action
 action_after Go found left = found
 action_after _ found left = record found { broke = left.broke }
@@ -21,22 +21,22 @@ action_after _ found left = record found { broke = left.broke }
 abbrev pub frame_after : Gate → Progress → Frame → Frame
 frame_after answer after g = record g { action = action_after answer g.action after.action }
 
--- only a divisor of 0 ends the battle here
+-- Only a divisor of 0 ends the battle here.
 abbrev pub outcome_after : Gate → Outcome → Outcome
 outcome_after Fault outcome = outcomes.Fault 1
 outcome_after _ outcome = outcome
 
--- the parts and the events stand for what came after
+-- The parts and the events represent the progress after the phase.
 pub record Tells (g : Frame) (parts : Parts) (events : Telling) (answer : Gate) (before after : Progress) : Type 0 where
   pub shows : Shows (frame_after answer after g) parts events (stopped_by answer) after
   pub outcome : after.field.outcome ≡ outcome_after answer before.field.outcome
 
--- the same with a generator
+-- The same with a generator.
 pub record TellsDrawn {A : Type 0} (byte : A → ℕ) (next : A → A) (width : ℕ) (origin : A) (g : Frame) (parts : Parts) (events : Telling) (now : A) (answer : Gate) (before after : Progress) : Type 0 where
   pub shows : ShowsDrawn byte next width origin (frame_after answer after g) parts events now (stopped_by answer) after
   pub outcome : after.field.outcome ≡ outcome_after answer before.field.outcome
 
--- code with draws does what a phase does, and its answer tells how that ended
+-- Code with draws does what a phase does, and its result says how that ended.
 abbrev pub DoesTelling : {A : Type 0} → (A → ℕ) → (A → A) → ℕ → Parts → Telling → A → Parts → Telling → A → Gate → Phase → Type 0
 DoesTelling {A = A} byte next width parts events old parts' events' new answer phase =
     (origin : A) (g : Frame) (p : Progress) → ShowsDrawn byte next width origin g parts events old false p

@@ -1,4 +1,4 @@
--- The status that a kind names (docs/MECHANICS.md, "Penalties").
+-- The status for a kind (docs/MECHANICS.md, "Penalties").
 use Rattle.std.specs.Prelude.{false, ℕ}
 use Rattle.gen1_stats.specs.declared.status.Status.{Status}
 use Rattle.gen1_stats.specs.declared.status.Status.TheVariants.{Asleep, Burned, Frozen, Paralysed, Poisoned}
@@ -6,7 +6,7 @@ use Rattle.gen1_stats.specs.Members.{IsBetween}
 use Rattle.gen1_machine.specs.declared.health.Kind.{Kind}
 use Rattle.gen1_machine.specs.declared.health.Kind.TheVariants as kinds
 
--- sleep for so many turns, with no mark; the other kinds have no count
+-- Sleep lasts this many turns and has no mark. The other kinds have no count.
 abbrev pub status_of_kind : Kind → ℕ → Status
 status_of_kind kinds.Sleep count = Asleep count false
 status_of_kind kinds.Poison count = Poisoned
@@ -14,7 +14,7 @@ status_of_kind kinds.Burn count = Burned
 status_of_kind kinds.Freeze count = Frozen
 status_of_kind kinds.Paralysis count = Paralysed
 
--- sleep lasts for 1 to 7 turns
+-- Sleep lasts 1 to 7 turns.
 abbrev pub IsCountOf : Kind → ℕ → Type 0
 IsCountOf kinds.Sleep count = IsBetween 1 7 count
 IsCountOf _ count = Unit {0}

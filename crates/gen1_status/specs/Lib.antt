@@ -1,8 +1,8 @@
--- What the answer of the gate tells.
+-- What the gate's result says.
 pub mod GateAnswer
--- Who is held, and who is free.
+-- Which members are held, and which are free.
 pub mod Gate
--- A status by its kind, and those that take HP.
+-- A status by its kind, and the statuses that take HP.
 pub mod Infliction
 pub mod ResidualDamage
 -- A stage that moves.

@@ -1,15 +1,16 @@
-//! How an action leaves the gate (docs/MECHANICS.md, "Gate").
+//! The result of the gate (docs/MECHANICS.md, "Gate").
 ghost use Rattle.std.specs.Prelude.{◌≡◌};
 ghost use Rattle.gen1_status.specs.GateAnswer.{stopped_by};
 
-/// How an action leaves the gate (docs/MECHANICS.md, "Gate").
+/// The result of the gate for an action (docs/MECHANICS.md, "Gate").
 #[derive(Clone, Copy, Debug, PartialEq, Eq)]
 pub enum Gate {
-    /// Every test let it pass.
+    /// The action goes on: it passed every test.
     Go,
-    /// It ends.
+    /// The action ends.
     Stop,
-    /// It ends, and with it the battle by Fault 1: the member's hit on itself was to be divided by 0.
+    /// The action ends, and the battle ends with Fault 1: the damage of the member's hit on itself would be divided
+    /// by 0.
     Fault,
 }
 

@@ -1,4 +1,5 @@
-//! What can keep a member from acting (docs/MECHANICS.md, "Gate"): tests in their order, of which the first that stops decides.
+//! The gate: what can keep a member from acting (docs/MECHANICS.md, "Gate"). The tests run in order, and the first
+//! that stops decides.
 ghost use Rattle.std.specs.Prelude.{◌≡◌};
 ghost use Rattle.gen1_layout.specs.Words.{AddsAtMost, Does, Field, HasRoom, Setting, Within, true};
 ghost use Rattle.gen1_machine.specs.Action.{gate_or_held};
@@ -21,9 +22,10 @@ use gen1_machine::{CantReason, Event, Pick, Side};
 use gen1_rolls::Rolls;
 use gen1_stats::Status;
 
-/// Takes the tests of a member that is about to act, and writes what they change and tell, three events at most
-/// (docs/MECHANICS.md, "Gate"). Who was held as the turn began does not act, with no test and no draw, also where the holder
-/// has left since.
+/// Runs the tests of a member that is about to act, and writes their changes and events (docs/MECHANICS.md, "Gate").
+///
+/// It writes at most three events, and needs that many free places in `events`. A side that was held as the turn
+/// began doesn't act, without a test or a draw, even if the foe that held it has left since.
 pub fn gate<R: Rolls, S: EventSink>(
     battle: &mut Packed,
     side: Side,
@@ -46,7 +48,7 @@ pub fn gate<R: Rolls, S: EventSink>(
     take_tests(battle, side, pick, random, events)
 }
 
-// One look for the many turns in which there is nothing to test.
+// One test covers the many turns without anything else to test.
 fn acts_at_once(battle: &Packed, side: Side, pick: Pick) -> bool
     ensures stands { (g : Setting) (f : Field) → Within g battle.now f → result ≡ true
         → ActsAtOnce side pick f }
@@ -99,7 +101,7 @@ fn take_tests<R: Rolls, S: EventSink>(
     gate_of_move(battle, side, pick, random, events)
 }
 
-// The member does not act, for a reason that is told.
+// The member doesn't act, and an event gives the reason.
 #[inline(never)] // docs/SPEED.md, "Hints on inlining"
 fn cant<S: EventSink>(battle: &Packed, side: Side, why: CantReason, events: &mut S)
     requires room { HasRoom S.room 1 events.old }

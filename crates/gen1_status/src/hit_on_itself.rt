@@ -10,8 +10,10 @@ use gen1_hits::{damage, land_on_hp, land_on_substitute, own_numbers};
 use gen1_layout::{Conditions, Packed};
 use gen1_machine::{DamageSource, Outcome, Side};
 
-/// Breaks off what the member was about, and takes from it what it has the strength of: 40 in power, its own Attack against
-/// its own Defense. Writes one event at most (docs/MECHANICS.md, "Hit on itself").
+/// Breaks off what the member had underway, and takes the damage of its hit on itself (docs/MECHANICS.md, "Hit on
+/// itself").
+///
+/// The power is 40, and its own Attack works against its own Defense. It writes at most one event.
 pub(crate) fn hurt_itself<S: EventSink>(battle: &mut Packed, side: Side, events: &mut S) -> Gate
     requires room { HasRoom S.room 1 events.old }
     ensures shown { (g : Frame) (p : Progress) → Shows g battle.old (S.tells events.old) false p
@@ -26,7 +28,7 @@ pub(crate) fn hurt_itself<S: EventSink>(battle: &mut Packed, side: Side, events:
     hurt_itself_by(battle, side, damage(&numbers), events)
 }
 
-// Behind a substitute of its own the member is not hurt.
+// A member with a substitute of its own isn't hurt.
 fn hurt_itself_by<S: EventSink>(
     battle: &mut Packed,
     side: Side,
@@ -53,7 +55,7 @@ fn hurt_itself_by<S: EventSink>(
     Gate::Stop
 }
 
-// The foe's substitute takes it, if there is one.
+// The foe's substitute takes the damage, if there is one.
 fn land_on_foes_substitute<S: EventSink>(
     battle: &mut Packed,
     side: Side,

@@ -11,10 +11,11 @@ use gen1_layout::Packed;
 use gen1_machine::{Event, Kind, Side};
 use gen1_stats::Status;
 
-/// Gives the member of `target` that is out a status of this kind, in place of any that it has, lays its penalty on the member
-/// once, and writes `Status`: one place in `events` is to be free for it (docs/MECHANICS.md, "Penalties").
+/// Gives a status of this kind to the member of `target` that is out, applies its penalty once, and writes `Status`
+/// (docs/MECHANICS.md, "Penalties").
 ///
-/// Sleep lasts for `count` turns, from 1 to 7, and is unmarked. For another kind `count` is of no account.
+/// The new status replaces any that the member has. It needs one free place in `events`. Sleep lasts for `count`
+/// turns, 1 to 7, and is unmarked. For other kinds `count` isn't used.
 pub fn inflict<S: EventSink>(
     battle: &mut Packed,
     target: Side,
@@ -31,8 +32,8 @@ pub fn inflict<S: EventSink>(
     inflict_status(battle, target, status_of_kind(kind, count), kind, events);
 }
 
-/// The same as [`inflict`] with the status itself, whose kind `kind` is. Its sleep may be marked, but under the sleep clause
-/// alone (docs/MECHANICS.md, "Rules (sleep clause, freeze clause)").
+/// The same as [`inflict`], with the status itself. `kind` must be its kind. A marked sleep is allowed only under the
+/// sleep clause (docs/MECHANICS.md, "Rules (sleep clause, freeze clause)").
 #[inline(always)] // docs/SPEED.md, "Hints on inlining"
 pub fn inflict_status<S: EventSink>(
     battle: &mut Packed,

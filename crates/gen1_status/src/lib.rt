@@ -1,15 +1,15 @@
-//! What keeps a member from acting, and what statuses and stages do to it, over the bytes of a battle (docs/MECHANICS.md,
-//! "Penalties", "Stage shift", "Picks" to "Hit on itself", "Residual damage").
+//! What keeps a member from acting, and the effect of statuses and stages on it, over the bytes of a battle
+//! (docs/MECHANICS.md, "Penalties", "Stage shift", "Picks" to "Hit on itself", "Residual damage").
 //!
 //! - `picks`: what a side's choice comes to
 //! - `gate_tests`: what keeps a member from acting
-//! - `gate_answer`: how an action leaves the gate
-//! - `hit_on_itself`: the hit of a confused member
+//! - `gate_answer`: the result of the gate
+//! - `hit_on_itself`: the hit of a confused member on itself
 //! - `infliction`: a status that begins
-//! - `penalties`: what paralysis and a burn do to a stat
-//! - `stages`: the number that stands at a stage
+//! - `penalties`: the effect of paralysis and a burn on a stat
+//! - `stages`: the stat at a stage
 //! - `stage_shift`: stages that rise and fall
-//! - `residual_damage`: what poison, a burn and Leech Seed take
+//! - `residual_damage`: the damage of poison, a burn and Leech Seed
 #![tactic(auto)]
 
 mod gate_answer;

@@ -1,4 +1,4 @@
-//! What paralysis and a burn do to a stat (docs/MECHANICS.md, "Penalties").
+//! The effect of paralysis and a burn on a stat (docs/MECHANICS.md, "Penalties").
 ghost use Rattle.gen1_layout.specs.Words.{Changes, changed_active, with_penalty_of};
 
 use gen1_layout::Packed;
@@ -6,9 +6,10 @@ use gen1_machine::Side;
 use gen1_stats::Status;
 use gen1_tables::Stat;
 
-/// Lays the penalty of a status on the member of `side` that is out, once more: paralysis quarters its current Speed, a burn
-/// halves its current Attack, each to at least 1. Another status has none, and nothing changes (docs/MECHANICS.md,
-/// "Penalties"). The stage stays, and the status need not be the member's own.
+/// Applies the penalty of a status to the member of `side` that is out, once more (docs/MECHANICS.md, "Penalties").
+///
+/// Paralysis quarters its current Speed, and a burn halves its current Attack, each to at least 1. Other statuses
+/// have no penalty, and nothing changes. The stage stays as it is. The status need not be the member's own.
 pub fn take_penalty(battle: &mut Packed, side: Side, status: Status)
     ensures stands { Changes battle.old battle.new (changed_active side (with_penalty_of status)) }
 {

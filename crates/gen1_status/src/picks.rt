@@ -6,8 +6,10 @@ ghost use Rattle.gen1_machine.specs.Picks.{must_continue, pick_in, used_by};
 use gen1_layout::{Conditions, Packed};
 use gen1_machine::{Choice, Pick, Side, UsedMove};
 
-/// What a choice of a move comes to (docs/MECHANICS.md, "Picks"): slots 1 to 4 are picked as they are, and what slot 0 means
-/// depends on what there is. Another choice is no pick, and is answered as slot 0 is.
+/// What a choice of a move comes to (docs/MECHANICS.md, "Picks").
+///
+/// Slots 1 to 4 are picked as they are. The meaning of slot 0 depends on the conditions and the status. A choice that
+/// isn't a move has no pick, and returns the same as slot 0.
 pub fn pick(battle: &Packed, side: Side, choice: Choice) -> Pick
     ensures stands { (slot : ℕ) → choice ≡ Choice.Move slot
         → Reads battle.now result (pick_in slot side) }
@@ -43,7 +45,7 @@ fn pick_without_slot(battle: &Packed, side: Side) -> Pick
     Pick::Use(UsedMove::Struggle)
 }
 
-/// What a pick of `side` uses: the move that is picked, or else the current one (docs/MECHANICS.md, "Picks").
+/// The move that a pick of `side` uses: the picked move, or otherwise the current one (docs/MECHANICS.md, "Picks").
 pub fn used_by(battle: &Packed, side: Side, pick: Pick) -> UsedMove
     ensures stands { Reads battle.now result λ f. used_by pick (active_in side f).current_move }
 {

@@ -1,4 +1,4 @@
-//! What poison, a burn and Leech Seed take (docs/MECHANICS.md, "Residual damage").
+//! The damage of poison, a burn and Leech Seed (docs/MECHANICS.md, "Residual damage").
 ghost use Rattle.std.specs.Prelude.{◌||◌, ◌≡◌, ◌≤◌};
 ghost use Rattle.gen1_layout.specs.Words.{AddsAtMost, Does, Event, HasRoom, List, Reads, Told, conditions_in, false, is_living, member_in, status_in};
 ghost use Rattle.gen1_machine.specs.Conditions.{one_more};
@@ -11,12 +11,14 @@ use gen1_layout::{Conditions, Packed};
 use gen1_machine::{DamageSource, Side};
 use gen1_stats::Status;
 
-/// What poison or a burn, and then Leech Seed, take from the member of `side` that is out, unless it has fallen before
-/// (docs/MECHANICS.md, "Residual damage"). Each takes a 16th of its maximum HP, at least 1, or what is left of its HP.
+/// Applies poison or a burn, and then Leech Seed, to the member of `side` that is out, unless it has fallen already
+/// (docs/MECHANICS.md, "Residual damage").
 ///
-/// With the bad-poison mark each of the two first raises the counter by 1, to 64 at most, and takes so many times as much.
-/// The seed heals the foe the full amount, also where less was left to take. `Damage` is written for what either takes, and
-/// `Heal` for what the foe gains: three places in `events` are to be free for them.
+/// Each takes a 16th of its maximum HP, at least 1, or all HP that are left. With bad poison, each of the two first
+/// raises the counter by 1, to at most 64, and takes that many times as much.
+///
+/// The seed heals the foe by the full amount, even if the member had less HP left. `Damage` is written for what is
+/// taken, and `Heal` for what the foe gains. It needs three free places in `events`.
 #[inline(always)] // docs/SPEED.md, "Hints on inlining"
 pub fn residual<S: EventSink>(battle: &mut Packed, side: Side, events: &mut S)
     requires room { HasRoom S.room 3 events.old }
@@ -37,7 +39,7 @@ pub fn residual<S: EventSink>(battle: &mut Packed, side: Side, events: &mut S)
     suffer_seed(battle, side, events);
 }
 
-/// Whether poison, a burn or Leech Seed takes anything from the member of `side` that is out, as long as it lives
+/// Whether poison, a burn or Leech Seed takes anything from the member of `side` that is out while it lives
 /// (docs/MECHANICS.md, "Residual damage"). Most members have none of them.
 pub fn suffers(battle: &Packed, side: Side) -> bool
     ensures stands { Reads battle.now result λ f.
@@ -61,7 +63,7 @@ fn is_living(battle: &Packed, side: Side) -> bool
     0 < battle.hp(side)
 }
 
-// What a status takes: poison and a burn alone do.
+// The damage of a status. Only poison and a burn have any.
 fn suffer_status<S: EventSink>(battle: &mut Packed, side: Side, status: Status, events: &mut S)
     requires room { HasRoom S.room 1 events.old }
     ensures shown { Does battle.old (S.tells events.old) battle.new (S.tells events.new) false
@@ -90,7 +92,7 @@ fn suffer<S: EventSink>(battle: &mut Packed, side: Side, source: DamageSource, e
     lose_hp(battle, side, source, amount, events);
 }
 
-// The foe is healed the full amount, also where less was left to take.
+// The foe heals by the full amount, even if the member had less HP left.
 fn suffer_seed<S: EventSink>(battle: &mut Packed, side: Side, events: &mut S)
     requires room { HasRoom S.room 2 events.old }
     ensures shown { Does battle.old (S.tells events.old) battle.new (S.tells events.new) false
@@ -103,7 +105,7 @@ fn suffer_seed<S: EventSink>(battle: &mut Packed, side: Side, events: &mut S)
     gain_hp(battle, side.other(), amount, events);
 }
 
-// The counter of bad poison rises, where there is one.
+// The counter of bad poison rises, if there is one.
 fn worsen(battle: &mut Packed, side: Side)
     ensures { (events : List Event) → Does battle.old (Told events) battle.new (Told events) false (worsen side) }
 {
@@ -120,7 +122,7 @@ fn one_more(count: Option<u8>) -> Option<u8>
     }
 }
 
-// A 16th of the maximum HP, or of that so many times as the member was badly poisoned.
+// A 16th of the maximum HP, times the counter for a badly poisoned member.
 fn residual_amount(battle: &Packed, side: Side) -> u16
     ensures stands { Reads battle.now result (residual_in side) }
 {

@@ -11,7 +11,7 @@ use gen1_layout::Packed;
 use gen1_machine::{Event, Side, StageCount};
 use gen1_tables::Stat;
 
-// As the bytes have them, stages are numbered from 0 to 12, with 6 in the middle.
+// In the bytes, stages are numbered 0 to 12, and 6 is the middle.
 const LOWEST_STAGE: u8 = 0;
 
 const HIGHEST_STAGE: u8 = 12;
@@ -20,9 +20,12 @@ const LOWEST_STAT: u16 = 1;
 
 const HIGHEST_STAT: u16 = 999;
 
-/// Has `user` shift a stage of `target`, which is itself or its foe, up by 1 or 2 or down by -1 or -2; nothing is said of
-/// other numbers, which no move has. True where it succeeds, as [`raise_stage`] and [`lower_stage`] say. What else a failure
-/// brings about, as `Fail`, is left to the caller (docs/MECHANICS.md, "Stage shift").
+/// Shifts a stage of `target`, which is `user` or its foe, and returns whether that succeeds (docs/MECHANICS.md,
+/// "Stage shift").
+///
+/// `by` is 1 or 2 for a rise, and -1 or -2 for a fall. The contract covers no other numbers, and no move has any.
+/// [`raise_stage`] and [`lower_stage`] say when a shift succeeds. Any further effect of a failure, such as `Fail`, is
+/// left to the caller.
 pub fn shift_stage<S: EventSink>(
     battle: &mut Packed,
     user: Side,
@@ -45,11 +48,14 @@ pub fn shift_stage<S: EventSink>(
     }
 }
 
-/// Raises a stage of `target` by 1 or 2, at most to +6, and recomputes the stat without its penalties. Then the foe of `user`
-/// takes the penalty of its status once more, whatever the stat was, and `Boost` is written.
+/// Raises a stage of `target` by 1 or 2, to at most +6, and returns whether that succeeds (docs/MECHANICS.md, "Stage
+/// shift").
 ///
-/// False where it fails. At +6 nothing changes. A stat of 999 stays, but its stage rises all the same and falls back by 1;
-/// `Boost` is written if that is a change. One place in `events` is to be free (docs/MECHANICS.md, "Stage shift").
+/// The stat is recomputed without its penalties. Then the foe of `user` takes the penalty of its status once more,
+/// whatever the stat was, and `Boost` is written.
+///
+/// At +6 the rise fails, and nothing changes. With a stat of 999 it fails too: the stat stays, its stage rises and
+/// falls back by 1, and `Boost` is written if that is a change. It needs one free place in `events`.
 pub fn raise_stage<S: EventSink>(
     battle: &mut Packed,
     user: Side,
@@ -81,11 +87,14 @@ pub fn raise_stage<S: EventSink>(
     true
 }
 
-/// Lowers a stage of `target` by 1 or 2, at least to -6, and recomputes the stat without its penalties. Then the foe of `user`
-/// takes the penalty of its status once more, whatever the stat was, and `Unboost` is written.
+/// Lowers a stage of `target` by 1 or 2, to at least -6, and returns whether that succeeds (docs/MECHANICS.md, "Stage
+/// shift").
 ///
-/// False where it fails. At -6 nothing changes. A stat of 1 stays, but its stage falls all the same and rises back by 1;
-/// `Unboost` is written if that is a change. One place in `events` is to be free (docs/MECHANICS.md, "Stage shift").
+/// The stat is recomputed without its penalties. Then the foe of `user` takes the penalty of its status once more,
+/// whatever the stat was, and `Unboost` is written.
+///
+/// At -6 the fall fails, and nothing changes. With a stat of 1 it fails too: the stat stays, its stage falls and
+/// rises back by 1, and `Unboost` is written if that is a change. It needs one free place in `events`.
 pub fn lower_stage<S: EventSink>(
     battle: &mut Packed,
     user: Side,
@@ -117,7 +126,7 @@ pub fn lower_stage<S: EventSink>(
     true
 }
 
-// Recomputes a stat at its new stage, and has the user's foe take its penalty once more.
+// Recomputes a stat at its new stage. Then the user's foe takes its penalty once more.
 fn shift_to(battle: &mut Packed, user: Side, target: Side, stat: Stat, stage: u8)
     ensures { (events : List Event) → stage ≤ 12
         → Does battle.old (Told events) battle.new (Told events) false (shift_to user target stat stage) }
@@ -128,7 +137,7 @@ fn shift_to(battle: &mut Packed, user: Side, target: Side, stat: Stat, stage: u8
     take_penalty(battle, foe, status);
 }
 
-// Tells by how much a stage rose, if it did.
+// Writes by how much a stage rose, if it rose.
 fn note_boost<S: EventSink>(battle: &Packed, side: Side, stat: Stat, stages: u8, events: &mut S)
     requires room { HasRoom S.room 1 events.old }
     ensures shown { stages ≤ 2
@@ -141,7 +150,7 @@ fn note_boost<S: EventSink>(battle: &Packed, side: Side, stat: Stat, stages: u8,
     }
 }
 
-// Tells by how much a stage fell, if it did.
+// Writes by how much a stage fell, if it fell.
 fn note_unboost<S: EventSink>(battle: &Packed, side: Side, stat: Stat, stages: u8, events: &mut S)
     requires room { HasRoom S.room 1 events.old }
     ensures shown { stages ≤ 2

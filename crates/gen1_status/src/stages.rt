@@ -1,4 +1,4 @@
-//! A stage, and the number that stands at it (docs/MECHANICS.md, "Stages").
+//! A stage, and the stat at it (docs/MECHANICS.md, "Stages").
 ghost use Rattle.std.specs.Prelude.{◌≡◌, ◌≤◌};
 ghost use Rattle.gen1_layout.specs.Words.{Active, Field, Reads, Setting, Within, active_in, changed_active, has_number, member_in, now, true, ℕ};
 ghost use Rattle.gen1_machine.specs.CurrentStats.{recomputed_at};
@@ -10,7 +10,7 @@ use gen1_layout::Packed;
 use gen1_machine::{Side, now};
 use gen1_tables::Stat;
 
-// Whether a current stat is this number; accuracy and evasion have none.
+// Whether a current stat has this value. Accuracy and evasion have no value.
 pub(crate) fn stands_at(battle: &Packed, side: Side, stat: Stat, value: u16) -> bool
     ensures stands { Reads battle.now result (stands_at value stat side) }
 {
@@ -23,7 +23,7 @@ fn has_number(stat: Stat) -> bool
     !matches!(stat, Stat::Accuracy | Stat::Evasion)
 }
 
-// A stage, and the number that its stat then has, if it has one.
+// Writes a stage, and the stat at it, for a stat that has a value.
 pub(crate) fn put_stage(battle: &mut Packed, side: Side, stat: Stat, stage: u8, value: u16)
     ensures stands { (g : Setting) (f : Field) (change : Active → Active) (penalties : ℕ)
         → Within g battle.old f
@@ -42,7 +42,7 @@ pub(crate) fn put_stage(battle: &mut Packed, side: Side, stat: Stat, stage: u8, 
     }
 }
 
-// The stat recomputed at a stage from the member's own, without penalties.
+// Recomputes the stat at a stage from the member's own stat, without penalties.
 pub(crate) fn recompute(battle: &mut Packed, side: Side, stat: Stat, stage: u8)
     ensures stands { (g : Setting) (f : Field) → Within g battle.old f → stage ≤ 12
         → Within g battle.new (changed_active side (recomputed_at stat stage) f) }

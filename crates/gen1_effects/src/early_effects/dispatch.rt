@@ -22,7 +22,8 @@ use gen1_machine::Side;
 use gen1_rolls::Rolls;
 use gen1_tables::{Effect, MoveId};
 
-/// Whether an effect is one of [`early_effect`]: an early effect but Substitute (docs/MECHANICS.md, "Early effects").
+/// Whether an effect is one that [`group_one`] handles: an early effect other than Substitute (docs/MECHANICS.md,
+/// "Early effects").
 pub fn is_early_but_substitute(effect: Effect) -> bool
     ensures { result ≡ is_early_but_substitute effect }
 {
@@ -43,11 +44,13 @@ pub fn is_early_but_substitute(effect: Effect) -> bool
     )
 }
 
-/// Plays the move of `side`, whose effect is early and not Substitute (docs/MECHANICS.md, "Early effects"): moves that always
-/// fail, Conversion, Mist, Focus Energy, screens, Haze, confusion, healing, poison, paralysis, Leech Seed and Splash.
+/// Plays a move of `side` whose effect is early and isn't Substitute (docs/MECHANICS.md, "Early effects").
 ///
-/// The action has just begun. At most two draws are taken, and two events written at most, for which two places in `events`
-/// are to be free. A move that fails, or misses, says so by an event, and changes nothing but what a miss changes.
+/// These are moves that always fail, Conversion, Mist, Focus Energy, screens, Haze, confusion, healing, poison,
+/// paralysis, Leech Seed and Splash.
+///
+/// The action has just begun. It takes at most two draws and writes at most two events, and needs two free places in
+/// `events`. A move that fails or misses reports that by an event, and changes nothing but what a miss changes.
 pub fn early_effect<R: Rolls, S: EventSink>(
     battle: &mut Packed,
     side: Side,
@@ -66,8 +69,9 @@ pub fn early_effect<R: Rolls, S: EventSink>(
     early_effect_knowing(battle, side, id, &mut known, random, events);
 }
 
-/// The same as [`early_effect`] in the middle of an action, of which `known` tells: whether a hit test was missed, and at which
-/// byte it was made, is known then, and after Haze whether the foe is skipped in this turn.
+/// The same as [`group_one`] in the middle of an action, which `known` describes.
+///
+/// Afterwards `known` holds the miss and the byte of a hit test, and after Haze whether the foe is skipped this turn.
 pub fn early_effect_knowing<R: Rolls, S: EventSink>(
     battle: &mut Packed,
     side: Side,
@@ -100,7 +104,7 @@ pub fn early_effect_knowing<R: Rolls, S: EventSink>(
     }
 }
 
-// By which way an early effect goes.
+// The ways of early effects.
 #[derive(Clone, Copy, Debug, PartialEq, Eq)]
 enum Way {
     Fails,

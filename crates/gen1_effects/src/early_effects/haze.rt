@@ -32,7 +32,7 @@ fn clear_side(battle: &mut Packed, side: Side)
     battle.clear_by_haze(side);
 }
 
-// The member of `side` is cured, and is skipped where it was asleep or frozen.
+// Cures the member of `side`. It is skipped if it was asleep or frozen.
 fn cure<S: EventSink>(battle: &mut Packed, side: Side, known: &mut Known, events: &mut S)
     requires room { HasRoom S.room 1 events.old }
     ensures shown { DoesKnowing battle.old (S.tells events.old) known.old battle.new (S.tells events.new)

@@ -1,4 +1,4 @@
-//! Mist, Focus Energy and the screens, which stay up, and fail where they are up (docs/MECHANICS.md, "Early effects").
+//! Mist, Focus Energy and the screens, which fail if they are up already (docs/MECHANICS.md, "Early effects").
 ghost use Rattle.gen1_layout.specs.Words.{ActiveConditions, AddsAtMost, Does, HasRoom, conditions, false, move_at, slice_index_or, slice_set, stop, true, ℕ, ◌▸◌};
 ghost use Rattle.std.specs.Prelude.{◌==◌, ◌<◌, ◌^◌, ◌≡◌};
 ghost use Rattle.gen1_machine.specs.EarlyEffects.{set_focus_energy, set_mist, set_screen};
@@ -65,7 +65,7 @@ fn is_light_screen(id: MoveId) -> bool
     id.number() == LIGHT_SCREEN
 }
 
-// Sets a condition that has no number, and fails where it is on. The place of its bit is k.
+// Sets a condition without a number, whose bit is at place k. It fails if the condition is on.
 fn put_up<S: EventSink>(
     battle: &mut Packed,
     side: Side,

@@ -30,7 +30,7 @@ pub(super) fn heal<S: EventSink>(battle: &mut Packed, side: Side, id: MoveId, ev
     recover(battle, side, events);
 }
 
-// Losses that can't be healed, whatever the maximum.
+// Healing fails at these losses, whatever the maximum is.
 fn cannot_heal(battle: &Packed, side: Side) -> bool
     ensures stands { Reads battle.now result λ f. resists_healing
         ((member_in side f).max - (member_in side f).hp) }

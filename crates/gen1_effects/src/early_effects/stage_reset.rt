@@ -1,4 +1,4 @@
-//! Stages that go back to the middle, with the stats that then stand there (docs/MECHANICS.md, "Stages").
+//! Stages that go back to the middle, with the stats at it (docs/MECHANICS.md, "Stages").
 ghost use Rattle.gen1_layout.specs.Words.{Changes, changed_active};
 ghost use Rattle.gen1_machine.specs.EarlyEffects.{with_levelled_stats};
 
@@ -8,7 +8,7 @@ use gen1_tables::Stat;
 
 const MIDDLE: u8 = 6;
 
-// In the middle each stat is the member's own, and without penalties.
+// In the middle each stat is the member's own, without penalties.
 pub(super) fn reset_stages(battle: &mut Packed, side: Side)
     ensures stands { Changes battle.old battle.new (changed_active side with_levelled_stats) }
 {

@@ -15,7 +15,7 @@ use gen1_stats::Status;
 use gen1_status::inflict_status;
 use gen1_tables::MoveId;
 
-// True where it fails or misses, which is told.
+// Returns whether it fails or misses, which an event reports.
 pub(super) fn put_to_sleep<R: Rolls, S: EventSink>(
     battle: &mut Packed,
     side: Side,
@@ -36,7 +36,7 @@ pub(super) fn put_to_sleep<R: Rolls, S: EventSink>(
     sleep_by_rules(battle, side, random, events)
 }
 
-// A foe that must recharge need not any more, and takes no test.
+// A foe that has to recharge loses its recharging. There is no other test then.
 fn ready_to_sleep<R: Rolls, S: EventSink>(
     battle: &mut Packed,
     side: Side,
@@ -63,7 +63,7 @@ fn ready_to_sleep<R: Rolls, S: EventSink>(
     must_hit(battle, side, id, known, random, events)
 }
 
-// What a sleep move does once it has hit, by the rules of the battle.
+// What a sleep move does after it has hit, by the rules of the battle.
 fn sleep_by_rules<R: Rolls, S: EventSink>(
     battle: &mut Packed,
     side: Side,
@@ -84,7 +84,7 @@ fn sleep_by_rules<R: Rolls, S: EventSink>(
     false
 }
 
-// Under the sleep clause one living member of the foe's at a time sleeps by the user's moves.
+// Under the sleep clause, at most one living member of the foe's side sleeps by the user's moves.
 fn sleep_only_one<R: Rolls, S: EventSink>(
     battle: &mut Packed,
     side: Side,
@@ -108,7 +108,7 @@ fn sleep_only_one<R: Rolls, S: EventSink>(
     false
 }
 
-// Draws until a byte has a count for the sleep, which is marked under the sleep clause.
+// Draws until a byte gives a count for the sleep, which is marked under the sleep clause.
 #[inline(always)] // docs/SPEED.md, "Hints on inlining"
 fn fall_asleep<R: Rolls, S: EventSink>(
     battle: &mut Packed,
@@ -131,7 +131,7 @@ fn fall_asleep<R: Rolls, S: EventSink>(
     sleep_for(battle, side, marked, byte, events);
 }
 
-// A sleep of 1 to 7 turns, by the byte that was drawn.
+// A sleep of 1 to 7 turns, by the drawn byte.
 fn sleep_for<S: EventSink>(battle: &mut Packed, side: Side, marked: bool, byte: u8, events: &mut S)
     requires room { HasRoom S.room 1 events.old }
     ensures shown { (g : Frame) (p : Progress) → g.setting.terms.rules.sleep_clause ≡ marked

@@ -1,4 +1,4 @@
-//! Moves that raise a stat of the user's or lower one of the foe's (docs/MECHANICS.md, "Late effects", "Stage shift").
+//! Moves that raise a stat of the user or lower a stat of the foe (docs/MECHANICS.md, "Late effects", "Stage shift").
 ghost use Rattle.gen1_layout.specs.Words.{AddsAtMost, Does, HasRoom, IsBetween, move_at, other, ◌▸◌};
 ghost use Rattle.gen1_machine.specs.LateEffects.{lower_foes_stat};
 ghost use Rattle.gen1_machine.specs.Progress.{fail, fails_if, is_invulnerable};
@@ -13,7 +13,7 @@ use gen1_rolls::Rolls;
 use gen1_status::{lower_stage, raise_stage};
 use gen1_tables::{MoveId, Stat};
 
-// Raises a stat of the user's by 1 or 2 stages. True where it fails, which is told.
+// Raises a stat of the user by 1 or 2 stages. Returns whether it fails, which an event reports.
 pub(super) fn raise_own_stat<S: EventSink>(
     battle: &mut Packed,
     side: Side,
@@ -34,7 +34,7 @@ pub(super) fn raise_own_stat<S: EventSink>(
     true
 }
 
-// Lowers a stat of the foe's by 1 or 2 stages. True where it fails or misses, which is told.
+// Lowers a stat of the foe by 1 or 2 stages. Returns whether it fails or misses, which an event reports.
 pub(super) fn lower_foes_stat<R: Rolls, S: EventSink>(
     battle: &mut Packed,
     side: Side,

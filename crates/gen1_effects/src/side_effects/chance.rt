@@ -1,9 +1,9 @@
-//! What happens by chance: where a draw is below a number (docs/MECHANICS.md, "Side effects").
+//! Effects by chance, which happen if a draw is below a number (docs/MECHANICS.md, "Side effects").
 ghost use Rattle.std.specs.Prelude.{nat_lt, ◌≡◌};
 
 use gen1_rolls::Rolls;
 
-// Draws, and tells whether the draw is below the bound.
+// Draws, and returns whether the draw is below the bound.
 pub(super) fn is_drawn_below<R: Rolls>(bound: u8, random: &mut R) -> bool
     ensures drawn { result ≡ nat_lt (R.byte random.old) bound }
     ensures left { random.new ≡ R.next random.old }

@@ -9,7 +9,7 @@ use gen1_layout::{Conditions, Packed};
 use gen1_machine::Side;
 use gen1_rolls::Rolls;
 
-// The draw comes first, also where the foe is confused already.
+// The draw comes first, even if the foe is confused already.
 pub(super) fn may_confuse<R: Rolls, S: EventSink>(
     battle: &mut Packed,
     side: Side,

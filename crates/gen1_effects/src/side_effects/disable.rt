@@ -38,7 +38,7 @@ pub(super) fn disable<R: Rolls, S: EventSink>(
     draw_slot(battle, side, random, events)
 }
 
-// Draws until a byte names a slot. Where no slot has PP it fails at the first that holds a move.
+// Draws until a byte names a slot. If no slot has PP, Disable fails at the first slot that holds a move.
 fn draw_slot<R: Rolls, S: EventSink>(
     battle: &mut Packed,
     side: Side,
@@ -102,7 +102,7 @@ fn disable_for<S: EventSink>(battle: &mut Packed, foe: Side, byte: u8, count: u8
     events.push(Event::Start(battle.who(foe), Volatile::Disable));
 }
 
-// A drawn slot has to hold a move, with PP where any move has PP.
+// A drawn slot has to hold a move. If any move has PP, that move must have PP.
 fn names_slot(battle: &Packed, foe: Side, any_pp: bool, byte: u8) -> bool
     ensures stands { (g : Setting) (f : Field) → Within g battle.now f
         → any_pp ≡ has_pp (member_in foe f).moves

@@ -18,7 +18,7 @@ pub(super) fn may_flinch<R: Rolls>(battle: &mut Packed, side: Side, bound: u8, r
     flinch(battle, side.other());
 }
 
-// A flinch also spares its member the recharging.
+// A member that flinches also loses its recharging.
 fn flinch(battle: &mut Packed, side: Side)
     ensures shown { (events : List Event)
         → Does battle.old (Told events) battle.new (Told events) false (flinch side) }

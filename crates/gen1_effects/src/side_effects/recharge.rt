@@ -1,4 +1,4 @@
-//! A turn of recharging that falls due (docs/MECHANICS.md, "Side effects").
+//! The user has to recharge next turn (docs/MECHANICS.md, "Side effects").
 ghost use Rattle.gen1_layout.specs.Words.{AddsAtMost, Does, HasRoom, false};
 ghost use Rattle.gen1_machine.specs.SideEffects.{must_recharge};
 

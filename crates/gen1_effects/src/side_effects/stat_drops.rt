@@ -12,7 +12,7 @@ use gen1_rolls::Rolls;
 use gen1_status::lower_stage;
 use gen1_tables::Stat;
 
-// A drop that fails does nothing more.
+// A fall that fails has no other effect.
 pub(super) fn may_lower<R: Rolls, S: EventSink>(
     battle: &mut Packed,
     side: Side,

@@ -21,7 +21,7 @@ use gen1_stats::Status;
 use gen1_status::inflict;
 use gen1_tables::{Element, MoveId};
 
-// A status, and a type of Poison, rule it out before the draw.
+// There is no draw if the foe has a status, or is a Poison type.
 pub(super) fn may_poison<R: Rolls, S: EventSink>(
     battle: &mut Packed,
     side: Side,
@@ -53,7 +53,8 @@ fn resists_poison(battle: &Packed, side: Side) -> bool
     ailing | immune
 }
 
-// A burn, a freeze or paralysis: a status, which a Fire move may thaw, and the move's own type rule it out before the draw.
+// A burn, a freeze or paralysis. There is no draw if the foe has a status, which a Fire move may thaw, or has the
+// move's type.
 #[inline(always)] // docs/SPEED.md, "Hints on inlining"
 pub(super) fn may_inflict<R: Rolls, S: EventSink>(
     battle: &mut Packed,
@@ -114,7 +115,8 @@ fn afflict<S: EventSink>(battle: &mut Packed, side: Side, kind: Kind, events: &m
     inflict(battle, side.other(), kind, 0, events);
 }
 
-// The freeze clause lets one living member of the foe's be frozen at a time. A freeze spares the foe its recharging.
+// Under the freeze clause, at most one living member of the foe's side is frozen. A freeze also ends the foe's
+// recharging.
 fn freeze<S: EventSink>(battle: &mut Packed, side: Side, events: &mut S)
     requires room { HasRoom S.room 1 events.old }
     ensures shown { (g : Frame) (p : Progress) → Shows g battle.old (S.tells events.old) false p

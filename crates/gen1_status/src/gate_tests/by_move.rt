@@ -1,4 +1,4 @@
-//! The tests that rule out the move that was picked: confusion, Disable, paralysis, and that nothing was picked.
+//! The tests that rule out the picked move: confusion, Disable, paralysis, and that nothing was picked.
 ghost use Rattle.std.specs.Prelude.{◌≡◌};
 ghost use Rattle.gen1_layout.specs.Words.{AddsAtMost, AddsNone, Does, DoesDrawing, HasRoom, Reads, false, is_paralysed};
 ghost use Rattle.gen1_machine.specs.Picks.{bars, is_disabled_in, is_idle};
@@ -42,7 +42,7 @@ pub(super) fn gate_of_move<R: Rolls, S: EventSink>(
     Gate::Go
 }
 
-// A move that is disabled is not used, and its charge is lost.
+// A disabled move isn't used. If it was charging, the charge is lost.
 fn disabled_test<S: EventSink>(battle: &mut Packed, side: Side, pick: Pick, events: &mut S) -> bool
     requires room { HasRoom S.room 1 events.old }
     ensures shown { Does battle.old (S.tells events.old) battle.new (S.tells events.new) result
@@ -60,7 +60,7 @@ fn disabled_test<S: EventSink>(battle: &mut Packed, side: Side, pick: Pick, even
 
 const FULLY_PARALYSED_BELOW: u8 = 63;
 
-// Full paralysis, one time in four.
+// Full paralysis occurs about one time in four.
 fn paralysis_test<R: Rolls, S: EventSink>(
     battle: &mut Packed,
     side: Side,
@@ -84,7 +84,7 @@ fn paralysis_test<R: Rolls, S: EventSink>(
     true
 }
 
-// Struggle is in no slot, and who is idle uses none.
+// Struggle is in no slot, so it can't be disabled. An idle side uses no move.
 fn is_disabled(battle: &Packed, side: Side, pick: Pick) -> bool
     ensures stands { Reads battle.now result (is_disabled_in side pick) }
 {

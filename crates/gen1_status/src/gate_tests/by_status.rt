@@ -1,4 +1,4 @@
-//! The tests that rule out any action: sleep, frost, and the foe's trapping.
+//! The tests that rule out any action: sleep, freeze, and the foe's trapping.
 ghost use Rattle.std.specs.Prelude.{◌≡◌};
 ghost use Rattle.gen1_layout.specs.Words.{AddsAtMost, AddsNone, Does, DoesSeeing, HasRoom, false, is_frozen, status_of, true};
 ghost use Rattle.gen1_machine.specs.Gate.{frozen_test, gate_of_status, sleep_test, trapped_test};
@@ -46,7 +46,7 @@ fn sleep_test<S: EventSink>(battle: &mut Packed, side: Side, status: Status, eve
     }
 }
 
-// A turn of sleep is over, and who wakes up does nothing either.
+// A turn of sleep is over. A member that wakes up doesn't act this turn either.
 fn sleep_turn<S: EventSink>(
     battle: &mut Packed,
     side: Side,

@@ -1,4 +1,4 @@
-//! The tests of what is to be waited for: flinching, recharging, and the count of Disable.
+//! The tests of what has to pass first: flinching, recharging, and the count of Disable.
 ghost use Rattle.std.specs.Prelude.{◌≡◌};
 ghost use Rattle.gen1_layout.specs.Words.{AddsAtMost, AddsNone, Does, DoesSeeing, HasRoom, conditions, false};
 ghost use Rattle.gen1_machine.specs.Gate.{disable_count, flinch_test, gate_of_turn, recharge_test};

@@ -1,4 +1,4 @@
-//! The test of confusion, which counts down and ends at 0; until then the member may hit itself.
+//! The test of confusion. Confusion counts down, and ends at 0. Until then the member may hit itself.
 ghost use Rattle.std.specs.Prelude.{◌≡◌};
 ghost use Rattle.gen1_layout.specs.Words.{AddsAtMost, Does, Frame, HasRoom, Progress, ShowsDrawn, Some, conditions, draw, false, ◌▸◌};
 ghost use Rattle.gen1_machine.specs.declared.event.Volatile.TheVariants as volatiles;

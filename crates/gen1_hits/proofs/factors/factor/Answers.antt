@@ -10,7 +10,7 @@ returns-then-damage-le1-clause-varies g c origin stream n a =
     let small : nat_le c.args.damage 1 ≡ true = grind (arith, nat_tests) in
     record { drawn = n; stands = a; sets = λ p same at. vary-keeps c.args.damage n p small at }
 
--- 255 is a factor's byte, and each byte is drawn
+-- 255 is a factor's byte, and each byte is drawn.
 pub unreachable-requires : goal.unreachable-requires
 unreachable-requires g c =
     let none : true ≡ false = (c.in-None.ensures.none is_factor (λ x answer lt post. search rules)).none_meets 255 (lit< tt) in cc
