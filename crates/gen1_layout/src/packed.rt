@@ -185,8 +185,8 @@ impl Packed {
         &self.0[from..from + 24]
     }
 
-    // Where the bytes of the member that is out begin. Its place is 1 to 6. Whatever the byte is, the code takes a
-    // place below 8, which is inside the 384 bytes.
+    // Where the bytes of the member that is out begin. Its place is 1 to 6. The byte is taken modulo 8, so any byte
+    // gives an offset inside the 384 bytes.
     fn start_of_out(&self, side: Side) -> usize
         ensures at { result ≡ out_at side self.now }
         ensures within { result + 24 ≤ 384 }

@@ -1,4 +1,4 @@
--- A condition without a number comes, and all numbers stay.
+-- Setting a condition without a number keeps all numbers.
 use Rattle.std.proofs.Common.{refl}
 use Rattle.gen1_machine.specs.Conditions.{with_charging, with_invulnerability, ActiveConditions}
 use Rattle.gen1_layout.specs.Flags.{SameNumbers}

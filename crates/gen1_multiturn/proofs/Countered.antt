@@ -1,4 +1,4 @@
--- A value that is there where a test holds, and the number of a move that was picked.
+-- A value that exists if a test passes, and the number of a picked move.
 use Rattle.gen1_layout.proofs.Words.{Bool, List, None, Some, false, length, lit≤, refl, true, ℕ}
 use Rattle.std.proofs.Common.{All, if◌then◌else◌, ◌≡◌, ◌≤◌}
 use Rattle.gen1_stats.specs.declared.known_move.KnownMove.{KnownMove}

@@ -1,4 +1,4 @@
--- What a move of fixed damage deals, by its number.
+-- The damage of a move of fixed damage, by its number.
 use Rattle.gen1_layout.proofs.Words.{Progress, Side, arith, choose, choose-false, choose-true, false, given, nat_le, nat_tests, refl, true, ℕ, ◌∙◌}
 use Rattle.std.proofs.Common.{◌==◌, ◌≡◌, ◌≢◌}
 use Rattle.gen1_machine.specs.FixedDamage.{deal_fixed, half_hp, is_psywave, psywave}

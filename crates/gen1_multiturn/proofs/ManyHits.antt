@@ -1,4 +1,4 @@
--- The hits of a move, by its effect, and what comes with one.
+-- The hits of a move, by its effect, and what follows one.
 use Rattle.std.proofs.Common.{◌≡◌}
 use Rattle.gen1_layout.proofs.Words.{ActiveConditions, Phase, Side, ap, arith, false, refl, stay, suc, true, zero, ℕ, ◌▸◌}
 use Rattle.gen1_tables.specs.declared.effect.Effect.{Effect}
@@ -14,7 +14,7 @@ use Rattle.gen1_multiturn.specs.declared.hit_effects.Consequence.{Consequence}
 use Rattle.gen1_multiturn.specs.declared.hit_effects.Consequence.TheVariants as consequences
 use Rattle.gen1_multiturn.specs.ManyHits.{consequence_of, is_multi_hit}
 
--- by the effect
+-- By the effect
 
 pub plain-hit : (e : Effect) → hits_more e ≡ true → knocks_out e ≡ false
 plain-hit effects.MultiHit h = refl
@@ -53,7 +53,7 @@ hit_effect-by s move effects.Rage x h k = ap (phase_of s move) k
 hit_effect-by s move effects.Explode x h k = ap (phase_of s move) k
 hit_effect-by s move _ x h k = ap (phase_of s move) k
 
--- so many hits more
+-- This many more hits
 
 pub again-none : (n : ℕ) (s : Side) (move : Move) → n ≡ 0 → hit_again n s move ≡ stay
 unfolding hit_again
@@ -64,7 +64,7 @@ pub again-more : (n m : ℕ) (s : Side) (move : Move) → n ≡ suc m → hit_ag
 unfolding hit_again
 again-more n m s move e = ap (λ (k : ℕ). hit_again k s move) e
 
--- a condition without a number comes or goes, and all numbers stay
+-- Setting or clearing a condition without a number keeps all numbers
 
 pub raging-same : (c : ActiveConditions) → SameNumbers (with_rage c) c
 unfolding with_rage

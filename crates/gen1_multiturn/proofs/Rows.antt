@@ -1,4 +1,4 @@
--- How many type rows of so many tenths apply to a hit: as many as there are among the factors of the foe's types.
+-- How many type rows with a given factor apply to a hit: as many as there are among the factors of the foe's types.
 use Rattle.std.proofs.Common.{count_by, ◌==◌, ◌≡◌, ◌∷◌, ◌≤◌}
 use Rattle.gen1_layout.proofs.Words.{List, Progress, Side, [], active_in, arith, false, length, refl, sym, true, ℕ, ◌∙◌}
 use Rattle.gen1_tables.specs.declared.element.Element.{Element}
@@ -8,7 +8,7 @@ use Rattle.gen1_machine.specs.Moves.{Move}
 use Rattle.gen1_machine.specs.Sides.{other}
 use Rattle.gen1_multiturn.specs.Effectiveness.{how_many}
 
--- a critical hit has the same types
+-- A critical hit has the same types.
 rows-are : (tenths : ℕ) (s : Side) (move : Move) (p : Progress)
     → rows_of tenths (numbers s move p)
     ≡ count_by (λ (row : TypeRow). row.tenths == tenths) (rows_against move.kind (active_in (other s) p.field).first_type (active_in (other s) p.field).second_type)
@@ -16,7 +16,7 @@ rows-are tenths s move p =
     elim p.action.critical as (λ b. rows_of tenths (numbers_in s move b p.field)
     ≡ count_by (λ (row : TypeRow). row.tenths == tenths) (rows_against move.kind (active_in (other s) p.field).first_type (active_in (other s) p.field).second_type)) [ true ↦ refl | false ↦ refl ]
 
--- of two rows at most; 10 stands for no row
+-- At most two rows apply. A factor of 10 represents a missing row.
 among_two : (tenths : ℕ) (rows : List TypeRow) (two : ℕ × ℕ) → two ≡ tenths_of rows → length rows ≤ 2 → (10 == tenths) ≡ false
     → count_by (λ (row : TypeRow). row.tenths == tenths) rows ≡ how_many tenths two
 among_two tenths [] two is few no_ten = rw (is, no_ten) refl
@@ -24,7 +24,7 @@ among_two tenths (a ∷ []) two is few no_ten = rw (is, no_ten) (omega arith)
 among_two tenths (a ∷ b ∷ []) two is few no_ten = rw is (omega arith)
 among_two tenths (a ∷ b ∷ c ∷ rows) two is few no_ten = absurd (omega arith)
 
--- what the code counts, by what it read
+-- What the code counts, from what it read.
 pub counted : (tenths : ℕ) (s : Side) (move : Move) (p : Progress) {n : ℕ} {two : ℕ × ℕ} {t u v : Element} → t ≡ move.kind → u ≡ (active_in (other s) p.field).first_type
     → v ≡ (active_in (other s) p.field).second_type → two ≡ tenths_of (rows_against t u v) → length (rows_against t u v) ≤ 2 → (10 == tenths) ≡ false
     → n ≡ how_many tenths two → rows_of tenths (numbers s move p) ≡ n

@@ -1,4 +1,4 @@
--- What is underway for a member that is out, of which one thing at most is on, and what a turn makes of its counts.
+-- What is underway for a member that is out, of which at most one thing is on, and its counts after a turn.
 use Rattle.std.proofs.Common.{◌+◌, ◌-◌, ◌≡◌, ◌≤◌}
 use Rattle.gen1_layout.proofs.Words.{ActiveConditions, Field, None, Option, Progress, Side, Some, ap, arith, changed_active, changed_conditions, false, is_some, refl, subst, sym, true, underway_in, ℕ, ◌∙◌}
 use Rattle.std.proofs.lemmas.Bool.{false≢true}
@@ -28,7 +28,7 @@ beside-trapping u turns h is =
     let sum = subst (λ (o : Option ℕ). bit_of (is_some u.bide) + bit_of (is_some u.thrash) + bit_of (is_some o) ≤ 1) is h.alone in
     (none-on u.bide (omega (arith, sum)), none-on u.thrash (omega (arith, sum)))
 
--- a turn less
+-- One turn less
 
 pub less_trapping : (c : ActiveConditions) (turns : ℕ) → c.underway.trapping ≡ Some turns
     → with_trapping_one_less c ≡ record c { underway = record c.underway { trapping = Some (turns - 1) } }
@@ -39,13 +39,13 @@ pub none_trapping : (c : ActiveConditions) → c.underway.trapping ≡ None → 
 unfolding with_trapping_one_less
 none_trapping c e = rw e refl
 
--- what is underway for a member stays where its foe changes
+-- What is underway for a member stays as it is when its foe changes.
 pub foe-apart : (s t : Side) (change : ActiveConditions → ActiveConditions) (f : Field) → t ≡ other s → underway_in s (changed_conditions t change f) ≡ underway_in s f
 unfolding changed_conditions changed_active
 foe-apart One t change f e = rw e refl
 foe-apart Two t change f e = rw e refl
 
--- the same of thrashing and of Bide
+-- The same for thrashing and for Bide
 
 pub beside-thrash : (u : Underway) (turns : ℕ) → IsStorableUnderway u → u.thrash ≡ Some turns → (u.bide ≡ None) × (u.trapping ≡ None)
 beside-thrash u turns h is =
@@ -67,7 +67,7 @@ pub more_energy : (c : ActiveConditions) (damage : ℕ) (b : Storing) (turns ene
 unfolding with_bide_storing
 more_energy c damage b turns energy e few much = rw (e, few, much) refl
 
--- what Bide has stored, by its turns and its energy
+-- What Bide has stored, by its turns and its energy
 
 or_zero : Option ℕ → ℕ
 or_zero None = 0
@@ -82,7 +82,7 @@ pub not-stored : (o : Option Storing) → turns_stored o ≡ None → o ≡ None
 not-stored None e = refl
 not-stored (Some b) e = cc
 
--- what a move that thrashes, or Bide, finds underway
+-- What a move that thrashes, or Bide, finds underway
 
 thrashes-bides : (e : Effect) → thrashes e ≡ true → bides e ≡ false
 thrashes-bides effects.Thrash h = refl

@@ -1,5 +1,5 @@
--- What a call shows that stands for itself and draws nothing: it leaves the bytes and the events of its phase, and whether the
--- rest of the action falls away is of no account.
+-- What a call by itself shows that draws nothing. Its bytes and events are those of its phase. Whether the rest of
+-- the action is skipped doesn't matter.
 use Rattle.gen1_layout.specs.Words.{Bool, Frame, Phase, Progress, Shows, Telling, false}
 use Rattle.gen1_layout.specs.Parts.{Parts}
 

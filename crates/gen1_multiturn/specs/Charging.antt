@@ -1,4 +1,4 @@
--- A charge of the move that was picked last, which an action played by hand takes up (docs/MECHANICS.md, "Charging").
+-- A charge of the move that was picked last, for calls outside a turn (docs/MECHANICS.md, "Charging").
 use Rattle.gen1_machine.specs.declared.side.Side.{Side}
 use Rattle.gen1_machine.specs.declared.picks.Pick.TheVariants.{Use}
 use Rattle.gen1_machine.specs.Charging.{charge}

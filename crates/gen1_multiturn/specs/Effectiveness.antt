@@ -1,4 +1,4 @@
--- How many of the factors of a foe's two types are so many tenths (docs/MECHANICS.md, "Types").
+-- How many of the factors of a foe's two types have a given value (docs/MECHANICS.md, "Types").
 use Rattle.std.specs.Prelude.{Bool, if◌then◌else◌, ℕ, ◌+◌, ◌==◌}
 
 abbrev pub as_number : Bool → ℕ

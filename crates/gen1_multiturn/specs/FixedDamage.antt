@@ -1,5 +1,5 @@
--- What a move of fixed damage deals, as a damage that is handed back: none is the fault of Psywave at level 1 (docs/MECHANICS.md,
--- "Fixed damage and one-hit moves").
+-- The damage of a move of fixed damage, as a result of a call. No damage means the fault of Psywave at level 1
+-- (docs/MECHANICS.md, "Fixed damage and one-hit moves").
 use Rattle.std.specs.Prelude.{None, Option, Some, ℕ, ◌≡◌}
 use Rattle.gen1_layout.specs.Words.{Event, Frame, List, Phase, Progress, ShowsDrawn, Told, false}
 use Rattle.gen1_machine.specs.Progress.{fault, set_last_damage}
@@ -9,7 +9,7 @@ abbrev pub deal : Option ℕ → Phase
 deal (Some damage) = set_last_damage damage
 deal None = fault 2
 
--- the generator was drawn from up to n, and what a phase does is to draw as far, and to deal the result
+-- The generator has drawn up to n. The phase draws as far, and deals the result.
 abbrev pub DealsAs : {A : Type 0} → (A → ℕ) → (A → A) → ℕ → Parts → A → Option ℕ → A → Phase → Type 0
 DealsAs {A = A} byte next width parts old result new phase =
     (origin : A) (g : Frame) (events : List Event) (p : Progress) → ShowsDrawn byte next width origin g parts (Told events) old false p

@@ -1,16 +1,16 @@
--- What Bide lets out.
+-- The energy that Bide lets out.
 pub mod Bide
 -- A use of a trapping or a thrashing move.
 pub mod GoingOn
--- What a call shows that stands for itself and draws nothing.
+-- What a call by itself shows that draws nothing.
 pub mod Anyway
--- What Counter deals.
+-- The damage of Counter.
 pub mod Counter
--- What a move of fixed damage deals.
+-- The damage of a move of fixed damage.
 pub mod FixedDamage
 -- A charge of the move that was picked last.
 pub mod Charging
--- How many hits a move plans, and what each brings.
+-- How many hits a move plans, and what follows each.
 pub mod ManyHits
--- How many factors of a foe's types are so many tenths.
+-- How many factors of a foe's types have a given value.
 pub mod Effectiveness

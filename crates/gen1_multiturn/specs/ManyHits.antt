@@ -1,4 +1,4 @@
--- How many hits a move plans, and what each brings (docs/MECHANICS.md, "Many hits", "Recoil, drain and explosion").
+-- How many hits a move plans, and what follows each (docs/MECHANICS.md, "Many hits", "Recoil, drain and explosion").
 use Rattle.std.specs.Prelude.{Bool, false, true}
 use Rattle.gen1_tables.specs.declared.effect.Effect.{Effect}
 use Rattle.gen1_tables.specs.declared.effect.Effect.TheVariants as effects
@@ -11,11 +11,11 @@ abbrev pub is_multi_hit : Effect → Bool
 is_multi_hit effects.MultiHit = true
 is_multi_hit _ = false
 
--- from two to five hits are planned, or none yet
+-- Two to five hits are planned, or none yet.
 abbrev pub IsFew : Known → Type 0
 IsFew k = IsCount 2 5 k.hits_planned
 
--- what comes with the hit of a move that makes one
+-- What follows the hit of a move that makes one.
 abbrev pub consequence_of : Effect → Consequence
 consequence_of effects.Recoil = Recoil
 consequence_of effects.Drain = Drain

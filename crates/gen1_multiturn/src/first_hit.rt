@@ -1,4 +1,4 @@
-//! What is told before the first hit: whether it is critical, and how it does by the types (docs/MECHANICS.md, "Order of
+//! The reports before the first hit: whether it is critical, and its effectiveness (docs/MECHANICS.md, "Order of
 //! events").
 ghost use Rattle.std.specs.Prelude.{◌≡◌};
 ghost use Rattle.gen1_layout.specs.Words.{AddsAtMost, Does, HasRoom, false, move_at, other};
@@ -14,7 +14,7 @@ use gen1_layout::Packed;
 use gen1_machine::{Event, Side};
 use gen1_tables::{MoveId, effectiveness};
 
-// `Crit`, and `SuperEffective` or `Resisted`, of the foe of `side`, where the damage went through the types.
+// Writes `Crit`, and `SuperEffective` or `Resisted`, for the foe of `side`, if the damage went through the types.
 pub(crate) fn note_first_hit<S: EventSink>(
     battle: &Packed,
     side: Side,

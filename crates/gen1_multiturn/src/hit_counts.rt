@@ -17,7 +17,7 @@ use gen1_machine::{Event, HitCount, Side};
 use gen1_rolls::Rolls;
 use gen1_tables::{Effect, MoveId};
 
-// Settles how many hits there will be, unless the hit broke a Substitute.
+// Settles the number of hits, unless the hit broke a Substitute.
 pub(crate) fn plan_unless_broken<R: Rolls>(
     side: Side,
     id: MoveId,
@@ -59,7 +59,7 @@ fn is_multi_hit(effect: Effect) -> bool
     matches!(effect, Effect::MultiHit)
 }
 
-// Two to five, drawn after the first hit alone.
+// Two to five hits, drawn after the first hit only.
 fn plan_hits<R: Rolls>(known: &mut Known, random: &mut R)
     ensures shown { (parts : Parts) (events : List EventOf)
         → DoesKnowingDrawing R.byte R.next R.SPAN parts (Told events) random.old known.old parts (Told events)
@@ -74,7 +74,7 @@ fn plan_hits<R: Rolls>(known: &mut Known, random: &mut R)
     known.hits_planned = Some(count + 2);
 }
 
-// Those after the first.
+// The hits after the first.
 pub(crate) fn hits_left(planned: Option<u8>) -> u8
     ensures value { result ≡ unwrap_or planned 1 - 1 }
     ensures few { IsCount 2 5 planned → result ≤ 4 }
@@ -85,7 +85,7 @@ pub(crate) fn hits_left(planned: Option<u8>) -> u8
     }
 }
 
-// Tells how many hits were made, where a number was settled.
+// Reports the number of hits, if it was settled.
 pub(crate) fn note_hit_count<S: EventSink>(
     battle: &Packed,
     target: Side,

@@ -1,4 +1,4 @@
-//! What comes with the hit of a move that makes one (docs/MECHANICS.md, "Recoil, drain and explosion").
+//! What follows the hit of a move that makes one (docs/MECHANICS.md, "Recoil, drain and explosion").
 ghost use Rattle.std.specs.Prelude.{max, ◌/◌, ◌≡◌};
 ghost use Rattle.gen1_layout.specs.Words.{AddsAtMost, Does, Event as EventOf, HasRoom, List, Told, false, move_at};
 ghost use Rattle.gen1_machine.specs.HitEffects.{drain, explode, hit_effect, recoil, recoil_of, start_rage};
@@ -11,7 +11,7 @@ use gen1_layout::{Conditions, Packed};
 use gen1_machine::{DamageSource, Event, Side, Volatile};
 use gen1_tables::{Effect, MoveId, STRUGGLE};
 
-// What a hit brings with it.
+// What follows a hit.
 #[derive(Clone, Copy)]
 pub(crate) enum Consequence {
     Recoil,
@@ -21,7 +21,7 @@ pub(crate) enum Consequence {
     Nothing,
 }
 
-// One event is written at most.
+// At most one event is written.
 pub(crate) fn hit_effect<S: EventSink>(battle: &mut Packed, side: Side, id: MoveId, events: &mut S)
     requires room { HasRoom S.room 1 events.old }
     requires one { hits_more (move_at id).effect ≡ false }
@@ -51,7 +51,7 @@ fn consequence_of(effect: Effect) -> Consequence
     }
 }
 
-// The user is hurt, past its own Substitute.
+// The recoil takes the user's HP even if it has a Substitute.
 fn recoil<S: EventSink>(battle: &mut Packed, side: Side, id: MoveId, events: &mut S)
     requires room { HasRoom S.room 1 events.old }
     ensures shown { Does battle.old (S.tells events.old) battle.new (S.tells events.new) false
@@ -62,7 +62,7 @@ fn recoil<S: EventSink>(battle: &mut Packed, side: Side, id: MoveId, events: &mu
     lose_hp(battle, side, DamageSource::Recoil, amount, events);
 }
 
-// A quarter of the damage, of Struggle's half, and at least 1.
+// A quarter of the damage, or half of it for Struggle, and at least 1.
 fn recoil_of(id: MoveId, damage: u16) -> u16
     ensures { result ≡ recoil_of (move_at id) damage }
 {
@@ -74,7 +74,7 @@ fn recoil_of(id: MoveId, damage: u16) -> u16
     part.max(1)
 }
 
-// The user heals half of the damage, which becomes the last damage.
+// The user heals by half of the damage. That half becomes the last damage.
 fn drain<S: EventSink>(battle: &mut Packed, side: Side, events: &mut S)
     requires room { HasRoom S.room 1 events.old }
     ensures shown { Does battle.old (S.tells events.old) battle.new (S.tells events.new) false
@@ -92,7 +92,7 @@ fn half_of(damage: u16) -> u16
     (damage / 2).max(1)
 }
 
-// The user's own Rage, which never ends.
+// The user's own Rage, which never ends by itself.
 fn start_rage<S: EventSink>(battle: &mut Packed, side: Side, events: &mut S)
     requires room { HasRoom S.room 1 events.old }
     ensures shown { Does battle.old (S.tells events.old) battle.new (S.tells events.new) false
@@ -106,7 +106,7 @@ fn start_rage<S: EventSink>(battle: &mut Packed, side: Side, events: &mut S)
     events.push(Event::Start(battle.who(side), Volatile::Rage));
 }
 
-// The user falls, without an event of its own.
+// The user falls. There is no event for that.
 pub(crate) fn explode(battle: &mut Packed, side: Side)
     ensures shown { (events : List EventOf)
         → Does battle.old (Told events) battle.new (Told events) false (explode side) }

@@ -1,12 +1,12 @@
-//! Moves that last over turns, substitutes, the hits of a move and what a miss brings, over the bytes of a battle
-//! (docs/MECHANICS.md, "Going on", "Charging", "Early effects", "Many hits", "Recoil, drain and explosion").
+//! Moves that last several turns, substitutes, the hits of a move, and what follows a miss, over the bytes of a
+//! battle (docs/MECHANICS.md, "Going on", "Charging", "Early effects", "Many hits", "Recoil, drain and explosion").
 //!
 //! - `moves`: the moves: Bide, charging, Counter, fixed damage, one-hit moves, Rage, Substitute, Thrash and trapping
-//! - `many_hits`: the hits of a move, one after the other
+//! - `many_hits`: the hits of a move, one after another
 //! - `hit_counts`: how many hits a move makes
-//! - `first_hit`: what is told before the first hit
-//! - `hit_effects`: what comes with the hit of a move that makes one
-//! - `miss`: what a miss brings
+//! - `first_hit`: the reports before the first hit
+//! - `hit_effects`: what follows the hit of a move that makes one
+//! - `miss`: what follows a miss
 #![tactic(auto)]
 
 mod first_hit;

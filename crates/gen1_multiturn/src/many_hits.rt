@@ -1,4 +1,4 @@
-//! The hits of a move, one after the other (docs/MECHANICS.md, "Many hits").
+//! The hits of a move, one after another (docs/MECHANICS.md, "Many hits").
 ghost use Rattle.std.specs.Prelude.{◌*◌, ◌+◌, ◌||◌, ◌≡◌, ◌≤◌};
 ghost use Rattle.gen1_layout.specs.Words.{AddsAtMost, Does, HasRoom, Reads, false, move_at, other, true};
 ghost use Rattle.gen1_machine.specs.State.{has_fallen_in};
@@ -25,14 +25,17 @@ use gen1_machine::{Event, Side};
 use gen1_rolls::Rolls;
 use gen1_tables::{Effect, MoveId};
 
-/// Makes all hits of a move of `side` that hits: one, or as many as its effect plans after the first, until a Substitute breaks
-/// or the foe falls. Each lands the last damage, which a landing on HP may cut, and brings what comes with it: recoil, drained
-/// HP, the user's own Rage or its explosion, unless it broke a Substitute; and the foe's Rage builds, if it lives.
+/// Makes all hits of a move of `side` that hits (docs/MECHANICS.md, "Many hits", "Recoil, drain and explosion").
 ///
-/// Before the first hit `Crit` and `SuperEffective` or `Resisted` are written, where the damage went through the types; after
-/// the last the hit count, where one was planned. Thirteen places in `events` are to be free. What is known then is how many
-/// hits were planned and made, and whether a Substitute broke; before, no hit was planned or made. One draw or two are taken
-/// for a count of two to five, else none (docs/MECHANICS.md, "Many hits", "Recoil, drain and explosion").
+/// That is one hit, or as many as its effect plans after the first, until a Substitute breaks or the foe falls. Each
+/// hit lands the last damage, which a landing on HP may reduce. Then its effect follows, unless it broke a
+/// Substitute: recoil, drained HP, the user's own Rage or its explosion. The foe's Rage builds if the foe lives.
+///
+/// Before the first hit it writes `Crit` and `SuperEffective` or `Resisted`, if the damage went through the types.
+/// After the last hit it writes the number of hits, if one was planned. It needs thirteen free places in `events`.
+///
+/// Before the call, no hit is planned or made. Afterwards `known` holds the hits planned and made, and whether a
+/// Substitute broke. A count of two to five takes one or two draws. Other moves draw nothing.
 pub fn hits<R: Rolls, S: EventSink>(
     battle: &mut Packed,
     side: Side,
@@ -88,7 +91,7 @@ fn hit_once<S: EventSink>(
     rage(battle, side, events);
 }
 
-// A hit of a move that makes several: two events at most, since nothing else comes with it.
+// A hit of a move that makes several. It writes at most two events, since nothing else follows it.
 fn hit_of_many<R: Rolls, S: EventSink>(
     battle: &mut Packed,
     side: Side,
@@ -171,7 +174,7 @@ fn effect_unless_broken<S: EventSink>(
     }
 }
 
-// The hits after the first, and how many there were in all.
+// The hits after the first, and the report of their number.
 fn other_hits<R: Rolls, S: EventSink>(
     battle: &mut Packed,
     side: Side,
@@ -194,7 +197,7 @@ fn other_hits<R: Rolls, S: EventSink>(
     note_hit_count(battle, side.other(), known, events);
 }
 
-// So many hits more, if nothing ends them.
+// This many more hits, if nothing ends them.
 fn hit_again<R: Rolls, S: EventSink>(
     battle: &mut Packed,
     side: Side,
@@ -224,7 +227,7 @@ fn hit_again<R: Rolls, S: EventSink>(
     hit_again(battle, side, id, left - 1, known, random, events);
 }
 
-// A Substitute that broke or a fall ends the hits.
+// A broken Substitute or a fall ends the hits.
 fn hits_end(battle: &Packed, side: Side, known: &Known) -> bool
     ensures stands { Reads battle.now result λ f.
         (known.now.broke || has_fallen_in (other side) f) }

@@ -1,4 +1,4 @@
-//! What a miss brings: a crash, or an explosion (docs/MECHANICS.md, "Action", step 9).
+//! What follows a miss: a crash, or an explosion (docs/MECHANICS.md, "Action", step 9).
 ghost use Rattle.std.specs.Prelude.{◌≡◌};
 ghost use Rattle.gen1_layout.specs.Words.{AddsAtMost, Does, Event, HasRoom, List, Told, false, move_at, true};
 ghost use Rattle.gen1_machine.specs.HitEffects.{explode};
@@ -14,10 +14,11 @@ use gen1_layout::Packed;
 use gen1_machine::{DamageSource, Side};
 use gen1_tables::{Effect, MoveId};
 
-/// Tells that a move of `side` has missed, which ends its action: `Immune` of the foe or `Miss` of the user. Jump Kick and High
-/// Jump Kick then take 1 HP from the user, past its Substitute, with `Damage`, and the last damage becomes 1; after
-/// Self-Destruct and Explosion the user's HP become 0, and its status and Seeded are cleared. Two places in `events` are to be
-/// free; nothing else changes (docs/MECHANICS.md, "Action", step 9).
+/// Reports that a move of `side` has missed, which ends its action (docs/MECHANICS.md, "Action", step 9).
+///
+/// It writes `Immune` of the foe or `Miss` of the user. After Jump Kick and High Jump Kick the user loses 1 HP, even
+/// with a Substitute, with `Damage`, and the last damage becomes 1. After Self-Destruct and Explosion the user's HP
+/// become 0, and its status and Seeded are cleared. It needs two free places in `events`. Nothing else changes.
 #[inline(always)] // docs/SPEED.md, "Hints on inlining"
 pub fn missed_move<S: EventSink>(battle: &mut Packed, side: Side, id: MoveId, events: &mut S)
     requires room { HasRoom S.room 2 events.old }
@@ -30,7 +31,7 @@ pub fn missed_move<S: EventSink>(battle: &mut Packed, side: Side, id: MoveId, ev
     explode_if(battle, side, id.effect());
 }
 
-// A kick that misses hurts its user.
+// A kick that misses costs its user 1 HP.
 fn crash<S: EventSink>(battle: &mut Packed, side: Side, effect: Effect, events: &mut S)
     requires room { HasRoom S.room 1 events.old }
     ensures shown { Does battle.old (S.tells events.old) battle.new (S.tells events.new) false

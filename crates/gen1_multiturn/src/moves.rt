@@ -1,5 +1,5 @@
-//! Moves that last, and moves that strike by rules of their own (docs/MECHANICS.md, "Fixed damage and one-hit moves",
-//! "Going on", "Charging", "Counter").
+//! Moves that last several turns, and moves with damage rules of their own (docs/MECHANICS.md, "Fixed damage and
+//! one-hit moves", "Going on", "Charging", "Counter").
 pub mod bide;
 pub mod charging;
 pub mod counter;

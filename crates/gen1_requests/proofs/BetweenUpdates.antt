@@ -1,4 +1,4 @@
--- What is read of a battle between two updates, before the first one too.
+-- What is read of a battle between two updates, also before the first one.
 use Rattle.std.proofs.Common.{◌≡◌, ◌⊎◌, ◌∙◌}
 use Rattle.gen1_layout.proofs.Words.{Field, Parts, Side, Within, inl, inr, refl, sym, true}
 use Rattle.gen1_machine.specs.declared.side.Side.TheVariants.{One, Two}
@@ -19,7 +19,7 @@ packs_of {p = p} {s = s} h = by h.valid.field
     by (inl u) = packed_at p s h u
     by (inr v) = packed_of (within_of p s h v.field)
 
--- who is asked for a move or a switch has a member out, and so has its foe
+-- A side that is asked for a move or a switch has a member out, and so has its foe
 
 pub asks_nothing : (side : Side) (terms : Terms) (f : Field) → IsUnstarted terms f → request_of side f ≡ requests.Pass
 asks_nothing One terms f u = u.requests.one

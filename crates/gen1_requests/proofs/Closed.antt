@@ -1,4 +1,4 @@
--- How an update closes.
+-- The close of an update.
 use Rattle.gen1_layout.proofs.Words.{Bool, Frame, IsBetween, None, Parts, Phase, Progress, Shows, Some, Telling, ap, arith, choose-false, false, if_not, nat_le, nat_tests, note, refl, stay, stays, then-goes, true, ℕ, ◌▸◌}
 use Rattle.std.proofs.Common.{List, [], get_or, length, not, suc, sym, zero, ◌&&◌, ◌-◌, ◌<◌, ◌∷◌, ◌≡◌, ◌∙◌, ◌||◌}
 use Rattle.std.proofs.lemmas.Bool.{false≢true}
@@ -16,19 +16,19 @@ use Rattle.gen1_machine.specs.Ruling.{Ruling}
 use Rattle.gen1_machine.specs.Valid.{IsOutcome}
 use Rattle.gen1_requests.specs.Falls.{fault_in}
 
--- a test that does not hold, before the rest
+-- A test that fails, before the rest.
 pub passed : (test : Progress → Bool) (f k : Phase) (p : Progress) → test p ≡ false → p.stopped ≡ false → (when test f ▸ k) p ≡ k p
 unfolding stay
 passed test f k p e go =
     let is : when test f p ≡ p = choose-false test f stay p e in
     then-goes (when test f) k p (ap (λ (q : Progress). q.stopped) is ∙ go) ∙ ap k is
 
--- a turn is left before the last
+-- A turn is left before the last one
 
 pub turn_left : (limit turn : ℕ) → nat_le limit turn ≡ false → turn < limit
 turn_left limit turn e = grind (arith, nat_tests)
 
--- who is out and lives is one of those that live
+-- A living member that is out is one of the living members
 
 not_false : (b : Bool) → not b ≡ false → b ≡ true
 not_false true e = refl
@@ -51,7 +51,7 @@ lives_out s f h e = any_at is_living (party s f).members ((party s f).active.pla
     lives One e = not_false (is_living (member_in One f)) e
     lives Two e = not_false (is_living (member_in Two f)) e
 
--- where both live who are out
+-- Both members that are out live
 
 pub neither_lost : (a b : Bool) → a ≡ true → (not a && not b) ≡ false
 neither_lost a b e = rw e refl
@@ -73,7 +73,7 @@ pub faints_not : {g : Frame} {parts : Parts} {events : Telling} {p : Progress} (
 unfolding faint_if_fallen
 faints_not s e h = if_not _ _ _ e (stays h)
 
--- by whether there was a fault
+-- By whether there was a fault
 
 pub closes_fault : (r : Ruling) (o : Outcome) (n : ℕ) (p : Progress) → fault_in o ≡ Some n → close r o p ≡ (ask_nothing ▸ note λ f. events.Fault n) p
 unfolding close

@@ -1,4 +1,4 @@
--- Choices that are gathered number by number.
+-- Collecting choices number by number.
 use Rattle.std.proofs.Common.{Bool, IsTrue, List, [], ap, append-nil, append_assoc, arith, false, get_or, inl, inr, length, length-append, nat_lt, not, refl, suc, sym, true, zero, ℕ, ◌&&◌, ◌++◌, ◌+◌, ◌-◌, ◌<◌, ◌==◌, ◌≡◌, ◌≢◌, ◌≤◌, ◌∙◌, ◌∷◌, ◌||◌, ◌⊎◌}
 use Rattle.std.specs.Prelude.{if◌then◌else◌}
 use Rattle.gen1_stats.specs.declared.known_move.KnownMove.{KnownMove}
@@ -12,7 +12,7 @@ use Rattle.gen1_machine.specs.OfferedChoices.{bars_slot, or_struggle, others_liv
 abbrev pub one_if : Bool → Choice → List Choice
 one_if b c = if b then c ∷ [] else []
 
--- what passes of so many numbers from one on
+-- The choices for the numbers that pass a test, from a number on.
 abbrev pub collect : (ℕ → Bool) → (ℕ → Choice) → ℕ → ℕ → List Choice
 collect test make k zero = []
 collect test make k (suc n) = one_if (test k) (make k) ++ collect test make (k + 1) n
@@ -25,7 +25,7 @@ collect-suc test make k (suc n) =
     ∙ sym (append_assoc (one_if (test k) (make k)) (collect test make (k + 1) n) (one_if (test (k + 1 + n)) (make (k + 1 + n))))
     ∙ ap (λ (j : ℕ). collect test make k (suc n) ++ one_if (test j) (make j)) (let e : k + 1 + n ≡ k + suc n = omega arith in e)
 
--- one number more
+-- One more number.
 pub collect_more : (test : ℕ → Bool) (make : ℕ → Choice) (k : ℕ) → 1 ≤ k
     → collect test make 1 (k + 1 - 1) ≡ collect test make 1 (k - 1) ++ one_if (test k) (make k)
 collect_more test make k low =
@@ -34,7 +34,7 @@ collect_more test make k low =
     ap (λ (n : ℕ). collect test make 1 n) next ∙ collect-suc test make 1 (k - 1)
     ∙ ap (λ (j : ℕ). collect test make 1 (k - 1) ++ one_if (test j) (make j)) here
 
--- a list gone through from a number on, of which nothing is behind its end
+-- Going through a list from a number on. There is nothing after its end.
 module _ {A : Type 0} (d : A) (passes : A → ℕ → Bool) (make : ℕ → Choice) (from : ℕ → List A → List Choice)
     (at_nil : (k : ℕ) → from k [] ≡ [])
     (at_cons : (k : ℕ) (x : A) (xs : List A) → from k (x ∷ xs) ≡ one_if (passes x k) (make k) ++ from (k + 1) xs)
@@ -57,7 +57,7 @@ pub if_front : (b : Bool) (c : Choice) (l : List Choice) → (if b then c ∷ l 
 if_front true c l = refl
 if_front false c l = refl
 
--- the slots that can be used
+-- The usable slots
 
 abbrev pub usable_at : Side → Field → ℕ → Bool
 usable_at s f slot = nat_lt 0 (known_in slot (member_in s f).moves).pp && not (bars_slot (conditions_in s f).disabled slot)
@@ -72,7 +72,7 @@ slots_usable s f few =
     (usable_at s f) 1 4 moves few
     (λ i. ap (λ (j : ℕ). nat_lt 0 (get_or moves j nothing_known).pp && not (bars_slot d (1 + i))) (let e : 1 + i - 1 ≡ i = omega arith in e))
 
--- the members that can come out
+-- The members that can come out
 
 abbrev pub comes_out : Side → Field → ℕ → ℕ → Bool
 comes_out s f out place = is_living (member_at place (party s f)) && not (place == out)
@@ -86,7 +86,7 @@ places_living s f out few =
     (comes_out s f out) 1 6 members few
     (λ i. ap (λ (j : ℕ). is_living (get_or members j nobody) && not (1 + i == out)) (let e : 1 + i - 1 ≡ i = omega arith in e))
 
--- one choice more, where it passes
+-- One more choice, if it passes
 
 pub collected_more : (test : ℕ → Bool) (make : ℕ → Choice) (k : ℕ) (start old new : List Choice) (holds : Bool) (choice : Choice) → 1 ≤ k
     → old ≡ start ++ collect test make 1 (k - 1) → new ≡ old ++ one_if holds choice → holds ≡ test k → choice ≡ make k
@@ -97,7 +97,7 @@ collected_more test make k start old new holds choice low was is passes made =
     ∙ append_assoc start (collect test make 1 (k - 1)) (one_if (test k) (make k))
     ∙ ap (λ (l : List Choice). start ++ l) (sym (collect_more test make k low))
 
--- tests in a row, of which two are made at once
+-- A chain of tests, of which two are made at once.
 pub or_of_or : (a b c d : Bool) → (a || (b || c) || d) ≡ (a || b || c || d)
 or_of_or true b c d = refl
 or_of_or false b c d = refl
@@ -106,7 +106,7 @@ pub at_most_one_more : (holds : Bool) (choice : Choice) (old new : List Choice) 
 at_most_one_more true choice old new is = omega (arith, simp length-append at (ap length is))
 at_most_one_more false choice old new is = omega (arith, simp length-append at (ap length is))
 
--- one place of six is passed over, that of who is out
+-- One place of six is left out, that of the member that is out.
 pub one_passed_over : (holds : Bool) (choice : Choice) (old new : List Choice) (place out start : ℕ) → new ≡ old ++ one_if holds choice
     → (IsTrue holds → place ≢ out) → 1 ≤ place → (place ≤ out → length old ≤ start + (place - 1)) → (out < place → length old + 1 ≤ start + (place - 1))
     → (place + 1 ≤ out → length new ≤ start + (place + 1 - 1)) × (out < place + 1 → length new + 1 ≤ start + (place + 1 - 1))
@@ -125,7 +125,7 @@ one_passed_over false choice old new place out start is apart low before behind 
     by (inl lt) len = let b = behind lt in omega arith
     by (inr ge) len = let b = before ge in omega arith
 
--- who has a slot need not struggle
+-- A member with a usable slot need not struggle.
 pub no_struggle : (l : List Choice) → (length l == 0) ≡ false → l ≡ or_struggle l
 no_struggle [] e = absurd (let h : true ≡ false = e in cc)
 no_struggle (c ∷ l) e = refl

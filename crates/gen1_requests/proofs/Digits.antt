@@ -1,4 +1,4 @@
--- Binary digits as a list of tests: without one of them, and those of four bytes.
+-- Binary digits as a list of tests: clearing one of them, and the digits of four bytes.
 use Rattle.std.proofs.Common.{Bool, List, [], ap, arith, false, inl, inr, length, length-append, nat_lt, refl, set, suc, sym, true, zero, ℕ, ◌&&◌, ◌%◌, ◌*◌, ◌++◌, ◌+◌, ◌-◌, ◌/◌, ◌<◌, ◌==◌, ◌^◌, ◌≡◌, ◌≢◌, ◌≤◌, ◌⊎◌, ◌∙◌, ◌∷◌}
 use Rattle.std.proofs.lemmas.Bool.Decides.{eqb_tells, nat_tests}
 use Rattle.std.proofs.lemmas.List.{set-append_right}
@@ -46,7 +46,7 @@ passing-set k zero out (b ∷ bs) at =
 passing-set k (suc j) out (b ∷ bs) at =
     rw (other_number k out (λ e. omega (arith, e, at)), and_true b) (ap (λ (l : List Bool). b ∷ l) (passing-set (k + 1) j out bs (omega (arith, at))))
 
--- an `&` with all bits but one
+-- An `&` with all bits but one.
 pub taken_out : (bs : List Bool) (k : ℕ) → k < length bs → length bs ≤ 32
     → bit_and (number_of_bits bs) (bit_not w32 (1 * 2 ^ k % 2 ^ 32)) ≡ number_of_bits (set bs k false)
 taken_out bs k inside few =
@@ -56,7 +56,7 @@ taken_out bs k inside few =
     ∙ bits_clear bs k 32 inside few
     ∙ sym (bits_of-is (set bs k false))
 
--- of the six places above six other digits
+-- Clearing one of six places above six other digits.
 pub place_out : (low high : List Bool) (place : ℕ) → length low ≡ 6 → length high ≡ 6 → 1 ≤ place → place ≤ 6
     → bit_and (number_of_bits (low ++ high)) (bit_not w32 (1 * 2 ^ (place + 5) % 2 ^ 32)) ≡ number_of_bits (low ++ passing 1 place high)
 place_out low high place six more least most =
@@ -69,7 +69,7 @@ pub six_below : (a b c d e f : Bool) (high : List Bool)
     → number_of_bits (a ∷ b ∷ c ∷ d ∷ e ∷ f ∷ []) + 64 * number_of_bits high ≡ number_of_bits (a ∷ b ∷ c ∷ d ∷ e ∷ f ∷ high)
 six_below a b c d e f high = omega arith
 
--- the highest bits of four bytes, gathered
+-- The highest bits of four bytes, gathered
 
 eight : (x m : ℕ) → bit_and x (256 * m + 128) ≡ 256 * bit_and (x / 256) m + x / 128 % 2 * 128
 eight x m =
@@ -111,7 +111,7 @@ gathered true true false true = refl
 gathered true true true false = refl
 gathered true true true true = refl
 
--- a byte below 128 and 127 has its highest bit exactly where there is any
+-- A byte below 128 plus 127 has its highest bit exactly if the byte isn't 0.
 positive : (n : ℕ) → 0 < n → nat_lt 0 n ≡ true
 positive n h = grind (arith, nat_tests)
 

@@ -1,25 +1,25 @@
--- A member that comes out: the bytes, and what is told.
+-- A member that comes out: the bytes, and the event.
 pub mod SwitchingIn
--- How an update closes.
+-- The close of an update.
 pub mod Closed
--- What the choices that are offered give to an update.
+-- What offered choices give to an update.
 pub mod OfferedChoices
--- The machine's step, by which update it is.
+-- The machine's step, by the kind of update.
 pub mod Stepped
 -- What is read of a battle between two updates.
 pub mod BetweenUpdates
--- Choices that are gathered number by number.
+-- Choices that are collected number by number.
 pub mod Collecting
--- The machine's list of offered choices is the set that is said in words.
+-- The machine's list of offered choices is the set of `specs/OfferedChoices.antt`.
 pub mod OfferedSet
--- Whether a choice is among those that are offered, without their list.
+-- Whether a choice is among those offered, without their list.
 pub mod OneChoice
--- The same by what is asked, and in the order of the tests.
+-- The same, by the request and in the order of the tests.
 pub mod TestedChoice
--- The bytes of what it lists rise.
+-- The bytes of the offered choices rise.
 pub mod RisingOffers
--- Binary digits: of four bytes, and without one of them.
+-- Binary digits: of four bytes, and with one of them cleared.
 pub mod Digits
--- The digits of what is offered, and the choices of digits.
+-- The digits of offered choices, and the choices of digits.
 pub mod MaskDigits
 pub mod MaskChoices

@@ -1,4 +1,5 @@
--- The choices of a mask: how many there are, which is at a place, and that those of what is offered are the offered list.
+-- The choices of a mask: how many there are, which is at a place, and that the mask of the offered choices gives
+-- their list.
 use Rattle.std.proofs.Common.{Bool, List, Option, [], ap, arith, drop, false, get_or, inl, inr, length, min, refl, suc, sym, true, zero, ℕ, ◌%◌, ◌*◌, ◌++◌, ◌+◌, ◌-◌, ◌/◌, ◌<◌, ◌==◌, ◌^◌, ◌≡◌, ◌≢◌, ◌≤◌, ◌⊎◌, ◌∙◌, ◌∷◌}
 use Rattle.std.specs.Prelude.{if◌then◌else◌}
 use Rattle.std.proofs.lemmas.Bool.{cases_eq, cases_lt}
@@ -33,7 +34,7 @@ use Rattle.gen1_requests.proofs.RisingOffers.{four_in}
 use Rattle.gen1_machine.specs.OfferedChoices.{others_living_from, usable_from}
 use Rattle.gen1_machine.specs.State.{conditions_in}
 
--- one choice more, by the lowest digit
+-- One more choice, by the lowest digit
 
 parity : (m : ℕ) → (m % 2 ≡ 1) ⊎ (m % 2 ≡ 0)
 parity m = grind arith
@@ -44,7 +45,7 @@ chosen-odd m c cs odd = rw (equal_number (m % 2) 1 odd) refl
 pub chosen-even : (m : ℕ) (c : Choice) (cs : List Choice) → m % 2 ≡ 0 → chosen_by m (c ∷ cs) ≡ chosen_by (m / 2) cs
 chosen-even m c cs even = rw (other_number (m % 2) 1 (λ e. omega (arith, e, even))) refl
 
--- how many
+-- Their number
 
 abbrev pub room : List Choice → ℕ
 room [] = 1
@@ -59,7 +60,7 @@ ones-chosen m (c ∷ cs) few = by (parity m) (ones-chosen (m / 2) cs (omega arit
     by (inl odd) rest step = rw (chosen-odd m c cs odd) (omega (arith, odd, rest, step))
     by (inr even) rest step = rw (chosen-even m c cs even) (omega (arith, even, rest, step))
 
--- without the first
+-- Without the first
 
 half_of : (r m n q : ℕ) → r ≡ bit_and (m / 2) (n / 2) * 2 + q → q ≡ 0 → (r / 2 ≡ bit_and (m / 2) (n / 2)) × (r % 2 ≡ 0)
 half_of r m n q is none = (omega arith, omega arith)
@@ -89,7 +90,7 @@ pub chosen-zero : (cs : List Choice) → chosen_by 0 cs ≡ []
 chosen-zero [] = refl
 chosen-zero (c ∷ cs) = chosen-even 0 c cs refl ∙ chosen-zero cs
 
--- the first
+-- The first
 
 pub chosen-first : (t m : ℕ) (cs : List Choice) (d : Choice) → bit_at m t ≡ 1 → ((i : ℕ) → i < t → bit_at m i ≡ 0) → t < length cs
     → get_or (chosen_by m cs) 0 d ≡ get_or cs t d
@@ -99,7 +100,7 @@ chosen-first (suc t) m (c ∷ cs) d one none inside =
     ap (λ (l : List Choice). get_or l 0 d) (chosen-even m c cs (sym (bit_at_lowest m) ∙ none 0 (omega arith)))
     ∙ chosen-first t (m / 2) cs d (sym (bit_at-suc m t) ∙ one) (λ i below. sym (bit_at-suc m i) ∙ none (suc i) (omega (arith, below))) (omega arith)
 
--- a digit of a number below 4096 is one of twelve
+-- A digit of a number below 4096 is one of twelve.
 pub digit-below : (m t : ℕ) → m < 4096 → bit_at m t ≡ 1 → t < 12
 digit-below m t few one = by (cases_lt t 12)
   where
@@ -110,7 +111,7 @@ digit-below m t few one = by (cases_lt t 12)
         let none : m / 2 ^ t ≡ 0 = div-eq_of_lt (omega (arith, large)) in
         absurd (let two : m / 2 ^ t % 2 ≡ 1 = one in omega arith)
 
--- digits as a list of tests
+-- Digits as a list of tests
 
 abbrev pub picked : List Bool → List Choice → List Choice
 picked [] cs = []
@@ -129,7 +130,7 @@ chosen-picked (false ∷ bs) (c ∷ cs) =
     let half : number_of_bits (false ∷ bs) / 2 ≡ number_of_bits bs = omega arith in
     chosen-even (number_of_bits (false ∷ bs)) c cs even ∙ ap (λ (n : ℕ). chosen_by n cs) half ∙ chosen-picked bs cs
 
--- the same, joined of what each test lets through
+-- The same, joined from what each test passes.
 abbrev pub all_ifs : List Bool → List Choice → List Choice
 all_ifs [] cs = []
 all_ifs (b ∷ bs) [] = []
@@ -148,12 +149,12 @@ picked_append (b ∷ bs) [] bs' cs' e = absurd (omega (arith, e))
 picked_append (true ∷ bs) (c ∷ cs) bs' cs' e = ap (λ (l : List Choice). c ∷ l) (picked_append bs cs bs' cs' (omega (arith, e)))
 picked_append (false ∷ bs) (c ∷ cs) bs' cs' e = picked_append bs cs bs' cs' (omega (arith, e))
 
--- the switches
+-- The switches.
 switches_picked : (s : Side) (f : Field) → length (party s f).members ≤ 6 → picked (passing 1 (active_in s f).place (living_of s f)) switches ≡ switches_offered s f
 switches_picked s f few =
     picked_ifs (passing 1 (active_in s f).place (living_of s f)) switches ∙ places_living s f (active_in s f).place few
 
--- the moves before them
+-- The moves before them
 
 abbrev four_moves : List Choice
 four_moves = choices.Move 1 ∷ choices.Move 2 ∷ choices.Move 3 ∷ choices.Move 4 ∷ []
@@ -216,7 +217,7 @@ module _ (s : Side) (f : Field) (slots : length (member_in s f).moves ≤ 4) (me
       ∙ chosen-picked (false ∷ false ∷ false ∷ false ∷ false ∷ false ∷ high) all_choices
       ∙ switches_picked s f members
 
--- by what is asked, and whether the battle goes on
+-- By the request, and by whether the battle goes on
 
 six_in : (s : Side) (terms : Terms) (f : Field) → IsField terms f → length (party s f).members ≤ 6
 six_in One terms f h = h.one.members.size.1
@@ -244,7 +245,7 @@ chosen_by_over false s t valid e = rw e (asked_chosen (request_of s t.field) s t
 pub offered_chosen : (t : State) (s : Side) → IsState t → choices_in (offered_mask t s) ≡ offered s t.field
 offered_chosen t s valid = chosen_by_over (is_over t.field.outcome) s t valid refl
 
--- something is left where fewer are taken away than there are
+-- Something is left if fewer are taken away than there are.
 pub some_left : (m k : ℕ) (xs : List Choice) → chosen_by m all_choices ≡ drop k xs → k < length xs → 1 ≤ m
 some_left zero k xs is few =
     let none : length (chosen_by 0 all_choices) ≡ 0 = ap length (chosen-zero all_choices) in
@@ -252,7 +253,7 @@ some_left zero k xs is few =
     absurd (omega arith)
 some_left (suc m) k xs is few = omega arith
 
--- one more is taken away, and the first of what is left
+-- One more is taken away, and the first of those left
 
 pub taken_away : (m k : ℕ) (xs : List Choice) → chosen_by m all_choices ≡ drop k xs → chosen_by (bit_and m (m - 1)) all_choices ≡ drop (k + 1) xs
 taken_away m k xs is =
@@ -269,7 +270,7 @@ left_at m k place xs d is at =
     let here : k + 0 ≡ place = omega (arith, at) in
     ap (λ (l : List Choice). get_or l 0 d) is ∙ get_or-drop k xs 0 d ∙ ap (λ (n : ℕ). get_or xs n d) here
 
--- at most four moves and five switches
+-- At most four moves and five switches
 
 usable-few : (k : ℕ) (disabled : Option DisabledSlot) (ms : List KnownMove) → length (usable_from k disabled ms) ≤ length ms
 usable-few k disabled [] = omega arith

@@ -1,4 +1,4 @@
--- The digits of what is offered, as the code gathers them from the bytes.
+-- The digits of the offered choices, as the code gathers them from the bytes.
 use Rattle.std.proofs.Common.{All, Bool, List, None, Option, Some, [], ap, arith, false, get_or, inl, inr, length, nat_lt, not, refl, subst, suc, sym, true, zero, ℕ, ◌&&◌, ◌%◌, ◌*◌, ◌++◌, ◌<◌, ◌==◌, ◌^◌, ◌≡◌, ◌≤◌, ◌⊎◌, ◌∙◌, ◌∷◌}
 use Rattle.std.proofs.lemmas.Bool.{cases_lt}
 use Rattle.std.proofs.lemmas.List.Elements.{All-get_or}
@@ -31,7 +31,7 @@ use Rattle.gen1_requests.proofs.Digits.{and_true, either_way, passing-set, taken
 use Rattle.gen1_requests.proofs.OfferedSet.{in_moves, no_move, other_number, usable_slot}
 use Rattle.gen1_requests.proofs.OneChoice.{no_move_to_switch, no_pass_to_switch, switch_offered, switches_out}
 
--- the byte of a status
+-- The byte of a status
 
 seven : (n : ℕ) → n ≤ 7 → bit_and n 39 ≡ 0 → n ≡ 0
 seven n few none =
@@ -56,7 +56,7 @@ not_awake Burned some = absurd (some refl)
 not_awake Frozen some = refl
 not_awake Paralysed some = absurd (some refl)
 
--- the PP of the four slots
+-- The PP of the four slots
 
 past_end : (ms : List KnownMove) (i : ℕ) → length ms ≤ i → get_or ms i nothing_known ≡ nothing_known
 past_end [] zero h = refl
@@ -85,7 +85,7 @@ slots_read m block n ok is reads =
     let here : Reads n (member_block m) = subst (λ (l : List ℕ). Reads n l) is reads in
     here (few_pp m.moves 0 ok.known) (few_pp m.moves 1 ok.known) (few_pp m.moves 2 ok.known) (few_pp m.moves 3 ok.known)
 
--- and those that are not disabled
+-- The slots that have PP and aren't disabled
 
 pub four_same : {a b c d a' b' c' d' : Bool} → a ≡ a' → b ≡ b' → c ≡ c' → d ≡ d' → (a ∷ b ∷ c ∷ d ∷ []) ≡ (a' ∷ b' ∷ c' ∷ d' ∷ [])
 four_same p q r s = cc
@@ -126,7 +126,7 @@ none_taken a b c d n disabled is e =
     above ∙ ap (λ (l : List Bool). number_of_bits (false ∷ l)) (sym (four_same (and_true a) (and_true b) (and_true c) (and_true d)))
     ∙ ap (λ (o : Option DisabledSlot). number_of_bits (false ∷ free_of o a b c d)) e
 
--- the moves
+-- The moves
 
 pub usable_of_slot : (s : Side) (f : Field) (slot : ℕ) → has_no_slot_in s f ≡ false → 1 ≤ slot → is_among (choices.Move slot) (moves_offered s f) ≡ is_usable s f slot
 usable_of_slot s f slot e low = rw e (usable_slot (conditions_in s f).disabled (member_in s f).moves slot low)
@@ -144,7 +144,7 @@ move_digits s f e behind =
     six_same [] (no_move choices.Pass (λ k. refl) s f) (rw e (struggles (usable_list s f) behind))
     (usable_of_slot s f 1 e (omega arith)) (usable_of_slot s f 2 e (omega arith)) (usable_of_slot s f 3 e (omega arith)) (usable_of_slot s f 4 e (omega arith))
 
--- whether any slot is usable
+-- Whether any slot is usable
 
 abbrev four_ifs : Bool → Bool → Bool → Bool → Choice → Choice → Choice → Choice → List Choice
 four_ifs a b c d x y z w = one_if a x ++ (one_if b y ++ (one_if c z ++ (one_if d w ++ [])))
@@ -182,7 +182,7 @@ no_slot_digits s f e = rw e refl
 pub struggle_digits : (a b c d : Bool) → number_of_bits (false ∷ a ∷ b ∷ c ∷ d ∷ []) ≡ 0 → 2 ≡ number_of_bits (false ∷ true ∷ a ∷ b ∷ c ∷ d ∷ [])
 struggle_digits a b c d h = omega (arith, h)
 
--- the switches
+-- The switches
 
 pub switch_digits : (s : Side) (f : Field) → digits_of all_choices (switches_offered s f)
     ≡ (false ∷ false ∷ false ∷ false ∷ false ∷ false ∷ []) ++ passing 1 (active_in s f).place (living_of s f)
@@ -192,7 +192,7 @@ switch_digits s f =
     (six_same [] (switch_offered s f 1 (omega arith)) (switch_offered s f 2 (omega arith)) (switch_offered s f 3 (omega arith))
     (switch_offered s f 4 (omega arith)) (switch_offered s f 5 (omega arith)) (switch_offered s f 6 (omega arith)))
 
--- both
+-- Moves and switches
 
 beside : (s : Side) (f : Field) (c : Choice) → is_committed (underway_in s f) ≡ false → is_among c (switches_offered s f) ≡ false
     → is_among c (offered_for requests.Move s f) ≡ is_among c (moves_offered s f)
@@ -212,7 +212,7 @@ both_digits s f e =
     (switch_beside s f 3 e (omega arith) ∙ switch_offered s f 3 (omega arith)) (switch_beside s f 4 e (omega arith) ∙ switch_offered s f 4 (omega arith))
     (switch_beside s f 5 e (omega arith) ∙ switch_offered s f 5 (omega arith)) (switch_beside s f 6 e (omega arith) ∙ switch_offered s f 6 (omega arith)))
 
--- what is asked
+-- By the request
 
 pub asks_move : (r : Request) → 1 ≡ request_byte r → r ≡ requests.Move
 asks_move requests.Pass e = cc
@@ -229,7 +229,7 @@ asks_pass requests.Pass byte e one two = refl
 asks_pass requests.Move byte e one two = absurd (one e)
 asks_pass requests.Switch byte e one two = absurd (two e)
 
--- a side is asked for something only while the battle goes on
+-- A side is asked for something only while the battle goes on
 
 nothing_asked : (s : Side) (f : Field) {r : Request} → (f.request_one ≡ requests.Pass) → (f.request_two ≡ requests.Pass) → request_of s f ≡ r → (requests.Pass ≡ r → ⊥) → ⊥
 nothing_asked One f one two is apart = apart (sym one ∙ is)

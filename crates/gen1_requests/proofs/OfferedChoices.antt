@@ -1,4 +1,4 @@
--- What the choices that are offered give to an update.
+-- What offered choices give to an update.
 use Rattle.gen1_layout.proofs.Words.{Bool, Field, Frame, Parts, Progress, Shows, Side, Telling, ap, false, inl, inr, length, refl, subst, sym, true, ℕ}
 use Rattle.std.proofs.Common.{◌≡◌, ◌⊎◌, ◌∙◌}
 use Rattle.std.proofs.lemmas.Bool.{false≢true}
@@ -25,7 +25,7 @@ use Rattle.gen1_machine.proofs.ValidTurns.{both_plan, both-planned, fits-comes, 
 use Rattle.gen1_requests.specs.Updates.{drawing_on, Plays}
 use Rattle.gen1_requests.proofs.BetweenUpdates.{asks_nothing}
 
--- what is offered, by what is asked
+-- What is offered, by the request
 
 pub offered_by : (s : State) (side : Side) (c : Choice) → s.field.outcome ≡ Ongoing → offers s side c ≡ true → is_among c (offered_for (request_of side s.field) side s.field) ≡ true
 unfolding offered
@@ -45,7 +45,7 @@ pub fits_offered : (s : State) (side : Side) (c : Choice) → IsField s.terms s.
 fits_offered s side c h e asked o =
     offered-fits side c s.field h (subst (λ (r : Request). is_among c (offered_for r side s.field) ≡ true) asked (offered_by s side c e o))
 
--- who is asked for something has begun
+-- A battle that asks for something has begun
 
 started_at : (s : State) (side : Side) {r : Request} → IsState s → request_of side s.field ≡ r → (requests.Pass ≡ r → ⊥) → IsStarted s.terms s.field
 started_at s side {r = r} valid is apart = by valid.field
@@ -61,7 +61,7 @@ started s asked one two valid apart plays = by plays.asked_for
     by (inl e) = started_at s One valid e apart
     by (inr e) = started_at s Two valid e apart
 
--- moves are asked of both sides or of none
+-- Moves are asked from both sides or from none
 
 asked_by : (one two : Bool) (terms : Terms) (f : Field) → IsAsked one two terms f → (f.request_one ≡ requests.Move) ⊎ (f.request_two ≡ requests.Move)
     → (f.request_one ≡ requests.Move) × (f.request_two ≡ requests.Move)
@@ -79,7 +79,7 @@ both_move s v e asked =
     let all = subst (λ (o : Outcome). StandsAs o s.terms s.field) e v.requests in
     asked_by (has_fallen_in One s.field) (has_fallen_in Two s.field) s.terms s.field all.2 asked
 
--- what a turn asks for: what both sides plan, by what they choose
+-- What a turn needs: the plans of both sides, by their choices.
 pub planned : (s : State) (one two : Choice) (stream : Stream) (drawn : ℕ) → IsStarted s.terms s.field → Plays s requests.Move one two → IsStream stream
     → let p = drawing_on stream drawn s in IsPlanned s.terms (both_plan one two s.field) p.field p.action p.stream
 planned s one two stream drawn v plays w =
@@ -87,7 +87,7 @@ planned s one two stream drawn v plays w =
     both-planned one two s.field (new_action One) stream (record { field = v.field; tested = tt; stream = w; holds = λ side. tt })
     (fits_offered s One one v.field plays.goes_on both.0 plays.first) (fits_offered s Two two v.field plays.goes_on both.1 plays.second)
 
--- whom side 2 chose is there still when side 1's has come out
+-- Side 2's chosen member is still there after side 1's has come out.
 
 room-sent : (one two : ℕ) (p : Progress) → InRange Two two p.field → InRange Two two (send_out One one p).field
 room-sent one two p h =
@@ -105,6 +105,6 @@ comes-after (choices.Switch one) choices.Pass p h = tt
 comes-after (choices.Move j) y p h = h
 comes-after choices.Pass y p h = h
 
--- an update is closed also where it stopped
+-- An update is closed even if it stopped.
 pub reopened : {g : Frame} {parts : Parts} {events : Telling} {b : Bool} {p : Progress} → Shows g parts events b p → Shows g parts events false (record p { stopped = false })
 reopened h = record { within = h.within; written = h.written; ends = refl; stream = h.stream; drawn = h.drawn; skips = h.skips; action = h.action }

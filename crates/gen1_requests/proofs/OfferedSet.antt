@@ -1,4 +1,4 @@
--- The machine's list of offered choices is the set of `specs/Offering.antt`.
+-- The machine's list of offered choices is the set of `specs/OfferedChoices.antt`.
 use Rattle.std.proofs.Common.{Bool, List, Option, [], ap, arith, false, get_or, inl, inr, is_some, nat_le, nat_lt, not, refl, suc, sym, true, zero, ℕ, ◌&&◌, ◌++◌, ◌+◌, ◌-◌, ◌==◌, ◌||◌, ◌∙◌, ◌∷◌, ◌≡◌, ◌≢◌, ◌≤◌, ◌<◌, ◌⊎◌}
 use Rattle.std.specs.Prelude.{if◌then◌else◌, ◌↔◌}
 use Rattle.std.proofs.lemmas.Bool.{false≢true}
@@ -20,7 +20,7 @@ use Rattle.gen1_machine.specs.Step.{is_among, same_choice}
 use Rattle.gen1_requests.specs.OfferedChoices.{HasNoSlot, IsCommitted, IsOffered, IsUsable, MayChoose, MayComeOut, OffersTheSet, bides, charges, freezes, is_trapped, rages, recharges, sleeps, thrashes, traps}
 use Rattle.gen1_requests.proofs.Collecting.{if_front, one_if}
 
--- tests
+-- Tests
 
 both_true : (a b : Bool) → (a && b) ≡ true → (a ≡ true) × (b ≡ true)
 both_true true true h = (refl, refl)
@@ -90,7 +90,7 @@ among_append c (x ∷ xs) ys = by (same_choice c x) (among_append c xs ys)
     by true h = refl
     by false h = h
 
--- a list gone through from a number on, each element with its number
+-- Going through a list from a number on, each element with its number
 
 module _ {A : Type 0} (d : A) (passes : A → ℕ → Bool) (make : ℕ → Choice) (from : ℕ → List A → List Choice)
     (at_nil : (k : ℕ) → from k [] ≡ [])
@@ -103,7 +103,7 @@ module _ {A : Type 0} (d : A) (passes : A → ℕ → Bool) (make : ℕ → Choi
       by true same = ap (λ (t : Bool). t || is_among c (from (k + 1) xs)) (or_no (same_choice c (make k)))
       by false same = refl
 
-  -- a choice of another kind is not in it
+  -- A choice of another kind isn't in it.
   among_none : (c : Choice) → ((k : ℕ) → same_choice c (make k) ≡ false) → (k : ℕ) (xs : List A) → is_among c (from k xs) ≡ false
   among_none c apart k [] = ap (is_among c) (at_nil k)
   among_none c apart k (x ∷ xs) = among_one c k x xs ∙ by (passes x k) (same_choice c (make k)) (apart k) (among_none c apart (k + 1) xs)
@@ -113,7 +113,7 @@ module _ {A : Type 0} (d : A) (passes : A → ℕ → Bool) (make : ℕ → Choi
       by true false e h = h
       by false false e h = h
 
-  -- of the same kind, exactly where the element with its number passes
+  -- A choice of the same kind is in it exactly if the element with its number passes.
   module _ (n : ℕ) (same : (k : ℕ) → same_choice (make n) (make k) ≡ (n == k)) (nothing : passes d n ≡ false) where
     among_behind : (k : ℕ) (xs : List A) → n < k → is_among (make n) (from k xs) ≡ false
     among_behind k [] below = ap (is_among (make n)) (at_nil k)
@@ -135,7 +135,7 @@ module _ {A : Type 0} (d : A) (passes : A → ℕ → Bool) (make : ℕ → Choi
             let later : n - k ≡ suc (n - (k + 1)) = omega arith in
             rw (same k, other_number n k (λ e. omega (arith, e)), and_no (passes x k), later) (more h)
 
--- moves and switches
+-- Moves and switches
 
 abbrev pub move_passes : Option DisabledSlot → KnownMove → ℕ → Bool
 move_passes disabled m k = nat_lt 0 m.pp && not (bars_slot disabled k)
@@ -159,7 +159,7 @@ module _ (disabled : Option DisabledSlot) where
   usable-behind ms =
       among_behind nothing_known (move_passes disabled) choices.Move (λ k l. usable_from k disabled l) (λ k. refl) cons_move 0 (λ k. refl) refl 1 ms (omega arith)
 
-  -- where no slot passes there is none
+  -- If no slot passes, there is none.
   pub usable-nil : (k : ℕ) (ms : List KnownMove) → ((i : ℕ) → move_passes disabled (get_or ms i nothing_known) (k + i) ≡ false) → usable_from k disabled ms ≡ []
   usable-nil k [] none = refl
   usable-nil k (m ∷ ms) none =
@@ -184,7 +184,7 @@ module _ (out : ℕ) where
   others-behind ms =
       among_behind nobody (switch_passes out) choices.Switch (λ k l. others_living_from k out l) (λ k. refl) cons_switch 0 (λ k. refl) refl 1 ms (omega arith)
 
--- each condition, and its test
+-- Each condition, and its test
 
 commits : (s : Side) (f : Field) → (is_committed (underway_in s f) ≡ true) ↔ IsCommitted s f
 commits s f = (λ h. to (underway_in s f).recharge (underway_in s f).rage (is_some (underway_in s f).thrash) (underway_in s f).charging recharges rages thrashes charges h, from)
@@ -263,7 +263,7 @@ comes_out s f (suc n) = (
     here : is_among (choices.Switch (suc n)) (switches_offered s f) ≡ switch_passes (active_in s f).place (member_at (suc n) (party s f)) (suc n)
     here = others-at (active_in s f).place (suc n) (party s f).members (omega arith)
 
--- by the moves that are usable
+-- By the usable moves.
 struggle : (disabled : Option DisabledSlot) (ms : List KnownMove) (l : List Choice) → usable_from 1 disabled ms ≡ l
     → (is_among (choices.Move 0) (or_struggle l) ≡ true) ↔ ((slot : ℕ) → 1 ≤ slot → move_passes disabled (known_in slot ms) slot ≡ true → ⊥)
 struggle disabled ms [] e = (
@@ -290,7 +290,7 @@ usable_slot disabled ms slot low = by (usable_from 1 disabled ms) ∙ usable-at 
     by [] = rw (other_number slot 0 (λ e. omega (arith, e))) refl
     by (c ∷ l) = refl
 
--- the moves, by whether there is a choice, and a slot
+-- The moves, by whether there is a choice and a slot
 
 pub no_move : (c : Choice) → ((k : ℕ) → same_choice c (choices.Move k) ≡ false) → (s : Side) (f : Field) → is_among c (moves_offered s f) ≡ false
 no_move c apart s f = by (has_no_slot_in s f) (usable_from 1 (conditions_in s f).disabled (member_in s f).moves) (usable-none (conditions_in s f).disabled c apart (member_in s f).moves)
@@ -335,7 +335,7 @@ move_slot s f k = by (has_no_slot_in s f) (slotless s f)
           λ h. is ∙ test_of.1 h.1,
         )
 
--- what is offered where a move is asked for
+-- What is offered when a move is asked for
 
 either : (a b : Bool) → b ≡ false → (a || b) ≡ a
 either true b h = refl
@@ -380,7 +380,7 @@ asked_move s f c = by c (is_committed (underway_in s f)) (commits s f)
           λ h. is ∙ (move_slot s f k).1 (h.1, h.2),
         )
 
--- by what is asked, and whether the battle goes on
+-- By the request, and by whether the battle goes on
 
 by_request : (r : Request) (s : Side) (f : Field) (c : Choice) → (is_among c (offered_for r s f) ≡ true) ↔ MayChoose r s f c
 by_request requests.Move s f c = asked_move s f c

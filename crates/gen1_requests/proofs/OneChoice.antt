@@ -1,4 +1,4 @@
--- Whether a choice is among those that are offered, without their list.
+-- Whether a choice is among those offered, without their list.
 use Rattle.std.proofs.Common.{Bool, List, [], false, if◌then◌else◌, length, nat_lt, not, refl, sym, true, ℕ, ◌&&◌, ◌++◌, ◌==◌, ◌≡◌, ◌≤◌, ◌∙◌, ◌∷◌}
 use Rattle.gen1_layout.specs.Words.{Field, Side, active_in, conditions_in, is_living, known_in, member_at, member_in, party, underway_in}
 use Rattle.gen1_machine.specs.declared.choice.Choice.{Choice}
@@ -8,7 +8,7 @@ use Rattle.gen1_machine.specs.OfferedChoices.{bars_slot, has_no_slot_in, is_comm
 use Rattle.gen1_machine.specs.Step.{is_among}
 use Rattle.gen1_requests.proofs.OfferedSet.{in_moves, in_switches, no_move, no_switch, or_no, other_number, others-at, usable-behind, usable_slot}
 
--- where a switch is asked
+-- When a switch is asked for
 
 pub no_pass_to_switch : (s : Side) (f : Field) → is_among choices.Pass (switches_offered s f) ≡ false
 no_pass_to_switch s f = no_switch choices.Pass (λ k. refl) s f
@@ -20,7 +20,7 @@ pub switch_offered : (s : Side) (f : Field) (place : ℕ) → 1 ≤ place
     → is_among (choices.Switch place) (switches_offered s f) ≡ (is_living (member_at place (party s f)) && not (place == (active_in s f).place))
 switch_offered s f place low = others-at (active_in s f).place place (party s f).members low
 
--- where a move is asked, by what leaves no choice, and no slot
+-- When a move is asked for, by what leaves no choice and no slot
 
 pub no_pass_to_move : (s : Side) (f : Field) → is_among choices.Pass (offered_for requests.Move s f) ≡ false
 no_pass_to_move s f = by (is_committed (underway_in s f)) (moves_offered s f ++ switches_offered s f) (in_moves choices.Pass s f (no_switch choices.Pass (λ k. refl) s f) ∙ no_move choices.Pass (λ k. refl) s f)

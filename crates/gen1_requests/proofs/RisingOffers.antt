@@ -23,7 +23,7 @@ use Rattle.gen1_requests.specs.OfferedChoices.{OffersRising}
 use Rattle.gen1_requests.proofs.BetweenUpdates.{asks_nothing}
 use Rattle.gen1_requests.proofs.OfferedSet.{move_passes, switch_passes}
 
--- numbers from low on and below high, of which each is above the one before
+-- Numbers from low on and below high, each above the one before.
 abbrev pub Rises : ℕ → ℕ → List ℕ → Type 0
 Rises low high [] = low ≤ high
 Rises low high (x ∷ xs) = (low ≤ x) × Rises (x + 1) high xs
@@ -64,7 +64,7 @@ others-rise k out (m ∷ ms) = by (switch_passes out m k) (others-rise (k + 1) o
     by true h = (omega arith, wider _ _ (0x20 + k + 1) (0x20 + k + length (m ∷ ms)) _ (omega arith) (omega arith) h)
     by false h = wider _ _ (0x20 + k) (0x20 + k + length (m ∷ ms)) _ (omega arith) (omega arith) h
 
--- four moves at most
+-- At most four moves.
 moves-rise : (s : Side) (f : Field) → length (member_in s f).moves ≤ 4 → Rises 0x10 0x15 (map byte_of_choice (moves_offered s f))
 moves-rise s f few = by (has_no_slot_in s f) (usable_from 1 (conditions_in s f).disabled (member_in s f).moves) (usable-rise 1 (conditions_in s f).disabled (member_in s f).moves)
   where
@@ -88,7 +88,7 @@ rising requests.Move s f few = by (is_committed (underway_in s f))
         rw (map-append byte_of_choice (moves_offered s f) (switches_offered s f))
         (increasing 0x10 high _ (in_turn 0x10 0x15 high (map byte_of_choice (moves_offered s f)) bytes (moves-rise s f few) (wider _ _ 0x15 high bytes (omega arith) (omega arith) switches)))
 
--- a member that is out knows four moves at most
+-- A member that is out knows at most four moves
 
 four_moves : (terms : Terms) (t : Party) → IsParty terms.rules t → length (member_at t.active.place t).moves ≤ 4
 four_moves terms t h =

@@ -1,4 +1,4 @@
--- The machine's step by a pair of choices that are offered, by which update it is, and that what follows is valid.
+-- The machine's step by a pair of offered choices, by the kind of update. The state after it is valid.
 use Rattle.gen1_layout.proofs.Words.{Parts, Progress, Telling, [], ap, false, inl, inr, refl, sym, true, ℕ}
 use Rattle.std.proofs.Common.{◌∷◌, ◌≡◌, ◌⊎◌, ◌∙◌}
 use Rattle.gen1_machine.specs.declared.choice.Choice.{Choice}
@@ -17,7 +17,7 @@ use Rattle.gen1_machine.proofs.ValidStates.{states_stay_valid}
 use Rattle.gen1_layout.specs.Within.{blocks_of, setting_of}
 use Rattle.gen1_requests.specs.Updates.{Plays, Starts, Steps, Updated}
 
--- what is offered is accepted
+-- A pair of offered choices is accepted.
 pub step_accepts : (s : State) (one two : Choice) → s.field.outcome ≡ Ongoing → offers s One one ≡ true → offers s Two two ≡ true
     → step s one two ≡ accepted s (update (ruling_of s.terms) one two (opened s))
 unfolding step step_by answered
@@ -25,7 +25,7 @@ step_accepts s one two goes first second =
     let going : is_over s.field.outcome ≡ false = ap is_over goes in
     rw (going, first, second) refl
 
--- which update it is
+-- The kind of update
 
 starts-as : (s : State) → Starts s → step s Pass Pass ≡ accepted s (close_update (ruling_of s.terms) (start (opened s)))
 unfolding offered update update_for
@@ -55,7 +55,7 @@ replaces-as s one two plays =
     by r a b (inl e) p = ap (λ (x : Request). update_for r x b one two p) e ∙ first r b p
     by r a b (inr e) p = ap (λ (x : Request). update_for r a x one two p) e ∙ second r a p
 
--- what an update leaves is the machine's step, which is valid
+-- What an update leaves is the machine's step, which is valid
 
 pub valid-after : (s : State) (one two : Choice) → IsState s → IsState (step s one two).state
 unfolding run_by

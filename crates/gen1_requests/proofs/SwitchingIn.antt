@@ -1,4 +1,4 @@
--- A member that comes out: the bytes, and what is told.
+-- A member that comes out: the bytes, and the event.
 use Rattle.gen1_layout.proofs.Words.{Active, Field, List, Member, None, Option, Parts, Progress, Setting, Shows, Side, Telling, [], ap, arith, changed_active, changed_conditions, given, lit≤, note, on_active, on_conditions, on_field, party, refl, subst, sym, then-goes, underway_in, ℕ}
 use Rattle.std.proofs.Common.{false, max, ◌++◌, ◌/◌, ◌∷◌, ◌≡◌, ◌≤◌, ◌∙◌}
 use Rattle.gen1_layout.specs.Words.{Packs}
@@ -25,7 +25,7 @@ use Rattle.gen1_layout.proofs.Steps.{within_packed}
 use Rattle.gen1_requests.specs.SwitchingIn.{coming_out, halvings_of, quarterings_of, stats_out, with_out}
 use Rattle.gen1_requests.specs.Updates.{beginning}
 
--- the machine's member that comes out is the writer's, by what its status brings along
+-- The machine's member that comes out is that of the code, by the penalty of its status.
 pub sent_made : (place : ℕ) (m : Member)
     → sent_out place m ≡ sent_as place (species_row m.species).first_type (species_row m.species).second_type (halvings_of m.status) (quarterings_of m.status)
 unfolding with_penalty_of
@@ -40,7 +40,7 @@ sent_made place m = by m.status
     by Frozen = refl
     by Paralysed = refl
 
--- the stats of who comes out are its own, but for that penalty
+-- A member that comes out has its own stats, apart from that penalty
 
 at_level : (v : ℕ) → 5 ≤ v → v ≤ 999 → at_stage 6 v ≡ v
 at_level v low high = omega arith
@@ -72,7 +72,7 @@ stats_made place first second m ok = by m.status
     by Frozen = four _ _ _ _ _ _ _ _ attack defense speed special
     by Paralysed = four _ _ _ _ _ _ _ _ attack defense (ap (λ (v : ℕ). max 1 (v / 4)) speed) special
 
--- the phase as one record
+-- The phase as one record
 
 abbrev pub out_and_free : Side → ℕ → Field → Field
 out_and_free s place f = changed_conditions (other s) without_trapping (with_out s place f)
@@ -82,7 +82,7 @@ pub sends_as : (s : Side) (place : ℕ) (p : Progress) → p.stopped ≡ false
 unfolding send_out given on_active on_conditions on_field note
 sends_as s place p e = then-goes _ _ p e ∙ then-goes _ _ _ e
 
--- what is told of who came out is what is known of the member before
+-- What the event reports is known before the member comes out
 
 place_out : (place : ℕ) (m : Member) → (sent_out place m).place ≡ place
 place_out place m = ap (λ (a : Active). a.place) (sent_made place m)
@@ -92,7 +92,7 @@ unfolding changed_active changed_conditions with_sent_out
 told_is One place f = ap (λ (k : ℕ). coming_out One place (member_at k f.one)) (place_out place (member_at place f.one))
 told_is Two place f = ap (λ (k : ℕ). coming_out Two place (member_at k f.two)) (place_out place (member_at place f.two))
 
--- who traps nobody need not be stopped from it
+-- A side that doesn't trap has no trapping to end
 
 pub untrapped : (s : Side) (f : Field) → (underway_in s f).trapping ≡ None → f ≡ changed_conditions s without_trapping f
 unfolding changed_active changed_conditions without_trapping
@@ -109,7 +109,7 @@ foe_stays Two place f e = e
 pub packs_so : {g : Setting} {parts : Parts} {f f' : Field} → f ≡ f' → Packs g parts f → Packs g parts f'
 packs_so {g = g} {parts = parts} e h = subst (λ (x : Field). Packs g parts x) e h
 
--- who just came out can be stored, also once it is kept from trapping
+-- A member that just came out is storable, also after its trapping is ended
 
 out_storable : (rules : Rules) (members : List Member) → IsMembersUnder rules members → (a : Active) (x y : Element) (halved quartered : ℕ) → a ≡ sent_as 1 x y halved quartered
     → IsStorableParty rules (record { members = members; active = a })
@@ -140,7 +140,7 @@ both_storable terms f h = record {
   outcome = subst IsOutcome (sym h.outcome) tt;
 }
 
--- the first member of side 1 is out, and of side 2 nobody yet
+-- The first member of side 1 is out, and none of side 2 yet
 
 pub room_two : (s : State) → IsUnstarted s.terms s.field → InRange Two 1 (send_out One 1 (opened s)).field
 unfolding changed_active changed_conditions
@@ -151,7 +151,7 @@ unfolding changed_active changed_conditions with_sent_out
 free_one s = subst (λ (q : Progress). (underway_in One q.field).trapping ≡ None) (sym (sends_as One 1 (opened s) refl))
     (ap (λ (a : Active). a.conditions.underway.trapping) (sent_made 1 (member_at 1 s.field.one)))
 
--- both are out
+-- Both first members are out.
 pub both_begun : (s : State) {parts : Parts} {events : Telling} → IsUnstarted s.terms s.field
     → ShowsPacked (beginning s) parts events (send_out Two 1 (send_out One 1 (opened s))) → Shows (beginning s) parts events false (start (opened s))
 unfolding start

@@ -1,4 +1,4 @@
--- Whether a choice is offered, by the byte of what is asked and by the tests of what leaves no slot.
+-- Whether a choice is offered, by the byte of the request and by the tests for having no slot.
 use Rattle.std.proofs.Common.{Bool, [], ap, arith, false, if◌then◌else◌, inl, inr, is_some, length, not, refl, sym, true, ℕ, ◌&&◌, ◌==◌, ◌||◌, ◌≡◌, ◌≢◌, ◌≤◌, ◌⊎◌, ◌∙◌, ◌∷◌}
 use Rattle.std.proofs.lemmas.Bool.Decides.{eqb_tells}
 use Rattle.std.proofs.lemmas.Bool.{false≢true}
@@ -20,13 +20,13 @@ use Rattle.gen1_requests.proofs.MaskDigits.{goes_on, nothing_usable, something_u
 use Rattle.gen1_requests.proofs.OfferedSet.{or_no, or_yes, other_number}
 use Rattle.gen1_requests.proofs.OneChoice.{committed_slot, no_move_to_switch, no_pass_to_move, no_pass_to_switch, no_slot, switch_offered}
 
--- where something is asked the battle goes on, and what is asked settles what is offered
+-- A battle that asks for something goes on, and the request settles what is offered.
 pub offers_asked : (side : Side) (s : State) (c : Choice) {r : Request} → IsState s → request_of side s.field ≡ r → (requests.Pass ≡ r → ⊥)
     → offers s side c ≡ is_among c (offered_for r side s.field)
 unfolding offered
 offers_asked side s c valid asked apart = rw (goes_on side s valid asked apart) (ap (λ (r : Request). is_among c (offered_for r side s.field)) asked)
 
--- a choice that is not of the kind that is asked
+-- A choice that isn't of the kind that is asked for
 
 pub pass_unasked : (side : Side) (s : State) (byte : ℕ) → byte ≡ request_byte (request_of side s.field) → (byte ≡ 0 → ⊥) → offers s side choices.Pass ≡ false
 unfolding offered
@@ -70,7 +70,7 @@ pass_asked side s byte is none = by (is_over s.field.outcome) (request_of side s
     by false requests.Move e = absurd (let k = sym none ∙ e in cc)
     by false requests.Switch e = absurd (let k = sym none ∙ e in cc)
 
--- what leaves no slot, in the order in which it is tested
+-- What leaves no slot, in the order of the tests
 
 regrouped : (commits sleeps bides traps held : Bool) → (commits || (sleeps || bides || traps || held)) ≡ (commits || bides || traps || sleeps || held)
 regrouped true sleeps bides traps held = refl
@@ -101,7 +101,7 @@ unpicked_slot s f slot none low = by (is_committed (underway_in s f)) (has_no_sl
     by false true p q h = no_slot s f slot p q ∙ above
     by false false p q h = absurd (false≢true h)
 
--- no digit of a usable slot is 1 exactly where no move is usable
+-- No digit of a usable slot is 1 exactly if no move is usable.
 pub none_usable : (s : Side) (f : Field) → length (member_in s f).moves ≤ 4 → (number_of_bits (false ∷ usable_of s f) == 0) ≡ (length (usable_list s f) == 0)
 none_usable s f few = by (eqb_tells (number_of_bits (false ∷ usable_of s f)) 0)
   where
@@ -111,7 +111,7 @@ none_usable s f few = by (eqb_tells (number_of_bits (false ∷ usable_of s f)) 0
     by (inl h) = h.0 ∙ sym (nothing_usable s f few h.1)
     by (inr h) = h.0 ∙ sym (something_usable s f few h.1)
 
--- a switch, by whether the member is out already
+-- A switch, by whether the member is out already
 
 pub out_already : (s : Side) (f : Field) (place : ℕ) → 1 ≤ place → (place == (active_in s f).place) ≡ true → is_among (choices.Switch place) (switches_offered s f) ≡ false
 out_already s f place low out =

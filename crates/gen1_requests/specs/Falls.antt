@@ -1,4 +1,4 @@
--- The end of an update, in the parts that code has (docs/MECHANICS.md, "Falls and requests").
+-- The end of an update, in the parts of the code (docs/MECHANICS.md, "Falls and requests").
 use Rattle.std.specs.Prelude.{◌<◌, ◌||◌, ◌≡◌}
 use Rattle.gen1_layout.specs.Words.{Bool, Frame, None, Option, Phase, Progress, Shows, Some, Telling, false, true, ℕ}
 use Rattle.gen1_machine.specs.declared.side.Side.TheVariants.{One, Two}
@@ -9,16 +9,17 @@ use Rattle.gen1_machine.specs.Progress.{choose, has_fallen}
 use Rattle.gen1_machine.specs.Ruling.{ruling_of}
 use Rattle.gen1_layout.specs.Parts.{Parts}
 
--- the number of the fault by which a battle ended
+-- The number of the fault that ended a battle.
 abbrev pub fault_in : Outcome → Option ℕ
 fault_in (Fault n) = Some n
 fault_in _ = None
 
--- what is asked next where nothing is decided
+-- What is asked for next, if nothing is decided.
 abbrev pub ask_next : Phase
 ask_next = choose (λ p. has_fallen One p || has_fallen Two p) ask_for_switches ask_for_moves
 
--- by whether the battle is decided: it has ended and the rest of the update falls away, or nothing has happened and a turn is left
+-- By whether the battle is decided. Either it has ended and the rest of the update is skipped, or nothing has
+-- happened and a turn is left.
 abbrev pub Decides : Frame → Parts → Telling → Bool → Progress → Type 0
 Decides g parts events true p = Shows g parts events true (end_if_decided (ruling_of g.setting.terms) p)
 Decides g parts events false p = (end_if_decided (ruling_of g.setting.terms) p ≡ p) × Shows g parts events false p × (p.field.turn < g.setting.terms.limit)

@@ -1,4 +1,4 @@
--- What an update is begun for, and how it leaves the bytes, the events and the generator.
+-- The start of an update, and how it leaves the bytes, the events and the generator.
 pub mod Updates
 -- A member that comes out.
 pub mod SwitchingIn
@@ -6,5 +6,5 @@ pub mod SwitchingIn
 pub mod Falls
 -- What each side may choose, as a set.
 pub mod OfferedChoices
--- The same as a number.
+-- The same set as a number.
 pub mod OfferedMask

@@ -1,4 +1,4 @@
--- What each side may choose, as a set: each choice with the condition under which it is offered (docs/MECHANICS.md, "Offered
+-- What each side may choose, as a set: each choice with the condition for offering it (docs/MECHANICS.md, "Offered
 -- choices").
 use Rattle.std.specs.Prelude.{false, is_some, map, true, zero, ℕ, ◌≡◌, ◌≢◌, ◌≤◌, ◌⊎◌, ◌↔◌}
 use Rattle.std.specs.List.Sorted.{IsStrictlyIncreasing}
@@ -14,20 +14,20 @@ use Rattle.gen1_machine.specs.State.{State, active_in}
 use Rattle.gen1_machine.specs.Step.{is_among}
 use Rattle.gen1_machine.specs.Valid.{IsState}
 
--- a living member that is not out
+-- A living member that isn't out.
 pub record MayComeOut (s : Side) (f : Field) (place : ℕ) : Type 0 where
   pub counted : 1 ≤ place
   pub lives : is_living (member_at place (party s f)) ≡ true
   pub waits : place ≢ (active_in s f).place
 
--- what leaves the member no choice: Recharge, Rage, Thrash or Charging is on
+-- The member has no choice: Recharge, Rage, Thrash or Charging is on.
 pub data IsCommitted (s : Side) (f : Field) : Type 0 where
   recharges : (underway_in s f).recharge ≡ true → IsCommitted s f
   rages : (underway_in s f).rage ≡ true → IsCommitted s f
   thrashes : is_some (underway_in s f).thrash ≡ true → IsCommitted s f
   charges : (underway_in s f).charging ≡ true → IsCommitted s f
 
--- what leaves it no slot: it is asleep or frozen, has Bide or Trapping, or its foe has Trapping
+-- The member has no slot: it is asleep or frozen, it has Bide or Trapping, or its foe has Trapping.
 pub data HasNoSlot (s : Side) (f : Field) : Type 0 where
   sleeps : is_asleep (status_in s f) ≡ true → HasNoSlot s f
   freezes : is_frozen (status_in s f) ≡ true → HasNoSlot s f
@@ -35,18 +35,19 @@ pub data HasNoSlot (s : Side) (f : Field) : Type 0 where
   traps : is_some (underway_in s f).trapping ≡ true → HasNoSlot s f
   is_trapped : is_some (underway_in (other s) f).trapping ≡ true → HasNoSlot s f
 
--- a slot that has PP and is not disabled
+-- A slot that has PP and isn't disabled.
 pub record IsUsable (s : Side) (f : Field) (slot : ℕ) : Type 0 where
   pub counted : 1 ≤ slot
   pub has_pp : 1 ≤ (known_in slot (member_in s f).moves).pp
   pub is_free : bars_slot (conditions_in s f).disabled slot ≡ false
 
--- moves: Move 0 where there is no choice, no slot, or none that is usable; else the usable slots
+-- The moves. Move 0 is offered if there is no choice, no slot, or no usable slot. Otherwise the usable slots are
+-- offered.
 abbrev pub MayMove : Side → Field → ℕ → Type 0
 MayMove s f zero = IsCommitted s f ⊎ HasNoSlot s f ⊎ ((slot : ℕ) → IsUsable s f slot → ⊥)
 MayMove s f slot = (IsCommitted s f → ⊥) × (HasNoSlot s f → ⊥) × IsUsable s f slot
 
--- by what is asked
+-- By the request.
 abbrev pub MayChoose : Request → Side → Field → Choice → Type 0
 MayChoose requests.Pass s f choices.Pass = Unit {0}
 MayChoose requests.Switch s f (choices.Switch place) = MayComeOut s f place
@@ -54,15 +55,15 @@ MayChoose requests.Move s f (choices.Move slot) = MayMove s f slot
 MayChoose requests.Move s f (choices.Switch place) = (IsCommitted s f → ⊥) × MayComeOut s f place
 MayChoose _ s f choice = ⊥
 
--- and nothing once the battle is over
+-- Once the battle is over, no choice is offered.
 abbrev pub IsOffered : Side → Field → Choice → Type 0
 IsOffered s f choice = (f.outcome ≡ Ongoing) × MayChoose (request_of s f) s f choice
 
--- the machine's list is this set: a choice is in it exactly where it is offered
+-- The machine's list is this set: a choice is in it exactly if it is offered
 
 abbrev pub OffersTheSet : Type 0
 OffersTheSet = (s : Side) (f : Field) (choice : Choice) → (is_among choice (offered s f) ≡ true) ↔ IsOffered s f choice
 
--- and the bytes of what it lists rise
+-- The bytes of the list rise.
 abbrev pub OffersRising : Type 0
 OffersRising = (s : Side) (t : State) → IsState t → IsStrictlyIncreasing (map byte_of_choice (offered s t.field))

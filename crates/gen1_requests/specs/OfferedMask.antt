@@ -9,7 +9,7 @@ use Rattle.gen1_stats.specs.Members.{is_living}
 use Rattle.gen1_machine.specs.State.{Field, State, conditions_in, known_in, member_at, member_in, party}
 use Rattle.gen1_machine.specs.Step.{is_among}
 
--- every choice that there is, by rising bytes
+-- All choices, by rising bytes
 
 abbrev pub moves_and_pass : List Choice
 moves_and_pass = Pass ∷ Move 0 ∷ Move 1 ∷ Move 2 ∷ Move 3 ∷ Move 4 ∷ []
@@ -20,7 +20,7 @@ switches = Switch 1 ∷ Switch 2 ∷ Switch 3 ∷ Switch 4 ∷ Switch 5 ∷ Swit
 abbrev pub all_choices : List Choice
 all_choices = moves_and_pass ++ switches
 
--- of each of these choices, whether it is among those that are offered: binary digits, from the lowest on
+-- Whether each of these choices is among those offered, as binary digits, from the lowest one.
 abbrev pub digits_of : List Choice → List Choice → List Bool
 digits_of choices list = map (λ (choice : Choice). is_among choice list) choices
 
@@ -30,7 +30,7 @@ mask_of list = number_of_bits (digits_of all_choices list)
 abbrev pub offered_mask : State → Side → ℕ
 offered_mask s side = mask_of (offered side s.field)
 
--- and back: the choices whose binary digits are 1
+-- From digits to choices: those whose digits are 1
 
 abbrev pub chosen_by : ℕ → List Choice → List Choice
 chosen_by mask [] = []
@@ -40,9 +40,9 @@ chosen_by mask (choice ∷ choices) =
 unfoldable pub choices_in : ℕ → List Choice
 choices_in mask = chosen_by mask all_choices
 
--- the parts that code gathers
+-- The parts that the code gathers
 
--- of each place, whether a living member stands there
+-- For each place, whether a living member is there.
 abbrev pub living_of : Side → Field → List Bool
 living_of s f =
     is_living (member_at 1 (party s f)) ∷ is_living (member_at 2 (party s f)) ∷ is_living (member_at 3 (party s f))
@@ -51,11 +51,11 @@ living_of s f =
 abbrev pub is_usable : Side → Field → ℕ → Bool
 is_usable s f slot = nat_lt 0 (known_in slot (member_in s f).moves).pp && not (bars_slot (conditions_in s f).disabled slot)
 
--- of each slot, whether it has PP and is not disabled
+-- For each slot, whether it has PP and isn't disabled.
 abbrev pub usable_of : Side → Field → List Bool
 usable_of s f = is_usable s f 1 ∷ is_usable s f 2 ∷ is_usable s f 3 ∷ is_usable s f 4 ∷ []
 
--- tests by rising numbers, from one on, but for that with a number
+-- Tests by rising numbers from one number on, with that of one number set to false.
 abbrev pub passing : ℕ → ℕ → List Bool → List Bool
 passing k out [] = []
 passing k out (b ∷ bs) = (b && not (k == out)) ∷ passing (k + 1) out bs

@@ -1,4 +1,4 @@
--- A member that comes out, in the words of its writer (docs/MECHANICS.md, "Switching in").
+-- A member that comes out, in the terms of the function that writes it (docs/MECHANICS.md, "Switching in").
 use Rattle.std.specs.Prelude.{List, [], max, ◌/◌, ◌∷◌}
 use Rattle.gen1_layout.specs.Parts.{Parts}
 use Rattle.gen1_layout.specs.Words.{Event, Field, Member, Setting, Side, changed_active, member_at, party, ℕ}
@@ -9,7 +9,7 @@ use Rattle.gen1_machine.specs.Plans.{InRange}
 use Rattle.gen1_machine.specs.State.{health_of}
 use Rattle.gen1_machine.specs.SwitchingIn.{with_sent_out}
 
--- the penalty that a status brings along: a halved Attack, or a quartered Speed
+-- The penalty that a status brings: a halved Attack, or a quartered Speed
 
 abbrev pub halvings_of : Status → ℕ
 halvings_of Burned = 1
@@ -19,20 +19,20 @@ abbrev pub quarterings_of : Status → ℕ
 quarterings_of Paralysed = 1
 quarterings_of _ = 0
 
--- four own stats with that penalty, Attack and Speed at least 1
+-- The four own stats with that penalty. Attack and Speed are at least 1.
 abbrev pub stats_out : Status → ℕ → ℕ → ℕ → ℕ → List ℕ
 stats_out Burned attack defense speed special = max 1 (attack / 2) ∷ defense ∷ speed ∷ special ∷ []
 stats_out Paralysed attack defense speed special = attack ∷ defense ∷ max 1 (speed / 4) ∷ special ∷ []
 stats_out _ attack defense speed special = attack ∷ defense ∷ speed ∷ special ∷ []
 
--- the member at a place is out, and nothing else has changed
+-- The member at a place is out, and nothing else has changed.
 abbrev pub with_out : Side → ℕ → Field → Field
 with_out s place f = changed_active s (with_sent_out place (member_at place (party s f))) f
 
--- wherever the parts stood for a field, in this sense, they now stand for it with the member at a place out
+-- Whenever the parts represented a field, they now represent it with the member at a place out.
 abbrev pub PutsOut : (Setting → Parts → Field → Type 0) → Side → ℕ → Parts → Parts → Type 0
 PutsOut StandsFor s place old new = (g : Setting) (f : Field) → StandsFor g old f → InRange s place f → StandsFor g new (with_out s place f)
 
--- what is told of it
+-- The event for a member that comes out.
 abbrev pub coming_out : Side → ℕ → Member → Event
 coming_out s place m = Switch (record { side = s; species = m.species }) place m.level (health_of m)

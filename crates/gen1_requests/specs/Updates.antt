@@ -1,4 +1,4 @@
--- What an update is begun for, and how it leaves the bytes, the events and the generator (docs/MECHANICS.md, "Falls and
+-- The start of an update, and how it leaves the bytes, the events and the generator (docs/MECHANICS.md, "Falls and
 -- requests").
 use Rattle.std.specs.Prelude.{◌≡◌, ◌⊎◌}
 use Rattle.gen1_layout.specs.Words.{Event, Frame, List, Progress, Setting, Telling, Within, false, true, ℕ}
@@ -15,39 +15,39 @@ use Rattle.gen1_machine.specs.Valid.{IsUnstarted}
 use Rattle.gen1_layout.specs.Parts.{Parts}
 use Rattle.gen1_layout.specs.Within.{setting_of, Stands}
 
--- an update as it begins
+-- An update at its start.
 abbrev pub beginning : State → Frame
 beginning s = record { setting = setting_of s; stream = Link s.seed; drawn = s.drawn; skips = false; action = new_action One }
 
--- the update is begun on any stream, at any place in it
+-- The update begins on any stream, at any place in it.
 abbrev pub drawing_on : Stream → ℕ → State → Progress
 drawing_on stream drawn s = record (opened s) { stream = stream; drawn = drawn }
 
--- a battle that goes on, in which this was asked of a side, and each side has chosen among what it was offered
+-- A battle that goes on. This was asked from a side, and each side has chosen one of its offered choices.
 pub record Plays (s : State) (asked : Request) (one two : Choice) : Type 0 where
   pub goes_on : s.field.outcome ≡ Ongoing
   pub asked_for : (s.field.request_one ≡ asked) ⊎ (s.field.request_two ≡ asked)
   pub first : offers s One one ≡ true
   pub second : offers s Two two ≡ true
 
--- a battle before its first update
+-- A battle before its first update.
 pub record Starts (s : State) : Type 0 where
   pub goes_on : s.field.outcome ≡ Ongoing
   pub unstarted : IsUnstarted s.terms s.field
 
--- the bytes and the events are those of q, and no draw was made
+-- The bytes and the events are those of q, and nothing was drawn.
 pub record Updated (g : Setting) (parts : Parts) (events : Telling) (q : Progress) : Type 0 where
   pub within : Within g parts q.field
   pub written : events q.events
   pub drawn : q.drawn ≡ g.drawn
 
--- the same with draws, after which the generator stands where q has drawn to
+-- The same with draws. Afterwards the generator is at the place that q has drawn to.
 pub record UpdatedDrawing {A : Type 0} (byte : A → ℕ) (next : A → A) (width : ℕ) (origin : A) (stream : Stream) (g : Setting) (parts : Parts) (events : Telling) (now : A) (q : Progress) : Type 0 where
   pub within : Within g parts q.field
   pub written : events q.events
   pub stands : StandsAt byte next width origin stream q.drawn now
 
--- the bytes stand for the state that follows by a pair of choices, which was accepted with the events that were told
+-- The bytes represent the state after a pair of choices. The pair was accepted, with these events.
 pub record Steps (s : State) (one two : Choice) (parts : Parts) (events : Telling) : Type 0 where
   pub stands : Stands parts (step s one two).state
   pub told : List Event

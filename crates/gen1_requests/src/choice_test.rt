@@ -1,5 +1,5 @@
-//! Whether a side may make a choice, tested without the list of what it is offered (docs/MECHANICS.md, "Offered choices"), by the
-//! few bytes that this depends on.
+//! Whether a side may make a choice, from the few bytes that this depends on and without the list of its choices
+//! (docs/MECHANICS.md, "Offered choices").
 ghost use Rattle.std.specs.Prelude.{nat_lt, not, ◌&&◌, ◌==◌, ◌||◌, ◌≡◌, ◌≤◌};
 ghost use Rattle.gen1_layout.specs.Words.{Field, Reads, Setting, Within, active_in, conditions_in, status_in, underway_in};
 ghost use Rattle.gen1_layout.specs.Within.{Stands};
@@ -16,12 +16,14 @@ use gen1_layout::{Conditions, Packed};
 use gen1_machine::{Choice, Side};
 
 /// Whether a choice is one of those that [`offered`](crate::offered) lists for the side (docs/MECHANICS.md, "Offered
-/// choices"). The list is not made, so this takes a fraction of its time.
+/// choices").
+///
+/// It doesn't make the list, so it takes a fraction of the time.
 #[inline(always)] // docs/SPEED.md, "Hints on inlining"
 pub fn is_offered(battle: &Packed, side: Side, choice: &Choice) -> bool
     ensures { (s : State) → Stands battle.now s → result ≡ offers s side choice.now }
 {
-    // With the side known, no address depends on it.
+    // The compiler knows the side in each arm, so each address is a constant.
     match side {
         Side::One => fits(battle, Side::One, choice),
         Side::Two => fits(battle, Side::Two, choice),
@@ -39,7 +41,7 @@ fn fits(battle: &Packed, side: Side, choice: &Choice) -> bool
     }
 }
 
-// The battle goes on wherever something is asked of a side, so the outcome is looked at only where nothing is.
+// If something is asked from a side, the battle goes on. So the outcome is tested only if nothing is asked.
 #[inline(always)]
 fn fits_pass(battle: &Packed, side: Side) -> bool
     ensures { (s : State) → Stands battle.now s → result ≡ offers s side choices.Pass }
@@ -78,7 +80,7 @@ fn fits_switch(battle: &Packed, side: Side, place: u8) -> bool
     false
 }
 
-// Where a move is asked: a slot, or what is left where no slot can be chosen.
+// A move is asked for: a slot, or slot 0 if no slot can be chosen.
 #[inline(always)]
 fn may_use(battle: &Packed, side: Side, slot: u8) -> bool
     requires { slot ≤ 4 }
@@ -95,7 +97,7 @@ fn may_use(battle: &Packed, side: Side, slot: u8) -> bool
     has_use(battle, side, slot, battle.pp_at(side, place, slot))
 }
 
-// Whether a slot with so much PP is usable.
+// Whether a slot with these PP is usable.
 #[inline(always)]
 fn has_use(battle: &Packed, side: Side, slot: u8, pp: u8) -> bool
     ensures { Reads battle.now result λ f. nat_lt 0 pp && not
@@ -104,7 +106,7 @@ fn has_use(battle: &Packed, side: Side, slot: u8, pp: u8) -> bool
     pp > 0 && !is_disabled(battle, side, slot)
 }
 
-// What is left is offered to who is committed, to who can pick no slot, and where no slot is usable.
+// Slot 0 is offered to a member that is committed, to one that can pick no slot, and if no slot is usable.
 #[inline(always)] // docs/SPEED.md, "Hints on inlining"
 fn picks_nothing(battle: &Packed, side: Side) -> bool
     ensures { Reads battle.now result λ f. is_among (choices.Move 0)
@@ -119,7 +121,8 @@ fn picks_nothing(battle: &Packed, side: Side) -> bool
     usable(battle, side, battle.member(side, battle.place(side))) == 0
 }
 
-// Whether no slot from 1 on can be chosen, by the byte of the member's status. All that it has underway is one test of its bits.
+// Whether no slot from 1 on can be chosen, by the byte of the member's status. One test of the condition bits covers
+// all that is underway.
 #[inline(always)]
 fn has_no_pick(battle: &Packed, side: Side, status: u8) -> bool
     ensures { (g : Setting) (f : Field) → Within g battle.now f
@@ -135,7 +138,7 @@ fn has_no_pick(battle: &Packed, side: Side, status: u8) -> bool
     battle.is_on(side.other(), Conditions::TRAPPING)
 }
 
-// Instead of a move.
+// A switch, instead of a move.
 #[inline(always)]
 fn may_switch_out(battle: &Packed, side: Side, place: u8) -> bool
     requires low { 1 ≤ place }
@@ -162,7 +165,7 @@ fn may_switch(battle: &Packed, side: Side, place: u8) -> bool
     lives(battle, side, place)
 }
 
-// Whether the member at a place is out, by the byte of who is.
+// Whether the member at a place is out, by the byte of the active place.
 #[inline(always)]
 fn is_out(battle: &Packed, side: Side, place: u8) -> bool
     ensures { Reads battle.now result λ f. place == (active_in side f).place }

@@ -1,5 +1,5 @@
-//! The end of an update (docs/MECHANICS.md, "Falls and requests", "Turn limit"): who has fallen, who has won, and what is asked
-//! next.
+//! The end of an update: who has fallen, who has won, and what is asked for next (docs/MECHANICS.md, "Falls and
+//! requests", "Turn limit").
 ghost use Rattle.std.specs.Prelude.{not, ◌&&◌, ◌<◌, ◌≡◌};
 ghost use Rattle.gen1_tables.specs.Types.{any};
 ghost use Rattle.gen1_layout.specs.Words.{AddsAtMost, AddsNone, Bool, Does, Event as EventOf, Field, Frame, HasRoom, List, Progress, Reads, Setting, Shows, Told, Within, false, is_living, nat_le, party, true, ◌▸◌};
@@ -17,11 +17,13 @@ use gen1_events::EventSink;
 use gen1_layout::Packed;
 use gen1_machine::{Event, FaultCode, Outcome, Request, Side, TurnNumber};
 
-/// Closes an update whose last actor was `actor`: the side that acted, was skipped, or was sent out last in a turn, and side 1
-/// where there was no turn. The fallen who are out faint, the foe of `actor` first; then the battle ends with a win or a tie, or
-/// switches are asked of who has fallen, or the turn number rises by 1 and moves are asked of both. Where the outcome is a fault
-/// nobody faints, and nothing is asked any more. At most 3 events are written (docs/MECHANICS.md, "Falls and requests", "Turn
-/// limit").
+/// Closes an update whose last actor was `actor` (docs/MECHANICS.md, "Falls and requests", "Turn limit").
+///
+/// `actor` is the side that acted, was skipped, or was sent out last in a turn. It is side 1 if there was no turn.
+///
+/// The fallen members that are out faint, the foe of `actor` first. Then the battle ends with a win or a tie, or each
+/// side with a fallen member is asked for a switch, or the turn number rises by 1 and both sides are asked for moves.
+/// If the outcome is a fault, no member faints, and nothing more is asked for. It writes at most 3 events.
 #[inline(always)] // docs/SPEED.md, "Hints on inlining"
 pub fn close<S: EventSink>(battle: &mut Packed, actor: Side, events: &mut S)
     requires space { HasRoom S.room 3 events.old }
@@ -81,7 +83,7 @@ fn faint_and_settle<S: EventSink>(battle: &mut Packed, actor: Side, events: &mut
     settle(battle, events);
 }
 
-// One look for the many updates in which nobody faints.
+// One test covers the many updates in which no member faints.
 fn nobody_has_fallen(battle: &Packed) -> bool
     ensures stands { Reads battle.now result λ f.
         (not (has_fallen_in sides.One f) && not (has_fallen_in sides.Two f)) }
@@ -89,7 +91,7 @@ fn nobody_has_fallen(battle: &Packed) -> bool
     !battle.has_fallen(Side::One) && !battle.has_fallen(Side::Two)
 }
 
-// What is settled where both live who are out: neither side has lost.
+// What is settled while both members that are out live: neither side has lost.
 fn go_on<S: EventSink>(battle: &mut Packed, events: &mut S)
     requires space { HasRoom S.room 1 events.old }
     ensures shown { (g : Frame) (p : Progress) → has_fallen_in sides.One p.field ≡ false
@@ -180,7 +182,7 @@ fn end_if_decided<S: EventSink>(battle: &mut Packed, events: &mut S) -> bool
     false
 }
 
-// Where who is out lives, nobody else need be looked at.
+// If the member that is out lives, the others need no test.
 fn has_living(battle: &Packed, side: Side) -> bool
     ensures { Reads battle.now result λ f. any is_living (party side f).members }
 {
@@ -210,7 +212,7 @@ fn ask_nothing(battle: &mut Packed)
     battle.put_requests(Request::Pass, Request::Pass);
 }
 
-// A switch of each side that has fallen, and else moves of both in the next turn.
+// A switch for each side whose member has fallen, otherwise moves of both for the next turn.
 fn ask_next<S: EventSink>(battle: &mut Packed, events: &mut S)
     requires space { HasRoom S.room 1 events.old }
     ensures shown { (g : Frame) (p : Progress) → p.field.turn < g.setting.terms.limit

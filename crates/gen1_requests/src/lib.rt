@@ -1,14 +1,14 @@
-//! What each side of a battle is asked, and what it may answer: members that come out, falls, the end of an update and the next
-//! request (docs/MECHANICS.md, "Switching in", "Falls and requests", "Offered choices").
+//! What each side of a battle is asked for and may choose, members that come out, falls, and the end of an update
+//! (docs/MECHANICS.md, "Switching in", "Falls and requests", "Offered choices").
 //!
 //! - `offered_choices`: what each side may choose
-//! - `choice_test`: whether a choice is among that
+//! - `choice_test`: whether a choice is among these
 //! - `masks`: the same as a number of twelve binary digits, read straight from the bytes
 //! - `mask_choices`: the choices of such a number: how many, and which is at a place
 //! - `switching_in`: a member that comes out
-//! - `start_and_replace`: updates in which members come out and nobody acts
+//! - `start_and_replace`: updates in which members come out and none acts
 //! - `falls`: the end of an update
-//! - `laws`: what holds of all offered choices
+//! - `laws`: what holds for all offered choices
 #![tactic(auto)]
 
 mod choice_test;

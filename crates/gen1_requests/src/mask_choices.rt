@@ -1,4 +1,5 @@
-//! The choices of a mask of what is offered (docs/MECHANICS.md, "Offered choices"): how many, and which is at a place.
+//! The choices of a mask of offered choices (docs/MECHANICS.md, "Offered choices"): how many, and which is at a
+//! place.
 ghost use Rattle.std.specs.Prelude.{length, slice_index_or, ◌<◌, ◌≡◌};
 ghost use Rattle.gen1_machine.specs.OfferedChoices.{offered};
 ghost use Rattle.gen1_machine.specs.State.{State};
@@ -9,7 +10,8 @@ ghost use Rattle.gen1_requests.specs.OfferedMask.{all_choices, choices_in, offer
 
 use gen1_machine::{Choice, MoveSlot, Place};
 
-/// How many choices a mask of [`offered_mask`](crate::offered_mask) has: none once the battle is over.
+/// The number of choices of a mask of [`offered_mask`](crate::offered_mask). It is 0 once the battle is over
+/// (docs/MECHANICS.md, "Offered choices").
 #[inline(always)]
 pub fn count_of(mask: u16) -> u8
     requires twelve { mask < 4096 }
@@ -20,8 +22,9 @@ pub fn count_of(mask: u16) -> u8
     mask.count_ones() as u8
 }
 
-/// The choice at a place of a mask, counted from 0 by rising bytes: the same as at that place of
-/// [`offered`](crate::offered).
+/// The choice at a place of a mask, counted from 0 by rising bytes (docs/MECHANICS.md, "Offered choices").
+///
+/// It is the choice at that place of [`offered`](crate::offered).
 #[inline(always)]
 pub fn choice_at(mask: u16, place: u8) -> Choice
     requires twelve { mask < 4096 }
@@ -31,14 +34,14 @@ pub fn choice_at(mask: u16, place: u8) -> Choice
         → result ≡ slice_index_or (offered side s.field) place choices.Pass }
 {
     let mut rest = mask;
-    // Each round takes the lowest digit away that is 1.
+    // Each round clears the lowest digit that is 1.
     'rounds: for _ in 0..place {
         rest = rest & (rest - 1);
     }
     choice_of_digit(rest.trailing_zeros())
 }
 
-// The choice that a digit stands for.
+// The choice that a digit represents.
 #[inline(always)]
 fn choice_of_digit(digit: u32) -> Choice
     requires { digit < 12 }

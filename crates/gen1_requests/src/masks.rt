@@ -1,5 +1,5 @@
-//! What a side may choose, as a number of twelve binary digits (docs/MECHANICS.md, "Offered choices"), read straight from the
-//! bytes. Digits are gathered from the highest down: each is one comparison with memory.
+//! What a side may choose, as a number of twelve binary digits, read straight from the bytes (docs/MECHANICS.md,
+//! "Offered choices"). Digits are gathered from the highest down, and each is one comparison with memory.
 ghost use Rattle.std.specs.Prelude.{Bool, List, [], false, length, nat_lt, ◌*◌, ◌++◌, ◌+◌, ◌<◌, ◌≡◌, ◌≤◌, ◌∷◌};
 ghost use Rattle.gen1_layout.specs.Words.{Field, Packs, Reads, Setting, Within, is_living, member_at, member_in, party, request_of, status_in};
 ghost use Rattle.gen1_layout.specs.Within.{Stands};
@@ -15,18 +15,20 @@ use bitflags::Flags;
 use gen1_layout::{Conditions, Packed};
 use gen1_machine::{Outcome, Side};
 
-// The status bytes of who sleeps or is frozen, and no other, have one of these bits.
+// The status bytes of sleeping and frozen members have one of these bits. No other status byte has.
 pub(crate) const SLEEPS_OR_FREEZES: u8 = 0x27;
 
-/// What a side may choose, as a number: its twelve binary digits say of each choice, by rising bytes from the lowest digit on,
-/// whether it is offered (docs/MECHANICS.md, "Offered choices"). Pass is digit 0, Move with slot 0 to 4 digits 1 to 5, Switch to
-/// place 1 to 6 digits 6 to 11. The number is 0 once the battle is over.
+/// What a side may choose, as a number of twelve binary digits (docs/MECHANICS.md, "Offered choices").
+///
+/// Each digit says whether a choice is offered. By rising bytes and from the lowest digit, Pass is digit 0, Move with
+/// slots 0 to 4 is digits 1 to 5, and Switch to places 1 to 6 is digits 6 to 11. The number is 0 once the battle is
+/// over.
 #[inline(always)] // docs/SPEED.md, "Hints on inlining"
 pub fn offered_mask(battle: &Packed, side: Side) -> u16
     ensures stands { (s : State) → Stands battle.now s → result ≡ offered_mask s side }
     ensures twelve { result < 4096 }
 {
-    // With the side known, no address depends on it.
+    // The compiler knows the side in each arm, so each address is a constant.
     match side {
         Side::One => mask(battle, Side::One) as u16,
         Side::Two => mask(battle, Side::Two) as u16,
@@ -48,7 +50,7 @@ fn mask(battle: &Packed, side: Side) -> u32
     mask_to_pass(battle)
 }
 
-// The byte of what is asked of a side.
+// The byte of a side's request.
 #[inline(always)]
 pub(crate) fn asked(battle: &Packed, side: Side) -> u8
     ensures packs { (g : Setting) (f : Field) → Packs g battle.now f
@@ -60,7 +62,7 @@ pub(crate) fn asked(battle: &Packed, side: Side) -> u8
     }
 }
 
-// Where nothing is asked.
+// When nothing is asked for.
 #[inline(always)]
 fn mask_to_pass(battle: &Packed) -> u32
     ensures stands { (s : State) (side : Side) → Stands battle.now s
@@ -97,7 +99,7 @@ fn mask_to_move(battle: &Packed, side: Side) -> u32
     )
 }
 
-// Digits but for that of the switch to a place.
+// The digits, without that of the switch to a place.
 #[inline(always)]
 fn without(mask: u32, place: u8) -> u32
     requires low { 1 ≤ place }
@@ -110,7 +112,7 @@ fn without(mask: u32, place: u8) -> u32
     mask & !(1_u32 << (place as u32 + 5))
 }
 
-// Of each member, whether it lives.
+// For each member, whether it lives.
 #[inline(always)]
 fn living(battle: &Packed, side: Side) -> u32
     ensures stands { Reads battle.now result λ f. number_of_bits (living_of side f) }
@@ -133,7 +135,7 @@ pub(crate) fn lives(battle: &Packed, side: Side, place: u8) -> bool
     battle.hp_at(side, place) > 0
 }
 
-// A digit below others.
+// Appends a digit below others.
 #[inline(always)]
 fn digit(holds: bool, above: u32) -> u32
     requires few { above < 32768 }
@@ -143,7 +145,7 @@ fn digit(holds: bool, above: u32) -> u32
     2 * above + u32::from(holds)
 }
 
-// Of Pass and of each move, whether it is offered beside switches, by the bytes of the member that is out.
+// Whether Pass and each move is offered, below the digits of switches, by the bytes of the member that is out.
 #[inline(always)]
 fn moves(battle: &Packed, side: Side, member: &[u8]) -> u32
     requires { length member.now ≡ 24 }
@@ -174,7 +176,7 @@ fn picks_none(battle: &Packed, side: Side, status: u8) -> bool
     battle.is_on(side.other(), Conditions::TRAPPING)
 }
 
-// Of each slot, whether it has PP and is not disabled, above a digit that is 0.
+// For each slot, whether it has PP and isn't disabled, above one digit that is 0.
 #[inline(always)]
 pub(crate) fn usable(battle: &Packed, side: Side, member: &[u8]) -> u32
     requires { length member.now ≡ 24 }
@@ -190,8 +192,8 @@ pub(crate) fn usable(battle: &Packed, side: Side, member: &[u8]) -> u32
     }
 }
 
-// Of four bytes that are at most 63, whether each is more than 0: its sum with 127 then has its highest bit, and a product
-// brings the four highest bits together.
+// For each of four bytes of at most 63, whether it is above 0. Its sum with 127 then has its highest bit, and a
+// product brings the four highest bits together.
 #[inline(always)]
 fn some_of_four(a: u8, b: u8, c: u8, d: u8) -> u32
     ensures digits { a ≤ 63 → b ≤ 63 → c ≤ 63 → d ≤ 63

@@ -15,8 +15,9 @@ use gen1_machine::{Choice, MoveSlot, Outcome, Place, Request, Side};
 /// The choices that a side is offered: at most four moves and five switches.
 pub type Choices = ArrayVec<Choice, 9>;
 
-/// What a side may choose (docs/MECHANICS.md, "Offered choices"), by rising bytes: nothing once the battle is over. Before
-/// the first update, while nobody is out, it is Pass alone.
+/// What a side may choose, by rising bytes (docs/MECHANICS.md, "Offered choices").
+///
+/// The list is empty once the battle is over. Before the first update, while no member is out, it holds only Pass.
 pub fn offered(battle: &Packed, side: Side) -> Choices
     ensures { (s : State) → Stands battle.now s → result.items ≡ offered side s.field }
 {
@@ -117,7 +118,7 @@ pub(crate) fn is_disabled(battle: &Packed, side: Side, slot: u8) -> bool
     }
 }
 
-// Appends the switches to living members that are not out.
+// Appends the switches to living members that aren't out.
 fn add_switches(battle: &Packed, side: Side, choices: &mut Choices)
     requires room { array_vec_len choices.old ≤ 4 }
     ensures { (g : Setting) (f : Field) → Within g battle.now f
@@ -173,7 +174,7 @@ fn switch_to(place: u8) -> Choice
     }
 }
 
-// Whether something leaves the member no choice at all.
+// Whether the member has no choice but to continue.
 pub(crate) fn is_committed(battle: &Packed, side: Side) -> bool
     ensures { Reads battle.now result λ f. is_committed (underway_in side f) }
 {

@@ -1,5 +1,5 @@
-//! The two updates in which members come out and nobody acts: the first of a battle, and replacements for the fallen
-//! (docs/MECHANICS.md, "Falls and requests").
+//! The two updates in which members come out and none acts: the first of a battle, and replacements for fallen
+//! members (docs/MECHANICS.md, "Falls and requests").
 ghost use Rattle.gen1_layout.specs.Words.{AddsAtMost, Frame, HasRoom, Progress, Shows, [], false};
 ghost use Rattle.gen1_machine.specs.declared.choice.Choice.TheVariants.{Pass};
 ghost use Rattle.gen1_machine.specs.declared.side.Side.TheVariants as sides;
@@ -19,9 +19,11 @@ use gen1_events::EventSink;
 use gen1_layout::Packed;
 use gen1_machine::{Choice, Place, Side};
 
-/// The first update of a battle, by a Pass of both sides at turn 0: sends out the first member of side 1 and then of side 2,
-/// begins turn 1, and asks moves of both. Nothing is drawn. Into `events`, which is empty, go two `Switch` and a `Turn`
-/// (docs/MECHANICS.md, "Switching in", "Falls and requests").
+/// Plays the first update of a battle, in which both sides pass at turn 0 (docs/MECHANICS.md, "Switching in", "Falls
+/// and requests").
+///
+/// It sends out the first member of side 1 and then of side 2, begins turn 1, and asks both sides for moves. Nothing
+/// is drawn. `events` must be empty, and receives two `Switch` and a `Turn`.
 pub fn start<S: EventSink>(battle: &mut Packed, events: &mut S)
     requires empty { S.tells events.old [] }
     requires room { HasRoom S.room 5 events.old }
@@ -30,16 +32,17 @@ pub fn start<S: EventSink>(battle: &mut Packed, events: &mut S)
         (close_update (ruling_of s.terms) (start (opened s))) }
     ensures stepped { (s : State) → Stands battle.old s → Starts s
         → Steps s Pass Pass battle.new (S.tells events.new) }
-    // Whatever the bytes are.
+    // For any bytes.
     ensures room { AddsAtMost S.room 5 events.old events.new }
 {
     send_both_first(battle, events);
     close(battle, Side::One, events);
 }
 
-/// The update by replacements for the fallen: sends out whom the sides chose by `Choice::Switch`, side 1's first, begins the next
-/// turn, and asks moves of both. Nothing is drawn. Into `events`, which is empty, go one or two `Switch` and a `Turn`
-/// (docs/MECHANICS.md, "Switching in", "Falls and requests").
+/// Plays the update of replacements for fallen members (docs/MECHANICS.md, "Switching in", "Falls and requests").
+///
+/// It sends out the members that the sides chose by `Choice::Switch`, side 1's first, begins the next turn, and asks
+/// both sides for moves. Nothing is drawn. `events` must be empty, and receives one or two `Switch` and a `Turn`.
 pub fn replace<S: EventSink>(battle: &mut Packed, one: Choice, two: Choice, events: &mut S)
     requires empty { S.tells events.old [] }
     requires room { HasRoom S.room 5 events.old }
@@ -48,16 +51,18 @@ pub fn replace<S: EventSink>(battle: &mut Packed, one: Choice, two: Choice, even
         (close_update (ruling_of s.terms) (replace one two (opened s))) }
     ensures stepped { (s : State) → Stands battle.old s → Plays s Switch one two
         → Steps s one two battle.new (S.tells events.new) }
-    // Whatever the bytes are.
+    // For any bytes.
     ensures room { AddsAtMost S.room 5 events.old events.new }
 {
     send_both_chosen(battle, one, two, events);
     close(battle, Side::One, events);
 }
 
-/// Sends out the first member of side 1 and then of side 2, as the first update does before moves are asked: for who wants the two
-/// members that face each other, and no turn. The battle is at turn 0, and `events` is empty; two `Switch` go into it
+/// Sends out the first member of side 1 and then of side 2, as the first update does, without a turn
 /// (docs/MECHANICS.md, "Switching in").
+///
+/// It is for callers that only need two members that face each other. The battle is at turn 0. `events` must be
+/// empty, and receives two `Switch`.
 pub fn send_both_first<S: EventSink>(battle: &mut Packed, events: &mut S)
     requires space { HasRoom S.room 2 events.old }
     ensures shown { (s : State) → S.tells events.old [] → Stands battle.old s

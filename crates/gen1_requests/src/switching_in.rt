@@ -11,9 +11,10 @@ use gen1_layout::Packed;
 use gen1_machine::{Event, Place, Side, Who};
 use gen1_stats::Status;
 
-/// Sends out the member of `side` at a place of its team: with all stages 0, no condition, no current and no picked move, and
-/// with one penalty if it is paralysed or burned. The foe's Trapping ends; members, last damage and header stay as they are.
-/// One event is written, `Switch` (docs/MECHANICS.md, "Switching in").
+/// Sends out the member of `side` at a place of its team, and writes `Switch` (docs/MECHANICS.md, "Switching in").
+///
+/// All its stages are 0, no condition is on, and it has no current and no picked move. It has one penalty if it is
+/// paralysed or burned. The foe's Trapping ends. Members, last damage and header stay as they are.
 #[inline(always)] // docs/SPEED.md, "Hints on inlining"
 pub fn send_out<S: EventSink>(battle: &mut Packed, side: Side, place: Place, events: &mut S)
     requires space { HasRoom S.room 1 events.old }
@@ -27,7 +28,7 @@ pub fn send_out<S: EventSink>(battle: &mut Packed, side: Side, place: Place, eve
     battle.end_trapping(side.other());
 }
 
-// The same while a side may still have nobody out, and where the foe is not trapping.
+// The same while a side may have no member out and the foe isn't trapping.
 pub(crate) fn send_first<S: EventSink>(
     battle: &mut Packed,
     side: Side,
@@ -45,7 +46,7 @@ pub(crate) fn send_first<S: EventSink>(
     put_out(battle, side, place);
 }
 
-// What is told of a member that comes out is known before it does.
+// The event for a member that comes out depends only on what is known before.
 fn tell_coming_out<S: EventSink>(battle: &Packed, side: Side, place: Place, events: &mut S)
     requires space { HasRoom S.room 1 events.old }
     ensures told { (g : Setting) (f : Field) (told : List EventOf) → Packs g battle.now f
@@ -69,7 +70,7 @@ fn coming_out(battle: &Packed, side: Side, place: Place) -> Option<Event>
     Some(Event::Switch(Who { side, species }, place, level, health))
 }
 
-// A penalty is rare, and has code of its own, so that the stats of others are copied as eight bytes.
+// A penalty is rare. It is handled separately, so that the stats of other members are copied as eight bytes.
 fn put_out(battle: &mut Packed, side: Side, place: Place)
     ensures stands { PutsOut Within side place battle.old battle.new }
     ensures packs { PutsOut Packs side place battle.old battle.new }
@@ -103,7 +104,7 @@ fn put_out_by_status(battle: &mut Packed, side: Side, place: Place)
     }
 }
 
-// A member's own stats with the penalty that its status brings along. At stage 0 they are as they are.
+// A member's own stats with the penalty of its status. At stage 0 they are unchanged.
 fn stats_out(status: Status, attack: u16, defense: u16, speed: u16, special: u16) -> [u16; 4]
     ensures { result ≡ stats_out status attack defense speed special }
 {

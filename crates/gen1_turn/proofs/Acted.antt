@@ -1,4 +1,4 @@
--- How an action goes on from the gate, and ends.
+-- An action after the gate, and its end.
 use Rattle.std.proofs.Common.{◌≡◌}
 use Rattle.gen1_layout.proofs.Words.{Bool, Frame, Parts, Progress, ShowsDrawn, Telling, sym, true, ℕ}
 use Rattle.gen1_machine.specs.State.{is_over}
@@ -10,7 +10,7 @@ use Rattle.gen1_action.specs.declared.known.Known.{Known}
 use Rattle.gen1_action.specs.Knowing.{knowing, ShowsOver}
 
 module _ {A : Type 0} {byte : A → ℕ} {next : A → A} {width : ℕ} {origin : A} where
-  -- an action that the gate ends may have broken a substitute
+  -- An action that the gate ends may have broken a substitute.
   pub over_gate : (k : Known) (g : Frame) {parts : Parts} {events : Telling} {now : A} {p q : Progress} (answer : Gate) → stopped_by answer ≡ true
       → TellsDrawn byte next width origin (knowing k g) parts events now answer p q → ShowsOver byte next width origin k g parts events now true q
   over_gate k g Go e a = cc

@@ -1,4 +1,4 @@
--- Which effects are early and late, and how a move comes by its damage.
+-- Which effects are early and late, and how the damage of a move is found.
 use Rattle.std.proofs.Common.{◌≡◌}
 use Rattle.gen1_layout.proofs.Words.{Phase, Side, ap, choose, false, nat_lt, refl, set_last_damage, true}
 use Rattle.std.proofs.lemmas.Bool.{false≢true}
@@ -18,7 +18,7 @@ use Rattle.gen1_turn.specs.declared.action_damage.Way.{Way}
 use Rattle.gen1_turn.specs.declared.action_damage.Way.TheVariants as ways
 use Rattle.gen1_turn.specs.ByEffect.{makes_substitute, way_of}
 
--- early effects
+-- Early effects
 
 pub one-early : (e : Effect) → is_early_but_substitute e ≡ true → is_early e ≡ true
 one-early effects.Substitute is = absurd (false≢true is)
@@ -37,7 +37,7 @@ unfolding early_effect
 early-substitute s move effects.Substitute is = refl
 early-substitute s move _ is = absurd (false≢true is)
 
--- late effects
+-- Late effects
 
 pub two-late : (e : Effect) → is_late_but_bide e ≡ true → is_late e ≡ true
 two-late (effects.StatUp stat by) is = refl
@@ -58,7 +58,7 @@ unfolding late_effect
 late-bide r s move effects.Bide is = refl
 late-bide r s move _ is = absurd (false≢true is)
 
--- how a move comes by its damage
+-- How the damage of a move is found
 
 abbrev pub damage_by : Side → Move → Way → Phase
 damage_by s move ways.Counter = counter s move

@@ -1,6 +1,6 @@
 -- How an action begins and ends.
 pub mod Acted
--- Which effects are early and late, and how a move comes by its damage.
+-- Which effects are early and late, and how the damage of a move is found.
 pub mod ByEffect
 -- The number of a move, and PP.
 pub mod Used

@@ -1,4 +1,4 @@
--- How the parts of a turn follow one another, and what is planned as it goes on.
+-- How the parts of a turn follow one another, and what is planned meanwhile.
 use Rattle.std.proofs.Common.{◌+◌, ◌≡◌}
 use Rattle.gen1_layout.proofs.Words.{Bool, Frame, Parts, Phase, Progress, Shows, ShowsDrawn, Side, Telling, active_in, ap, choose-false, choose-true, draw, drawn_goes, false, given, goes, if_not, if_so, length, member_in, nat_lt, on_active, on_conditions, on_field, refl, stay, stays, still, subst, sym, then-goes, true, ℕ, ◌∙◌, ◌▸◌}
 use Rattle.gen1_rolls.specs.Streams.{byte_at, Stream}
@@ -33,7 +33,7 @@ use Rattle.gen1_action.specs.Knowing.{begun, knowing, with_broke, ShowsOver}
 use Rattle.gen1_action.specs.Planned.{Follows}
 use Rattle.gen1_turn.specs.TurnParts.{suffering, Ends, LeavesRest, PartLeaves}
 
--- what a side suffers, and whether the turn is then cut
+-- Residual damage, and whether the turn is cut after it
 
 pub cut_before : (g : Frame) (parts : Parts) (events : Telling) (s : Side) (p : Progress) → is_cut p ≡ true → Shows g parts events false p
     → LeavesRest (Shows g parts events) true (suffering s) (residual s) p
@@ -48,7 +48,7 @@ cut_after g parts events s p false now whole a = (
       ∙ choose-false is_cut stay rest (residual s p) now,
 )
 
--- a part, and what its side then suffers
+-- A part, and the residual damage after it
 
 pub sent_left : (g : Frame) {parts : Parts} {events : Telling} (parts' : Parts) (events' : Telling) (falls : Bool) (f : Phase) (s : Side) (p : Progress)
     → Shows g parts events false (f p) → LeavesRest (Shows g parts' events') falls (suffering s) (residual s) (f p)
@@ -68,7 +68,7 @@ module _ {A : Type 0} {byte : A → ℕ} {next : A → A} {width : ℕ} {origin 
     λ rest. then-goes f _ p a.1.shows.ends ∙ left.1 rest,
   )
 
-  -- beside a generator, what a switch shows
+  -- What a switch shows, with a generator that hasn't moved.
   pub over_still : (k k' : Known) (g : Frame) {broke : Bool} {parts parts' : Parts} {events events' : Telling} {now : A} {b : Bool} {p q : Progress}
       → ShowsDrawn byte next width origin (knowing (with_broke broke k) g) parts events now false p → Shows (knowing k' (record g { drawn = p.drawn })) parts' events' b q
       → ShowsOver byte next width origin k' g parts' events' now b q
@@ -79,7 +79,7 @@ module _ {A : Type 0} {byte : A → ℕ} {next : A → A} {width : ℕ} {origin 
       → (stopped : Bool) × Shows (knowing k' (record g { drawn = p.drawn })) parts' events' stopped q → Ends byte next width origin k' g parts' events' now q
   ends_still k k' g a x = (x.0, over_still k k' g a x.1)
 
-  -- the end of a turn
+  -- The end of a turn
 
   pub ends_as : (k : Known) (g : Frame) {parts : Parts} {events : Telling} {now : A} (q q' : Progress) → q ≡ q'
       → Ends byte next width origin k g parts events now q' → Ends byte next width origin k g parts events now q
@@ -89,7 +89,7 @@ module _ {A : Type 0} {byte : A → ℕ} {next : A → A} {width : ℕ} {origin 
       → Does parts events parts' events' false f → ShowsOver byte next width origin k g parts events now false p → Ends byte next width origin k g parts' events' now (f p)
   ended k g f does (broke, a) = (false, (broke, still {g' = knowing (with_broke broke k) g} a (does _ _ a.shows) refl))
 
-  -- a draw
+  -- A draw
 
   pub drawn_byte : {g : Frame} {parts : Parts} {events : Telling} {old : A} {b : Bool} {p : Progress} (d : ℕ)
       → ShowsDrawn byte next width origin g parts events old b p → d ≡ byte old → d ≡ byte_at p.stream p.drawn
@@ -104,12 +104,12 @@ module _ {A : Type 0} {byte : A → ℕ} {next : A → A} {width : ℕ} {origin 
         stands = stands_after_draw a.stands left;
       }
 
--- the same end with no generator beside it
+-- The same end without a generator.
 pub stops_as : {g : Frame} {parts : Parts} {events : Telling} (q q' : Progress) → q ≡ q' → (stopped : Bool) × Shows g parts events stopped q'
     → (stopped : Bool) × Shows g parts events stopped q
 stops_as q q' e a = rw e a
 
--- an action begins, of which nothing is known
+-- An action begins, and nothing of it is known.
 pub begun_still : (k k' : Known) (g : Frame) (broke : Bool) {parts : Parts} {events : Telling} {b : Bool} {p : Progress} (s : Side) → k' ≡ begun s k
     → Shows (knowing (with_broke broke k) g) parts events b p → Shows (knowing k' g) parts events b (begin s p)
 unfolding begin on_action
@@ -120,7 +120,7 @@ pub begins-in_range : (s t : Side) (place : ℕ) (p : Progress) → InRange t pl
 unfolding begin on_action
 begins-in_range s t place p h = h
 
--- a draw between equal Speeds
+-- A draw for equal Speeds
 
 pub tossed_one : (begins : Side → Phase) (p : Progress) (d : ℕ) → d ≡ byte_at p.stream p.drawn → nat_lt d 128 ≡ true → draw (toss begins) p ≡ begins One (record p { drawn = p.drawn + 1 })
 unfolding draw toss
@@ -130,7 +130,7 @@ pub tossed_two : (begins : Side → Phase) (p : Progress) (d : ℕ) → d ≡ by
 unfolding draw toss
 tossed_two begins p d at large = choose-false _ (begins One) (begins Two) (record p { drawn = p.drawn + 1 }) (ap (λ (n : ℕ). nat_lt n 128) (sym at) ∙ large)
 
--- what is planned
+-- What is planned
 
 pub picked-fits : (terms : Terms) (plan : Side → Plan) (s : Side) (pick : Pick) (p : Progress) → FitsPick pick (plan s) → Follows terms plan p
     → IsUsedMove (length (member_in s p.field).moves) (picked_after pick (active_in s p.field).picked_move)
@@ -153,7 +153,7 @@ room-after terms one two p h =
     ((sends-room terms a b p.field.turn one).led p (record { turned = refl; one = refl; two = refl })) in
     subst (λ (n : ℕ). IsBetween 1 n two) (sym k.two) h
 
--- a flinch that ends
+-- A flinch that ends
 
 pub flinch-planned : (terms : Terms) (plan : Side → Plan) (s : Side) → Keeps (IsPlanned terms plan) (on_conditions s without_flinch)
 flinch-planned terms plan s = on_conditions-keeps s _ (conditions-spared (planned-sound terms plan) s _ without_flinch-tame)
@@ -162,7 +162,7 @@ pub flinch-comes : (c : Choice) (s t : Side) (p : Progress) → Comes c t p.fiel
 unfolding on_conditions on_field changed_conditions
 flinch-comes c s t p h = comes-kept c s t _ p.field h
 
--- a turn, by what both choose
+-- A turn, by both choices
 
 pub picked-one : {terms : Terms} (plan : Side → Plan) (s : Side) (x : Choice) (j : ℕ) (pick : Pick) (p : Progress) → x ≡ choices.Move j → pick ≡ pick_in j s p.field
     → PlanOf x (plan s) → Follows terms plan p → Picked terms plan s pick p.field p.action p.stream

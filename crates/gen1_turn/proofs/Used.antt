@@ -1,4 +1,4 @@
--- The number of a move that is used, and a member that stays as it is.
+-- The number of a used move, and a member that stays as it is.
 use Rattle.std.proofs.Common.{if◌then◌else◌, set, ◌&&◌, ◌-◌, ◌≡◌}
 use Rattle.gen1_layout.proofs.Words.{Active, Bool, Field, Frame, IsBetween, List, Member, None, Parts, Progress, Shows, Side, Some, Telling, active_in, ap, changed_active, changed_member, false, given, member_in, nat_le, nobody, on_active, on_field, refl, subst, sym, true, ℕ, ◌∙◌}
 use Rattle.std.proofs.lemmas.List.{set-get_or}
@@ -8,7 +8,7 @@ use Rattle.gen1_machine.specs.State.{with_current_move, with_picked_move}
 use Rattle.gen1_machine.proofs.Acts.{unchanged}
 use Rattle.gen1_status.proofs.Comparing.{at_most}
 
--- what a number makes
+-- The move of a number
 
 pub made : (n id : ℕ) → (if nat_le 1 n && nat_le n 165 then Some n else None) ≡ Some id → id ≡ n
 made n id e = by (nat_le 1 n && nat_le n 165) e
@@ -23,7 +23,7 @@ some_made n h e =
     let high : nat_le n 165 ≡ true = at_most n 165 h.1 in
     let gone : Some n ≡ None = rw (low, high) at e in cc
 
--- a change that leaves a member as it is
+-- A change that leaves a member as it is
 
 pub unchanged-member : (s : Side) (change : Member → Member) (f : Field) → change (member_in s f) ≡ member_in s f → changed_member s change f ≡ f
 unfolding changed_member
@@ -34,7 +34,7 @@ unchanged-member Two change f same =
     ap (λ (m : Member). record f { two = record f.two { members = set f.two.members (f.two.active.place - 1) m } }) same
     ∙ ap (λ (ms : List Member). record f { two = record f.two { members = ms } }) (set-get_or f.two.members (f.two.active.place - 1) nobody)
 
--- a pick that is no move's leaves the current move, and what is picked where the foe does not hold its member
+-- A pick without a move keeps the current move, and the picked move unless the foe holds the member
 
 same_picked : (s : Side) (f : Field) → changed_active s (with_picked_move (active_in s f).picked_move) f ≡ f
 unfolding changed_active with_picked_move

@@ -1,4 +1,4 @@
--- How a move comes by its damage, and which makes a substitute, by its effect (docs/MECHANICS.md, "Action").
+-- How the damage of a move is found, and which move makes a substitute, by its effect (docs/MECHANICS.md, "Action").
 use Rattle.std.specs.Prelude.{Bool, false, true}
 use Rattle.gen1_tables.specs.declared.effect.Effect.{Effect}
 use Rattle.gen1_tables.specs.declared.effect.Effect.TheVariants as effects
@@ -12,7 +12,7 @@ way_of effects.SuperFang = ways.Fixed
 way_of effects.OneHitKnockOut = ways.KnockOut
 way_of _ = ways.Usual
 
--- the early effect that costs HP
+-- The early effect that costs HP.
 abbrev pub makes_substitute : Effect → Bool
 makes_substitute effects.Substitute = true
 makes_substitute _ = false

@@ -1,4 +1,4 @@
--- What the parts of a turn show, each with what its side then suffers (docs/MECHANICS.md, "Order of a turn").
+-- What the parts of a turn show, each with the residual damage of its side (docs/MECHANICS.md, "Order of a turn").
 use Rattle.std.specs.Prelude.{◌∷◌, ◌≡◌}
 use Rattle.gen1_layout.specs.Words.{Bool, Event, Frame, List, Phase, Progress, ShowsDrawn, Side, Telling, Told, [], false, other, true, ℕ, ◌▸◌}
 use Rattle.gen1_machine.specs.declared.choice.Choice.{Choice}
@@ -14,49 +14,49 @@ use Rattle.gen1_action.specs.declared.known.Known.{Known}
 use Rattle.gen1_action.specs.Knowing.{ShowsOver}
 use Rattle.gen1_action.specs.Planned.{Follows}
 
--- who begins: nothing changes but the draws, and whatever follows in the machine follows with this side
+-- The side that begins. Nothing changes but the draws, and any phase that follows in the machine gets this side.
 abbrev pub Orders : {A : Type 0} → (A → ℕ) → (A → A) → ℕ → Parts → A → A → Side → ((Side → Phase) → Phase) → Type 0
 Orders {A = A} byte next width parts old new result order =
     (origin : A) (g : Frame) (events : List Event) (p : Progress) → ShowsDrawn byte next width origin g parts (Told events) old false p
     → (n : ℕ) × ShowsDrawn byte next width origin g parts (Told events) new false (record p { drawn = n })
     × ((begins : Side → Phase) → order begins p ≡ begins result (record p { drawn = n }))
 
--- what is shown where the rest of a turn may fall away. Where it does, all of the turn is shown, whatever its rest is; else what
--- was done before the rest is shown, and the rest is all that is left
+-- What is shown when the rest of a turn may be skipped. If it is skipped, the whole turn is shown, whatever its rest
+-- is. Otherwise what came before the rest is shown, and only the rest is left.
 abbrev pub LeavesRest : (Bool → Progress → Type 0) → Bool → (Phase → Phase) → Phase → Progress → Type 0
 LeavesRest Shown true before done p = (rest : Phase) → (stopped : Bool) × Shown stopped (before rest p)
 LeavesRest Shown false before done p = Shown false (done p) × ((rest : Phase) → before rest p ≡ rest (done p))
 
--- what a side suffers, before the rest of a turn that is not cut
+-- A side's residual damage, before the rest of a turn that isn't cut.
 abbrev pub suffering : Side → Phase → Phase
 suffering s rest = unless is_cut (residual s ▸ unless is_cut rest)
 
--- a part of a turn, and what its side then suffers
+-- A part of a turn, and the residual damage of its side.
 abbrev pub PartLeaves : (Bool → Progress → Type 0) → Bool → Phase → Side → Progress → Type 0
 PartLeaves Shown falls part s = LeavesRest Shown falls (λ rest. part ▸ suffering s rest) (λ p. residual s (part p))
 
--- a side's action by this pick, and what the side then suffers
+-- A side's action by this pick, and its residual damage.
 abbrev pub ActsAndSuffers : {A : Type 0} → (A → ℕ) → (A → A) → ℕ → Side → Pick → Parts → Telling → A → Known → Parts → Telling → A → Known → Bool → Type 0
 ActsAndSuffers {A = A} byte next width side pick parts events old k parts' events' new k' falls =
     (origin : A) (g : Frame) (p : Progress) (plan : Side → Plan) → FitsPick pick (plan side) → Follows g.setting.terms plan p
     → ShowsOver byte next width origin k g parts events old false p
     → PartLeaves (ShowsOver byte next width origin k' g parts' events' new) falls (do_part (ruling_of g.setting.terms) (Acts side pick)) side p
 
--- code of a turn, of which nobody asks whether the rest then falls away
+-- Code of a turn, for callers to which it doesn't matter whether the rest is skipped.
 abbrev pub Ends : {A : Type 0} → (A → ℕ) → (A → A) → ℕ → A → Known → Frame → Parts → Telling → A → Progress → Type 0
 Ends byte next width origin k g parts events now p = (stopped : Bool) × ShowsOver byte next width origin k g parts events now stopped p
 
--- it does what a phase does under the rules of the battle, where so much is asked of what both sides plan
+-- It does what a phase does under the rules of the battle, if the plans of both sides meet a premise.
 abbrev pub DoesTurn : {A : Type 0} → (A → ℕ) → (A → A) → ℕ → Parts → Telling → A → Known → Parts → Telling → A → Known → ((Side → Plan) → Progress → Type 0) → (Ruling → Phase) → Type 0
 DoesTurn {A = A} byte next width parts events old k parts' events' new k' Asks phase =
     (origin : A) (g : Frame) (p : Progress) (plan : Side → Plan) → Asks plan p → Follows g.setting.terms plan p
     → ShowsOver byte next width origin k g parts events old false p
     → Ends byte next width origin k' g parts' events' new (phase (ruling_of g.setting.terms) p)
 
--- what is asked of the plans for these choices
+-- The premise about the plans for these choices.
 abbrev pub Chooses : Choice → Choice → (Side → Plan) → Progress → Type 0
 Chooses one two plan p = PlanOf one (plan One) × PlanOf two (plan Two) × Comes one One p.field × Comes two Two p.field
 
--- both use a move, this side first
+-- Both sides use a move, this side first.
 abbrev pub acts_in_turn : Side → Pick → Pick → List Part
 acts_in_turn s mine others = Acts s mine ∷ Suffers s ∷ Acts (other s) others ∷ Suffers (other s) ∷ []

@@ -15,9 +15,10 @@ use gen1_machine::{Pick, Side};
 use gen1_rolls::Rolls;
 use gen1_status::gate;
 
-/// Plays the action of `side`, by its pick, from its gate to the accuracy that is kept (docs/MECHANICS.md, "Action"). The answer
-/// is whether the battle is over then, as it is by a fault. At most 21 events are written, for which places in `events` are to be
-/// free. What is known of the last action is forgotten, but for who is skipped.
+/// Plays the action of `side` by its pick, from the gate to the kept accuracy (docs/MECHANICS.md, "Action").
+///
+/// Returns whether the battle is over then, which a fault causes. It writes at most 21 events, and needs that many
+/// free places in `events`. What is known of the last action is forgotten, except for the side that is skipped.
 pub fn act<R: Rolls, S: EventSink>(
     battle: &mut Packed,
     side: Side,
@@ -60,8 +61,8 @@ fn action_parts<R: Rolls, S: EventSink>(
     carry_out(battle, side, pick, id, known, random, events)
 }
 
-// However an action ends, the accuracy of its hit test is kept while rage or thrashing is on (docs/MECHANICS.md, "Kept
-// accuracy").
+// When an action ends, in whatever way, the accuracy of its hit test is kept while rage or thrashing is on
+// (docs/MECHANICS.md, "Kept accuracy").
 fn keep_accuracy(battle: &mut Packed, side: Side, tested: Option<u8>)
     ensures shown { (g : Frame) (p : Progress) (events : List Event) (stopped : Bool)
         → g.action.accuracy_tested ≡ tested
@@ -72,7 +73,7 @@ fn keep_accuracy(battle: &mut Packed, side: Side, tested: Option<u8>)
     battle.put_kept_accuracy(side, byte);
 }
 
-// Of an action without a hit test, what was kept before (docs/MECHANICS.md, "Kept accuracy").
+// An action without a hit test keeps the byte that was kept before (docs/MECHANICS.md, "Kept accuracy").
 fn accuracy_to_keep(battle: &Packed, side: Side, tested: Option<u8>) -> u8
     ensures stands { Reads battle.now result λ f. accuracy_after (underway_in side f) tested
         (active_in side f).kept_accuracy }

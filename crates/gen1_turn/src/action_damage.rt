@@ -1,4 +1,4 @@
-//! What damage an action deals (docs/MECHANICS.md, "Action", step 7).
+//! The damage of an action (docs/MECHANICS.md, "Action", step 7).
 ghost use Rattle.std.specs.Prelude.{◌≡◌};
 ghost use Rattle.gen1_layout.specs.Words.{Event, List, Told, move_at, nat_lt};
 ghost use Rattle.gen1_machine.specs.Action.{damage_of, usual_damage};
@@ -15,7 +15,7 @@ use gen1_multiturn::{counter_knowing, fixed_knowing, knock_out};
 use gen1_rolls::Rolls;
 use gen1_tables::{Effect, MoveId};
 
-// How a move comes by its damage.
+// How the damage of a move is found.
 #[derive(Clone, Copy, Debug, PartialEq, Eq)]
 pub(crate) enum Way {
     Counter,
@@ -35,7 +35,7 @@ fn way_of(effect: Effect) -> Way
     }
 }
 
-// The damage of a move, and whether it hits; true where a fault ended the battle.
+// Finds the damage of a move, and whether it hits. Returns whether a fault ended the battle.
 pub(crate) fn damage_of<R: Rolls>(
     battle: &mut Packed,
     side: Side,
@@ -88,7 +88,7 @@ fn damage_by_power<R: Rolls>(
     false
 }
 
-// What a hit comes to; true where the divisor is 0.
+// Finds the damage of a hit. Returns whether the divisor is 0.
 fn roll_damage<R: Rolls>(
     battle: &mut Packed,
     side: Side,

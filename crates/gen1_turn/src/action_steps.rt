@@ -1,4 +1,4 @@
-//! An action once it is settled which move is used (docs/MECHANICS.md, "Action", from step 2 on).
+//! An action after its move is settled (docs/MECHANICS.md, "Action", from step 2 on).
 ghost use Rattle.std.specs.Prelude.{◌&&◌, ◌||◌, ◌≡◌};
 ghost use Rattle.gen1_layout.specs.Words.{AddsAtMost, AddsNone, Event, HasRoom, List, Told, false, move_at, stop, ◌▸◌};
 ghost use Rattle.gen1_machine.specs.Action.{carry_out, damage_of, lands_at_once, lead_up, lets_energy_go};
@@ -21,7 +21,7 @@ use gen1_multiturn::{bide_knowing, start_bide};
 use gen1_rolls::Rolls;
 use gen1_tables::{Effect, MoveId};
 
-// The energy of Bide enters late. The answer is whether the rest of the action fell away.
+// The energy of Bide skips the steps before the strike. Returns whether the rest of the action was skipped.
 pub(crate) fn carry_out<R: Rolls, S: EventSink>(
     battle: &mut Packed,
     side: Side,
@@ -70,7 +70,7 @@ fn lead_up_unless_let_go<R: Rolls, S: EventSink>(
     lead_up(battle, side, pick, id, known, random, events)
 }
 
-// What comes after the move was led up to.
+// What follows the lead-up.
 fn damage_and_strike<R: Rolls, S: EventSink>(
     battle: &mut Packed,
     side: Side,
@@ -114,7 +114,7 @@ fn damage_unless_landing<R: Rolls>(
     damage_of(battle, side, id, known, random)
 }
 
-// What goes straight to its landing: the energy of Bide, and trapping that goes on.
+// Bide's energy and trapping that goes on skip the damage and go straight to the landing.
 fn lands_at_once(known: &Known, effect: Effect) -> bool
     ensures { result ≡ (known.now.letting_go || (known.now.going_on && traps effect)) }
 {
@@ -143,7 +143,7 @@ fn late_part<R: Rolls, S: EventSink>(
     late_effect(battle, side, id, known, random, events)
 }
 
-// The action ends with a late effect, for which the answer is true; other moves have none.
+// Returns whether the move has a late effect, which ends the action.
 fn late_effect<R: Rolls, S: EventSink>(
     battle: &mut Packed,
     side: Side,

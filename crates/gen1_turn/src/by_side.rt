@@ -3,9 +3,11 @@
 use gen1_rolls::Rolls;
 use std::marker::Model;
 
-/// A generator of its own type, and by this one too, which draws the same. What is generic in its generator is compiled once
-/// for each type, so that side 1's action, which draws from `.0`, and side 2's, which draws from this, are code apart: in each
-/// of them the side, and with it every address, is a constant (docs/SPEED.md, "An action for each side").
+/// A generator as a second type that draws the same.
+///
+/// Code that is generic in its generator is compiled once for each type. Side 1's action draws from `.0`, and side
+/// 2's from this type, so the two are separate code. In each of them the side, and with it every address, is a
+/// constant (docs/SPEED.md, "An action for each side").
 #[derive(Drop)]
 pub(crate) struct BySide<R>(pub(crate) R);
 

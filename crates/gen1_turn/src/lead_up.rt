@@ -1,5 +1,5 @@
-//! What comes before any damage: charging, the use of the move, an early effect, and what trapping and thrashing do first
-//! (docs/MECHANICS.md, "Action", steps 3 to 6).
+//! The lead-up, before any damage: charging, the use of the move, an early effect, and what trapping and thrashing do
+//! first (docs/MECHANICS.md, "Action", steps 3 to 6).
 ghost use Rattle.std.specs.Prelude.{◌≡◌};
 ghost use Rattle.gen1_layout.specs.Words.{AddsAtMost, AddsNone, HasRoom, false, move_at, stop, ◌▸◌};
 ghost use Rattle.gen1_machine.specs.Action.{lead_up, prelude};
@@ -44,7 +44,7 @@ pub(crate) fn lead_up<R: Rolls, S: EventSink>(
     begin_move(battle, side, id, known, random, events)
 }
 
-// Once the move is used.
+// After the move is used.
 fn begin_move<R: Rolls, S: EventSink>(
     battle: &mut Packed,
     side: Side,
@@ -68,7 +68,7 @@ fn begin_move<R: Rolls, S: EventSink>(
     false
 }
 
-// The action ends with an early effect, for which the answer is true; other moves have none.
+// Returns whether the move has an early effect, which ends the action.
 fn early_effect<R: Rolls, S: EventSink>(
     battle: &mut Packed,
     side: Side,
@@ -98,7 +98,7 @@ fn early_effect<R: Rolls, S: EventSink>(
     false
 }
 
-// What trapping and thrashing do before their damage.
+// What trapping and thrashing moves do before their damage.
 fn prelude<R: Rolls, S: EventSink>(
     battle: &mut Packed,
     side: Side,

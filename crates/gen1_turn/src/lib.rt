@@ -1,16 +1,16 @@
 //! An action and a turn over the bytes of a battle (docs/MECHANICS.md, "Action", "Order of a turn").
 //!
 //! - `turn_update`: the update of a turn
-//! - `turn_choices`: a turn, by what both sides choose
+//! - `turn_choices`: a turn, by both choices
 //! - `turn_order`: who acts first
-//! - `turn_parts`: the parts of a turn, with what its side then suffers
+//! - `turn_parts`: the parts of a turn, with residual damage
 //! - `by_side`: a generator for the action of each side
 //! - `action`: one side's action
-//! - `taken_move`: which move an action takes
-//! - `action_steps`: the steps of an action once its move is settled
+//! - `taken_move`: the move that an action takes
+//! - `action_steps`: the steps of an action after its move is settled
 //! - `lead_up`: what comes before any damage
-//! - `used_move`: a move that is used, and its PP
-//! - `action_damage`: the damage that an action deals
+//! - `used_move`: a used move, and its PP
+//! - `action_damage`: the damage of an action
 //! - `strike`: a move that hits or misses
 #![tactic(auto)]
 

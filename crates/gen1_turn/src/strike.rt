@@ -37,7 +37,7 @@ pub(crate) fn strike<R: Rolls, S: EventSink>(
     hits_with_effect(battle, side, id, known, random, events)
 }
 
-// Once it is known to hit.
+// After the move is known to hit.
 fn hits_with_effect<R: Rolls, S: EventSink>(
     battle: &mut Packed,
     side: Side,
@@ -60,7 +60,7 @@ fn hits_with_effect<R: Rolls, S: EventSink>(
     side_effect_knowing(battle, side, id, known, random, events)
 }
 
-// The energy of Bide, a broken substitute and a fall have no side effect.
+// There is no side effect after Bide's energy, a broken substitute or a fall.
 fn has_no_effect(battle: &Packed, side: Side, known: &Known) -> bool
     ensures stands { Reads battle.now result λ f.
         (known.now.letting_go || (known.now.broke || has_fallen_in (other side) f)) }

@@ -1,4 +1,4 @@
-//! Which move an action takes, and whether that goes on (docs/MECHANICS.md, "Picks", "Going on").
+//! The move that an action takes, and whether it goes on (docs/MECHANICS.md, "Picks", "Going on").
 ghost use Rattle.std.specs.Prelude.{◌&&◌, ◌≡◌, ◌≤◌};
 ghost use Rattle.gen1_layout.specs.Words.{Event, Field, IsBetween, List, Reads, Setting, Told, Within, active_in, false, length, member_in, not, underway_in};
 ghost use Rattle.gen1_machine.specs.Action.{keeps_going, see_if_going_on};
@@ -12,7 +12,7 @@ use gen1_machine::{Pick, Side, UsedMove};
 use gen1_status::used_by;
 use gen1_tables::{MoveId, STRUGGLE};
 
-// What goes on by itself keeps its PP, unless its condition is gone: then the move is used anew.
+// A move that goes on costs no PP. If its condition has ended meanwhile, the move is used as a new one.
 pub(crate) fn see_if_going_on(battle: &Packed, side: Side, pick: Pick, known: &mut Known)
     ensures shown { (events : List Event)
         → DoesKnowing battle.now (Told events) known.old battle.now (Told events) known.new false
@@ -50,7 +50,7 @@ fn keeps_going(battle: &Packed, side: Side) -> bool
     battle.is_on(side, Conditions::RAGE)
 }
 
-// The move that a pick uses. There is one wherever an action comes as far.
+// The move that a pick uses. An action that comes this far always has one.
 pub(crate) fn move_taken(battle: &Packed, side: Side, pick: Pick) -> MoveId
     ensures stands { (g : Setting) (f : Field) → Within g battle.now f
         → IsUsedMove (length (member_in side f).moves)
@@ -67,7 +67,7 @@ pub(crate) fn move_taken(battle: &Packed, side: Side, pick: Pick) -> MoveId
     }
 }
 
-// The number of a move, by where it comes from; 0 is that of none.
+// The number of a move, by where it comes from. 0 is no move.
 pub(crate) fn number_of(battle: &Packed, side: Side, used: UsedMove) -> u8
     ensures stands { (g : Setting) (f : Field) → Within g battle.now f
         → IsUsedMove (length (member_in side f).moves) used
@@ -80,7 +80,7 @@ pub(crate) fn number_of(battle: &Packed, side: Side, used: UsedMove) -> u8
     }
 }
 
-// A slot from 1 to 4 is itself. Whatever else a byte holds is made one of them.
+// Returns a slot from 1 to 4 as it is, and one of these for any other byte.
 pub(crate) fn among_slots(slot: u8) -> u8
     ensures low { 1 ≤ result }
     ensures high { result ≤ 4 }

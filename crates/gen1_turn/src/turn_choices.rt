@@ -1,4 +1,4 @@
-//! A turn, by what both sides choose (docs/MECHANICS.md, "Order of a turn").
+//! A turn, by both choices (docs/MECHANICS.md, "Order of a turn").
 ghost use Rattle.std.specs.Prelude.{◌≡◌};
 ghost use Rattle.gen1_layout.specs.Words.{AddsAtMost, Bool, Does, Event, Frame, HasRoom, List, Progress, Shows, Told, false, length, member_in, other};
 ghost use Rattle.gen1_machine.specs.declared.side.Side.TheVariants as sides;
@@ -23,7 +23,7 @@ use gen1_machine::{Choice, Pick, Place, Side, UsedMove};
 use gen1_rolls::Rolls;
 use gen1_status::pick;
 
-// A whole turn, after which nobody has fainted yet.
+// A whole turn. No member has fainted after it yet.
 pub(crate) fn take_turn<R: Rolls, S: EventSink>(
     battle: &mut Packed,
     one: Choice,
@@ -126,7 +126,7 @@ fn set_picked(battle: &mut Packed, side: Side, pick: Pick)
     }
 }
 
-// Both use a move, this side first.
+// Both sides use a move, this side first.
 fn both_act<R: Rolls, S: EventSink>(
     battle: &mut Packed,
     side: Side,
@@ -152,7 +152,7 @@ fn both_act<R: Rolls, S: EventSink>(
     end_turn(battle);
 }
 
-// One side uses a move; the other switches first.
+// One side uses a move. The other switches first.
 #[inline(always)] // docs/SPEED.md, "Hints on inlining"
 fn one_picks<R: Rolls, S: EventSink>(
     battle: &mut Packed,
@@ -180,7 +180,7 @@ fn one_picks<R: Rolls, S: EventSink>(
     end_turn(battle);
 }
 
-// Both switch, side 1 first.
+// Both sides switch, side 1 first.
 fn both_switch<S: EventSink>(
     battle: &mut Packed,
     one: Place,

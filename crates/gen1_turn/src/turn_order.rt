@@ -12,7 +12,7 @@ use gen1_tables::{COUNTER, Stat};
 
 const QUICK_ATTACK: u8 = 98;
 
-// At equal Speed a draw below this puts side 1 first.
+// At equal Speed, a draw below this puts side 1 first.
 const SIDE_1_BELOW: u8 = 128;
 
 // The side that acts first: by the picked moves, then by Speed, then by a draw.
@@ -55,7 +55,7 @@ fn rank_of(battle: &Packed, side: Side) -> u8
     rank(number_of(battle, side, battle.picked_move(side)))
 }
 
-// Quick Attack comes before other moves, Counter after them.
+// Quick Attack comes before other moves, and Counter after them.
 fn rank(number: u8) -> u8
     ensures { result ≡ rank number }
 {

@@ -1,4 +1,4 @@
-//! The parts of a turn, each with what its side then suffers (docs/MECHANICS.md, "Order of a turn").
+//! The parts of a turn, each with the residual damage of its side (docs/MECHANICS.md, "Order of a turn").
 ghost use Rattle.std.specs.Prelude.{◌||◌, ◌≡◌};
 ghost use Rattle.gen1_layout.specs.Words.{AddsAtMost, Bool, Does, Event, Frame, HasRoom, List, Progress, Reads, Shows, Told, false};
 ghost use Rattle.gen1_machine.specs.declared.side.Side.TheVariants as sides;
@@ -21,8 +21,8 @@ use gen1_requests::send_out;
 use gen1_rolls::Rolls;
 use gen1_status::{residual, suffers};
 
-// A side's action, and what it then suffers, by code of its own for each side. The answer is whether the rest of the turn falls
-// away.
+// A side's action, and its residual damage, by separate code for each side. Returns whether the rest of the turn is
+// skipped.
 pub(crate) fn act_and_suffer<R: Rolls, S: EventSink>(
     battle: &mut Packed,
     side: Side,
@@ -63,7 +63,7 @@ fn act_and_suffer_as<R: Rolls, S: EventSink>(
     suffer(battle, side, events)
 }
 
-// The answer is whether a fault ended the battle.
+// Returns whether a fault ended the battle.
 fn act_unless_skipped<R: Rolls, S: EventSink>(
     battle: &mut Packed,
     side: Side,
@@ -85,7 +85,7 @@ fn act_unless_skipped<R: Rolls, S: EventSink>(
     act(battle, side, pick, known, random, events)
 }
 
-// A member that comes out, and what it then suffers. The answer is whether the rest of the turn falls away.
+// A member that comes out, and its residual damage. Returns whether the rest of the turn is skipped.
 #[inline(always)] // docs/SPEED.md, "Hints on inlining"
 pub(crate) fn sends_and_suffers<S: EventSink>(
     battle: &mut Packed,
@@ -107,7 +107,7 @@ pub(crate) fn sends_and_suffers<S: EventSink>(
     suffer(battle, side, events)
 }
 
-// What a side suffers unless the turn was cut. The answer is whether it is cut now.
+// A side's residual damage, unless the turn was cut. Returns whether it is cut now.
 #[inline(always)] // docs/SPEED.md, "Hints on inlining"
 fn suffer<S: EventSink>(battle: &mut Packed, side: Side, events: &mut S) -> bool
     requires room { HasRoom S.room 3 events.old }
@@ -119,7 +119,7 @@ fn suffer<S: EventSink>(battle: &mut Packed, side: Side, events: &mut S) -> bool
     if is_cut(battle) {
         return true;
     }
-    // Then nothing is taken, and nothing is cut by it.
+    // Then no HP are taken, so nothing can cut the turn.
     if !suffers(battle, side) {
         return false;
     }
@@ -127,7 +127,7 @@ fn suffer<S: EventSink>(battle: &mut Packed, side: Side, events: &mut S) -> bool
     is_cut(battle)
 }
 
-// Whether an active has fallen, or the battle is over.
+// Whether an active member has fallen, or the battle is over.
 fn is_cut(battle: &Packed) -> bool
     ensures stands { Reads battle.now result λ f.
         (has_fallen_in sides.One f || has_fallen_in sides.Two f || is_over f.outcome) }
@@ -135,7 +135,7 @@ fn is_cut(battle: &Packed) -> bool
     battle.has_fallen(Side::One) || battle.has_fallen(Side::Two) || battle.outcome().is_over()
 }
 
-// Trapping with a count of 0 ends with a turn that nothing cut.
+// Trapping with a count of 0 ends when a turn is played to its end.
 pub(crate) fn end_turn(battle: &mut Packed)
     ensures shown { (events : List Event)
         → Does battle.old (Told events) battle.new (Told events) false end_turn }

@@ -1,4 +1,4 @@
-//! The update of a battle that asks both sides for a move: a turn, and what follows at its end (docs/MECHANICS.md, "Order of a
+//! The update of a battle that asks both sides for a move: a turn, and its close (docs/MECHANICS.md, "Order of a
 //! turn", "Falls and requests").
 ghost use Rattle.gen1_layout.specs.Words.{AddsAtMost, HasRoom, [], ℕ};
 ghost use Rattle.gen1_rolls.specs.Draws.{StandsAt};
@@ -20,12 +20,13 @@ use gen1_machine::Choice;
 use gen1_requests::close;
 use gen1_rolls::Rolls;
 
-/// Plays a turn of a battle that asks for moves, by a choice of each side among those that it was offered; then the fallen
-/// faint, and the battle ends, or asks for switches or for the next turn (docs/MECHANICS.md, "Order of a turn", "Falls and
-/// requests").
+/// Plays a turn of a battle that asks for moves, by an offered choice of each side (docs/MECHANICS.md, "Order of a
+/// turn", "Falls and requests").
 ///
-/// Draws come from `random` alone, which is given back as they leave it: the index and the numbers in the bytes stay as they
-/// are. The events of the update, 51 at most, are written to `events`, which is to be empty.
+/// After the turn the fallen faint. Then the battle ends, or asks for switches or for the moves of the next turn.
+///
+/// Draws come only from `random`, which is left at the place after the last draw. The index and the numbers in the
+/// bytes stay as they are. `events` must be empty, and receives at most 51 events.
 pub fn turn<R: Rolls, S: EventSink>(
     battle: &mut Packed,
     one: Choice,

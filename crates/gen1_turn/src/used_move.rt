@@ -1,4 +1,4 @@
-//! A move that is used: it becomes the current one, and costs PP (docs/MECHANICS.md, "Action", step 4).
+//! The use of a move: it becomes the current one, and costs PP (docs/MECHANICS.md, "Action", step 4).
 ghost use Rattle.std.specs.Prelude.{if◌then◌else◌, ◌-◌, ◌==◌, ◌≡◌, ◌≤◌};
 ghost use Rattle.gen1_layout.specs.Words.{AddsAtMost, Does, Event, Frame, HasRoom, IsBetween, List, Progress, Shows, Told, active_in, false, length, member_in, move_at, not, other, who_in};
 ghost use Rattle.gen1_machine.specs.Charging.{make_current};
@@ -18,7 +18,7 @@ use gen1_machine::{Event, Pick, Side, UsedMove};
 use gen1_multiturn::make_current;
 use gen1_tables::MoveId;
 
-// A move is used; Bide has no event for it.
+// The user uses its move. A move of Bide's effect writes no event.
 #[inline(always)] // docs/SPEED.md, "Hints on inlining"
 pub(crate) fn use_move<S: EventSink>(
     battle: &mut Packed,
@@ -42,7 +42,7 @@ pub(crate) fn use_move<S: EventSink>(
     note_move(battle, side, id, events);
 }
 
-// A move that is picked becomes the current one; what goes on is that already.
+// A picked move becomes the current one. A move that goes on is that already.
 fn take_up(battle: &mut Packed, side: Side, pick: Pick)
     ensures shown { (g : Frame) (p : Progress) (events : List Event)
         → IsUsedMove (length (member_in side p.field).moves)
@@ -93,7 +93,7 @@ fn spend_pp_of(battle: &mut Packed, side: Side, slot: u8)
     battle.put_pp(side, slot, left);
 }
 
-// PP are six bits, so what comes after 0 is 63.
+// PP have six bits, so 63 follows 0.
 fn less_pp(pp: u8) -> u8
     ensures value { result ≡ (if pp == 0 then 63 else pp - 1) }
     ensures most { pp ≤ 63 → result ≤ 63 }

@@ -1,4 +1,4 @@
-//! Bide, which begins, stores the last damage, and lets it out twice over (docs/MECHANICS.md, "Going on").
+//! Bide, which begins, stores the last damage, and lets out twice the sum (docs/MECHANICS.md, "Going on").
 ghost use Rattle.std.specs.Prelude.{◌-◌, ◌≡◌};
 ghost use Rattle.gen1_layout.specs.Words.{AddsAtMost, Frame, HasRoom, None, Progress, Reads, Shows, Some, false, true, underway_in, ℕ};
 ghost use Rattle.gen1_tables.specs.declared.effect.Effect.{Effect};
@@ -20,10 +20,14 @@ use gen1_layout::{Conditions, Packed};
 use gen1_machine::{Event, Side, Volatile};
 use gen1_rolls::Rolls;
 
-/// Uses Bide: `side` begins to store, for two or three turns of one draw, with `Start`; or it stores the last damage, with
-/// `Activate`; or in its last turn it ends, with `End`, and the last damage becomes twice the energy, which is answered: from 0
-/// to 65,535, as 16 bits hold it. 0 is a miss. A place in `events` is to be free, and nothing else changes (docs/MECHANICS.md,
-/// "Going on").
+/// Uses Bide (docs/MECHANICS.md, "Going on").
+///
+/// - If Bide isn't on, `side` begins to store for two or three turns, by one draw, with `Start`.
+/// - Before its last turn it stores the last damage, with `Activate`.
+/// - In its last turn it ends, with `End`, and the last damage becomes twice the energy, modulo 65,536. The result is
+///   that damage, 0 to 65,535. 0 is a miss.
+///
+/// It needs one free place in `events`. Nothing else changes.
 pub fn bide<R: Rolls, S: EventSink>(
     battle: &mut Packed,
     side: Side,
@@ -47,9 +51,10 @@ pub fn bide<R: Rolls, S: EventSink>(
     energy
 }
 
-/// Goes on with the Bide of `side`, if it is on: it stores, and the action ends with that, for which the answer is `true`; or it
-/// lets its energy go, and what is known then is that, and whether it is a miss. A place in `events` is to be free, and nothing
-/// else changes (docs/MECHANICS.md, "Going on").
+/// Goes on with the Bide of `side`, if it is on (docs/MECHANICS.md, "Going on").
+///
+/// If it stores, the action ends, and `true` is returned. If it lets out its energy, `known` holds that, and whether
+/// it is a miss. It needs one free place in `events`. Nothing else changes.
 pub fn bide_knowing<S: EventSink>(
     battle: &mut Packed,
     side: Side,
@@ -74,8 +79,10 @@ pub fn bide_knowing<S: EventSink>(
     true
 }
 
-/// Begins the Bide of `side`, with `Start`: for two or three turns of one draw, with no energy yet. A place in `events` is to be
-/// free for it, and nothing else changes (docs/MECHANICS.md, "Going on").
+/// Begins the Bide of `side`, for two or three turns, by one draw, without energy yet (docs/MECHANICS.md, "Going
+/// on").
+///
+/// It writes `Start`, for which it needs one free place in `events`. Nothing else changes.
 pub fn start_bide<R: Rolls, S: EventSink>(
     battle: &mut Packed,
     side: Side,
@@ -92,7 +99,7 @@ pub fn start_bide<R: Rolls, S: EventSink>(
     bide_for(battle, side, byte, events);
 }
 
-// Neither thrashing nor trapping is on.
+// Thrashing and trapping are off.
 fn bide_for<S: EventSink>(battle: &mut Packed, side: Side, byte: u8, events: &mut S)
     requires room { HasRoom S.room 1 events.old }
     ensures shown { (g : Frame) (p : Progress) → (underway side p).thrash ≡ None
@@ -105,7 +112,7 @@ fn bide_for<S: EventSink>(battle: &mut Packed, side: Side, byte: u8, events: &mu
     events.push(Event::Start(battle.who(side), Volatile::Bide));
 }
 
-// What is let out in this turn, where that is the last.
+// The energy that is let out this turn, if it is the last turn.
 fn energy_let_out(battle: &Packed, side: Side) -> Option<u16>
     ensures { Reads battle.now result λ f. energy_let_out f.last_damage (underway_in side f).bide }
 {
@@ -119,7 +126,7 @@ fn energy_let_out(battle: &Packed, side: Side) -> Option<u16>
     None
 }
 
-// The damage is twice the energy; 0 is a miss.
+// The damage is twice the energy. 0 is a miss.
 fn let_energy_go<S: EventSink>(
     battle: &mut Packed,
     side: Side,

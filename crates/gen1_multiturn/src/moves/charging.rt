@@ -18,10 +18,11 @@ use gen1_rolls::Rolls;
 use gen1_status::used_by;
 use gen1_tables::{Effect, MoveId};
 
-/// Charges the move that `side` has picked, if it charges. In the first turn the picked move becomes the current one, the user is
-/// Charging, and for Fly and Dig also Invulnerable, and `Prepare` is written; `true` says that the action ends with that. In the
-/// second turn, in which Charging is on, both conditions are cleared. A place in `events` is to be free, and nothing else
-/// changes (docs/MECHANICS.md, "Charging").
+/// Charges the move that `side` has picked, if the move charges (docs/MECHANICS.md, "Charging").
+///
+/// In the first turn the picked move becomes the current one, the user is Charging, and also Invulnerable for Fly and
+/// Dig. `Prepare` is written, and `true` is returned: the action ends. In the second turn, with Charging on, both
+/// conditions are cleared. It needs one free place in `events`. Nothing else changes.
 pub fn charge<S: EventSink>(battle: &mut Packed, side: Side, id: MoveId, events: &mut S) -> bool
     requires room { HasRoom S.room 1 events.old }
     ensures shown { Does battle.old (S.tells events.old) battle.new (S.tells events.new) result
@@ -32,8 +33,10 @@ pub fn charge<S: EventSink>(battle: &mut Packed, side: Side, id: MoveId, events:
     charge_by(battle, side, pick, id, events)
 }
 
-/// The same of the move that a pick takes up, in an action of which something is known. The answer is `true` where the action
-/// ends with it: in the first turn, where the move becomes the current one (docs/MECHANICS.md, "Charging").
+/// The same for the move that a pick takes up, in an action of which something is known (docs/MECHANICS.md,
+/// "Charging").
+///
+/// Returns whether the action ends, which is so in the first turn. The move becomes the current one then.
 pub fn charge_knowing<R: Rolls, S: EventSink>(
     battle: &mut Packed,
     side: Side,
@@ -52,7 +55,7 @@ pub fn charge_knowing<R: Rolls, S: EventSink>(
     charge_by(battle, side, pick, id, events)
 }
 
-/// Makes the move that a pick uses the current one of `side`; nothing else changes (docs/MECHANICS.md, "Charging").
+/// Makes the move that a pick uses the current move of `side` (docs/MECHANICS.md, "Charging"). Nothing else changes.
 pub fn make_current(battle: &mut Packed, side: Side, pick: Pick)
     ensures shown { (g : Frame) (p : Progress) (events : List Event)
         → IsUsedMove (length (member_in side p.field).moves)
@@ -64,7 +67,7 @@ pub fn make_current(battle: &mut Packed, side: Side, pick: Pick)
     battle.put_current_move(side, used);
 }
 
-// True where the action ends with it.
+// Returns whether the action ends.
 #[inline(always)] // docs/SPEED.md, "Hints on inlining"
 fn charge_by<S: EventSink>(
     battle: &mut Packed,
@@ -114,7 +117,7 @@ fn begin_charge<S: EventSink>(
     events.push(Event::Prepare(battle.who(side), id));
 }
 
-// Who flies up or digs in can't be hit meanwhile.
+// A user that flies up or digs in can't be hit until the second turn.
 fn hide(battle: &mut Packed, side: Side, effect: Effect)
     ensures shown { (events : List Event)
         → Does battle.old (Told events) battle.new (Told events) false

@@ -1,4 +1,4 @@
-//! Counter, which gives the last damage back twice over (docs/MECHANICS.md, "Counter").
+//! Counter, which deals twice the last damage (docs/MECHANICS.md, "Counter").
 ghost use Rattle.std.specs.Prelude.{◌≡◌, ◌≤◌};
 ghost use Rattle.gen1_layout.specs.Words.{Event, List, Reads, Told, false, move_at};
 ghost use Rattle.gen1_machine.specs.Counter.{can_be_countered, counter};
@@ -13,9 +13,11 @@ use gen1_machine::{Side, UsedMove};
 use gen1_rolls::Rolls;
 use gen1_tables::{COUNTER, Element, MoveId, STRUGGLE};
 
-/// The damage that a Counter of `side` deals if it hits: twice the last damage, from 2 to 65,535. `None` where it misses before
-/// its hit test, since the foe has picked no move, Counter, a move of power 0 or one that is neither Normal nor Fighting, or
-/// since the last damage is 0 (docs/MECHANICS.md, "Counter"). The foe's picked move is looked up in the member that is out now.
+/// The damage of a Counter of `side` if it hits: twice the last damage, 2 to 65,535 (docs/MECHANICS.md, "Counter").
+///
+/// Returns `None` if it misses before its hit test. That is so if the last damage is 0, or if the foe has picked no
+/// move, Counter, a move of power 0, or one that is neither Normal nor Fighting. The foe's picked move is looked up
+/// in the member that is out now.
 pub fn counter(battle: &Packed, side: Side) -> Option<u16>
     ensures stands { Reads battle.now result (countered side) }
 {
@@ -25,9 +27,11 @@ pub fn counter(battle: &Packed, side: Side) -> Option<u16>
     Some(battle.last_damage().saturating_mul(2))
 }
 
-/// Counter, or a move that does as it does, in an action of which something is known: the critical draw, then a miss that keeps
-/// the last damage; or twice the last damage takes its place, and the hit test comes. What is known then is whether it would be
-/// critical, the byte that was tested, and whether it missed; nothing else of the battle changes (docs/MECHANICS.md, "Counter").
+/// Counter, or a move with its effect, in an action of which something is known (docs/MECHANICS.md, "Counter").
+///
+/// The critical draw comes first. Then it misses and keeps the last damage, or the last damage becomes twice as much
+/// and the hit test follows. Afterwards `known` holds whether the hit would be critical, the byte that was tested,
+/// and whether it missed. Nothing else of the battle changes.
 pub fn counter_knowing<R: Rolls>(
     battle: &mut Packed,
     side: Side,
@@ -57,7 +61,7 @@ fn can_counter(battle: &Packed, side: Side) -> bool
     can_be_countered(picked) & hurt
 }
 
-// The number of the move that was picked last, 0 for none.
+// The number of the move that was picked last, or 0 for none.
 fn picked_number(battle: &Packed, side: Side) -> u8
     ensures stands { Reads battle.now result (picked_move_in side) }
 {

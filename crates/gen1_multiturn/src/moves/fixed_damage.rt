@@ -20,9 +20,11 @@ const PSYWAVE: u8 = 149;
 
 const SUPER_FANG: u8 = 162;
 
-/// The damage that a move of `side` deals once it has hit: 20 for Sonic Boom, 40 for Dragon Rage, half of the foe's HP, at least
-/// 1, for Super Fang, a drawn number for Psywave, and for Seismic Toss, Night Shade and every other move the user's level.
-/// `None` is the fault of Psywave at level 1, which draws nothing (docs/MECHANICS.md, "Fixed damage and one-hit moves").
+/// The damage of a move of `side` after it has hit (docs/MECHANICS.md, "Fixed damage and one-hit moves").
+///
+/// It is 20 for Sonic Boom, 40 for Dragon Rage, half of the foe's HP, at least 1, for Super Fang, and a drawn number
+/// for Psywave. For Seismic Toss, Night Shade and every other move it is the user's level. `None` is the fault of
+/// Psywave at level 1, which draws nothing.
 pub fn fixed<R: Rolls>(battle: &Packed, side: Side, id: MoveId, random: &mut R) -> Option<u16>
     ensures deals { DealsAs R.byte R.next R.SPAN battle.now random.old result random.new
         (deal_fixed side id) }
@@ -43,9 +45,12 @@ pub fn fixed<R: Rolls>(battle: &Packed, side: Side, id: MoveId, random: &mut R) 
     Some(u16::from(battle.level(side)))
 }
 
-/// A move of fixed damage in an action of which something is known: the hit test, and on a hit the damage, which becomes the
-/// last damage. `true` where the battle ended with the fault of Psywave at level 1, for which the last damage stays as it was.
-/// What is known then is the byte that was tested, and whether it missed (docs/MECHANICS.md, "Fixed damage and one-hit moves").
+/// A move of fixed damage in an action of which something is known (docs/MECHANICS.md, "Fixed damage and one-hit
+/// moves").
+///
+/// The hit test comes first. On a hit the damage becomes the last damage. Returns `true` if the battle ended with the
+/// fault of Psywave at level 1, which leaves the last damage as it was. Afterwards `known` holds the byte that was
+/// tested, and whether it missed.
 pub fn fixed_knowing<R: Rolls>(
     battle: &mut Packed,
     side: Side,

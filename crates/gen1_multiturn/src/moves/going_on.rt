@@ -1,4 +1,4 @@
-//! Whether the move of a side goes on, by what is on (docs/MECHANICS.md, "Going on").
+//! Whether the move of a side goes on, by its conditions (docs/MECHANICS.md, "Going on").
 ghost use Rattle.gen1_layout.specs.Words.{Event, List, Reads, Told, false, underway_in};
 ghost use Rattle.gen1_machine.specs.declared.picks.Pick.TheVariants.{Continue};
 ghost use Rattle.gen1_machine.specs.Action.{keeps_going, see_if_going_on};
@@ -9,7 +9,7 @@ use gen1_action::Known;
 use gen1_layout::{Conditions, Packed};
 use gen1_machine::Side;
 
-// What is known of an action of `side` that has just begun, where the bytes alone say whether it goes on.
+// What is known of an action of `side` that has just begun, if the bytes alone say whether it goes on.
 pub(crate) fn seen_going_on(battle: &Packed, side: Side) -> Known
     ensures shown { (events : List Event)
         → DoesKnowing battle.now (Told events) (just_begun side) battle.now (Told events) result false

@@ -13,11 +13,14 @@ use gen1_machine::Side;
 use gen1_rolls::{Rolls, until};
 use gen1_tables::{MoveId, Stat};
 
-/// A one-hit move of `side`, in an action of which something is known (docs/MECHANICS.md, "Fixed damage and one-hit moves"). The
-/// last damage becomes 0 and the critical draw is taken. A user that is slower than its foe misses, with no more draws. Else a
-/// move with no effect on the foe misses, and any other takes the draws of a factor and makes the last damage 65,535; then
-/// comes the hit test in either case. What is known then is whether it would be critical, the byte that was tested, and whether
-/// it missed.
+/// A one-hit move of `side`, in an action of which something is known (docs/MECHANICS.md, "Fixed damage and one-hit
+/// moves").
+///
+/// The last damage becomes 0, and the critical draw is taken. If the user is slower than its foe, it misses without
+/// further draws. Otherwise a move with no effect on the foe misses, and any other takes the draws of a factor and
+/// makes the last damage 65,535. In both of these cases the hit test follows.
+///
+/// Afterwards `known` holds whether the hit would be critical, the byte that was tested, and whether it missed.
 pub fn knock_out<R: Rolls>(
     battle: &mut Packed,
     side: Side,
@@ -66,7 +69,7 @@ fn knock_out_by_type<R: Rolls>(
     deal_everything(battle, random);
 }
 
-// The draws of a factor, which is not used.
+// The draws of a factor, which isn't used.
 fn deal_everything<R: Rolls>(battle: &mut Packed, random: &mut R)
     ensures shown { (events : List Event)
         → DoesDrawing R.byte R.next R.SPAN battle.old (Told events) random.old battle.new (Told events) random.new

@@ -1,4 +1,4 @@
-//! Rage that builds at each landing on who has it (docs/MECHANICS.md, "Going on").
+//! Rage, which builds each time damage lands on its user (docs/MECHANICS.md, "Going on").
 ghost use Rattle.gen1_layout.specs.Words.{AddsAtMost, Does, HasRoom, false, other};
 ghost use Rattle.gen1_machine.specs.ManyHits.{build_rage};
 ghost use Rattle.gen1_machine.specs.Progress.{has_fallen, unless};
@@ -9,9 +9,11 @@ use gen1_machine::Side;
 use gen1_status::raise_stage;
 use gen1_tables::Stat;
 
-/// Builds the Rage of the foe of `side`, after a landing on it: if the foe lives and Rage is on, its Attack is shifted up by 1.
-/// `Boost` is written if its stage rises, and one place in `events` is to be free for it; at +6 nothing happens, and a failure
-/// is not written. Nothing else changes but what a shift brings (docs/MECHANICS.md, "Going on", "Stage shift").
+/// Builds the Rage of the foe of `side` after damage landed on it (docs/MECHANICS.md, "Going on", "Stage shift").
+///
+/// If the foe lives and its Rage is on, its Attack is shifted up by 1. `Boost` is written if the stage rises, for
+/// which it needs one free place in `events`. At +6 nothing happens, and a failure isn't reported. Nothing else
+/// changes but what a shift changes.
 pub fn rage<S: EventSink>(battle: &mut Packed, side: Side, events: &mut S)
     requires room { HasRoom S.room 1 events.old }
     ensures shown { Does battle.old (S.tells events.old) battle.new (S.tells events.new) false

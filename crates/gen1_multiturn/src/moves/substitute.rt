@@ -1,4 +1,4 @@
-//! A substitute that is made (docs/MECHANICS.md, "Early effects").
+//! Making a substitute (docs/MECHANICS.md, "Early effects").
 ghost use Rattle.std.specs.Prelude.{◌/◌, ◌≤◌};
 ghost use Rattle.gen1_layout.specs.Words.{AddsAtMost, Does, HasRoom, Reads, false, member_in};
 ghost use Rattle.gen1_machine.specs.EarlyEffects.{make_substitute, pay_for_substitute};
@@ -10,10 +10,11 @@ use gen1_hits::lose_hp;
 use gen1_layout::{Conditions, Packed};
 use gen1_machine::{DamageSource, Event, Side, Volatile};
 
-/// Makes a Substitute for the member of `side` that is out: it costs a quarter of its maximum HP, and has as many. It fails
-/// where one is up, or where the member has fewer HP than that; with exactly a quarter it is made, and the member falls. `Fail`
-/// is written, or `Start` and `Damage`: two places in `events` are to be free. Nothing else changes (docs/MECHANICS.md, "Early
-/// effects").
+/// Makes a Substitute for the member of `side` that is out (docs/MECHANICS.md, "Early effects").
+///
+/// It costs a quarter of the maximum HP, and has as many HP. It fails if one is up, or if the member has fewer HP
+/// than that. With exactly a quarter it is made, and the member falls. It writes `Fail`, or `Start` and `Damage`, and
+/// needs two free places in `events`. Nothing else changes.
 pub fn substitute<S: EventSink>(battle: &mut Packed, side: Side, events: &mut S)
     requires room { HasRoom S.room 2 events.old }
     ensures shown { DoesAnyway battle.old (S.tells events.old) battle.new (S.tells events.new)
@@ -23,7 +24,7 @@ pub fn substitute<S: EventSink>(battle: &mut Packed, side: Side, events: &mut S)
     make_substitute(battle, side, events);
 }
 
-/// The same, as a part of an action. The answer is `true` where it fails, which ends the action (docs/MECHANICS.md, "Early
+/// The same, as a part of an action. Returns whether it fails, which ends the action (docs/MECHANICS.md, "Early
 /// effects").
 pub fn make_substitute<S: EventSink>(battle: &mut Packed, side: Side, events: &mut S) -> bool
     requires room { HasRoom S.room 2 events.old }
@@ -44,7 +45,7 @@ pub fn make_substitute<S: EventSink>(battle: &mut Packed, side: Side, events: &m
     false
 }
 
-// A quarter of the maximum HP, which are 999 at most.
+// A quarter of the maximum HP, which is at most 999.
 fn quarter(battle: &Packed, side: Side) -> u8
     ensures stands { Reads battle.now result λ f. (member_in side f).max / 4 }
     ensures most { result ≤ 249 }

@@ -22,10 +22,11 @@ use gen1_tables::MoveId;
 // The accuracy byte of Thrash and of Petal Dance.
 const ACCURACY: u8 = 255;
 
-/// Uses Thrash or Petal Dance: where `side` is not thrashing yet, it begins to, for two or three turns more, of one draw, with
-/// the accuracy byte of these moves, 255, kept for them; where it is, a turn less is left, and after the last the user is
-/// confused, by a draw, with `Start`. A place in `events` is to be free for that. Nothing else changes (docs/MECHANICS.md,
-/// "Going on").
+/// Uses Thrash or Petal Dance (docs/MECHANICS.md, "Going on").
+///
+/// If `side` isn't thrashing yet, it begins to, for two or three more turns, by one draw. The accuracy byte of these
+/// moves, 255, is kept for them. If it is thrashing, one turn less is left. After the last turn the user is confused,
+/// by one draw, with `Start`. It needs one free place in `events`. Nothing else changes.
 pub fn thrash<R: Rolls, S: EventSink>(
     battle: &mut Packed,
     side: Side,
@@ -42,7 +43,7 @@ pub fn thrash<R: Rolls, S: EventSink>(
     thrash_with(battle, side, ACCURACY, &known, random, events);
 }
 
-/// The same for a move that thrashes, in an action of which something is known, which says whether it goes on
+/// The same for a move that thrashes, in an action of which something is known. `known` says whether it goes on
 /// (docs/MECHANICS.md, "Going on").
 pub fn thrash_knowing<R: Rolls, S: EventSink>(
     battle: &mut Packed,
@@ -85,7 +86,7 @@ fn thrash_with<R: Rolls, S: EventSink>(
     begin_thrashing(battle, side, accuracy, random);
 }
 
-// A turn less is left; after the last it ends, and the user is confused.
+// One turn less is left. After the last turn thrashing ends, and the user is confused.
 fn thrash_on<R: Rolls, S: EventSink>(
     battle: &mut Packed,
     side: Side,
@@ -111,7 +112,7 @@ fn thrash_on<R: Rolls, S: EventSink>(
     battle.put_thrash(side, turns.saturating_sub(1));
 }
 
-// Neither Bide nor trapping is on. The accuracy is kept from here on, since a fault may come before the hit test
+// Bide and trapping are off. The accuracy is kept from here on, since a fault may come before the hit test
 // (docs/MECHANICS.md, "Going on", "Kept accuracy").
 fn begin_thrashing<R: Rolls>(battle: &mut Packed, side: Side, accuracy: u8, random: &mut R)
     ensures shown { (events : List Event) (move : Move) (origin : R) (g : Frame) (p : Progress)

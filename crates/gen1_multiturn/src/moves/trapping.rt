@@ -17,9 +17,11 @@ use gen1_layout::{Conditions, Packed};
 use gen1_machine::Side;
 use gen1_rolls::Rolls;
 
-/// Uses a move that traps: where `side` is not trapping yet, the foe's Recharge is cleared, and for two to five turns of one
-/// draw or two the foe can do nothing; where it is, its Trapping goes on, a turn less is left, and nothing is drawn. Nothing
-/// else changes, and no event is written (docs/MECHANICS.md, "Going on").
+/// Uses a trapping move (docs/MECHANICS.md, "Going on").
+///
+/// If `side` isn't trapping yet, the foe's Recharge is cleared, and the foe can't act for two to five turns, by one
+/// or two draws. If it is trapping, its Trapping goes on with one turn less, and nothing is drawn. No event is
+/// written, and nothing else changes.
 pub fn trap<R: Rolls>(battle: &mut Packed, side: Side, random: &mut R)
     ensures left { (events : List Event)
         → DoesAloneAt R.byte R.next R.SPAN side Trapping battle.old (Told events) random.old battle.new
@@ -29,8 +31,8 @@ pub fn trap<R: Rolls>(battle: &mut Packed, side: Side, random: &mut R)
     trap_knowing(battle, side, &known, random);
 }
 
-/// The same in an action of which something is known, which says whether it goes on
-/// (docs/MECHANICS.md, "Going on").
+/// The same in an action of which something is known. `known` says whether it goes on (docs/MECHANICS.md, "Going
+/// on").
 pub fn trap_knowing<R: Rolls>(battle: &mut Packed, side: Side, known: &Known, random: &mut R)
     ensures shown { (events : List Event) (effect : Effect) → traps effect ≡ true
         → DoesAt R.byte R.next R.SPAN side effect battle.old (Told events) random.old known.now battle.new
@@ -54,7 +56,7 @@ fn trap_one_turn_less(battle: &mut Packed, side: Side)
     }
 }
 
-// Neither Bide nor thrashing is on.
+// Bide and thrashing are off.
 fn begin_trapping<R: Rolls>(battle: &mut Packed, side: Side, random: &mut R)
     ensures shown { (events : List Event) (origin : R) (g : Frame) (p : Progress)
         → (underway side p).bide ≡ None → (underway side p).thrash ≡ None

@@ -1,4 +1,4 @@
--- So many of the lowest digits are gone.
+-- This many of the lowest digits are gone.
 use Rattle.std.proofs.Common.{drop, ◌<◌, ◌≡◌}
 use Rattle.gen1_requests.specs.OfferedMask.{all_choices, chosen_by}
 use Rattle.gen1_requests.proofs.mask_choices.choice_at.Given as goal

@@ -1,4 +1,4 @@
--- The living of the places so far are there, but for who is out.
+-- The living members of the places so far are there, without the one that is out.
 use Rattle.std.proofs.Common.{length, ◌++◌, ◌+◌, ◌-◌, ◌<◌, ◌≡◌, ◌≤◌}
 use Rattle.gen1_machine.specs.declared.choice.Choice.TheVariants as choices
 use Rattle.gen1_machine.specs.State.{Field}

@@ -1,4 +1,4 @@
--- The usable of the slots so far are there.
+-- The usable moves of the slots so far are there.
 use Rattle.std.proofs.Common.{length, ◌-◌, ◌≡◌, ◌≤◌}
 use Rattle.gen1_machine.specs.declared.choice.Choice.TheVariants as choices
 use Rattle.gen1_machine.specs.State.{Field}

@@ -13,7 +13,7 @@ returns-then-level-le1 t c = record {
       (p.drawn, h, at_level_one c.args.level p small);
 }
 
--- 1 is below every top, and each byte is drawn
+-- 1 is below each limit, and each byte is drawn.
 pub unreachable-requires : goal.unreachable-requires
 unreachable-requires t c =
     let meets : is_psywave c.args.level 1 ≡ true = grind (arith, nat_tests) in
