@@ -1,4 +1,4 @@
--- What is compared of a battle, and battles that were worked out by hand.
+-- What is compared of a battle, and worked examples of whole battles.
 mod Reports
 mod WorkedBattles
 mod WorkedBounds
@@ -7,7 +7,7 @@ mod WorkedCorners
 mod WorkedEffects
 mod WorkedEvents
 mod WorkedTeams
--- Recorded battles, made by tools/evaluate.py.
+-- Recorded battles, written by tools/evaluate.py.
 mod Battles1
 mod Battles2
 mod Battles3

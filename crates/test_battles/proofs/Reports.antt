@@ -1,4 +1,4 @@
--- What is compared of a battle's updates with a recorded battle: each update's report, as one number.
+-- What is compared with a recorded battle: a report of each update, as one number.
 use Rattle.std.proofs.Common.{Bool, List, [], flat_map, length, map, ℕ, ◌*◌, ◌++◌, ◌+◌, ◌-◌, ◌==◌, ◌∷◌}
 use Rattle.gen1_machine.specs.declared.side.Side.{Side}
 use Rattle.gen1_machine.specs.declared.side.Side.TheVariants.{One, Two}
@@ -13,7 +13,7 @@ use Rattle.gen1_machine.specs.Step.{events_of, step, Answer, Stepped, Over, NotO
 use Rattle.gen1_machine.specs.View.{first_view, sees_all, shows, Shown, SideView, View}
 use Rattle.gen1_machine.specs.Layout.{low_byte, high_byte, outcome_byte, request_byte, bytes_of}
 
--- bytes as one number to base 256, behind a leading 1
+-- Bytes as one number to base 256, after a leading 1.
 abbrev pub number_from : ℕ → List ℕ → ℕ
 number_from n [] = n
 number_from n (b ∷ bs) = number_from (n * 256 + b) bs
@@ -33,7 +33,7 @@ result_bytes f = outcome_byte f.outcome ∷ request_byte f.request_one ∷ reque
 abbrev pub offered_bytes : Side → Field → List ℕ
 offered_bytes s f = length (offered s f) ∷ map byte_of_choice (offered s f)
 
--- a view as bytes, so that two views can be compared
+-- A view as bytes, so that two views can be compared
 
 abbrev pub stage_bytes : Stages → List ℕ
 stage_bytes s = s.attack ∷ s.defense ∷ s.speed ∷ s.special ∷ s.accuracy ∷ s.evasion ∷ []
@@ -52,7 +52,7 @@ view_number v = as_number (side_view_bytes v.one ++ side_view_bytes v.two ++ low
 abbrev pub agrees : View → Field → Bool
 agrees v f = view_number v == view_number (shows f)
 
--- refusal, result, offered choices, draws, log, the 384 bytes, and whether the view is the state's
+-- Refusal, result, offered choices, draws, log, the 384 bytes, and whether the view is that of the state.
 abbrev pub report : State → Stepped → View → List ℕ
 report s next v =
     refusal_number next.answer ∷ result_bytes next.state.field
@@ -67,6 +67,6 @@ reports_from v s (pair ∷ pairs) =
     let w = sees_all (events_of next.answer) v in
     as_number (report s next w) ∷ reports_from w next.state pairs
 
--- the reports of a run from the beginning of a battle, update by update
+-- The reports of a run from the beginning of a battle, one for each update.
 abbrev pub reports_of : State → List (Choice × Choice) → List ℕ
 reports_of s pairs = reports_from (first_view s.field.one.members s.field.two.members) s pairs

@@ -1,4 +1,4 @@
--- Worked examples of whole battles, computed (docs/PROOFS.md, "Worked examples").
+-- Worked examples: whole battles (docs/PROOFS.md, "Worked examples").
 use Rattle.std.proofs.Common.{List, [], codes, flat_map, length, map, refl, true, ℕ, ◌++◌, ◌==◌, ◌∷◌, ◌≡◌}
 use Rattle.gen1_machine.specs.declared.side.Side.{Side}
 use Rattle.gen1_machine.specs.declared.side.Side.TheVariants.{One, Two}
@@ -31,7 +31,7 @@ texts r = flat_map (λ answer. lines (events_of answer)) r.answers
 abbrev log_lengths : Ran → List ℕ
 log_lengths r = map (λ answer. length (codes_of (events_of answer))) r.answers
 
--- two Tauros, to the end (docs/MECHANICS.md, "Action", "Lines")
+-- Two Tauros, to the end (docs/MECHANICS.md, "Action", "Lines")
 
 abbrev the_battle : Ran
 the_battle = run (two_tauros 1000) three_pairs
@@ -58,14 +58,14 @@ logs_of_the_battle : log_lengths the_battle ≡ 23 ∷ 36 ∷ 23 ∷ []
 unfolding computing
 logs_of_the_battle = refl
 
--- the log of its first update (docs/MECHANICS.md, "Log bytes", "Switching in")
+-- The log of the first update (docs/MECHANICS.md, "Log bytes", "Switching in").
 first_log : codes_of (events_of (step (two_tauros 1000) choices.Pass choices.Pass).answer) ≡
     0x02 ∷ 0x01 ∷ 0x80 ∷ 0x01 ∷ 0x64 ∷ 0x61 ∷ 0x01 ∷ 0x61 ∷ 0x01 ∷ 0x00 ∷ 0x02 ∷ 0x02 ∷ 0x80 ∷ 0x01 ∷ 0x64 ∷ 0x61 ∷ 0x01 ∷ 0x61
     ∷ 0x01 ∷ 0x00 ∷ 0x01 ∷ 0x01 ∷ 0x00 ∷ []
 unfolding computing
 first_log = refl
 
--- what a watcher sees of it (docs/MECHANICS.md, "Spectator's view")
+-- What a spectator sees of it (docs/MECHANICS.md, "Spectator's view").
 abbrev seen : View
 seen = sees_all (flat_map events_of the_battle.answers) (first_view (tauros ∷ []) (tauros ∷ []))
 
@@ -74,7 +74,7 @@ view_of_the_battle : (seen.one.place ∷ seen.two.place ∷ (shown_at 1 seen.one
 unfolding computing
 view_of_the_battle = (refl, refl)
 
--- a choice that isn't offered changes nothing (docs/MECHANICS.md, "Offered choices")
+-- A choice that isn't offered changes nothing (docs/MECHANICS.md, "Offered choices")
 
 abbrev begun : State
 begun = (step (two_tauros 1000) choices.Pass choices.Pass).state
@@ -89,8 +89,8 @@ not_offered : (wrong_slot.answer ≡ Refused (NotOffered One)) × (bytes_number 
 unfolding computing
 not_offered = (refl, refl)
 
--- the last turn ends without a winner (docs/MECHANICS.md, "Falls and requests", "Turn limit"): a tie, and then the battle is
--- over
+-- The last turn ends without a winner (docs/MECHANICS.md, "Falls and requests", "Turn limit"): the battle is a tie,
+-- and is over
 
 abbrev at_the_last_turn : State
 at_the_last_turn = record begun { field = record begun.field { turn = 1000 } }
@@ -108,7 +108,8 @@ last_turn_is_a_tie : (after_the_last_turn.state.field.outcome ≡ outcomes.Tie) 
 unfolding computing
 last_turn_is_a_tie = (refl, refl, refl)
 
--- the last members fall by an explosion (docs/MECHANICS.md, "Falls and requests", "Recoil, drain and explosion"): a tie
+-- The last members fall by an explosion (docs/MECHANICS.md, "Falls and requests", "Recoil, drain and explosion"): a
+-- tie
 
 abbrev last_explosion : Ran
 last_explosion = run
@@ -119,7 +120,7 @@ explosion_is_a_tie : last_explosion.state.field.outcome ≡ outcomes.Tie
 unfolding computing
 explosion_is_a_tie = refl
 
--- a last turn of 1 (docs/MECHANICS.md, "Turn limit"): the lines of the first turn, then a tie
+-- A last turn of 1 (docs/MECHANICS.md, "Turn limit"): the lines of the first turn, then a tie
 
 abbrev short_battle : Ran
 short_battle = run (two_tauros 1) three_pairs
@@ -129,7 +130,7 @@ limit_of_1 : (log_lengths short_battle ≡ 23 ∷ 34 ∷ 0 ∷ []) × (short_bat
 unfolding computing
 limit_of_1 = (refl, refl, refl)
 
--- a room, submission by submission (docs/MECHANICS.md, "Rooms")
+-- A room, submission by submission (docs/MECHANICS.md, "Rooms")
 
 abbrev submission : Side → ℕ → ℕ → Submission
 submission s number byte = record { side = s; number = number; byte = byte }

@@ -1,4 +1,4 @@
--- Worked examples of bounds, and of branches that a battle seldom or never enters, computed (docs/PROOFS.md, "Worked examples").
+-- Worked examples: bounds, and branches that battles rarely or never enter (docs/PROOFS.md, "Worked examples").
 use Rattle.std.proofs.Common.{Bool, None, Option, Some, [], false, map, refl, true, ℕ, ◌*◌, ◌∷◌, ◌≡◌}
 use Rattle.gen1_tables.specs.declared.element.Element.TheVariants.{Normal, Ghost, Fire, Water, Grass, Electric, Psychic, Ice, Dragon}
 use Rattle.gen1_tables.specs.declared.effect.Stat.TheVariants.{Attack, Defense, Accuracy, Evasion}
@@ -47,7 +47,7 @@ use Rattle.gen1_machine.proofs.Computing.{computing}
 use Rattle.gen1_machine.proofs.WorkedRules.{tauros, knowing, facing, as_is, set, usual}
 use Rattle.gen1_machine.proofs.WorkedHits.{tauros_of, drawing, left_with}
 
--- two Tauros as they face each other, with some draws
+-- Two Tauros that face each other, with given draws
 
 abbrev face_to_face : Stream → Progress
 face_to_face = facing tauros as_is tauros as_is
@@ -55,12 +55,13 @@ face_to_face = facing tauros as_is tauros as_is
 abbrev foe_under : (Active → Active) → Stream → Progress
 foe_under change = facing tauros as_is tauros change
 
--- streams (docs/MECHANICS.md, "Link numbers"): any other is the bytes that are drawn, with how many hold every byte
+-- Streams (docs/MECHANICS.md, "Link numbers"): any other stream is the bytes that are drawn, and a number of draws
+-- that hold every byte.
 any_stream : byte_at (Drawn (λ n. 3 * n) 7) 5 ∷ span (Drawn (λ n. 3 * n) 7) ∷ [] ≡ 15 ∷ 7 ∷ []
 unfolding computing
 any_stream = refl
 
--- the tables behind their ends (docs/TABLES.md): 151 species, 165 moves, and a list of members
+-- The tables past their ends (docs/TABLES.md): 151 species, 165 moves, and a list of members
 
 behind_the_tables : (species_row 152 ≡ record {
   first_type = Normal;
@@ -79,7 +80,7 @@ behind_the_members : member_at 2 (face_to_face (Sweep 0)).field.one
 unfolding computing
 behind_the_members = refl
 
--- before the first update nobody is out (docs/MECHANICS.md, "Teams")
+-- Before the first update no member is out (docs/MECHANICS.md, "Teams").
 nobody_is_out : (first_state usual_terms (tauros ∷ []) (tauros ∷ []) (1 ∷ [])).field.one.active ≡ record {
   place = 0;
   first_type = Normal;
@@ -95,13 +96,14 @@ nobody_is_out : (first_state usual_terms (tauros ∷ []) (tauros ∷ []) (1 ∷ 
 unfolding computing
 nobody_is_out = refl
 
--- types whose damage is special (docs/MECHANICS.md, "Damage numbers")
+-- Types whose damage is special (docs/MECHANICS.md, "Damage numbers").
 special_types : map is_special (Fire ∷ Water ∷ Grass ∷ Electric ∷ Psychic ∷ Ice ∷ Dragon ∷ Ghost ∷ [])
     ≡ true ∷ true ∷ true ∷ true ∷ true ∷ true ∷ true ∷ false ∷ []
 unfolding computing
 special_types = refl
 
--- Accuracy and Evasion are stages alone, and only Attack and Speed have penalties (docs/MECHANICS.md, "Stages", "Penalties")
+-- Accuracy and Evasion have stages only, and only Attack and Speed have penalties (docs/MECHANICS.md, "Stages",
+-- "Penalties").
 stages_alone : unmodified Accuracy tauros ∷ unmodified Evasion tauros ∷ penalties_of Defense (active One (face_to_face (Sweep 0))) ∷ []
     ≡ 0 ∷ 0 ∷ 0 ∷ []
 unfolding computing
@@ -115,8 +117,8 @@ evasion_has_no_number : (stage_of Evasion (active Two evasion_falls).stages ≡ 
 unfolding computing
 evasion_has_no_number = (refl, refl)
 
--- damage numbers (docs/MECHANICS.md, "Damage numbers"): 255 fits a byte, 256 does not, and a quarter of 1024 is 256, with a low byte of 0.
--- An explosion halves a defense to 1 at least: 42 * 1 * 50 / 50 is 42, + 2 is 44
+-- Damage numbers (docs/MECHANICS.md, "Damage numbers"): 255 fits a byte, and 256 doesn't. A quarter of 1024 is 256,
+-- whose low byte is 0. An explosion halves a defense to at least 1: 42 * 1 * 50 / 50 is 42, + 2 is 44
 
 abbrev exploding : ℕ → Option ℕ
 exploding defense = before_types (record {
@@ -144,13 +146,14 @@ halved_defense : exploding 1 ∷ exploding 3 ∷ exploding 4 ∷ [] ≡ Some 44 
 unfolding computing
 halved_defense = refl
 
--- a power of 1 deals damage: 42 * 1 * 74 / 72 is 43, / 50 is 0, + 2 is 2, with the own type 3, and 3 by the factor 255
+-- A power of 1 deals damage: 42 * 1 * 74 / 72 is 43, / 50 is 0, + 2 is 2, and 3 for the user's own type. It stays 3
+-- with the factor 255.
 power_of_1 : (damage_of One (record (move_at 1) { power = 1 }) effects.DamageOnly (face_to_face (drawing 255 255 0 0 0))).field.last_damage ≡ 3
 unfolding computing
 power_of_1 = refl
 
--- critical hits (docs/MECHANICS.md, "Critical hits"): the four moves; of a base Speed of 512, which no species has, 255 is left, and half
--- of it; four times 150 is 600, of which 255 is left
+-- Critical hits (docs/MECHANICS.md, "Critical hits"): the four moves with a high chance. The bound is at most 255: a
+-- base Speed of 512, which no species has, gives 255, and half of that. Four times 150 is 600, which gives 255.
 often_critical : map is_often_critical (2 ∷ 75 ∷ 152 ∷ 163 ∷ 1 ∷ []) ≡ true ∷ true ∷ true ∷ true ∷ false ∷ []
 unfolding computing
 often_critical = refl
@@ -159,7 +162,8 @@ critical_bounds : critical_bound 512 false false ∷ critical_bound 150 false tr
 unfolding computing
 critical_bounds = refl
 
--- the hit test (docs/MECHANICS.md, "Hit test"): no byte is above 255, so a draw of 255 misses at any stage; a settled miss is tested too
+-- The hit test (docs/MECHANICS.md, "Hit test"): the accuracy byte is at most 255, so a draw of 255 misses at any
+-- stage. A settled miss counts as tested too.
 accuracy_is_capped : scaled 255 (record level_stages { accuracy = 12 }) level_stages ∷ scaled 255 level_stages (record level_stages { evasion = 0 }) ∷ []
     ≡ 255 ∷ 255 ∷ []
 unfolding computing
@@ -172,23 +176,24 @@ settled_miss : (tested_in_vain.action.accuracy_tested ≡ Some 200) × (tested_i
 unfolding computing
 settled_miss = (refl, refl, refl)
 
--- landing (docs/MECHANICS.md, "Landing"): a Substitute holds damage of its HP, and none above 255
+-- Landing (docs/MECHANICS.md, "Landing"): a Substitute holds against damage equal to its HP, and breaks by any damage
+-- above 255.
 substitutes_break : breaks 255 255 ∷ breaks 256 300 ∷ breaks 10 10 ∷ breaks 11 10 ∷ [] ≡ false ∷ true ∷ false ∷ true ∷ []
 unfolding computing
 substitutes_break = refl
 
--- a loss or a gain of 0 HP is not told (docs/MECHANICS.md, "Order of events")
+-- A loss or a gain of 0 HP has no event (docs/MECHANICS.md, "Order of events").
 nothing_lost : ((lose_hp One sources.Direct 0 (face_to_face (Sweep 0))).events ≡ [])
     × ((gain_hp One 0 (facing (left_with 10) as_is tauros as_is (Sweep 0))).events ≡ [])
 unfolding computing
 nothing_lost = (refl, refl)
 
--- who has fallen before suffers nothing (docs/MECHANICS.md, "Residual damage")
+-- A member that has fallen already takes no residual damage (docs/MECHANICS.md, "Residual damage").
 fallen_suffers_nothing : (residual One (facing (record (left_with 0) { status = Poisoned }) as_is tauros as_is (Sweep 0))).events ≡ []
 unfolding computing
 fallen_suffers_nothing = refl
 
--- what is not on does not change (docs/MECHANICS.md, "Conditions")
+-- A condition that isn't on doesn't change (docs/MECHANICS.md, "Conditions").
 nothing_to_count : map (λ change. change no_conditions) (with_thrash_one_less ∷ with_bide_storing 9 ∷ with_substitute_hurt 9 ∷ with_disable_one_less ∷ [])
     ≡ no_conditions ∷ no_conditions ∷ no_conditions ∷ no_conditions ∷ []
 unfolding computing
@@ -198,22 +203,22 @@ awake_already : with_sleep_one_less (record tauros { status = Poisoned }) ≡ re
 unfolding computing
 awake_already = refl
 
--- Bide's energy is of 16 bits: 70000 is 4464 above 65536 (docs/MECHANICS.md, "Going on")
+-- Bide's energy has 16 bits: 70000 is 4464 above 65536 (docs/MECHANICS.md, "Going on").
 energy_starts_again : energy_with 40000 (record { turns = 2; energy = 30000 }) ≡ 4464
 unfolding computing
 energy_starts_again = refl
 
--- Counter's damage is 65535 at most (docs/MECHANICS.md, "Counter")
+-- Counter's damage is at most 65535 (docs/MECHANICS.md, "Counter").
 counter_is_capped : (counter_by One (move_at 68) 40000 (face_to_face (Sweep 0))).field.last_damage ≡ 65535
 unfolding computing
 counter_is_capped = refl
 
--- a move without a damage of its own deals the user's level (docs/MECHANICS.md, "Fixed damage and one-hit moves")
+-- A move without damage of its own deals the user's level (docs/MECHANICS.md, "Fixed damage and one-hit moves").
 fixed_by_level : map (λ move. (deal_fixed One move (face_to_face (Sweep 0))).field.last_damage) (48 ∷ 49 ∷ 50 ∷ []) ≡ 100 ∷ 20 ∷ 100 ∷ []
 unfolding computing
 fixed_by_level = refl
 
--- a one-hit move on a Ghost is a miss whatever its hit test draws, and told as immune
+-- A one-hit move on a Ghost misses at any draw of its hit test, and is reported as immunity
 
 abbrev ghost : Who
 ghost = record { side = Two; species = 94 }
@@ -225,19 +230,19 @@ one_hit_on_a_ghost : (guillotine_on_a_ghost.events ≡ events.Move (tauros_of On
 unfolding computing
 one_hit_on_a_ghost = (refl, refl)
 
--- without a plan there is no other hit (docs/MECHANICS.md, "Many hits")
+-- Without a plan there is no further hit (docs/MECHANICS.md, "Many hits").
 no_hit_is_left : hits_left (face_to_face (Sweep 0)) ≡ 0
 unfolding computing
 no_hit_is_left = refl
 
--- an effect that acts at another place does nothing here, and who does not thrash goes on with nothing
+-- An effect that acts elsewhere does nothing here, and a member that doesn't thrash has nothing to go on with
 
 acts_elsewhere : ((late_effect usual One (move_at 70) effects.DamageOnly (face_to_face (Sweep 0))).events ≡ [])
     × ((thrash_less One None (face_to_face (Sweep 0))).events ≡ []) × ((play_turn usual choices.Pass (choices.Move 1) (face_to_face (Sweep 0))).events ≡ [])
 unfolding computing
 acts_elsewhere = (refl, refl, refl)
 
--- who is confused already is not confused by chance (docs/MECHANICS.md, "Side effects"): one draw, and no event
+-- A foe that is confused already isn't confused by chance (docs/MECHANICS.md, "Side effects"): one draw, and no event
 
 abbrev confuses : (Active → Active) → (Active → Active) → Progress
 confuses own foes = side_effect usual One (move_at 60) (effects.ConfusionChance 25) (facing tauros own tauros foes (drawing 24 3 0 0 0))
@@ -248,7 +253,7 @@ confused_by_chance : ((confuses as_is (set (with_confusion 3))).events ≡ []) �
 unfolding computing
 confused_by_chance = (refl, refl, refl, refl)
 
--- a stat falls by a draw of 84, and not of 85 (docs/MECHANICS.md, "Side effects")
+-- A stat falls at a draw of 84, and not at 85 (docs/MECHANICS.md, "Side effects")
 
 abbrev aurora_beams : ℕ → Progress
 aurora_beams b = side_effect usual One (move_at 62) (effects.StatDownChance Attack) (face_to_face (Sweep b))
@@ -257,7 +262,8 @@ stat_falls_by_chance : ((aurora_beams 84).events ≡ events.Unboost (tauros_of T
 unfolding computing
 stat_falls_by_chance = (refl, refl)
 
--- a stat of who is invulnerable does not fall, also by a move that never misses, as Swift (docs/MECHANICS.md, "Late effects")
+-- A stat of an invulnerable foe doesn't fall, even by a move that never misses, such as Swift (docs/MECHANICS.md,
+-- "Late effects")
 
 abbrev lowers_by_swift : (Active → Active) → (Active → Active) → Progress
 lowers_by_swift own foes = lower_foes_stat One (move_at 129) Attack 1 (facing tauros own tauros foes (Sweep 0))
@@ -267,9 +273,9 @@ invulnerable_to_a_drop : ((lowers_by_swift as_is (set with_invulnerability)).eve
 unfolding computing
 invulnerable_to_a_drop = (refl, refl)
 
--- Disable (docs/MECHANICS.md, "Side effects"). After the hit test a draw of 0 is slot 1, which has no PP, one of 3 slot 4, which holds no
--- move, and one of 1 slot 2, which is disabled for (6 & 7) + 1 turns. Where no move has PP, a draw of 1 is slot 2, which holds no move, and
--- one of 0 slot 1: there it fails
+-- Disable (docs/MECHANICS.md, "Side effects"). After the hit test a draw of 0 names slot 1, which has no PP, one of 3
+-- names slot 4, which holds no move, and one of 1 names slot 2, which is disabled for (6 & 7) + 1 turns. If no move
+-- has PP, a draw of 1 names slot 2, which holds no move, and one of 0 names slot 1, where Disable fails
 
 abbrev knowing_two : ℕ → ℕ → Member
 knowing_two first second = record tauros { moves = record { id = 70; pp = first } ∷ record { id = 36; pp = second } ∷ [] }
@@ -284,7 +290,8 @@ disabled_slot_has_pp : ((conditions Two (disables (knowing_two 0 5) (drawing 0 0
 unfolding computing
 disabled_slot_has_pp = (refl, refl, refl, refl)
 
--- Thunder Wave (docs/MECHANICS.md, "Early effects") fails on a Sandshrew, of Ground, and paralyses a Kabuto, of Rock and Water
+-- Thunder Wave (docs/MECHANICS.md, "Early effects") fails on a Sandshrew, a Ground type, and paralyses a Kabuto, a
+-- Rock and Water type
 
 abbrev waved : ℕ → Status
 waved species = status_of Two (early_effect One (move_at 86) effects.InflictParalysis
@@ -294,7 +301,7 @@ thunder_wave : waved 27 ∷ waved 140 ∷ [] ≡ Healthy ∷ Paralysed ∷ []
 unfolding computing
 thunder_wave = refl
 
--- a move that is picked anew does not go on, whatever is on (docs/MECHANICS.md, "Going on")
+-- A move that is picked for this turn doesn't go on, whatever conditions are on (docs/MECHANICS.md, "Going on")
 
 abbrev goes_on : Pick → Bool
 goes_on pick = (see_if_going_on One pick (facing tauros (set (with_trapping 2)) tauros as_is (Sweep 0))).action.going_on
@@ -303,8 +310,8 @@ picked_anew : goes_on (Use (Slot 1)) ∷ goes_on Continue ∷ goes_on Held ∷ [
 unfolding computing
 picked_anew = refl
 
--- the gate (docs/MECHANICS.md, "Gate"): a flinch is tested before recharging, which is then still due; who has picked nothing is tested for
--- paralysis, and not for a disabled move
+-- The gate (docs/MECHANICS.md, "Gate"): a flinch is tested before recharging, which is still due then. A side that
+-- has picked nothing is tested for paralysis, and not for a disabled move
 
 abbrev flinching : Progress
 flinching = gate One Continue (facing tauros (set λ c. with_recharge (with_flinch c)) tauros as_is (Sweep 0))
@@ -322,8 +329,8 @@ idle_is_tested : ((idles (record tauros { status = Paralysed })).events ≡ even
 unfolding computing
 idle_is_tested = (refl, refl, refl)
 
--- a hit on itself (docs/MECHANICS.md, "Hit on itself") ends a flinch too, and invulnerability also where it faults: the foe's Reflect makes a
--- Defense of 512 into 1024, a quarter of which is 256, with a low byte of 0
+-- A hit on itself (docs/MECHANICS.md, "Hit on itself") ends a flinch too. It ends invulnerability even if it faults:
+-- the foe's Reflect makes a Defense of 512 into 1024, a quarter of which is 256, with the low byte 0
 
 own_hit_ends_a_flinch : (conditions One (hurt_itself One (facing tauros (set with_flinch) tauros as_is (Sweep 0)))).flinch ≡ false
 unfolding computing
@@ -336,14 +343,16 @@ own_hit_faults : (own_hit_without_defense.field.outcome ≡ outcomes.Fault 1) ×
 unfolding computing
 own_hit_faults = (refl, refl)
 
--- a choice is offered where it is among those that are, and no other slot or place is it (docs/MECHANICS.md, "Offered choices")
+-- A choice is offered exactly if it is in the list. Another slot or place isn't the same choice (docs/MECHANICS.md,
+-- "Offered choices").
 same_slot_and_place : is_among (choices.Move 1) (choices.Move 2 ∷ []) ∷ is_among (choices.Move 2) (choices.Move 1 ∷ []) ∷ is_among (choices.Move 2) (choices.Move 2 ∷ [])
     ∷ is_among (choices.Switch 2) (choices.Switch 3 ∷ []) ∷ is_among (choices.Switch 3) (choices.Switch 2 ∷ []) ∷ is_among (choices.Switch 2) (choices.Move 2 ∷ []) ∷ []
     ≡ false ∷ false ∷ true ∷ false ∷ false ∷ false ∷ []
 unfolding computing
 same_slot_and_place = refl
 
--- the picked move is set as the turn begins (docs/MECHANICS.md, "Picks"), so it stands after a fault: Psywave at level 1, as the foe switches
+-- The picked move is set as the turn begins (docs/MECHANICS.md, "Picks"), so it is set even after a fault: Psywave at
+-- level 1, while the foe switches
 
 abbrev two_tauros : Progress → Progress
 two_tauros p = record p { field = with_party Two (record p.field.two { members = tauros ∷ tauros ∷ [] }) p.field }

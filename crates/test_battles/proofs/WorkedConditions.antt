@@ -1,4 +1,4 @@
--- Worked examples of what ends a condition, computed (docs/PROOFS.md, "Worked examples").
+-- Worked examples: what ends a condition (docs/PROOFS.md, "Worked examples").
 use Rattle.std.proofs.Common.{Bool, List, None, Option, Some, [], false, map, refl, true, ℕ, ◌∷◌, ◌≡◌}
 use Rattle.gen1_tables.specs.declared.effect.Effect.TheVariants as effects
 use Rattle.gen1_stats.specs.declared.status.Status.TheVariants.{Paralysed}
@@ -23,7 +23,7 @@ use Rattle.gen1_machine.specs.Turn.{turn}
 use Rattle.gen1_machine.proofs.Computing.{computing}
 use Rattle.gen1_machine.proofs.WorkedRules.{tauros, knowing, facing, as_is, set, usual}
 
--- an active that is under nearly all that there is, with something of its move underway, confused or not
+-- An active member with nearly all conditions, with something of its move underway, confused or not
 
 abbrev under : Underway → Option ℕ → ActiveConditions
 under u confused = record {
@@ -44,7 +44,7 @@ under u confused = record {
 abbrev is_under : Underway → Option ℕ → Active → Active
 is_under u confused a = record a { conditions = under u confused }
 
--- what may be underway, one at a time: a count goes with its condition
+-- What may be underway, one thing at a time. A count belongs to its condition
 
 abbrev biding : Underway
 biding = record nothing_underway { bide = Some (record { turns = 2; energy = 30 }) }
@@ -64,8 +64,8 @@ raging = record nothing_underway { rage = true }
 abbrev each_underway : List Underway
 each_underway = biding ∷ thrashing ∷ trapping ∷ charging ∷ raging ∷ []
 
--- full paralysis (docs/MECHANICS.md, "Conditions") ends Bide, Thrash, Trapping and Charging; not Rage, and nothing else. Before it the gate
--- has counted Disable down
+-- Full paralysis (docs/MECHANICS.md, "Conditions") ends Bide, Thrash, Trapping and Charging. It ends neither Rage nor
+-- anything else. Before it the gate has counted Disable down
 
 abbrev paralysed : Member
 paralysed = record tauros { status = Paralysed }
@@ -81,7 +81,8 @@ paralysis_ends : map after_paralysis each_underway
 unfolding computing
 paralysis_ends = refl
 
--- a hit on itself (docs/MECHANICS.md, "Conditions") ends the same, and Invulnerable with them; it takes a turn of the confusion
+-- A hit on itself (docs/MECHANICS.md, "Conditions") ends the same conditions, and Invulnerable. It takes one turn of
+-- the confusion
 
 abbrev after_own_hit : Underway → ActiveConditions
 after_own_hit u = conditions One (gate One Continue (facing tauros (is_under u (Some 3)) tauros as_is (Sweep 128)))
@@ -94,7 +95,7 @@ own_hit_ends : map after_own_hit each_underway
 unfolding computing
 own_hit_ends = refl
 
--- Haze (docs/MECHANICS.md, "Conditions") leaves to both sides what is underway, Invulnerable and the Substitute
+-- Haze (docs/MECHANICS.md, "Conditions") leaves both sides what is underway, Invulnerable and the Substitute
 
 abbrev after_haze_of_two : Progress
 after_haze_of_two = early_effect One (move_at 114) effects.Haze
@@ -107,7 +108,7 @@ haze_ends : (conditions One after_haze_of_two ≡ left_by_haze raging) × (condi
 unfolding computing
 haze_ends = (refl, refl)
 
--- a switch (docs/MECHANICS.md, "Conditions") ends all of them, and the foe's Trapping
+-- A switch (docs/MECHANICS.md, "Conditions") ends all conditions, and the foe's Trapping
 
 abbrev after_switch : Progress
 after_switch = send_out Two 1 (facing tauros (is_under trapping None) tauros (is_under raging (Some 4)) (Sweep 0))
@@ -116,8 +117,8 @@ switch_ends : (conditions Two after_switch ≡ no_conditions) × (conditions One
 unfolding computing
 switch_ends = (refl, refl)
 
--- counts that come to 0 (docs/MECHANICS.md, "Conditions"): of Disable and confusion in the gate, without a draw. That of Trapping stays
--- at 0 to the end of the turn
+-- Counts that reach 0 (docs/MECHANICS.md, "Conditions"): those of Disable and confusion do in the gate, without a
+-- draw. That of Trapping stays 0 until the end of the turn
 
 abbrev at_their_last : ActiveConditions → ActiveConditions
 at_their_last c = record c { confused = Some 1; disabled = Some (record { slot = 2; turns = 1 }) }
@@ -137,8 +138,8 @@ count_of_trapping : ((underway One (act usual One Continue wrapping)).trapping �
 unfolding computing
 count_of_trapping = (refl, refl)
 
--- Recharge (docs/MECHANICS.md, "Conditions") ends by the gate, and by the foe's trapping move, flinch, freeze or sleep move: here
--- by Wrap, by Bite and Ice Beam at draws of 25, and by Spore
+-- Recharge (docs/MECHANICS.md, "Conditions") ends by the gate, and by the foe's trapping move, flinch, freeze or
+-- sleep move. Here they are Wrap, Bite and Ice Beam at draws of 25, and Spore
 
 abbrev after_recharging : (Phase) → Bool
 after_recharging f = (underway Two (f (facing tauros as_is tauros (set with_recharge) (Sweep 25)))).recharge

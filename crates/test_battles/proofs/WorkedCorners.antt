@@ -1,4 +1,4 @@
--- Worked examples of corners: whole updates in which rules meet that seldom do, computed (docs/CORNERS.md).
+-- Worked examples: corners, which are whole updates in which rules meet that rarely do (docs/TESTING.md).
 use Rattle.std.proofs.Common.{List, None, Option, Some, [], false, map, refl, replicate, true, ℕ, ◌++◌, ◌-◌, ◌∷◌, ◌≡◌}
 use Rattle.gen1_stats.specs.declared.status.Status.{Status}
 use Rattle.gen1_stats.specs.declared.status.Status.TheVariants.{Healthy, Asleep, Burned, Paralysed}
@@ -27,7 +27,7 @@ use Rattle.gen1_machine.proofs.Computing.{computing}
 use Rattle.gen1_machine.proofs.WorkedRules.{tauros, knowing, facing, as_is, set, hp_of, usual}
 use Rattle.gen1_machine.proofs.WorkedHits.{tauros_of, healthy_at, hurt, left_with, drawing}
 
--- side 2 is a little slower, so side 1 is first, without a draw
+-- Side 2 is a little slower, so side 1 is first, without a draw
 
 abbrev pub slower : Member → Member
 slower m = record m { speed = 317 }
@@ -38,11 +38,11 @@ idler = slower (knowing 150 10)
 abbrev joined_by : Side → Member → Progress → Progress
 joined_by s m p = record p { field = with_party s (record (party s p.field) { members = (party s p.field).members ++ m ∷ [] }) p.field }
 
--- a side that is in the middle of its only move
+-- A side in the middle of its only move.
 abbrev amid : (ActiveConditions → ActiveConditions) → Active → Active
 amid change a = record a { current_move = Slot 1; picked_move = Slot 1; conditions = change a.conditions }
 
--- an update in which side 1 chooses anew, or goes on; side 2 chooses its move
+-- An update in which side 1 chooses a move, or goes on. Side 2 chooses its move
 
 abbrev both_choose : Progress → Progress
 both_choose p = update usual (choices.Move 1) (choices.Move 1) p
@@ -59,15 +59,15 @@ moves_by s move = events.Move (tauros_of s) move (tauros_of (other s))
 abbrev splashes : Side → List Event
 splashes s = moves_by s 150 ∷ events.Activate (tauros_of s) volatiles.Splash ∷ []
 
--- side 2 splashes, and the next turn begins
+-- Side 2 uses Splash, and the next turn begins.
 abbrev then_idles : List Event
 then_idles = splashes Two ++ events.Turn 2 ∷ []
 
 abbrev pp_of : Side → Progress → ℕ
 pp_of s p = (known_in 1 (member s p).moves).pp
 
--- Hyper Beam used anew (docs/MECHANICS.md, "Action"). Its power of 150: 42 * 150 * 74 / 72 is 6475, / 50 is 129, + 2 is 131, with the
--- own type 196, which leaves 157 of 353. Its user, side 2, chose to recharge
+-- Hyper Beam is used again (docs/MECHANICS.md, "Action"). Its power is 150: 42 * 150 * 74 / 72 is 6475, / 50 is 129,
+-- + 2 is 131, and 196 for the user's own type, which leaves 157 of 353. Its user, side 2, chose to recharge
 
 abbrev recharging : Member → ℕ → Stream → Progress
 recharging user pp_left stream = facing user as_is (slower (knowing 63 pp_left)) (amid with_recharge) stream
@@ -75,8 +75,8 @@ recharging user pp_left stream = facing user as_is (slower (knowing 63 pp_left))
 abbrev beamed_anew : List Event
 beamed_anew = moves_by Two 63 ∷ hurt One 157 ∷ events.MustRecharge (tauros_of Two) ∷ events.Turn 2 ∷ []
 
--- a sleep move cleared Recharge and then failed by the sleep clause: draws 255, 255 and 0 are no critical hit, the factor 255 and a
--- hit. It costs one PP of five
+-- A sleep move clears Recharge and then fails by the sleep clause. The draws 255, 255 and 0 give no critical hit, the
+-- factor 255, and a hit. It costs one PP of five
 
 abbrev sleep_clause_only : Ruling
 sleep_clause_only = ruling_of (record usual_terms { rules = rules_of 1 })
@@ -91,8 +91,8 @@ beam_anew_by_the_clause : (clause_holds.events ≡ moves_by One 147 ∷ events.F
 unfolding computing
 beam_anew_by_the_clause = (refl, refl, refl, refl)
 
--- a trapping move cleared Recharge and then missed: Wrap draws the count 0, 255 and 255 for its damage, and at 255 misses. Of 0 PP
--- one less is 63
+-- A trapping move clears Recharge and then misses. Wrap draws the count 0, 255 and 255 for its damage, and misses at
+-- 255. One less than 0 PP is 63
 
 abbrev wrap_misses : Progress
 wrap_misses = two_goes_on usual (recharging (knowing 35 20) 0 (Link (0 ∷ replicate 5 255 ++ replicate 4 0)))
@@ -103,8 +103,8 @@ beam_anew_by_a_miss : (wrap_misses.events ≡ moves_by One 35 ∷ events.Miss (t
 unfolding computing
 beam_anew_by_a_miss = (refl, refl, refl, refl)
 
--- Rest (docs/MECHANICS.md, "Early effects") at a maximum of 703: a loss of 255 or of 511 can't be healed, and neither sleep nor HP
--- come; one HP more or less can
+-- Rest (docs/MECHANICS.md, "Early effects") at a maximum of 703 fails at a loss of 255 or of 511: neither sleep nor
+-- HP come. With one HP more or less it works
 
 abbrev rests : ℕ → Progress
 rests lost = both_choose (facing (record (knowing 156 10) { max = 703; hp = 703 - lost }) as_is idler as_is (drawing 9 9 9 9 9))
@@ -126,8 +126,8 @@ rest_at_511 : ((rests 511).events ≡ rest_fails) × (status_of One (rests 511) 
 unfolding computing
 rest_at_511 = (refl, refl, refl, refl, refl, refl)
 
--- Bide (docs/MECHANICS.md, "Going on"): the sum is one of 16 bits. 65535 and 3 are 2, which is stored, or let out as 4; 65535 and 1
--- are 0, a miss; and twice 32769 is 2
+-- Bide (docs/MECHANICS.md, "Going on"): the sum has 16 bits. 65535 and 3 give 2, which is stored, or let out as 4.
+-- 65535 and 1 give 0, a miss. Twice 32769 is 2
 
 abbrev storing : ℕ → ℕ → ActiveConditions → ActiveConditions
 storing turns energy c = record c { underway = record c.underway { bide = Some (record { turns = turns; energy = energy }) } }
@@ -151,8 +151,8 @@ sum_past_65535 : ((bides 2 65535 3).events ≡ events.Activate (tauros_of One) v
 unfolding computing
 sum_past_65535 = (refl, refl, refl, refl, refl, refl)
 
--- its energy lands on a foe that is Invulnerable, without a hit test: 30 and a last damage of 40 are 140. The foe, which has dug in,
--- then strikes: 42 * 100 * 74 / 72 is 4316, / 50 is 86, + 2 is 88
+-- Bide's energy lands on an Invulnerable foe, without a hit test: 30 and a last damage of 40 give 140. The foe, which
+-- has dug in, then strikes: 42 * 100 * 74 / 72 is 4316, / 50 is 86, + 2 is 88
 
 abbrev digging : ActiveConditions → ActiveConditions
 digging c = with_charging (with_invulnerability c)
@@ -167,8 +167,9 @@ bide_on_the_invulnerable : (out_of_the_hole.events ≡ bide_ends ∷ hurt Two 21
 unfolding computing
 bide_on_the_invulnerable = (refl, refl, refl, refl)
 
--- Counter (docs/MECHANICS.md, "Counter", "Hit on itself"): a foe that picked Strength hits itself at a draw of 128 for 42 * 40 * 74 / 72,
--- 1726, / 50 is 34, + 2 is 36; Counter gives back 72. A foe that picked Surf, of type Water, is not countered, whatever it did
+-- Counter (docs/MECHANICS.md, "Counter", "Hit on itself"): a foe that picked Strength hits itself at a draw of 128,
+-- for 42 * 40 * 74 / 72, 1726, / 50 is 34, + 2 is 36. Counter deals 72. A foe that picked Surf, a Water move, isn't
+-- countered, whatever it did
 
 abbrev countered : ℕ → Progress
 countered picked = both_choose (facing (knowing 68 20) as_is (knowing picked 10) (set (with_confusion 3)) (drawing 128 255 0 0 0))
@@ -183,8 +184,9 @@ counter_after_a_hit_on_itself : ((countered 70).events ≡ hits_itself ++ moves_
 unfolding computing
 counter_after_a_hit_on_itself = (refl, refl, refl, refl)
 
--- charging (docs/MECHANICS.md, "Charging", "Conditions"): who was left Invulnerable begins Razor Wind, and Strength misses it; its second
--- turn ends both, and Strength hits. Both deal 42 * 80 * 74 / 72, 3453, / 50 is 69, + 2 is 71, with the own type 106
+-- Charging (docs/MECHANICS.md, "Charging", "Conditions"): a member that was left Invulnerable begins Razor Wind, and
+-- Strength misses it. Its second turn ends both conditions, and Strength hits. Both deal 42 * 80 * 74 / 72, 3453, /
+-- 50 is 69, + 2 is 71, and 106 for the user's own type
 
 abbrev winds_up : Progress
 winds_up = both_choose (facing (knowing 13 10) (set with_invulnerability) (slower (knowing 70 10)) as_is
@@ -201,8 +203,9 @@ charge_ends_an_older_invulnerability : (winds_up.events ≡ events.Prepare (taur
 unfolding computing
 charge_ends_an_older_invulnerability = (refl, refl, refl, refl)
 
--- BadPoison outlasts its poison (docs/MECHANICS.md, "Residual damage", "Early effects"). From the counter 3 a sixteenth of 353, 22, becomes
--- 88, and at the next step 110: of a seed alone, of a burn, of both; without either the counter rests
+-- BadPoison outlasts its poison (docs/MECHANICS.md, "Residual damage", "Early effects"). From the counter 3, a
+-- sixteenth of 353, which is 22, becomes 88, and 110 at the next step. This holds for a seed alone, a burn alone, and
+-- both. Without either the counter stays
 
 abbrev outlasting : Status → (ActiveConditions → ActiveConditions) → Progress
 outlasting status change = both_choose (facing (record (knowing 150 10) { status = status }) (set λ c. change (record c { bad_poison = Some 3 }))
@@ -234,9 +237,10 @@ counter_under_a_burn : ((outlasting Burned as_they_are).events ≡ splashes One 
 unfolding computing
 counter_under_a_burn = (refl, refl, refl, refl)
 
--- Thrash ends (docs/MECHANICS.md, "Going on") for who is confused already: the gate takes a turn of the confusion, and at 127 lets it
--- act; then 3 draws the count 5 anew, and 255, 255 and 0 the hit. Power 90: 42 * 90 * 74 / 72 is 3885, / 50 is 77, + 2 is 79, with
--- the own type 118. Where the gate ends the confusion, it comes all the same
+-- Thrash ends (docs/MECHANICS.md, "Going on") for a user that is confused already. The gate takes one turn of the
+-- confusion, and lets it act at 127. Then 3 draws a new count of 5, and 255, 255 and 0 give the hit. Its power is 90:
+-- 42 * 90 * 74 / 72 is 3885, / 50 is 77, + 2 is 79, and 118 for the user's own type. If the gate ends the confusion,
+-- the new one still comes
 
 abbrev thrashed_out : ℕ → Stream → Progress
 thrashed_out confused stream =
@@ -257,8 +261,9 @@ confused_anew_as_thrash_ends : ((thrashed_out 4 (drawing 127 3 255 255 0)).event
 unfolding computing
 confused_anew_as_thrash_ends = (refl, refl, refl, refl, refl, refl)
 
--- the turn limit (docs/MECHANICS.md, "Turn limit", "Falls and requests") in the update in which both fall, by an Explosion on 10 HP: a tie
--- where either has others left, and no replacement; a turn earlier both are asked for one. Where one side has nobody left, the other wins
+-- The turn limit (docs/MECHANICS.md, "Turn limit", "Falls and requests") in the update in which both fall, by an
+-- Explosion on 10 HP. It is a tie, without a replacement, even if either side has other members left. One turn
+-- earlier both are asked for a replacement. If one side has no member left, the other wins
 
 abbrev blast : ℕ → (Progress → Progress) → Progress
 blast limit join = update (ruling_of (record usual_terms { limit = limit })) (choices.Move 1) (choices.Move 1)
@@ -279,9 +284,9 @@ limit_as_both_fall : ((blast 1 with_two_each).events ≡ both_fell ++ events.Tie
 unfolding computing
 limit_as_both_fall = (refl, refl, refl, refl, refl, refl, refl, refl, refl, refl)
 
--- sleep (docs/MECHANICS.md, "Late effects") by way of a Recharge that is cleared takes neither a test of the status nor a hit test: it
--- comes to a foe that is paralysed and Invulnerable. 8 has low bits of 0, 13 of 5, of which the gate takes one. Without Recharge it
--- misses, without a draw
+-- A sleep move (docs/MECHANICS.md, "Late effects") that clears Recharge takes neither a test of the status nor a hit
+-- test, so a paralysed and Invulnerable foe falls asleep. 8 has low bits of 0, and 13 has 5, of which the gate takes
+-- one. Without Recharge the move misses, without a draw
 
 abbrev sleepy : (ActiveConditions → ActiveConditions) → Status → Progress
 sleepy change status = facing (knowing 147 15) as_is (slower (record (knowing 63 5) { status = status })) (amid change) (drawing 8 13 9 9 9)

@@ -1,4 +1,4 @@
--- Worked examples of effects that fail or do nothing, and of what is seldom met otherwise, computed (docs/CORNERS.md).
+-- Worked examples: effects that fail or do nothing, and other rare cases (docs/TESTING.md).
 use Rattle.std.proofs.Common.{List, Some, [], false, refl, true, ℕ, ◌∷◌, ◌≡◌}
 use Rattle.gen1_tables.specs.declared.effect.Stat.TheVariants.{Accuracy, Attack}
 use Rattle.gen1_tables.specs.declared.effect.Effect.TheVariants as effects
@@ -29,7 +29,7 @@ use Rattle.gen1_machine.proofs.WorkedRules.{tauros, knowing, facing, as_is, set,
 use Rattle.gen1_machine.proofs.WorkedHits.{tauros_of, healthy_at, moves, drawing}
 use Rattle.test_battles.proofs.WorkedCorners.{slower, two_goes_on}
 
--- side 1 uses its only move at a Tauros: what is told, and how many draws it takes
+-- Side 1 uses its only move on a Tauros: the events, and the number of draws
 
 abbrev acts_on : ℕ → Member → (Active → Active) → Progress
 acts_on move foe change = act usual One (Use (Slot 1)) (facing (knowing move 10) as_is foe change (drawing 0 0 0 0 0))
@@ -43,8 +43,8 @@ fails_at move draws = (moves move ∷ events.Fail (tauros_of One) ∷ [], draws)
 abbrev being : Status → Member
 being status = record tauros { status = status }
 
--- early effects that fail without a draw (docs/MECHANICS.md, "Early effects"): Confuse Ray and Poison Powder on a Substitute, Conversion on
--- an Invulnerable foe, Thunder Wave on a burn
+-- Early effects that fail without a draw (docs/MECHANICS.md, "Early effects"): Confuse Ray and Poison Powder on a
+-- Substitute, Conversion on an Invulnerable foe, Thunder Wave on a burn.
 early_effects_fail : (of_draws (acts_on 109 tauros (set (with_substitute 9))) ≡ fails_at 109 0)
     × (of_draws (acts_on 77 tauros (set (with_substitute 9))) ≡ fails_at 77 0)
     × (of_draws (acts_on 160 tauros (set with_invulnerability)) ≡ fails_at 160 0)
@@ -52,14 +52,15 @@ early_effects_fail : (of_draws (acts_on 109 tauros (set (with_substitute 9))) �
 unfolding computing
 early_effects_fail = (refl, refl, refl, refl)
 
--- Disable (docs/MECHANICS.md, "Side effects") fails where a move of the foe is disabled, after its hit test; the count stays
+-- Disable (docs/MECHANICS.md, "Side effects") fails after its hit test if a move of the foe is disabled. The count
+-- stays.
 second_disable_fails : (of_draws (acts_on 50 tauros (set (with_disabled 1 5))) ≡ fails_at 50 1)
     × ((conditions Two (acts_on 50 tauros (set (with_disabled 1 5)))).disabled ≡ Some (record { slot = 1; turns = 5 }))
 unfolding computing
 second_disable_fails = (refl, refl)
 
--- stage shifts (docs/MECHANICS.md, "Stage shift"): up by 1 at 999 is a net change of 0, of which nothing is written but the failure; at -6
--- Growl fails after its hit test
+-- Stage shifts (docs/MECHANICS.md, "Stage shift"): a rise by 1 at 999 is a net change of 0, so only the failure has
+-- an event. At -6 Growl fails after its hit test
 
 abbrev meditates : Progress
 meditates = act usual One (Use (Slot 1)) (facing (record (knowing 96 10) { attack = 999 }) as_is tauros as_is (Sweep 0))
@@ -72,13 +73,14 @@ shifts_fail : (of_draws meditates ≡ fails_at 96 0) × ((active One meditates).
 unfolding computing
 shifts_fail = (refl, refl, refl)
 
--- Sand-Attack lowers a stage that has no stat (docs/MECHANICS.md, "Stages")
+-- Sand-Attack lowers a stage without a stat (docs/MECHANICS.md, "Stages").
 accuracy_falls : (of_draws (acts_on 28 tauros as_is) ≡ (moves 28 ∷ events.Unboost (tauros_of Two) Accuracy 1 ∷ [], 1))
     × (stage_of Accuracy (active Two (acts_on 28 tauros as_is)).stages ≡ 5)
 unfolding computing
 accuracy_falls = (refl, refl)
 
--- side effects on any status (docs/MECHANICS.md, "Side effects"): Ice Beam on poison and Flamethrower on a burn draw nothing
+-- Side effects on a foe with a status (docs/MECHANICS.md, "Side effects"): Ice Beam on poison and Flamethrower on a
+-- burn draw nothing
 
 abbrev affected : Status → Progress
 affected status = side_effect usual One (move_at 58) effects.FreezeChance (facing tauros as_is (being status) as_is (Sweep 0))
@@ -91,7 +93,8 @@ no_second_status : (of_draws (affected Poisoned) ≡ ([], 0)) × (status_of Two 
 unfolding computing
 no_second_status = (refl, refl, refl, refl)
 
--- the freeze clause lets a first freeze pass (docs/MECHANICS.md, "Rules (sleep clause, freeze clause)"), which clears Recharge
+-- The freeze clause allows the first freeze (docs/MECHANICS.md, "Rules (sleep clause, freeze clause)"), which clears
+-- Recharge
 
 abbrev first_frozen : Progress
 first_frozen = side_effect (ruling_of (record usual_terms { rules = rules_of 2 })) One (move_at 58) effects.FreezeChance
@@ -102,7 +105,7 @@ first_freeze_under_the_clause : (of_draws first_frozen ≡ (events.Status (tauro
 unfolding computing
 first_freeze_under_the_clause = (refl, refl, refl)
 
--- who is frozen does nothing (docs/MECHANICS.md, "Gate")
+-- A frozen member does nothing (docs/MECHANICS.md, "Gate")
 
 abbrev frozen_stiff : Progress
 frozen_stiff = gate One (Use (Slot 1)) (facing (being Frozen) as_is tauros as_is (Sweep 0))
@@ -111,7 +114,7 @@ frozen_at_the_gate : (of_draws frozen_stiff ≡ (events.Cant (tauros_of One) rea
 unfolding computing
 frozen_at_the_gate = (refl, refl)
 
--- Haze thaws a foe, whose action is then skipped (docs/MECHANICS.md, "Early effects"): nothing is told of it
+-- Haze thaws a foe, whose action is then skipped without an event (docs/MECHANICS.md, "Early effects")
 
 abbrev thawed_by_haze : Progress
 thawed_by_haze = two_goes_on usual (facing (knowing 114 10) as_is (slower (being Frozen)) as_is (Sweep 0))
@@ -121,8 +124,8 @@ haze_skips_the_thawed : (of_draws thawed_by_haze ≡ (moves 114 ∷ events.Clear
 unfolding computing
 haze_skips_the_thawed = (refl, refl)
 
--- Dream Eater drains (docs/MECHANICS.md, "Recoil, drain and explosion"): 42 * 100 * 238 / 238 is 4200, / 50 is 84, + 2 is 86, of which the
--- user heals 43
+-- Dream Eater drains (docs/MECHANICS.md, "Recoil, drain and explosion"): 42 * 100 * 238 / 238 is 4200, / 50 is 84, +
+-- 2 is 86, of which the user heals 43
 
 abbrev dreamed : Progress
 dreamed = act usual One (Use (Slot 1)) (facing (record (knowing 138 15) { hp = 300 }) as_is (being (Asleep 3 false)) as_is (drawing 255 255 0 0 0))

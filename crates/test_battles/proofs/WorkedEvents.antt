@@ -1,4 +1,4 @@
--- Worked examples of what is told, and in which order, computed (docs/PROOFS.md, "Worked examples").
+-- Worked examples: events and their order (docs/PROOFS.md, "Worked examples").
 use Rattle.std.proofs.Common.{List, Some, [], false, refl, ℕ, ◌++◌, ◌∷◌, ◌≡◌}
 use Rattle.gen1_tables.specs.declared.effect.Stat.TheVariants.{Attack}
 use Rattle.gen1_stats.specs.declared.status.Status.TheVariants.{Asleep, Burned, Paralysed, Poisoned}
@@ -26,12 +26,12 @@ use Rattle.gen1_machine.proofs.Computing.{computing}
 use Rattle.gen1_machine.proofs.WorkedRules.{tauros, knowing, facing, as_is, set, usual}
 use Rattle.gen1_machine.proofs.WorkedHits.{tauros_of, healthy_at, hurt, moves, drawing}
 
--- what is told as side 1 uses its only move on a foe, by five draws
+-- The events when side 1 uses its only move on a foe, with five draws
 
 abbrev told_of : ℕ → Member → (Active → Active) → ℕ → ℕ → ℕ → ℕ → ℕ → List Event
 told_of move foe change a b c d e = (act usual One (Use (Slot 1)) (facing (knowing move 10) as_is foe change (drawing a b c d e))).events
 
--- a foe of another species, with the numbers of Tauros
+-- A foe of another species, with the numbers of Tauros
 
 abbrev foe_of : ℕ → Who
 foe_of species = record { side = Two; species = species }
@@ -45,9 +45,10 @@ uses_on move species = events.Move (tauros_of One) move (foe_of species)
 abbrev falls_to : ℕ → ℕ → Event
 falls_to species hp = events.Damage (foe_of species) (healthy_at hp) sources.Direct
 
--- a landing, part by part (docs/MECHANICS.md, "Order of events"). Twineedle on a Hypno that rages: a draw of 0 is a critical hit, so
--- 82 * 25 * 74 / 72 is 2106, / 50 is 42, + 2 is 44, and Bug on Psychic 88. What is told before the first hit is told once; its rage
--- builds at each of the two hits; their number comes after the last, and then the poison, by a draw of 51
+-- A landing, part by part (docs/MECHANICS.md, "Order of events"). Twineedle on a Hypno with Rage: a draw of 0 is a
+-- critical hit, so 82 * 25 * 74 / 72 is 2106, / 50 is 42, + 2 is 44, and 88 for Bug on Psychic. The reports before
+-- the first hit come once. The rage builds at each of the two hits. Their number comes after the last hit, and then
+-- the poison, at a draw of 51
 
 critical_twineedle : told_of 41 (of_species 97) (set with_rage) 0 255 0 51 0
     ≡ uses_on 41 97 ∷ events.Crit (foe_of 97) ∷ events.SuperEffective (foe_of 97)
@@ -56,16 +57,16 @@ critical_twineedle : told_of 41 (of_species 97) (set with_rage) 0 255 0 51 0
 unfolding computing
 critical_twineedle = refl
 
--- recoil comes before the foe's rage: Take Down's 118, of which a quarter is 29
+-- Recoil comes before the foe's rage: Take Down deals 118, a quarter of which is 29.
 
 recoil_and_rage : told_of 36 tauros (set with_rage) 255 255 0 0 0
     ≡ moves 36 ∷ hurt Two 235 ∷ events.Damage (tauros_of One) (healthy_at 324) sources.Recoil ∷ events.Boost (tauros_of Two) Attack 1 ∷ []
 unfolding computing
 recoil_and_rage = refl
 
--- rows of 20 and of 5: Strength's 106 on a Geodude is 53. Water Gun, 42 * 40 * 238 / 238 / 50 + 2, is 35: on a Geodude with two rows of 20
--- it is 140, and on a Poliwrath, a row of 5 alone, 17. Ice Beam, 42 * 95 / 50 + 2, is 81: on a Gyarados with a row of each, 80, neither
--- is told
+-- Rows of 20 and of 5. Strength's 106 on a Geodude is 53. Water Gun, 42 * 40 * 238 / 238 / 50 + 2, is 35. On a
+-- Geodude with two rows of 20 it is 140, and on a Poliwrath with one row of 5 it is 17. Ice Beam, 42 * 95 / 50 + 2,
+-- is 81. On a Gyarados with one row of each it is 80, and neither is reported
 
 rows_are_told : (told_of 70 (of_species 74) as_is 255 255 0 0 0 ≡ uses_on 70 74 ∷ events.Resisted (foe_of 74) ∷ falls_to 74 300 ∷ [])
     × (told_of 55 (of_species 74) as_is 255 255 0 0 0 ≡ uses_on 55 74 ∷ events.SuperEffective (foe_of 74) ∷ falls_to 74 213 ∷ [])
@@ -74,7 +75,7 @@ rows_are_told : (told_of 70 (of_species 74) as_is 255 255 0 0 0 ≡ uses_on 70 7
 unfolding computing
 rows_are_told = (refl, refl, refl, refl)
 
--- a one-hit move that breaks a Substitute tells both; a Substitute that holds is told before the recoil
+-- A one-hit move that breaks a Substitute reports both. A Substitute that holds is reported before the recoil
 
 substitutes_are_told : (told_of 12 tauros (set (with_substitute 249)) 255 255 0 0 0
     ≡ moves 12 ∷ events.End (tauros_of Two) volatiles.Substitute ∷ events.OneHitKnockOut ∷ [])
@@ -83,14 +84,15 @@ substitutes_are_told : (told_of 12 tauros (set (with_substitute 249)) 255 255 0 
 unfolding computing
 substitutes_are_told = (refl, refl)
 
--- a miss, by a hit test at a draw of 255, and then the crash of Jump Kick; on a Gengar, which Fighting has a row of 0 for, `Immune`
+-- A miss by a hit test at a draw of 255, and then the crash of Jump Kick. On a Gengar, for which Fighting has a row
+-- of 0, the event is `Immune`
 
 crash_is_told : (told_of 26 tauros as_is 255 255 255 0 0 ≡ moves 26 ∷ events.Miss (tauros_of One) ∷ hurt One 352 ∷ [])
     × (told_of 26 (of_species 94) as_is 255 0 0 0 0 ≡ uses_on 26 94 ∷ events.Immune (foe_of 94) ∷ hurt One 352 ∷ [])
 unfolding computing
 crash_is_told = (refl, refl)
 
--- the gate, test by test: Disable ends, confusion ends, and then a paralysed user with a draw of 62 stops
+-- The gate, test by test: Disable ends, confusion ends, and then a draw of 62 stops a paralysed user
 
 abbrev at_their_last : ActiveConditions → ActiveConditions
 at_their_last c = record c { confused = Some 1; disabled = Some (record { slot = 1; turns = 1 }) }
@@ -101,8 +103,8 @@ gate_is_told : (gate One (Use (Slot 1)) (facing (record tauros { status = Paraly
 unfolding computing
 gate_is_told = refl
 
--- effects: Haze tells `ClearAll` and the foe's cure, and neither the end of its Mist nor the user's burn; Swords Dance at an Attack of 999
--- tells the net change before its failure, where 998 could not rise
+-- Effects: Haze writes `ClearAll` and the foe's cure, and neither the end of the foe's Mist nor the user's burn.
+-- Swords Dance at an Attack of 999 reports the net change before its failure, since 998 could not rise
 
 abbrev uses_alone : Member → Member → (Active → Active) → List Event
 uses_alone m foe change = (act usual One (Use (Slot 1)) (facing m as_is foe change (drawing 0 0 0 0 0))).events
@@ -113,8 +115,9 @@ effects_are_told : (uses_alone (record (knowing 114 30) { status = Burned }) (re
 unfolding computing
 effects_are_told = (refl, refl)
 
--- a whole turn to its end: side 1 is faster. Both use Splash. Side 1, seeded and poisoned with 353 HP, loses 22 and 22 right after its
--- action, and side 2, at 300, is healed by 22; side 2, burned, has 322 and loses 22. Then the next turn is told
+-- A whole turn to its end. Side 1 is faster, and both use Splash. Side 1, seeded and poisoned with 353 HP, loses 22
+-- and 22 right after its action, and side 2, at 300 HP, is healed by 22. Side 2, burned, has 322 HP and loses 22.
+-- Then the next turn is reported
 
 abbrev ill : ℕ → Health
 ill hp = record { hp = hp; max = 353; kind = Some kinds.Poison }
@@ -144,8 +147,8 @@ turn_is_told : (whole_turn 353).events
 unfolding computing
 turn_is_told = refl
 
--- of 20 HP the poison takes the last, which shows with its status; the seed takes nothing more, and so tells no `Damage`, but heals. The
--- rest of the turn is left out, and the fall is told before the win
+-- Of 20 HP the poison takes the last, and the event shows its status. The seed takes nothing more, so it writes no
+-- `Damage`, but it heals. The rest of the turn is skipped, and the fall is reported before the win
 
 fall_is_told : (whole_turn 20).events
     ≡ first_splash

@@ -1,4 +1,4 @@
--- Worked examples of teams, computed (docs/PROOFS.md, "Worked examples").
+-- Worked examples: teams (docs/PROOFS.md, "Worked examples").
 use Rattle.std.proofs.Common.{List, None, Option, Some, [], map, refl, replicate, ℕ, ◌∷◌, ◌≡◌}
 use Rattle.gen1_stats.specs.declared.refusal.TeamRefusal.{TeamRefusal}
 use Rattle.gen1_stats.specs.declared.refusal.TeamRefusal.TheVariants.{Dv, Empty, Level, MoveLeftOut, NoMove, PpUps, RepeatedMove, StruggleChosen, TooMany}
@@ -7,21 +7,22 @@ use Rattle.gen1_stats.specs.Teams.{team_of, team_refusal}
 use Rattle.gen1_machine.proofs.Computing.{computing}
 use Rattle.gen1_machine.proofs.WorkedRules.{tauros}
 
--- a Tauros with full DVs and experience, of some level and with some moves, each with its PP ups
+-- A Tauros with full DVs and experience, at a level and with moves, each with its PP ups.
 abbrev asked_for : ℕ → List (ℕ × ℕ) → Sheet
 asked_for level moves = record { species = 128; level = level; dvs = replicate 4 15; exp = replicate 5 65535; moves = moves }
 
 abbrev good : Sheet
 good = asked_for 100 ((70, 3) ∷ [])
 
--- what a team becomes (docs/MECHANICS.md, "Teams"): unhurt, healthy, and of Strength's 15 PP, with 3 for each PP up, all 24
+-- The members of a team (docs/MECHANICS.md, "Teams"): unhurt and healthy. Strength has 15 PP, and 3 more for each PP
+-- up, so 24
 
 team_as_it_begins : team_of (good ∷ []) ≡ tauros ∷ []
 unfolding computing
 team_as_it_begins = refl
 
--- each refusal by itself: levels 0 and 101, a DV of 16, Metronome, Mimic, Mirror Move and Transform, Struggle, Strength twice, four
--- PP ups
+-- Each refusal alone: levels 0 and 101, a DV of 16, Metronome, Mimic, Mirror Move and Transform, Struggle, Strength
+-- twice, four PP ups
 
 abbrev alone : ℕ → List (ℕ × ℕ) → Option TeamRefusal
 alone level moves = team_refusal (asked_for level moves ∷ [])
@@ -49,8 +50,8 @@ other_moves : alone 100 [] ∷ alone 100 ((70, 0) ∷ (34, 0) ∷ (70, 1) ∷ []
 unfolding computing
 other_moves = refl
 
--- the order of the tests: all members are counted first; then one member is tested to its end before the next, and each test is made
--- over all moves before the next test
+-- The order of the tests: the number of members is tested first. Then each member takes all its tests before the next
+-- member, and each test covers all moves before the next test
 
 first_refusals : team_refusal (asked_for 0 [] ∷ replicate 6 good) ∷ alone 0 [] ∷ alone 100 ((70, 4) ∷ (165, 0) ∷ (70, 0) ∷ [])
     ∷ alone 100 ((165, 0) ∷ (118, 0) ∷ []) ∷ team_refusal (asked_for 100 ((70, 4) ∷ []) ∷ asked_for 0 [] ∷ [])

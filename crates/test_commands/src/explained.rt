@@ -1,10 +1,10 @@
-//! What `--explain` tells behind the line of a fault, and `log` (docs/PROGRAM.md, "Explanations", "log").
+//! The second line of an error with `--explain`, and `log` (docs/PROGRAM.md, "Explanations", "log").
 use crate::setting::{assert_explained, assert_ran, assert_same, battle, ran, ran_words, tauros};
 use gen1_stats::TeamRefusal;
 use std::alloc::AllocError;
 use std::test::Fail;
 
-/// A battle of two teams of one, whose parts are given as JSON: a member, and what stands behind the teams.
+/// A battle of two teams of one, with these parts as JSON: a member, and what follows the teams.
 fn with_member(rt: &HostRuntime, member: &str, end: &str) -> Result<String, AllocError> {
     let other = tauros(rt, "100")?;
     format!(in rt.alloc();
@@ -12,7 +12,7 @@ fn with_member(rt: &HostRuntime, member: &str, end: &str) -> Result<String, Allo
     )
 }
 
-// Values that are not as they should be, each with the way to it and what is expected there.
+// Wrong values, each with its path and what is expected there.
 #[test]
 fn a_misfit_is_told_with_its_way(rt: HostRuntime) -> Result<(), Fail> {
     let cases = [
@@ -50,7 +50,7 @@ fn a_misfit_is_told_with_its_way(rt: HostRuntime) -> Result<(), Fail> {
     Ok(())
 }
 
-// The same in a member.
+// The same inside a member.
 #[test]
 fn a_misfit_in_a_member_is_told_with_its_way(rt: HostRuntime) -> Result<(), Fail> {
     let cases = [
@@ -122,7 +122,7 @@ fn a_misfit_in_a_member_is_told_with_its_way(rt: HostRuntime) -> Result<(), Fail
     Ok(())
 }
 
-// Bytes that are no JSON, with the line and the column of the first that JSON has not there.
+// Bytes that aren't JSON, with the line and the column of the first byte that JSON doesn't have there.
 #[test]
 fn what_is_no_json_is_told_with_its_place(rt: HostRuntime) -> Result<(), Fail> {
     let cases: [(&[u8], &str); 16] = [
@@ -171,7 +171,7 @@ fn lists_are_nested_at_most_127_deep(rt: HostRuntime) -> Result<(), Fail> {
     Ok(())
 }
 
-// Each refusal of a team in the words of the refusal itself, and the other faults.
+// Each refusal of a team in the words of the refusal itself, and the other errors.
 #[test]
 fn refusals_are_told_in_words(rt: HostRuntime) -> Result<(), Fail> {
     let over = tauros(&rt, "101")?;

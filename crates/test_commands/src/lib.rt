@@ -3,7 +3,7 @@
 //! - `tests`: `run`, `calc`, `print` and the command line
 //! - `rooms`: `room`
 //! - `explained`: `--explain` and `log`
-//! - `setting`: what both share
+//! - `setting`: what the others share
 #![tactic(auto)]
 
 #[cfg(test)]

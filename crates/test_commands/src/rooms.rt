@@ -1,5 +1,5 @@
-//! The example of `room`, on devices that fail or take one byte in a call, and inputs that are cut or changed (docs/PROGRAM.md,
-//! "room").
+//! The example of `room` on devices that fail or take one byte in a call, and inputs that are cut or changed
+//! (docs/PROGRAM.md, "room").
 use crate::setting::{
     Command, JSON_LINE, Printing, assert_long_is_refused, assert_ran, assert_refused, assert_same,
     battle,
@@ -20,7 +20,7 @@ fn input(rt: &HostRuntime, submissions: &str) -> Result<String, AllocError> {
     battle(rt, &end)
 }
 
-/// The example, whose input is given.
+/// The example with this input.
 fn example(input: &str) -> Printing {
     Printing {
         command: Command::Room,
@@ -36,7 +36,7 @@ fn the_example_is_answered(rt: HostRuntime) -> Result<(), Fail> {
     Ok(())
 }
 
-// The text stands in eight writes: that of the start, and one a submission, but two where the pair ends.
+// The text needs eight writes: one for the start, and one for each submission, or two if it completes a pair.
 #[test]
 fn each_write_that_fails_is_told(rt: HostRuntime) -> Result<(), Fail> {
     let input = input(&rt, SUBMISSIONS)?;
@@ -67,7 +67,7 @@ fn a_cut_input_is_no_json(rt: HostRuntime) -> Result<(), Fail> {
     Ok(())
 }
 
-// The byte 0xFF stands in no text.
+// The byte 0xFF is not part of any text.
 #[test]
 fn a_byte_that_is_no_text_is_no_json(rt: HostRuntime) -> Result<(), Fail> {
     let whole = input(&rt, SUBMISSIONS)?;
@@ -85,7 +85,7 @@ fn a_long_input_is_refused(rt: HostRuntime) -> Result<(), Fail> {
     assert_long_is_refused(&rt, Command::Room)
 }
 
-// A side from 1 to 2, a number of 32 bits and a byte, and nothing more.
+// A side, 1 or 2, a number of 32 bits and a byte, and nothing more.
 #[test]
 fn submissions_have_ranges(rt: HostRuntime) -> Result<(), Fail> {
     for submission in [

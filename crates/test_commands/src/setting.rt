@@ -1,4 +1,5 @@
-//! What the tests of the subcommands share: two Tauros as JSON, and what a subcommand answers, on devices that fail too.
+//! What the tests of the subcommands share: two Tauros as JSON, and the result of a subcommand, also on devices that
+//! fail.
 use battle_commands::{Disk, Folder, ToolFault, play, play_calc, play_room, tool};
 use gen1_machine::{Device, DeviceFault, Sink, Source};
 use std::alloc::AllocError;
@@ -8,7 +9,7 @@ use std::rt::Files;
 use std::test::Fail;
 use test_devices::{Broken, Failing};
 
-/// What standard error has of an input that is not the JSON that is asked for.
+/// The line on standard error for an input that isn't the expected JSON.
 pub(crate) const JSON_LINE: &str = "error: json\n";
 
 /// A Tauros of this level, as JSON.
@@ -18,7 +19,7 @@ pub(crate) fn tauros(rt: &HostRuntime, level: &str) -> Result<String, AllocError
     )
 }
 
-/// The object of a battle of two Tauros, with the end that is given behind its teams.
+/// The object of a battle of two Tauros, with this end after its teams.
 pub(crate) fn battle(rt: &HostRuntime, end: &str) -> Result<String, AllocError> {
     let member = tauros(rt, "100")?;
     format!(in rt.alloc();
@@ -47,7 +48,7 @@ fn answer<R: Source, W: Sink>(
     }
 }
 
-/// Asserts that the subcommand answers the fault with this line and prints nothing, at a place or an input that a failure names.
+/// Asserts that the subcommand fails with this line and prints nothing. A failure names the place or the input.
 pub(crate) fn assert_refused(
     rt: &(impl AllocGlobal + Abort),
     command: Command,
@@ -63,7 +64,7 @@ pub(crate) fn assert_refused(
     assert!(rt; out.into_inner().is_empty(), "at {at:?}");
 }
 
-/// Asserts that the longest input is read, and that one byte more is refused.
+/// Asserts that the longest input is read, and that one more byte is refused.
 pub(crate) fn assert_long_is_refused(
     rt: &(impl AllocGlobal + Abort),
     command: Command,
@@ -78,7 +79,7 @@ pub(crate) fn assert_long_is_refused(
     Ok(())
 }
 
-/// A subcommand with an input, and the text that it prints for it.
+/// A subcommand with an input, and the text that it prints.
 #[derive(Clone, Copy)]
 pub(crate) struct Printing<'a> {
     pub(crate) command: Command,
@@ -87,7 +88,8 @@ pub(crate) struct Printing<'a> {
 }
 
 impl Printing<'_> {
-    /// Asserts that each write that fails is told, where a write takes `most` bytes at the most and the text needs `writes`.
+    /// Asserts that each failed write is reported. A write takes at most `most` bytes, and the text needs `writes` of
+    /// them.
     pub(crate) fn assert_writes_are_told(
         &self,
         rt: &(impl AllocGlobal + Abort),
@@ -120,7 +122,7 @@ impl Printing<'_> {
         assert_eq!(rt; bytes.len() == self.text.len(), whole);
     }
 
-    /// Asserts that each read that fails is told, and that nothing is printed then.
+    /// Asserts that each failed read is reported, and that nothing is printed then.
     pub(crate) fn assert_reads_are_told(&self, rt: &(impl AllocGlobal + Abort)) {
         for most in [1usize, 7, 5000] {
             let reads = self.input.len().div_ceil(most) + 1;
@@ -139,7 +141,7 @@ impl Printing<'_> {
         }
     }
 
-    /// Asserts that the input is no JSON wherever it is cut.
+    /// Asserts that the input isn't JSON wherever it is cut.
     pub(crate) fn assert_cuts_are_refused(&self, rt: &(impl AllocGlobal + Abort)) {
         let whole = self.input.as_bytes();
         for end in 0..whole.len() {
@@ -152,7 +154,7 @@ fn told(has_failed: bool, fault: ToolFault) -> Result<(), ToolFault> {
     if has_failed { Err(fault) } else { Ok(()) }
 }
 
-/// The status of `battle_tool` with these words, and what it wrote to its standard output and error.
+/// The exit status of `battle_tool` with these arguments, and what it wrote to standard output and standard error.
 pub(crate) fn ran_words(
     rt: &(impl AllocGlobal + Files),
     words: &[&str],
@@ -161,7 +163,7 @@ pub(crate) fn ran_words(
     ran_in(rt, &Disk::new(rt), words, input)
 }
 
-/// The same with the FILEs of a folder.
+/// The same with the files of a folder.
 pub(crate) fn ran_in(
     rt: &impl AllocGlobal,
     folder: &impl Folder,
@@ -194,7 +196,7 @@ impl<'a> Folder for Shelf<'a> {
     }
 }
 
-/// The same with one word, on its standard input.
+/// The same with one argument and this standard input.
 pub(crate) fn ran(
     rt: &(impl AllocGlobal + Files),
     word: &str,
@@ -203,7 +205,7 @@ pub(crate) fn ran(
     ran_words(rt, &["battle_tool", word], input)
 }
 
-/// Asserts that `battle_tool` with this word and `--explain` prints nothing, and tells this fault in two lines.
+/// Asserts that `battle_tool` with this argument and `--explain` prints nothing, and reports this error in two lines.
 pub(crate) fn assert_explained(
     rt: &(impl AllocGlobal + Files + Abort),
     word: &str,
@@ -215,7 +217,7 @@ pub(crate) fn assert_explained(
     assert!(rt; err.as_slice() == told.as_bytes(), "for {told}");
 }
 
-/// Asserts that `battle_tool` with this word ends with this status, text and fault, at an input that a failure names.
+/// Asserts that `battle_tool` with this argument ends with this status, text and error. A failure names the input.
 pub(crate) fn assert_ran(
     rt: &(impl AllocGlobal + Files + Abort),
     word: &str,

@@ -1,19 +1,19 @@
-//! A reader and a writer that fail at a place of one's own, for the tests of the crates above.
+//! A reader and a writer that fail at a chosen call, for the tests of the crates above.
 #![tactic(auto)]
 
 use std::io;
 use std::io::{Read, Write};
 
-/// A writer whose write number `left`, from 0, fails: by an error, or by taking nothing.
+/// A writer whose write number `left`, counted from 0, fails: by an error, or by taking nothing.
 #[derive(Drop)]
 pub struct Failing<'a> {
-    /// How many writes it takes.
+    /// How many writes succeed.
     pub left: usize,
-    /// Whether it then takes nothing, in place of an error.
+    /// Whether the failing write takes nothing, instead of returning an error.
     pub takes_nothing: bool,
-    /// How many bytes it takes at the most in one write.
+    /// The most bytes that it takes in one write.
     pub most: usize,
-    /// Where the bytes go that it takes.
+    /// Where the bytes that it takes go.
     pub bytes: &'a mut Vec<u8>,
 }
 
@@ -36,14 +36,14 @@ impl Write for Failing<'_> {
     }
 }
 
-/// A reader whose read number `left`, from 0, fails.
+/// A reader whose read number `left`, counted from 0, fails.
 #[derive(Drop)]
 pub struct Broken<'a> {
-    /// How many reads it answers.
+    /// How many reads succeed.
     pub left: usize,
-    /// How many bytes it hands out at the most in one read.
+    /// The most bytes that it returns in one read.
     pub most: usize,
-    /// What it has not handed out yet.
+    /// The bytes that it has not returned yet.
     pub bytes: &'a [u8],
 }
 

@@ -1,5 +1,5 @@
-//! The battles that the tests begin with: each side has two members of one species at level 100, with full DVs and
-//! experience, of which the first is out. They know Strength.
+//! The battles at the start of the tests. Each side has two members of one species at level 100, with full DVs and
+//! experience. The first is out. They know Strength.
 use arrayvec::ArrayVec;
 use gen1_layout::Packed;
 use gen1_machine::{Rules, Side};
@@ -18,7 +18,7 @@ pub(crate) fn named(name: &str) -> Result<MoveId, Fail> {
     Ok(MoveId::from_name(name).ok_or("no such move")?)
 }
 
-// Perhaps with another move.
+// It may know another move too.
 fn member(species: &str, more: Option<&str>) -> Result<MemberSpec, Fail> {
     let mut moves = ArrayVec::new();
     moves.push((named("Strength")?, 0));
@@ -34,7 +34,8 @@ fn member(species: &str, more: Option<&str>) -> Result<MemberSpec, Fail> {
     })
 }
 
-// The first members know another move, perhaps, and are out, of type Normal, with this Attack, Defense, Speed and Special.
+// The first members may know another move. They are out, have type Normal, and this Attack, Defense, Speed and
+// Special.
 fn facing(species: &str, more: Option<&str>, stats: [u16; 4], rules: u8) -> Result<Packed, Fail> {
     let rules = Rules::new(rules).ok_or("no such rules")?;
     let team = Team::new(&[member(species, more)?, member(species, None)?])?;

@@ -7,17 +7,17 @@ use std::test::Fail;
 // With the draws of a sweep, and with those of link numbers.
 pub(crate) const BOTH: [bool; 2] = [false, true];
 
-/// The operation that a file's tests are of.
+/// The operation that the tests of a file call.
 pub(crate) trait Operation {
-    /// Plays a move of the user's.
+    /// Plays a move of the user.
     fn play<R: Rolls>(battle: &mut Packed, name: &str, random: &mut R) -> Result<EventList, Fail>;
 
     /// Link numbers whose first is this byte.
     fn link_numbers(byte: u8) -> [u8; 10];
 }
 
-/// Plays a move with draws that begin with this byte, a sweep's or those of link numbers; and how many were taken, up to 8 of
-/// link numbers.
+/// Plays a move with draws that begin with this byte, of a sweep or of link numbers. Also returns the number of
+/// draws, up to 8 for link numbers.
 pub(crate) fn play_from<O: Operation>(
     battle: &mut Packed,
     (name, byte, link): (&str, u8, bool),

@@ -1,5 +1,6 @@
 //! Each early effect once, with its events and its bytes (docs/MECHANICS.md, "Early effects"; docs/LAYOUT.md). By
-//! docs/LAYOUT.md the user's member begins at byte 24 and its active block at 168, those of the foe at 204 and 348.
+//! docs/LAYOUT.md, the user's member begins at byte 24 and its active block at 168. Those of the foe begin at 204 and
+//! 348.
 use crate::battles::{FOE, USER, assert_same, chansey, named, tauros};
 use crate::draws::{BOTH, Operation, play_from};
 use gen1_effects::{early_effect, is_early_but_substitute};
@@ -26,7 +27,7 @@ impl Operation for EarlyEffects {
         Ok(events)
     }
 
-    // They rise by 1, the first three.
+    // The first three rise by 1.
     fn link_numbers(byte: u8) -> [u8; 10] {
         let next = byte.wrapping_add(1);
         let then = byte.wrapping_add(2);
@@ -34,7 +35,8 @@ impl Operation for EarlyEffects {
     }
 }
 
-// Plays a move, and compares what it tells, how many draws it takes, and the bytes that it changes, with no others.
+// Plays a move, and compares its events, its number of draws, and the bytes that it changes. Other bytes must stay as
+// they are.
 fn plays(
     rt: &impl Abort,
     battle: &mut Packed,
@@ -52,7 +54,7 @@ fn plays(
     Ok(())
 }
 
-// A move that fails, and changes nothing.
+// A move that fails and changes nothing.
 fn fails(
     rt: &impl Abort,
     battle: &mut Packed,
@@ -63,7 +65,7 @@ fn fails(
     plays(rt, battle, played, &told, draws, &[])
 }
 
-// The bytes of a battle, with some of them written over.
+// The bytes of a battle, with some of them replaced.
 fn bytes_with(battle: &Packed, changes: &[(usize, u8)]) -> [u8; 384] {
     let mut bytes = [0; 384];
     for (to, from) in bytes.iter_mut().zip(battle.as_bytes()) {

@@ -1,5 +1,5 @@
-//! Stages that rise and fall, and sleep, with the numbers of docs/MECHANICS.md, "Late effects", "Stage shift", "Rules (sleep
-//! clause, freeze clause)". 75 was the last damage.
+//! Stages that rise and fall, and sleep, with the numbers of docs/MECHANICS.md, "Late effects", "Stage shift", "Rules
+//! (sleep clause, freeze clause)". The last damage was 75.
 use crate::battles::{self, FOE, USER, assert_same, electrode, named, send_out};
 use crate::draws::{BOTH, Operation, play_from};
 use gen1_effects::{is_late_but_bide, late_effect};
@@ -38,13 +38,13 @@ impl Operation for LateEffects {
         Ok(events)
     }
 
-    // They are all the same.
+    // All ten are the same.
     fn link_numbers(byte: u8) -> [u8; 10] {
         [byte; 10]
     }
 }
 
-// Plays a move so, and compares what it tells, how many draws it takes, and the bytes.
+// Plays a move, and compares its events, its number of draws, and the bytes.
 fn plays(
     rt: &impl Abort,
     battle: &mut Packed,
@@ -60,13 +60,13 @@ fn plays(
     Ok(())
 }
 
-// What has been told, and the bytes.
+// The events and the bytes.
 fn compare(rt: &impl Abort, battle: &Packed, events: &EventList, told: &[Event], want: &Packed) {
     assert_same(rt, events.as_slice(), told);
     assert_same(rt, battle.as_bytes(), want.as_bytes());
 }
 
-// A move that misses, whose last damage is 0 then.
+// A move that misses. The last damage is then 0.
 fn misses(
     rt: &impl Abort,
     battle: &mut Packed,

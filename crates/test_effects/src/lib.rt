@@ -1,10 +1,10 @@
-//! Tests of `gen1_effects`, through its public functions. A crate with tests is proved twice, so they stand in a crate of their
-//! own.
+//! Tests of `gen1_effects`, through its public functions. They are in a crate of their own because a crate with tests
+//! is proved twice.
 //!
 //! - `early_effects`: effects before any damage
 //! - `late_effects`: stages and sleep
-//! - `side_effects`: what comes beside damage
-//! - `battles`: the battles that they begin with
+//! - `side_effects`: effects in addition to damage
+//! - `battles`: the battles at the start of the tests
 //! - `draws`: a move played with the draws of a sweep, or with those of link numbers
 #![tactic(auto)]
 

@@ -1,4 +1,4 @@
-//! What a move may do besides its damage, with the numbers of docs/MECHANICS.md, "Side effects".
+//! What a move may do in addition to its damage, with the numbers of docs/MECHANICS.md, "Side effects".
 use crate::battles::{FOE, USER, assert_same, named, send_out, tauros, tauros_under, tauros_with};
 use crate::draws::{BOTH, Operation, play_from};
 use gen1_effects::side_effect;
@@ -22,13 +22,13 @@ impl Operation for SideEffects {
         Ok(events)
     }
 
-    // They are all the same.
+    // All ten are the same.
     fn link_numbers(byte: u8) -> [u8; 10] {
         [byte; 10]
     }
 }
 
-// Plays a move so, and compares what it tells, and how many draws it takes.
+// Plays a move, and compares its events and its number of draws.
 fn plays(
     rt: &impl Abort,
     battle: &mut Packed,
@@ -47,7 +47,7 @@ fn tells(rt: &impl Abort, events: &EventList, told: &[Event]) {
     assert_same(rt, events.as_slice(), told);
 }
 
-// It leaves all bytes alone and tells nothing, after so many draws.
+// It changes no byte and writes no event, after this many draws.
 fn does_nothing(
     rt: &impl Abort,
     battle: &mut Packed,

@@ -17,7 +17,7 @@ pub(crate) fn bytes_of(battle: &Battle) -> [u8; 384] {
     bytes
 }
 
-/// Whether these bytes stand in a list of bytes, from an offset on.
+/// Whether a list of bytes has these bytes at an offset.
 pub fn stands_at(bytes: &[u8], at: usize, part: &[u8]) -> bool {
     for (index, byte) in part.iter().enumerate() {
         if bytes.get(at.saturating_add(index)) != Some(byte) {

@@ -9,10 +9,10 @@ use std::process::Abort;
 use std::test::Fail;
 use test_devices::Failing;
 
-/// How many bytes of the log there are behind each pair: 23, 36 and 23.
+/// The length of the log after each pair: 23, 36 and 23 more bytes.
 const ENDS: [usize; 3] = [23, 59, 82];
 
-/// The battle after so many of the pairs.
+/// The battle after this many of the pairs.
 fn after(count: usize) -> Result<Battle, Fail> {
     let mut battle = two_tauros()?;
     let mut log = LogBuf::new();
@@ -22,7 +22,8 @@ fn after(count: usize) -> Result<Battle, Fail> {
     Ok(battle)
 }
 
-/// How many pairs a replay plays whose writer takes so many bytes: those that are written whole, and the one that is not.
+/// How many pairs a replay plays if its writer takes this many bytes: those that are written whole, and the one that
+/// isn't.
 fn played(written: usize) -> usize {
     if written < ENDS[0] {
         1
@@ -33,7 +34,7 @@ fn played(written: usize) -> usize {
     }
 }
 
-/// Whether these bytes are the front of the log of this length.
+/// Whether these bytes are the prefix of the log of this length.
 fn is_front(bytes: &[u8], written: usize) -> bool {
     for (at, log) in [(0usize, START.as_slice()), (23, &FIRST), (59, &SECOND)] {
         let end = log.len().min(written.saturating_sub(at));
@@ -44,8 +45,10 @@ fn is_front(bytes: &[u8], written: usize) -> bool {
     bytes.len() == written
 }
 
-/// Replays to a writer that takes `most` bytes at the most in a write, and whose write number `left` fails: `written` bytes are
-/// there then, the fault counts the pair that they end in, and no pair behind that one was played.
+/// Replays to a writer that takes at most `most` bytes in a write, and whose write number `left` fails.
+///
+/// Asserts that `written` bytes were written, that the error names the pair that they end in, and that no pair after
+/// that one was played.
 fn assert_told(
     rt: &(impl AllocGlobal + Abort),
     failing: (usize, bool, usize),
@@ -98,7 +101,7 @@ fn each_byte_that_is_not_written_is_told(rt: HostRuntime) -> Result<(), Fail> {
     Ok(())
 }
 
-// Ten bytes a write: the first log takes three of them, and ten bytes of the second one are written.
+// Ten bytes in a write: the first log takes three writes, and ten bytes of the second log are written.
 #[test]
 fn a_pair_that_is_cut_is_counted(rt: HostRuntime) -> Result<(), Fail> {
     assert_told(&rt, (4, false, 10), 33)

@@ -49,7 +49,7 @@ fn both_pass_first(rt: HostRuntime) -> Result<(), Fail> {
     Ok(())
 }
 
-// The choice of a mask at a place, where it has so many.
+// The choice at a place of a mask, if the mask has that many.
 fn chosen(mask: u16, place: u8) -> Option<Choice> {
     if mask >= 4096 {
         return None;

@@ -1,10 +1,11 @@
-//! Battles that are loaded, by docs/LAYOUT.md, "Loading".
+//! Battles that are read from bytes (docs/LAYOUT.md, "Loading").
 use crate::comparing::assert_same;
 use gen1_engine::Battle;
 use gen1_machine::{Outcome, Request, Side};
 use std::test::Fail;
 
-// Turn 1, both sides asked for a move, and side 1's Tauros paralysed: its Speed of 318 is now 79, in bytes 181 and 182.
+// Turn 1. Both sides are asked for a move, and side 1's Tauros is paralysed: its Speed of 318 is now 79, in bytes 181
+// and 182.
 fn paralysed() -> [u8; 384] {
     let tauros = [
         128, 100, 97, 1, 97, 1, 42, 1, 32, 1, 62, 1, 238, 0, 0, 70, 0, 0, 0, 24, 0, 0, 0, 0,
@@ -24,7 +25,7 @@ fn paralysed() -> [u8; 384] {
     bytes
 }
 
-// The number of the fault, or 0 where the bytes are loaded.
+// The number of the error, or 0 if the bytes are read.
 fn fault(bytes: &[u8]) -> u8 {
     match Battle::load(bytes) {
         Ok(_) => 0,
@@ -52,7 +53,7 @@ fn the_first_fault_is_told(rt: HostRuntime) -> Result<(), Fail> {
     let mut version = bytes;
     version[0] = 0;
     assert_same(&rt, fault(&version), 2);
-    // HP of 354 where the most is 353.
+    // HP of 354 with a maximum of 353.
     let mut hp = bytes;
     hp[28] = 98;
     assert_same(&rt, fault(&hp), 4);

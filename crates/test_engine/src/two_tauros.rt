@@ -1,5 +1,5 @@
-//! The battle that is stored in crates/battle_tool (stdin, stdout): each side has one Tauros, at level 100 and with the greatest
-//! DVs and experience, which knows Strength (docs/MECHANICS.md, "Stats", "Log bytes").
+//! The battle that is stored in crates/battle_tool (stdin, stdout). Each side has one Tauros at level 100, with the
+//! greatest DVs and experience, which knows Strength (docs/MECHANICS.md, "Stats", "Log bytes").
 use arrayvec::ArrayVec;
 use gen1_engine::Battle;
 use gen1_stats::{MemberSpec, Team};
@@ -8,7 +8,7 @@ use std::test::Fail;
 
 pub(crate) const SEED: [u8; 10] = [1, 36, 255, 7, 31, 100, 179, 254, 127, 10];
 
-// Both come out, the first turn hits each, and the second fells side 2.
+// Both come out, the first turn hits each, and the second makes side 2 fall.
 pub(crate) static LOG: [u8; 82] = [
     0x02, 1, 128, 1, 100, 97, 1, 97, 1, 0, 0x02, 2, 128, 1, 100, 97, 1, 97, 1, 0, 0x01, 1, 0, 0x03,
     1, 128, 70, 2, 128, 0x07, 2, 128, 0x05, 2, 128, 149, 0, 97, 1, 0, 0, 0x03, 2, 128, 70, 1, 128,

@@ -1,4 +1,4 @@
--- What is shown where an operation begins on a field: any generator, at the beginning of its own stream.
+-- What is shown when an operation begins on a field: any generator, at the beginning of its own stream.
 use Rattle.gen1_layout.proofs.Words.{Event, Field, Frame, List, Parts, Progress, Setting, ShowsDrawn, Side, Told, Within, false, refl, ℕ}
 use Rattle.gen1_rolls.specs.Draws.{stream_of}
 use Rattle.gen1_rolls.specs.Streams.{Stream}

@@ -13,7 +13,7 @@ iterate-one_down (suc k) n lt =
 stays_byte : (k n : ℕ) → n < 256 → iterate k one_down n < 256
 stays_byte k n lt = let e = iterate-one_down k n lt in omega (arith, e)
 
--- any 256 draws hold every byte, and so do any 1,000
+-- Any 256 draws hold every byte, and so do any 1,000.
 full : (n : ℕ) → n < 256 → HoldsEveryByte (draws_of (λ x. x) one_down n) 1000
 full n lt b below =
     let e : (n + 255 * ((n + (256 - b)) % 256)) % 256 ≡ b = omega arith in

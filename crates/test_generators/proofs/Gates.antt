@@ -25,7 +25,7 @@ goes Go e = refl
 goes Stop e = cc
 goes Fault e = cc
 
--- full paralysis stops where the draw is below 63, and nothing else follows
+-- Full paralysis stops the member if the draw is below 63, and nothing else follows.
 paralysed : (stops : Bool) (s : Side) (p : Progress) → p.stopped ≡ false → let q = unless_stopped (only false stop) (choose (λ _. stops) (on_conditions s broken_off ▸ cant s reasons.Paralysed) stay p) in
     (q.drawn ≡ p.drawn) × (q.stopped ≡ stops)
 unfolding choose stay stop cant note on_conditions on_field ◌▸◌ unless_stopped

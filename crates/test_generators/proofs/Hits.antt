@@ -26,7 +26,7 @@ module _ {A : Type 0} (byte : A → ℕ) (next : A → A) (width : ℕ) (r new :
   unfolding roll_critical critical_by set_critical draw given on_action byte_at
   critical-is side move g parts f result h = (sym (ap (λ (a : Action). a.critical) h.shows.action), h.stands.reached)
 
-  -- a factor is drawn with no battle, so any one will do
+  -- A factor is drawn without a battle, so any progress is enough.
   abbrev any_begun : Progress
   any_begun = begun (first_state usual_terms [] [] []).field own One []
 
@@ -49,7 +49,7 @@ module _ {A : Type 0} (byte : A → ℕ) (next : A → A) (width : ℕ) (r new :
       (sym (vary-draws damage 0 m own any_begun large refl refl at) ∙ v.sets any_begun refl refl) in
       (same.0, v.stands.reached ∙ ap (λ (k : ℕ). iterate k next r) same.1)
 
--- a draw of the hit test: only a draw that is not below the byte misses
+-- A draw of the hit test: only a draw that isn't below the byte misses.
 tested : (hits : Bool) (side : Side) (p : Progress) → p.stopped ≡ false → p.action.missed ≡ false → let q = choose (λ _. hits) stay (miss side) p in
     (q.drawn ≡ p.drawn) × (q.action.missed ≡ not hits)
 unfolding choose stay miss set_missed set_last_damage on_action on_conditions on_field ◌▸◌ unless_stopped

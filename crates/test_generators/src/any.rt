@@ -1,4 +1,4 @@
-//! The operations that draw, with any generator: what a caller knows that is itself generic, from their contracts alone.
+//! The operations that draw, with any generator: what a generic caller knows from their contracts alone.
 ghost use Rattle.std.specs.Prelude.{◌+◌, ◌<◌, ◌≡◌, ◌≤◌};
 ghost use Rattle.gen1_events.specs.Sink.{events_room};
 ghost use Rattle.gen1_layout.specs.Words.{Field, HasRoom, None, Setting, Some, Within, move_at, nat_lt, status_in, ℕ};
@@ -18,7 +18,7 @@ use gen1_rolls::Rolls;
 use gen1_status::{Gate, gate};
 use gen1_tables::MoveId;
 
-/// The critical draw: it takes one byte, the generator's next, and the hit is critical where that, rotated, is below the
+/// The critical draw: it takes the generator's next byte. The hit is critical if that byte, rotated, is below the
 /// machine's bound.
 pub fn critical_by<R: Rolls>(battle: &Packed, side: Side, id: MoveId, random: &mut R) -> bool
     ensures { (g : Setting) (f : Field) → Within g battle.now f
@@ -28,7 +28,8 @@ pub fn critical_by<R: Rolls>(battle: &Packed, side: Side, id: MoveId, random: &m
     critical(battle, side, id, random)
 }
 
-/// The factor of damage: 0 and 1 are kept with no draw, and more is multiplied by the first byte that is a factor, rotated.
+/// The factor of damage: 0 and 1 stay as they are without a draw. Other damage is multiplied by the first byte that
+/// is a factor, rotated.
 pub fn factor_by<R: Rolls>(damage: u16, random: &mut R) -> u16
     ensures kept { damage ≤ 1 → (result ≡ damage) × (random.new ≡ random.old) }
     ensures drawn { (m : ℕ) → 1 < damage
@@ -39,7 +40,7 @@ pub fn factor_by<R: Rolls>(damage: u16, random: &mut R) -> u16
     factor(damage, random)
 }
 
-/// The hit test: where it is not settled without a draw, one byte is drawn, and the move hits where that is below the scaled
+/// The hit test: if it isn't settled without a draw, one byte is drawn. The move hits if that is below the scaled
 /// accuracy.
 pub fn hit_test_by<R: Rolls>(
     battle: &mut Packed,
@@ -56,8 +57,8 @@ pub fn hit_test_by<R: Rolls>(
     hit_test(battle, side, id, base, random)
 }
 
-/// The gate of a member that uses a move and that nothing but its status can keep from acting: a healthy one acts with no
-/// draw, and a paralysed one where its draw is not below 63.
+/// The gate of a member that uses a move and that only its status can stop. A healthy member acts without a draw, and
+/// a paralysed one acts if its draw isn't below 63.
 pub fn gate_by<R: Rolls>(
     battle: &mut Packed,
     side: Side,

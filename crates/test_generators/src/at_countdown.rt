@@ -1,4 +1,4 @@
-//! The same with a countdown that begins at a number: its first draw is that number.
+//! The same with a countdown from a number: its first draw is that number.
 ghost use Rattle.std.specs.Prelude.{◌<◌, ◌≡◌, ◌≤◌};
 ghost use Rattle.gen1_events.specs.Sink.{events_room};
 ghost use Rattle.gen1_layout.specs.Words.{Field, HasRoom, None, Reads, Setting, Within, move_at, nat_lt, status_in, true};
@@ -18,7 +18,7 @@ use gen1_machine::{EventList, Side, UsedMove};
 use gen1_rolls::draws_a_stream;
 use gen1_tables::MoveId;
 
-/// The countdown from a number, whose own stream keeps to the law of streams, as that of any generator does.
+/// The countdown from a number. Its own stream keeps to the law of streams, like that of any generator.
 pub fn own_stream(number: u8) -> Countdown
     ensures start { result ≡ number }
     ensures stream { IsStream (stream_of (λ x. x) one_down 1000 result) }
@@ -28,7 +28,7 @@ pub fn own_stream(number: u8) -> Countdown
     random
 }
 
-/// Whether a hit is critical where the draw is this number.
+/// Whether a hit is critical if the draw is this number.
 pub fn critical_at(battle: &Packed, side: Side, id: MoveId, number: u8) -> bool
     ensures { Reads battle.now result λ f. nat_lt (rotated_left_3 number)
         (critical_bound_in side (move_at id) f) }
@@ -36,7 +36,7 @@ pub fn critical_at(battle: &Packed, side: Side, id: MoveId, number: u8) -> bool
     critical_by(battle, side, id, &mut Countdown::new(number))
 }
 
-/// Damage times the factor that a number is, where it is one.
+/// Damage times the factor of a number, if the number is a factor.
 pub fn factor_at(damage: u16, number: u8) -> u16
     ensures kept { damage ≤ 1 → result ≡ damage }
     ensures drawn { 1 < damage → is_factor number ≡ true
@@ -45,7 +45,7 @@ pub fn factor_at(damage: u16, number: u8) -> u16
     factor_by(damage, &mut Countdown::new(number))
 }
 
-/// Whether a move hits where the draw is this number.
+/// Whether a move hits if the draw is this number.
 pub fn hit_test_at(battle: &mut Packed, side: Side, id: MoveId, base: u8, number: u8) -> bool
     ensures { (g : Setting) (f : Field) → Within g battle.old f
         → settled_hit_in side (move_at id) f ≡ None
@@ -54,7 +54,7 @@ pub fn hit_test_at(battle: &mut Packed, side: Side, id: MoveId, base: u8, number
     hit_test_by(battle, side, id, base, &mut Countdown::new(number)).hit
 }
 
-/// Whether a member that is paralysed, and that nothing else can keep from acting, is kept where the draw is this number.
+/// Whether a paralysed member that nothing else can stop is stopped if the draw is this number.
 pub fn gate_at(
     battle: &mut Packed,
     side: Side,

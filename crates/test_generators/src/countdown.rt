@@ -7,8 +7,8 @@ ghost use Rattle.test_generators.specs.Countdown.{one_down};
 use gen1_rolls::Rolls;
 use std::marker::Model;
 
-/// A generator whose draws are each the last less 1, and 255 after 0. Any 256 draws in a row hold every byte, and so do any
-/// 1,000, its `SPAN`: no other generator has that one.
+/// A generator that counts down by 1, with 255 after 0. Any 256 draws in a row hold every byte, and so do any 1,000,
+/// which is its `SPAN`. No other generator has that span.
 #[derive(Clone, Copy, PartialEq, Eq, Debug, Drop)]
 pub struct Countdown {
     number: u8,
@@ -51,7 +51,7 @@ impl Rolls for Countdown {
     ghost positive = { lit< tt };
 }
 
-/// The number before a number, and that the draws from the first on are a stream.
+/// The number before a number. Its contract also says that the draws from the first on are a stream.
 fn step(number: u8) -> u8
     ensures value { result ≡ one_down number }
     ensures stream { IsStream (stream_of (λ x. x) one_down 1000 number) }

@@ -1,4 +1,4 @@
-//! A third generator, and that each operation which draws says of it, as of any other, what it makes of its bytes.
+//! A third generator. Each operation that draws says what it does with it, as with any other generator.
 //!
 //! - `countdown`: the generator
 //! - `any`: the operations, with any generator

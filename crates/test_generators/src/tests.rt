@@ -1,4 +1,4 @@
-//! The operations run with a countdown, with numbers worked out by hand.
+//! The operations with a countdown, on numbers from worked calculations.
 use crate::{
     Countdown, critical_at, critical_by, factor_at, factor_by, gate_at, gate_by, hit_test_at,
     hit_test_by, own_stream,
@@ -80,7 +80,7 @@ fn critical_draws(rt: HostRuntime) -> Result<(), Fail> {
     Ok(())
 }
 
-// Rotated, 179 is 217 and 177 is 216, which is too low, as is each even number. From 178 on, 255 is the first that is a factor
+// Rotated, 179 is 217. 177 is 216, which is too low, and so is each even number. From 178 on, 255 is the first factor
 // (docs/MECHANICS.md, "Factors").
 #[test]
 fn factors(rt: HostRuntime) {
@@ -158,8 +158,8 @@ fn gates(rt: HostRuntime) -> Result<(), Fail> {
     Ok(())
 }
 
-// Who is asleep and confused too: no turn of either passes, and nothing is drawn, although nobody holds it any more
-// (docs/MECHANICS.md, "Gate").
+// A member that is asleep and confused, and was held as the turn began: no turn of either passes, and nothing is
+// drawn, although no foe holds it any more (docs/MECHANICS.md, "Gate").
 #[test]
 fn held(rt: HostRuntime) -> Result<(), Fail> {
     let mut battle = two_tauros()?;

@@ -1,4 +1,4 @@
-//! How a test asserts.
+//! How tests assert.
 use std::fmt::Debug;
 use std::process::Abort;
 

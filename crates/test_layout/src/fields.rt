@@ -62,7 +62,7 @@ fn a_battle_at_turn_0(rt: HostRuntime) -> Result<(), Fail> {
     Ok(())
 }
 
-// Side 1 lies from offset 24 on, and side 2 from 204 on.
+// Side 1 begins at offset 24, and side 2 at 204.
 #[test]
 fn both_sides_at_once(rt: HostRuntime) -> Result<(), Fail> {
     let mut packed = begun()?;
@@ -77,7 +77,7 @@ fn both_sides_at_once(rt: HostRuntime) -> Result<(), Fail> {
     Ok(())
 }
 
-// What a caller learns of the battle, by the two calls that `both_mut` makes.
+// What a caller knows of the battle after the two calls that `both_mut` makes.
 fn take_over(packed: &mut Packed, side: Side)
     ensures { packed.new.header ≡ packed.old.header }
 {
@@ -212,7 +212,7 @@ fn an_active_block(rt: HostRuntime) -> Result<(), Fail> {
     Ok(())
 }
 
-// A number goes with its condition; Haze ends all of these but the Substitute (docs/MECHANICS.md, "Conditions").
+// A number belongs to its condition. Haze ends all of these but the Substitute (docs/MECHANICS.md, "Conditions").
 #[test]
 fn conditions_with_numbers(rt: HostRuntime) -> Result<(), Fail> {
     let mut packed = begun()?;
@@ -249,8 +249,8 @@ fn conditions_with_numbers(rt: HostRuntime) -> Result<(), Fail> {
     Ok(())
 }
 
-// Bide, Thrash and Trapping, one at a time, each with its numbers; what breaks them off ends Charging too (docs/MECHANICS.md,
-// "Conditions").
+// Bide, Thrash and Trapping, one at a time, each with its numbers. What ends them ends Charging too
+// (docs/MECHANICS.md, "Conditions").
 #[test]
 fn what_goes_on(rt: HostRuntime) -> Result<(), Fail> {
     let mut packed = begun()?;

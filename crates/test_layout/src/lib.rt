@@ -1,10 +1,10 @@
-//! Tests of `gen1_layout`, through its public functions. A crate with tests is proved twice, so they stand in a crate of their
-//! own.
+//! Tests of `gen1_layout`, through its public functions. They are in a crate of their own because a crate with tests
+//! is proved twice.
 //!
 //! - `fields`: each reader and writer
 //! - `readers`: members by their places, and several conditions
 //! - `loading`: each field at the ends of its range, and past them
-//! - `comparing`: how a test asserts
+//! - `comparing`: how tests assert
 #![tactic(auto)]
 
 #[cfg(test)]

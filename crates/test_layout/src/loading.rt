@@ -1,4 +1,4 @@
-//! Each field at its least and its greatest value, and one past either (docs/LAYOUT.md, "Loading").
+//! Each field at its least and its greatest value, and one past each (docs/LAYOUT.md, "Loading").
 use crate::comparing::assert_same;
 use gen1_layout::{LoadFault, Packed};
 use std::process::Abort;
@@ -8,7 +8,7 @@ static TAUROS: [u8; 24] = [
     128, 100, 97, 1, 97, 1, 42, 1, 32, 1, 62, 1, 238, 0, 0, 70, 0, 0, 0, 24, 0, 0, 0, 0,
 ];
 
-// Its active block when it has come out.
+// Its active block after it has come out.
 static OUT: [u8; 36] = [
     1, 0, 0, 6, 6, 6, 6, 6, 6, 42, 1, 32, 1, 62, 1, 238, 0, 0, 0, 0, 0, 0, 0, 0, 0, 0, 0, 0, 0, 0,
     0, 0, 0, 0, 0, 0,
@@ -30,14 +30,14 @@ fn two_tauros() -> [u8; 384] {
     form
 }
 
-// The same with a second Tauros on side 1, behind the first.
+// The same with a second Tauros on side 1, after the first.
 fn three_tauros() -> [u8; 384] {
     let mut form = two_tauros();
     form[48..72].copy_from_slice(&TAUROS);
     form
 }
 
-// Puts bytes over some of a form's: each an offset and the byte.
+// Replaces some bytes of a form. Each change is an offset and a byte.
 fn put(form: &mut [u8; 384], changes: &[(usize, u8)]) {
     for (at, byte) in changes {
         if let Some(place) = form.get_mut(*at) {
@@ -46,7 +46,7 @@ fn put(form: &mut [u8; 384], changes: &[(usize, u8)]) {
     }
 }
 
-// Puts a block of bytes over a form's from an offset on.
+// Replaces the bytes of a form from an offset on.
 fn put_block(form: &mut [u8; 384], start: usize, block: &[u8]) {
     for (place, byte) in form.iter_mut().skip(start).zip(block) {
         *place = *byte;
@@ -59,7 +59,7 @@ fn changed(changes: &[(usize, u8)]) -> [u8; 384] {
     form
 }
 
-// Whether bytes are loaded, and come out as these.
+// Whether bytes are read, and give this form.
 fn is_loaded_as(bytes: &[u8], form: &[u8; 384]) -> bool {
     match Packed::load(bytes) {
         Ok(loaded) => loaded.as_bytes() == form.as_slice(),
@@ -67,7 +67,7 @@ fn is_loaded_as(bytes: &[u8], form: &[u8; 384]) -> bool {
     }
 }
 
-// 0 where the bytes are loaded, else the fault.
+// 0 if the bytes are read, otherwise the error.
 fn answer(bytes: &[u8]) -> u8 {
     match Packed::load(bytes) {
         Ok(_) => 0,
@@ -75,7 +75,7 @@ fn answer(bytes: &[u8]) -> u8 {
     }
 }
 
-// What reading two Tauros with these changes answers: 0, or the fault.
+// The result of reading two Tauros with these changes: 0, or the error.
 fn answers(rt: &impl Abort, changes: &[(usize, u8)], number: u8) {
     assert_same(rt, (changes, answer(&changed(changes))), (changes, number));
 }
@@ -95,7 +95,7 @@ fn lengths(rt: HostRuntime) {
     assert_same(&rt, answer(&[3; 385]), 1);
 }
 
-// The three versions, and what is none (docs/LAYOUT.md, "Versions 1 and 2").
+// The three versions, and numbers that aren't versions (docs/LAYOUT.md, "Versions 1 and 2").
 #[test]
 fn versions(rt: HostRuntime) {
     assert_same(&rt, answer(&[0; 384]), 2);
@@ -151,7 +151,7 @@ fn members(rt: HostRuntime) {
     answers(&rt, &[(26, 231), (27, 3)], 0);
     answers(&rt, &[(26, 232), (27, 3)], 4);
     answers(&rt, &[(28, 98)], 4);
-    // stats 5, 4, 999 and 1,000 in place two, where nobody is out
+    // stats 5, 4, 999 and 1,000 at place 2, whose member isn't out
     for (at, next) in [(54, 55), (56, 57), (58, 59), (60, 61)] {
         for (low, high, number) in [(5, 0, 0), (4, 0, 4), (231, 3, 0), (232, 3, 4)] {
             let mut form = three_tauros();
@@ -168,7 +168,7 @@ fn statuses(rt: HostRuntime) {
         let is_status = status <= 8 || status == 16 || status == 32 || status == 64;
         answers(&rt, &[(38, status)], if is_status { 0 } else { 4 });
     }
-    // a member of place two that has fallen
+    // a fallen member at place 2
     for (status, number) in [(0, 0), (8, 4)] {
         let mut form = three_tauros();
         put(&mut form, &[(52, 0), (53, 0), (62, status)]);
@@ -242,7 +242,7 @@ fn actives(rt: HostRuntime) {
     answers(&rt, &[(1, 0)], 5);
 }
 
-// Offsets of the condition bits' two bytes, of what they come with, and of the move in slot 1.
+// Offsets of the condition bits' two bytes, of the numbers of conditions, and of the move in slot 1.
 const LOW: usize = 185;
 
 const HIGH: usize = 186;
@@ -251,7 +251,7 @@ const MOVE: usize = 39;
 
 const CURRENT: usize = 197;
 
-// A count is there exactly where its condition is (docs/MECHANICS.md, "Conditions"; docs/LAYOUT.md, "Condition
+// A count is there exactly if its condition is on (docs/MECHANICS.md, "Conditions"; docs/LAYOUT.md, "Condition
 // bits").
 #[test]
 fn conditions_with_a_count(rt: HostRuntime) {
@@ -275,11 +275,11 @@ fn conditions_with_a_count(rt: HostRuntime) {
     answers(&rt, &[(187, 1), (191, 2), (192, 8)], 5);
     answers(&rt, &[(191, 1)], 5);
     answers(&rt, &[(192, 1)], 5);
-    // those that come with nothing: Flinch, Invulnerable, Mist, FocusEnergy; Seeded, the screens
+    // conditions without a number: Flinch, Invulnerable, Mist, FocusEnergy; Seeded, the screens
     answers(&rt, &[(LOW, 8 + 32 + 128), (HIGH, 1 + 16 + 64 + 128)], 0);
 }
 
-// Those that belong to the current move, by a move that they belong to, by another, and by none (docs/MECHANICS.md,
+// Conditions of the current move, with a move that they belong to, with another, and with none (docs/MECHANICS.md,
 // "Conditions").
 #[test]
 fn conditions_of_the_current_move(rt: HostRuntime) {
@@ -370,13 +370,13 @@ fn current_stats(rt: HostRuntime) {
     answers(&rt, &[(174, 12), (183, 184), (184, 3)], 0);
 }
 
-// What is asked, by who lives (docs/LAYOUT.md, "Turn, outcome and requests").
+// What is asked for, by which members live (docs/LAYOUT.md, "Turn, outcome and requests").
 #[test]
 fn requests(rt: HostRuntime) {
     answers(&rt, &[(17, 2)], 7);
     answers(&rt, &[(16, 3), (17, 0), (18, 0)], 7);
     answers(&rt, &[(16, 3), (17, 0), (18, 0), (1, 232), (2, 3)], 0);
-    // side 1 has nobody left
+    // side 1 has no member left
     let fallen = [(28, 0), (29, 0), (17, 0), (18, 0)];
     answers(&rt, &fallen, 7);
     for (outcome, number) in [(1, 7), (2, 0), (3, 7), (4, 0), (5, 0)] {
@@ -388,7 +388,7 @@ fn requests(rt: HostRuntime) {
     }
 }
 
-// Who is replaced (docs/LAYOUT.md, "Turn, outcome and requests").
+// Which side is asked for a replacement (docs/LAYOUT.md, "Turn, outcome and requests").
 #[test]
 fn replacements(rt: HostRuntime) {
     // a second member of side 1, its active at HP 0, requests Switch and Pass; turns 999 and 1,000
@@ -419,7 +419,7 @@ fn before_the_first_turn(rt: HostRuntime) {
     assert_same(&rt, answer(&fallen), 7);
 }
 
-// The number of the last fault (docs/LAYOUT.md, "Loading").
+// The number of the last error (docs/LAYOUT.md, "Loading").
 #[test]
 fn faults_have_texts(rt: HostRuntime) {
     assert_same(&rt, LoadFault::Request.number(), 7);

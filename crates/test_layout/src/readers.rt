@@ -9,8 +9,8 @@ use std::test::Fail;
 
 const SEED: [u8; 10] = [1, 2, 3, 4, 5, 6, 7, 8, 9, 10];
 
-// A Tauros at level 100 with full DVs and experience: HP 353, Attack 298, Defense 288, Speed 318, Special 238. It knows
-// Strength, which is move 70, with three PP ups and so 24 PP, and Wrap, move 35, with 20.
+// A Tauros at level 100 with full DVs and experience: HP 353, Attack 298, Defense 288, Speed 318, Special 238. It
+// knows Strength, which is move 70, with three PP ups, so 24 PP, and Wrap, move 35, with 20.
 fn tauros() -> Result<MemberSpec, Fail> {
     let mut moves = ArrayVec::new();
     moves.push((MoveId::from_name("Strength").ok_or("no such move")?, 3));
@@ -24,7 +24,7 @@ fn tauros() -> Result<MemberSpec, Fail> {
     })
 }
 
-// One Tauros against two, under both clauses, for 300 turns at most.
+// One Tauros against two, with both clauses, for at most 300 turns.
 fn at_turn_0() -> Result<Packed, Fail> {
     Ok(Packed::with_limit(
         &Team::new(&[tauros()?])?,

@@ -1,5 +1,5 @@
-//! Tests of `gen1_machine`, through its public functions. A crate with tests is proved twice, so they stand in a crate of their
-//! own.
+//! Tests of `gen1_machine`, through its public functions. They are in a crate of their own because a crate with tests
+//! is proved twice.
 //!
 //! - `values`: ranges, bytes, numbers, and devices that fail
 //! - `laws`: each law once

@@ -1,4 +1,4 @@
-//! Ranges, bytes and numbers worked out by hand, and devices that fail.
+//! Ranges, bytes and worked numbers, and devices that fail.
 use gen1_machine::{
     CantReason, Choice, DamageSource, Device, Event, EventList, FaultCode, Health, HitCount,
     InputFault, Kind, Level, MoveSlot, Outcome, Place, Rules, Side, Sink, Source, StageCount,

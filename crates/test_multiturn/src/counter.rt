@@ -1,5 +1,5 @@
-//! Counter, by the words of docs/MECHANICS.md, "Counter". A Tauros has base Speed 110, so that a draw, rotated left by 3 bits,
-//! is critical below 55 ("Critical hits").
+//! Counter (docs/MECHANICS.md, "Counter"). A Tauros has base Speed 110, so a draw, rotated left by 3 bits, is
+//! critical below 55 ("Critical hits").
 use crate::duel::{
     FOE, LAST, USER, assert_bytes, assert_same, assert_same_for, battle_of, bytes_of, named,
     send_out, tauros, with,
@@ -27,7 +27,7 @@ fn picked(names: &[&str], used: UsedMove) -> Result<Packed, Fail> {
     Ok(battle)
 }
 
-// What is known of a Counter, after all draws of it.
+// What is known after a Counter and all its draws.
 fn countered<R: Rolls>(battle: &mut Packed, random: &mut R) -> Result<Known, Fail> {
     let mut known = Known::new().begun(USER);
     counter_knowing(battle, USER, named("Counter")?, &mut known, random);
@@ -126,7 +126,7 @@ fn a_counter_that_hits(rt: HostRuntime) -> Result<(), Fail> {
 
 #[test]
 fn a_counter_that_misses(rt: HostRuntime) -> Result<(), Fail> {
-    // By its hit test, at the draw 255, the last damage is 0.
+    // At the draw 255 it misses by its hit test, and the last damage is 0.
     let mut battle = picked(&FIRST, Slot(1))?;
     let before = bytes_of(&battle);
     let mut sweep = Sweep::new(254);
@@ -138,7 +138,7 @@ fn a_counter_that_misses(rt: HostRuntime) -> Result<(), Fail> {
     );
     assert_bytes(&rt, &battle, with(before, &[(LAST, 0)]));
     assert_same(&rt, sweep.draw(), 0);
-    // By the foe's move it is kept, and the critical draw is the only one.
+    // If it misses by the foe's move, the last damage is kept, and the critical draw is the only one.
     let mut battle = picked(&FIRST, Slot(2))?;
     let before = bytes_of(&battle);
     let mut link = LinkRandom::new([0; 10]);

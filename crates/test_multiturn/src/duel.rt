@@ -1,4 +1,4 @@
-//! Two members who are out, for the tests: the bytes of their battle, and the offsets of docs/LAYOUT.md.
+//! Two members that are out, for the tests: the bytes of their battle, and the offsets of docs/LAYOUT.md.
 use arrayvec::ArrayVec;
 use gen1_layout::Packed;
 use gen1_machine::{Event, EventList, Side};
@@ -12,7 +12,8 @@ pub(crate) const USER: Side = Side::One;
 
 pub(crate) const FOE: Side = Side::Two;
 
-// Where the user's condition bits, turns, energy, current move and kept accuracy stand, and the last damage and the outcome.
+// The offsets of the user's condition bits, turns, energy, current move and kept accuracy, and of the last damage and
+// the outcome.
 pub(crate) const FLAGS: usize = 185;
 
 pub(crate) const TURNS: usize = 194;
@@ -79,7 +80,7 @@ pub(crate) fn bytes_of(battle: &Packed) -> [u8; 384] {
     bytes
 }
 
-// These bytes with some others in their places.
+// These bytes with some of them replaced.
 pub(crate) fn with(mut bytes: [u8; 384], changes: &[(usize, u8)]) -> [u8; 384] {
     for change in changes {
         if let Some(place) = bytes.get_mut(change.0) {
@@ -94,7 +95,7 @@ pub(crate) fn assert_same<T: PartialEq + Debug + Drop>(rt: &impl Abort, found: T
     assert_eq!(rt; found, expected);
 }
 
-// The same, of a case of some name.
+// The same, for a named case.
 pub(crate) fn assert_same_for<T: PartialEq + Debug + Drop>(
     rt: &impl Abort,
     name: &impl Debug,

@@ -1,4 +1,4 @@
-//! What is told before the first hit, by the words of docs/MECHANICS.md, "Order of events" and "Types".
+//! The reports before the first hit (docs/MECHANICS.md, "Order of events", "Types").
 use crate::duel::{FOE, USER, assert_same, assert_same_for, named, two_tauros};
 use gen1_action::Known;
 use gen1_layout::Packed;
@@ -10,7 +10,7 @@ use gen1_tables::Element::{
 };
 use std::test::Fail;
 
-// What is told of a hit of damage 0, of which nothing else is told.
+// The events of a hit of damage 0, which writes no others.
 fn told(
     battle: &mut Packed,
     name: &str,

@@ -1,4 +1,4 @@
-//! Fixed damage, Super Fang and Psywave, by the words of docs/MECHANICS.md, "Fixed damage and one-hit moves".
+//! Fixed damage, Super Fang and Psywave (docs/MECHANICS.md, "Fixed damage and one-hit moves").
 use crate::duel::{
     FOE, LAST, OUTCOME, USER, assert_bytes, assert_same, assert_same_for, battle_of, bytes_of,
     named, tauros, two_tauros, with,
@@ -10,7 +10,7 @@ use gen1_multiturn::{fixed, fixed_knowing};
 use gen1_rolls::{LinkRandom, Rolls, Sweep};
 use std::test::Fail;
 
-// The user is of this level, and its foe of level 100.
+// The user has this level, and its foe level 100.
 fn of_level(level: u8) -> Result<Packed, Fail> {
     battle_of(
         &[tauros(level, &["Psywave"])?],
@@ -18,7 +18,7 @@ fn of_level(level: u8) -> Result<Packed, Fail> {
     )
 }
 
-// A use of a move, after a damage of 75: whether it ended by the fault, and what is known then.
+// A use of a move, after a damage of 75: whether it ended by the fault, and what is known afterwards.
 fn used<R: Rolls>(battle: &mut Packed, name: &str, random: &mut R) -> Result<(bool, Known), Fail> {
     battle.put_last_damage(75);
     let mut known = Known::new().begun(USER);
@@ -26,7 +26,7 @@ fn used<R: Rolls>(battle: &mut Packed, name: &str, random: &mut R) -> Result<(bo
     Ok((ended, known))
 }
 
-// What Psywave deals in a sweep from this byte on, and the draw after it.
+// Psywave's damage in a sweep from this byte on, and the next draw after it.
 fn waved(level: u8, byte: u8) -> Result<(Option<u16>, u8), Fail> {
     let mut sweep = Sweep::new(byte);
     let damage = fixed(&of_level(level)?, USER, named("Psywave")?, &mut sweep);
@@ -78,15 +78,15 @@ fn super_fang_takes_half(rt: HostRuntime) -> Result<(), Fail> {
 
 #[test]
 fn psywave_draws_below_its_top(rt: HostRuntime) -> Result<(), Fail> {
-    // At level 100 the top is 150. From 150 on it takes 106 draws up to 255, and then 0 and 1.
+    // At level 100 draws must be below 150. From 150 on it takes 106 draws up to 255, and then 0 and 1.
     assert_same(&rt, waved(100, 1)?, (Some(1), 2));
     assert_same(&rt, waved(100, 149)?, (Some(149), 150));
     assert_same(&rt, waved(100, 150)?, (Some(1), 2));
-    // At level 2 it is 3.
+    // At level 2 they must be below 3.
     assert_same(&rt, waved(2, 0)?, (Some(1), 2));
     assert_same(&rt, waved(2, 2)?, (Some(2), 3));
     assert_same(&rt, waved(2, 3)?, (Some(1), 2));
-    // At level 3, 4.
+    // At level 3 they must be below 4.
     assert_same(&rt, waved(3, 3)?, (Some(3), 4));
     assert_same(&rt, waved(3, 4)?, (Some(1), 2));
     Ok(())
@@ -97,7 +97,7 @@ fn psywave_by_link_numbers(rt: HostRuntime) -> Result<(), Fail> {
     let third = [200, 3, 2, 1, 0, 0, 0, 0, 0, 0];
     assert_same(&rt, waved_by_link(2, third)?, (Some(2), 3));
     assert_same(&rt, waved_by_link(100, third)?, (Some(3), 2));
-    // Nine zeros, which are all 1 then: the tenth draw.
+    // Nine zeros, which are all 1 after they are renewed: the tenth draw.
     assert_same(&rt, waved_by_link(100, [0; 10])?, (Some(1), 1));
     Ok(())
 }
@@ -106,7 +106,7 @@ fn psywave_by_link_numbers(rt: HostRuntime) -> Result<(), Fail> {
 fn psywave_at_level_1_is_a_fault(rt: HostRuntime) -> Result<(), Fail> {
     assert_same(&rt, waved(1, 1)?, (None, 1));
     assert_same(&rt, waved_by_link(1, [1; 10])?, (None, 0));
-    // Where it hits: 80 percent are the byte 204, and the outcome of Fault 2 is 5.
+    // If it hits: 80 percent is the byte 204, and the outcome byte of Fault 2 is 5.
     let mut battle = of_level(1)?;
     let before = bytes_of(&battle);
     let mut sweep = Sweep::new(203);
@@ -115,7 +115,7 @@ fn psywave_at_level_1_is_a_fault(rt: HostRuntime) -> Result<(), Fail> {
     assert_same(&rt, battle.outcome(), Outcome::Fault(2));
     assert_bytes(&rt, &battle, with(before, &[(OUTCOME, 5), (LAST, 75)]));
     assert_same(&rt, sweep.draw(), 204);
-    // Where it misses it is a miss alone.
+    // If it misses, it only misses.
     let mut battle = of_level(1)?;
     let (ended, known) = used(&mut battle, "Psywave", &mut Sweep::new(204))?;
     assert_same(&rt, (ended, known.missed), (false, true));
@@ -125,7 +125,7 @@ fn psywave_at_level_1_is_a_fault(rt: HostRuntime) -> Result<(), Fail> {
 
 #[test]
 fn a_hit_test_comes_first(rt: HostRuntime) -> Result<(), Fail> {
-    // Night Shade has no effect on a Normal foe by the type rows, which do not count.
+    // By the type rows Night Shade has no effect on a Normal foe, but they don't count.
     for (name, byte, damage) in [
         ("Night Shade", 254, 100),
         ("Seismic Toss", 254, 100),

@@ -1,5 +1,5 @@
-//! Trapping and thrashing that go on, and trapping of a foe that a move has no effect on, by the words of docs/MECHANICS.md,
-//! "Going on".
+//! Trapping and thrashing that go on, and trapping a foe that the move has no effect on (docs/MECHANICS.md, "Going
+//! on").
 use crate::duel::{
     FLAGS, FOE, KEPT, TURNS, USER, assert_bytes, assert_same, bytes_of, named, two_tauros, with,
 };
@@ -12,7 +12,7 @@ use gen1_rolls::{LinkRandom, Rolls, Sweep};
 use gen1_tables::{Effect, Element};
 use std::test::Fail;
 
-// An action of the user's that goes on.
+// An action of the user that goes on.
 fn going_on() -> Known {
     Known {
         going_on: true,
@@ -20,7 +20,7 @@ fn going_on() -> Known {
     }
 }
 
-// What the user's next turn of a thrashing move tells.
+// The events of the user's next turn of a thrashing move.
 fn thrashed_on<R: Rolls>(
     battle: &mut Packed,
     name: &str,
@@ -39,7 +39,7 @@ fn thrashed_on<R: Rolls>(
 
 #[test]
 fn a_trap_goes_on(rt: HostRuntime) -> Result<(), Fail> {
-    // A count of 0 stays 0, and the foe's Recharge is left alone.
+    // A count of 0 stays 0, and the foe's Recharge isn't changed.
     for (turns, left) in [(4, 3), (1, 0), (0, 0)] {
         let mut battle = two_tauros()?;
         battle.put_flag(FOE, Conditions::RECHARGE, true);
@@ -71,7 +71,7 @@ fn thrashing_goes_on(rt: HostRuntime) -> Result<(), Fail> {
 
 #[test]
 fn thrashing_ends_in_confusion(rt: HostRuntime) -> Result<(), Fail> {
-    // Confused is bit 6, and its count the low bits of one draw, and 2.
+    // Confused is bit 6, and its count is the low bits of one draw plus 2.
     for (byte, count) in [(0, 2), (3, 5), (6, 4)] {
         let mut battle = two_tauros()?;
         battle.put_kept_accuracy(USER, 255);
@@ -90,7 +90,7 @@ fn thrashing_ends_in_confusion(rt: HostRuntime) -> Result<(), Fail> {
     Ok(())
 }
 
-// By the bytes alone: a second use goes on, with no draw.
+// By the bytes alone, a second use goes on, without a draw.
 #[test]
 fn a_trap_that_is_on_goes_on(rt: HostRuntime) -> Result<(), Fail> {
     for (turns, left) in [(4, 3), (1, 0), (0, 0)] {
@@ -106,14 +106,14 @@ fn a_trap_that_is_on_goes_on(rt: HostRuntime) -> Result<(), Fail> {
     Ok(())
 }
 
-// What a use of Thrash tells, by the bytes alone.
+// The events of a use of Thrash, by the bytes alone.
 fn thrashed<R: Rolls>(battle: &mut Packed, random: &mut R) -> EventList {
     let mut events = EventList::new();
     thrash(battle, USER, random, &mut events);
     events
 }
 
-// 1 draws three turns, of which each use takes one, and the draw behind it the confusion's count.
+// 1 draws three turns. Each use takes one, and the next draw after the last is the count of the confusion.
 #[test]
 fn thrashing_that_is_on_goes_on(rt: HostRuntime) -> Result<(), Fail> {
     let mut battle = two_tauros()?;
@@ -133,7 +133,7 @@ fn thrashing_that_is_on_goes_on(rt: HostRuntime) -> Result<(), Fail> {
     Ok(())
 }
 
-// Wrap at a Gengar: it holds where it hits, at 215 of the byte 216, and lands nothing.
+// Wrap on a Gengar: if it hits, at 215 for the byte 216, it holds the foe without damage.
 #[test]
 fn a_ghost_is_held_for_0(rt: HostRuntime) -> Result<(), Fail> {
     for (byte, held, turns) in [(215, true, 2), (216, false, 0)] {

@@ -1,4 +1,4 @@
-//! What comes with a hit, by the words of docs/MECHANICS.md, "Recoil, drain and explosion", "Going on" and "Landing".
+//! What follows a hit (docs/MECHANICS.md, "Recoil, drain and explosion", "Going on", "Landing").
 use crate::duel::{FOE, USER, assert_same, assert_same_for, assert_told, two_tauros};
 use crate::setting::{healed, hit, hurt};
 use gen1_layout::Conditions;
@@ -26,7 +26,7 @@ fn recoil_is_a_quarter_of_what_landed(rt: HostRuntime) -> Result<(), Fail> {
             hurt(&battle, USER, user, DamageSource::Recoil)?,
         ];
         assert_told(&rt, &events, &told);
-        // The user's own Substitute does not take it.
+        // The user's own Substitute doesn't take it.
         assert_same(
             &rt,
             (battle.hp(USER), battle.substitute(USER)),
@@ -39,7 +39,7 @@ fn recoil_is_a_quarter_of_what_landed(rt: HostRuntime) -> Result<(), Fail> {
 // Recoil, on a substitute (docs/MECHANICS.md, "Recoil, drain and explosion").
 #[test]
 fn recoil_comes_unless_a_substitute_broke(rt: HostRuntime) -> Result<(), Fail> {
-    // Damage 88 leaves 88 HP at 0, and a quarter of it is 22; 89 breaks them.
+    // Damage of 88 leaves a Substitute of 88 HP at 0, and a quarter of it is 22. Damage of 89 breaks it.
     for (damage, user) in [(88, 331), (89, 353), (256, 353)] {
         let mut battle = two_tauros()?;
         battle.put_substitute(FOE, Some(88));
@@ -120,7 +120,7 @@ fn an_exploding_user_falls(rt: HostRuntime) -> Result<(), Fail> {
 // Explosion, on a substitute (docs/MECHANICS.md, "Recoil, drain and explosion").
 #[test]
 fn an_exploding_user_that_breaks_a_substitute_lives(rt: HostRuntime) -> Result<(), Fail> {
-    // A Substitute that stays fells the user.
+    // If the Substitute holds, the user falls.
     for (damage, user) in [(88, 0), (89, 353)] {
         let mut battle = two_tauros()?;
         battle.put_substitute(FOE, Some(88));

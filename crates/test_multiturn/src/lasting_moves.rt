@@ -1,5 +1,5 @@
-//! Moves that last, by the words of docs/MECHANICS.md, "Going on" and "Charging", and the offsets of docs/LAYOUT.md. Both
-//! sides have a Tauros out: 353 HP, of which a quarter is 88.
+//! Moves that last several turns (docs/MECHANICS.md, "Going on", "Charging"), with the offsets of docs/LAYOUT.md.
+//! Both sides have a Tauros out: 353 HP, a quarter of which is 88.
 use crate::duel::{
     CURRENT, ENERGY, FLAGS, FOE, KEPT, LAST, TURNS, USER, assert_bytes, assert_same,
     assert_same_for, assert_told, bytes_of, named, two_tauros, with,
@@ -13,7 +13,7 @@ use std::test::Fail;
 // Trapping (docs/MECHANICS.md, "Going on").
 #[test]
 fn a_trap_begins(rt: HostRuntime) -> Result<(), Fail> {
-    // The first draw counts where its low bits are 0 or 1; else the next draw does.
+    // The first draw counts if its low bits are 0 or 1. Otherwise the next draw does.
     for (byte, turns, draws) in [(0, 1, 1), (1, 2, 1), (2, 4, 2), (3, 1, 2), (5, 2, 1)] {
         let mut battle = two_tauros()?;
         battle.put_flag(FOE, Conditions::RECHARGE, true);
@@ -64,14 +64,14 @@ fn bide_begins_stores_and_lets_go(rt: HostRuntime) -> Result<(), Fail> {
     assert_same(&rt, bide(&mut battle, USER, &mut link, &mut events), None);
     assert_bytes(&rt, &battle, begun);
     assert_same(&rt, link.index(), 1);
-    // 300 is 44 and 1 times 256.
+    // 300 is 44 + 1 * 256.
     battle.put_last_damage(300);
     let damage = with(before, &[(LAST, 44), (LAST + 1, 1)]);
     let stored = [(FLAGS, 1), (TURNS, 1), (ENERGY, 44), (ENERGY + 1, 1)];
     let stored = with(damage, &stored);
     assert_same(&rt, bide(&mut battle, USER, &mut link, &mut events), None);
     assert_bytes(&rt, &battle, stored);
-    // Twice 301 is 602, which is 90 and 2 times 256.
+    // Twice 301 is 602, which is 90 + 2 * 256.
     battle.put_last_damage(1);
     let let_go = with(before, &[(LAST, 90), (LAST + 1, 2)]);
     let energy = bide(&mut battle, USER, &mut link, &mut events);
@@ -111,7 +111,7 @@ fn a_charge_hides_who_digs(rt: HostRuntime) -> Result<(), Fail> {
         battle.put_picked_move(USER, UsedMove::Slot(1));
         let before = bytes_of(&battle);
         let mut events = EventList::new();
-        // The action ends with the first turn, in which the picked move becomes the current one.
+        // The first turn ends the action, and the picked move becomes the current one.
         assert_same(&rt, charge(&mut battle, USER, id, &mut events), true);
         let charging = with(before, &[(FLAGS, flags), (CURRENT, 1)]);
         assert_same_for(&rt, &name, bytes_of(&battle), charging);
@@ -123,7 +123,7 @@ fn a_charge_hides_who_digs(rt: HostRuntime) -> Result<(), Fail> {
     Ok(())
 }
 
-// A move that is picked anew (docs/MECHANICS.md, "Charging").
+// A move that is picked for this turn (docs/MECHANICS.md, "Charging").
 #[test]
 fn what_is_picked_is_charged(rt: HostRuntime) -> Result<(), Fail> {
     // The current move was another: Struggle, which is 5.
@@ -132,7 +132,7 @@ fn what_is_picked_is_charged(rt: HostRuntime) -> Result<(), Fail> {
     battle.put_picked_move(USER, UsedMove::Slot(1));
     let before = bytes_of(&battle);
     let mut events = EventList::new();
-    // A move that does not charge changes nothing, and the action goes on.
+    // A move that doesn't charge changes nothing, and the action goes on.
     let ended = charge(&mut battle, USER, named("Strength")?, &mut events);
     assert_same(&rt, (ended, events.len()), (false, 0));
     assert_bytes(&rt, &battle, before);
@@ -144,7 +144,7 @@ fn what_is_picked_is_charged(rt: HostRuntime) -> Result<(), Fail> {
 // Substitute (docs/MECHANICS.md, "Early effects").
 #[test]
 fn a_substitute_costs_a_quarter(rt: HostRuntime) -> Result<(), Fail> {
-    // 353 and 265 are 97 and 9 beside 256; the condition is bit 9, and 88 its HP.
+    // 353 is 97 + 256, and 265 is 9 + 256. The condition is bit 9, and 88 is its HP.
     for (hp, low, high) in [(353, 9, 1), (89, 1, 0), (88, 0, 0)] {
         let mut battle = two_tauros()?;
         battle.put_hp(USER, hp);
@@ -159,7 +159,7 @@ fn a_substitute_costs_a_quarter(rt: HostRuntime) -> Result<(), Fail> {
             Event::Damage(battle.who(USER), health, DamageSource::Direct),
         ];
         assert_told(&rt, &events, &told);
-        // One is up.
+        // A Substitute is up already.
         events.clear();
         substitute(&mut battle, USER, &mut events);
         assert_bytes(&rt, &battle, after);

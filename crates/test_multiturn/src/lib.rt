@@ -1,5 +1,5 @@
-//! Tests of `gen1_multiturn`, through its public functions. A crate with tests is proved twice, so they stand in a crate of
-//! their own.
+//! Tests of `gen1_multiturn`, through its public functions. They are in a crate of their own because a crate with
+//! tests is proved twice.
 //!
 //! - `lasting_moves`: moves that last, as they begin
 //! - `going_on`: trapping and thrashing, as they go on
@@ -8,10 +8,10 @@
 //! - `fixed_damage`: fixed damage
 //! - `one_hit_moves`: one-hit moves
 //! - `many_hits`: moves that hit several times
-//! - `first_hit`: what is told before the first hit
-//! - `hit_effects`: what comes with a hit
-//! - `miss`: what a miss brings
-//! - `duel`: two members who are out
+//! - `first_hit`: the reports before the first hit
+//! - `hit_effects`: what follows a hit
+//! - `miss`: what follows a miss
+//! - `duel`: two members that are out
 //! - `setting`: a move that hits
 #![tactic(auto)]
 

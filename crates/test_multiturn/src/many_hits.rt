@@ -1,4 +1,4 @@
-//! Moves that hit several times, by the words of docs/MECHANICS.md, "Many hits".
+//! Moves that hit several times (docs/MECHANICS.md, "Many hits").
 use crate::duel::{FOE, assert_same, assert_same_for, assert_told, two_tauros};
 use crate::setting::{hit, hit_count, hurt};
 use gen1_machine::{DamageSource, Event, Volatile};
@@ -24,7 +24,7 @@ fn moves_that_hit_twice_draw_nothing(rt: HostRuntime) -> Result<(), Fail> {
 
 #[test]
 fn two_to_five_hits_are_drawn(rt: HostRuntime) -> Result<(), Fail> {
-    // The first draw counts where its low bits are 0 or 1; else the next draw does.
+    // The first draw counts if its low bits are 0 or 1. Otherwise the next draw does.
     for (byte, hits, draws) in [(0, 2, 1), (5, 3, 1), (2, 5, 2), (3, 2, 2), (254, 5, 2)] {
         let mut battle = two_tauros()?;
         let mut sweep = Sweep::new(byte);
@@ -56,7 +56,7 @@ fn four_hits_take_two_draws(rt: HostRuntime) -> Result<(), Fail> {
 
 #[test]
 fn a_broken_substitute_ends_the_hits(rt: HostRuntime) -> Result<(), Fail> {
-    // Five hits of 10 are drawn, and 25 HP bear two.
+    // Five hits of 10 are drawn, and a Substitute of 25 HP takes two.
     let mut battle = two_tauros()?;
     battle.put_substitute(FOE, Some(25));
     let (known, events) = hit(&mut battle, "Pin Missile", 10, &mut Sweep::new(2))?;
@@ -90,7 +90,7 @@ fn a_first_hit_that_breaks_plans_none(rt: HostRuntime) -> Result<(), Fail> {
 
 #[test]
 fn a_fall_ends_the_hits(rt: HostRuntime) -> Result<(), Fail> {
-    // Five hits of 10 are drawn; of 25 HP the third takes 5.
+    // Five hits of 10 are drawn. Of 25 HP, the third takes 5.
     let mut battle = two_tauros()?;
     battle.put_hp(FOE, 25);
     let (known, events) = hit(&mut battle, "Comet Punch", 10, &mut Sweep::new(2))?;

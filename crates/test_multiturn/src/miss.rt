@@ -1,4 +1,4 @@
-//! What a miss brings, by the words of docs/MECHANICS.md, "Action", step 9.
+//! What follows a miss (docs/MECHANICS.md, "Action", step 9).
 use crate::duel::{
     FOE, LAST, USER, assert_bytes, assert_same, assert_same_for, assert_told, bytes_of, named,
     two_tauros, with,
@@ -27,7 +27,7 @@ fn a_miss_is_told(rt: HostRuntime) -> Result<(), Fail> {
         let events = miss(&mut battle, name)?;
         let told = [Event::Miss(battle.who(USER))];
         assert_same_for(&rt, &name, events.as_slice(), told.as_slice());
-        // The foe's Rage does not build.
+        // The foe's Rage doesn't build.
         assert_same_for(&rt, &name, bytes_of(&battle), before);
     }
     Ok(())
@@ -35,7 +35,7 @@ fn a_miss_is_told(rt: HostRuntime) -> Result<(), Fail> {
 
 #[test]
 fn a_crash_goes_past_the_users_substitute(rt: HostRuntime) -> Result<(), Fail> {
-    // 353 is 97 and 1 times 256.
+    // 353 is 97 + 1 * 256.
     for name in ["Jump Kick", "High Jump Kick"] {
         let mut battle = two_tauros()?;
         battle.put_substitute(USER, Some(88));

@@ -1,5 +1,5 @@
-//! One-hit moves, by the words of docs/MECHANICS.md, "Fixed damage and one-hit moves". Their accuracy byte is 76, and the bytes
-//! that give a factor are the odd ones from 179 on ("Factors").
+//! One-hit moves (docs/MECHANICS.md, "Fixed damage and one-hit moves"). Their accuracy byte is 76, and the bytes that
+//! give a factor are the odd ones from 179 on ("Factors").
 use crate::duel::{
     FOE, LAST, USER, assert_bytes, assert_same, assert_same_for, bytes_of, named, two_tauros, with,
 };
@@ -20,7 +20,7 @@ fn used<R: Rolls>(battle: &mut Packed, name: &str, random: &mut R) -> Result<Kno
     Ok(known)
 }
 
-// One of the two is paralysed, so that its Speed is a quarter of 318.
+// One of the two is paralysed, so its Speed is a quarter of 318.
 fn slowed(side: Side) -> Result<Packed, Fail> {
     let mut battle = two_tauros()?;
     battle.put_speed(side, 6, 79);
@@ -29,11 +29,11 @@ fn slowed(side: Side) -> Result<Packed, Fail> {
 
 #[test]
 fn the_faster_one_knocks_out(rt: HostRuntime) -> Result<(), Fail> {
-    // The critical draw, the factor's, and the hit test at 75: four draws in all, as 74 gives no factor.
+    // The critical draw, the factor's, and the hit test at 75: four draws in all, since 74 gives no factor.
     for (name, mut battle) in [
         ("Guillotine", slowed(FOE)?),
         ("Fissure", slowed(FOE)?),
-        // As fast as the foe is not slower.
+        // A user as fast as the foe isn't slower.
         ("Horn Drill", two_tauros()?),
     ] {
         let before = bytes_of(&battle);

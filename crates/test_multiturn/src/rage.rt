@@ -1,5 +1,5 @@
-//! Rage that builds, by the words of docs/MECHANICS.md, "Going on". Tauros has an Attack of 298, which is 447 a stage up and 596
-//! two.
+//! Rage that builds (docs/MECHANICS.md, "Going on"). Tauros has an Attack of 298, which is 447 at one stage up and
+//! 596 at two.
 use crate::duel::{FOE, USER, assert_bytes, assert_same, assert_same_for, bytes_of, two_tauros};
 use crate::setting::hit;
 use gen1_layout::{Conditions, Packed};
@@ -34,7 +34,7 @@ fn it_builds_at_each_hit(rt: HostRuntime) -> Result<(), Fail> {
 
 #[test]
 fn it_builds_behind_a_substitute(rt: HostRuntime) -> Result<(), Fail> {
-    // A Substitute that stays, and one that breaks; and at a landing of 0.
+    // A Substitute that holds, one that breaks, and damage of 0.
     for damage in [0, 10, 100] {
         let mut battle = raging()?;
         battle.put_substitute(FOE, Some(88));
@@ -98,7 +98,7 @@ fn who_has_none_or_has_fallen_builds_none(rt: HostRuntime) -> Result<(), Fail> {
 
 #[test]
 fn the_users_burn_counts_again(rt: HostRuntime) -> Result<(), Fail> {
-    // The foe of the raging member takes its penalty again: 298 becomes 149.
+    // The foe of the raging member takes its penalty once more: 298 becomes 149.
     let mut battle = raging()?;
     battle.put_status(USER, Status::Burned);
     rage(&mut battle, USER, &mut EventList::new());

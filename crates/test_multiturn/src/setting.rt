@@ -1,4 +1,4 @@
-//! A move that hits, for the tests, and what it tells. Both sides have a Tauros out: 353 HP.
+//! A move that hits, for the tests, and its events. Both sides have a Tauros out: 353 HP.
 use crate::duel::{USER, named};
 use gen1_action::Known;
 use gen1_layout::Packed;
@@ -7,7 +7,7 @@ use gen1_multiturn::hits;
 use gen1_rolls::Rolls;
 use std::test::Fail;
 
-// All hits of a move of the user's with this damage: what is known then, and what was told.
+// All hits of a move of the user with this damage: what is known afterwards, and the events.
 pub(crate) fn hit<R: Rolls>(
     battle: &mut Packed,
     name: &str,
@@ -26,7 +26,7 @@ fn of_353(hp: u16) -> Result<Health, Fail> {
     Ok(Health::new(hp, 353, None).ok_or("no health")?)
 }
 
-// A Tauros is left with so many HP.
+// A Tauros with this many HP left.
 pub(crate) fn hurt(
     battle: &Packed,
     side: Side,

@@ -10,7 +10,7 @@ pub(crate) fn assert_same<T: PartialEq + Debug + Drop>(rt: &impl Abort, found: T
     assert_eq!(rt; found, expected);
 }
 
-/// A member as it is asked for, each of whose moves has three PP ups.
+/// The specification of a member whose moves have three PP ups each.
 pub(crate) fn spec(
     species: &str,
     level: u8,

@@ -25,7 +25,7 @@ fn nine_numbers_are_drawn_and_then_renewed(rt: HostRuntime) {
     assert_same(&rt, LinkRandom::from_parts(9, [0; 10]), None);
 }
 
-/// What `until` answers for a number, and after how many draws. No byte is 256.
+/// What `until` returns for a number, and the number of draws. No byte is 256.
 fn found<R: Rolls>(r: &mut R, wanted: u16) -> (Option<u8>, u32) {
     let draws = Cell::new(0_u32);
     let byte = until(r, |x| {
@@ -53,8 +53,8 @@ fn the_first_draw_that_meets_a_test(rt: HostRuntime) {
     assert_same(&rt, random.index(), 1);
 }
 
-/// Draws a count from 1 to 7: the lowest three bits of the first draw where they are not 0.
-/// A caller for any generator, as those of the engine are.
+/// Draws a count from 1 to 7: the lowest three bits of the first draw in which they aren't 0. Like the engine, it
+/// works for any generator.
 fn count<R: Rolls>(r: &mut R) -> u8
     ensures { (origin : R) (s : Stream) (n : ℕ) → StandsAt R.byte R.next R.SPAN origin s n r.old
         → MatchOption (first s n (λ b. nat_lt 0 (low_bits 3 b)))
@@ -68,7 +68,7 @@ fn count<R: Rolls>(r: &mut R) -> u8
     }
 }
 
-/// A draw and a count, of which index and numbers tell how many draws they took.
+/// A draw and a count. The index and the numbers show how many draws they took.
 fn index_behind(seed: [u8; 10]) -> u8
     ensures { (m : ℕ) → first (LinkStream seed) 1 (λ b. nat_lt 0 (low_bits 3 b)) ≡ Some m
         → result ≡ (m + 1) % 9 }

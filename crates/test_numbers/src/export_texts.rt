@@ -6,7 +6,7 @@ use gen1_text::{
 };
 use std::test::Fail;
 
-// Of a team builder: with a title, trailing blanks, and what the first generation has not.
+// From a team builder: with a title, trailing blanks, and lines that the first generation doesn't have.
 const TWO_MEMBERS: &[u8] = b"=== [gen1ou] Untitled 1 ===
 
 Starmie  

@@ -1,6 +1,6 @@
-//! Tests of `gen1_tables`, `gen1_rolls`, `gen1_stats` and `gen1_text`, through their public functions. A crate with tests is
-//! proved twice, so they stand in a crate of their own. Expected values are worked by hand from docs/TABLES.md, docs/MECHANICS.md
-//! and docs/TEAM_TEXT.md.
+//! Tests of `gen1_tables`, `gen1_rolls`, `gen1_stats` and `gen1_text`, through their public functions. They are in a
+//! crate of their own because a crate with tests is proved twice. Expected values come from docs/TABLES.md,
+//! docs/MECHANICS.md and docs/TEAM_TEXT.md.
 //!
 //! - `tables`: rows of each table
 //! - `draws`: worked draws

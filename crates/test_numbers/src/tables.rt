@@ -1,4 +1,4 @@
-//! Ten rows of each table, and names and numbers that none has (docs/TABLES.md).
+//! Ten rows of each table, and names and numbers that aren't in it (docs/TABLES.md).
 use crate::comparing::assert_same;
 use gen1_tables::Effect::{
     ChargeInvulnerable, DamageOnly, FixedDamage, OneHitKnockOut, ParalysisChance, PoisonChance,
@@ -145,7 +145,7 @@ fn types(rt: HostRuntime) {
     }
 }
 
-// What is nobody's, one letter or one number off (docs/TABLES.md, "Species", "Moves").
+// Names and numbers of no species or move, one letter or one number off (docs/TABLES.md, "Species", "Moves").
 #[test]
 fn refused_names_and_numbers(rt: HostRuntime) {
     for text in ["", "Poun", "Pound ", "pound", "Tauro", "Tauros ", "tauros"] {

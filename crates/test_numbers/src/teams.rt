@@ -54,7 +54,7 @@ fn the_most_hp(rt: HostRuntime) {
     assert_same(&rt, hp_stat(chansey, 15, 65535, 100), 703);
 }
 
-// Of nothing but experience: a quarter of its root, rounded up before, and 5 (docs/MECHANICS.md, "Stats").
+// Only experience: a quarter of its root, which is rounded up before, plus 5 (docs/MECHANICS.md, "Stats").
 #[test]
 fn roots_are_rounded_up(rt: HostRuntime) {
     for (exp, want) in [
@@ -78,7 +78,7 @@ fn the_least_member(rt: HostRuntime) {
     assert_same(&rt, Status::default(), Status::Healthy);
 }
 
-// Of two faults the first is told (docs/MECHANICS.md, "Teams").
+// Of two errors the first is reported (docs/MECHANICS.md, "Teams").
 #[test]
 fn refusals_come_in_order(rt: HostRuntime) -> Result<(), Fail> {
     assert_same(&rt, refusal_of(&[("Strength", 3)])?, None);
@@ -104,7 +104,7 @@ fn refusals_come_in_order(rt: HostRuntime) -> Result<(), Fail> {
     Ok(())
 }
 
-// No member, seven of them, and the first of several at fault (docs/MECHANICS.md, "Teams").
+// No member, seven members, and the first of several refusals (docs/MECHANICS.md, "Teams").
 #[test]
 fn refusals_of_members(rt: HostRuntime) -> Result<(), Fail> {
     assert_same(&rt, Team::new(&[]).err(), Some(TeamRefusal::Empty));

@@ -1,5 +1,5 @@
-//! What an action knows, and its hit test, with the numbers of docs/MECHANICS.md, "Hit test" and "Action", and the type rows
-//! of docs/TABLES.md. Both sides have a Tauros out.
+//! What is known of an action, and its hit test, with the numbers of docs/MECHANICS.md, "Hit test" and "Action", and
+//! the type rows of docs/TABLES.md. Both sides have a Tauros out.
 use crate::battles::{self, FOE, USER, assert_same, named, tells};
 use gen1_action::{Known, hit_or_miss, must_hit, note_miss};
 use gen1_layout::{Conditions, Packed};
@@ -20,8 +20,8 @@ fn two_tauros() -> Result<Packed, Fail> {
     Ok(battle)
 }
 
-// Whether a test of the user's has missed, and the byte that it tested, by each generator where this byte is drawn; and
-// where the two stand after it.
+// Whether a test of the user has missed, and the byte that it tested, with each generator when it draws this byte.
+// Also returns both generators after it.
 fn tested(battle: &mut Packed, id: MoveId, before: Known, byte: u8) -> ([Known; 2], Sweep, u8) {
     let mut sweep = Sweep::new(byte);
     let mut link = LinkRandom::new([byte; 10]);
@@ -38,7 +38,7 @@ fn after_test<R: Rolls>(battle: &mut Packed, id: MoveId, before: Known, random: 
     known
 }
 
-// What is known of a new action once this byte was tested.
+// What is known of a new action after this byte was tested.
 fn knows(missed: bool, byte: u8) -> Known {
     Known {
         missed,
@@ -85,7 +85,7 @@ fn an_action_begins(rt: HostRuntime) -> Result<(), Fail> {
     Ok(())
 }
 
-// A test of the user's by each generator where this byte is drawn: what is known then, and how many draws it takes.
+// A test of the user with each generator when it draws this byte: what is known afterwards, and the number of draws.
 fn tests(
     rt: &impl Abort,
     battle: &mut Packed,
@@ -113,7 +113,7 @@ fn has(rt: &impl Abort, battle: &Packed, last_damage: u16, trapping: Option<u8>)
     );
 }
 
-// 85 percent are the byte 216.
+// 85 percent is the byte 216.
 #[test]
 fn a_new_action_tests_the_moves_accuracy(rt: HostRuntime) -> Result<(), Fail> {
     let mut battle = two_tauros()?;
@@ -174,7 +174,7 @@ fn what_has_missed_still_has(rt: HostRuntime) -> Result<(), Fail> {
     Ok(())
 }
 
-// A must-hit test of the user's: whether it ended the action, and what it told.
+// A test of the user that must hit: whether it ended the action, and its events.
 fn must_test(
     rt: &impl Abort,
     battle: &mut Packed,

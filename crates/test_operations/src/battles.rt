@@ -1,4 +1,4 @@
-//! The battles that the tests begin with: each side has a member out that knows Strength and Dig.
+//! The battles at the start of the tests. Each side has a member out that knows Strength and Dig.
 use arrayvec::ArrayVec;
 use gen1_layout::Packed;
 use gen1_machine::{Event, EventList, Side};
@@ -73,14 +73,14 @@ pub(crate) fn two_electrode() -> Result<Packed, Fail> {
     Ok(facing(&team, stats, &team, stats))
 }
 
-// At level 1 without DVs and experience: Attack 5.
+// At level 1 without DVs or experience: Attack 5.
 pub(crate) fn two_magikarp() -> Result<Packed, Fail> {
     let team = team_of("Magikarp", 1, 0, 0)?;
     let stats = [5, 6, 6, 5];
     Ok(facing(&team, stats, &team, stats))
 }
 
-// What has been told.
+// Asserts that these are the events.
 pub(crate) fn tells(rt: &impl Abort, events: &EventList, told: &[Event]) {
     assert_same(rt, events.as_slice(), told);
 }

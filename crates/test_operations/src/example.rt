@@ -1,4 +1,4 @@
-//! The lines of library use that crates/gen1_hits/CALLING.md shows: a hit, from the teams to its damage.
+//! The example of crates/gen1_hits/CALLING.md: a hit, from the teams to its damage.
 use crate::battles::assert_same;
 use arrayvec::ArrayVec;
 use gen1_hits::{critical, damage, factor, hit_test, numbers, type_steps};
@@ -36,7 +36,7 @@ fn a_hit_of_body_slam(rt: HostRuntime) -> Result<(), Fail> {
     let dealt = factor(most, &mut random);
     let accuracy = slam.accuracy_byte();
     let hits = hit_test(&mut battle, Side::One, slam, accuracy, &mut random).hit;
-    // Rotated, the draw 1 is 8, below the bound of 55; 36 is no factor, and 255 is the greatest; 7 is below 255.
+    // Rotated, the draw 1 is 8, below the bound of 55. 36 isn't a factor, and 255 is the greatest. 7 is below 255.
     assert_same(&rt, (critical, dealt, hits), (true, 217, true));
     Ok(())
 }

@@ -1,4 +1,4 @@
-//! The worked numbers of docs/MECHANICS.md, on battles of a member against a Tauros.
+//! The worked numbers of docs/MECHANICS.md, for a member against a Tauros.
 mod damage;
 mod landing;
 mod odds;

@@ -1,11 +1,11 @@
-//! Tests of `gen1_hits`, `gen1_odds`, `gen1_status` and `gen1_action`, through their public functions. A crate with tests is proved twice,
-//! so they stand in a crate of their own.
+//! Tests of `gen1_hits`, `gen1_odds`, `gen1_status` and `gen1_action`, through their public functions. They are in a
+//! crate of their own because a crate with tests is proved twice.
 //!
 //! - `hits`: hits, their damage and their chances
 //! - `status`: picks, the gate, statuses and stages
-//! - `action`: what an action knows, and its hit test
-//! - `example`: the lines that README.md shows
-//! - `battles`: the battles that they begin with
+//! - `action`: what is known of an action, and its hit test
+//! - `example`: the example of crates/gen1_hits/CALLING.md
+//! - `battles`: the battles at the start of the tests
 #![tactic(auto)]
 
 #[cfg(test)]

@@ -1,3 +1,3 @@
-//! The worked numbers of docs/MECHANICS.md, on battles of two members of one species.
+//! The worked numbers of docs/MECHANICS.md, for two members of one species.
 mod gate;
 mod statuses;

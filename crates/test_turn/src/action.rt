@@ -1,9 +1,9 @@
-//! Actions of one side, by docs/MECHANICS.md, "Action", "Going on", "Charging" and "Kept accuracy", the bytes of docs/LAYOUT.md and
-//! the rows of docs/TABLES.md.
+//! Actions of one side (docs/MECHANICS.md, "Action", "Going on", "Charging", "Kept accuracy"), with the bytes of
+//! docs/LAYOUT.md and the rows of docs/TABLES.md.
 //!
-//! Each side has a Tauros out, of 353 HP. At level 100 a move of power P and no critical hit deals `42 * P * 74 / 72 / 50 + 2`, and
-//! half as much more where it is Normal. A sweep from 178 draws no critical hit, the factor 217 and then 180; one from 253 draws
-//! none either, then past 254 the factor 255, and 0.
+//! Each side has a Tauros out, of 353 HP. At level 100 a move of power P without a critical hit deals `42 * P * 74 /
+//! 72 / 50 + 2`, and half as much again if it is Normal. A sweep from 178 draws no critical hit, the factor 217, and
+//! then 180. A sweep from 253 draws no critical hit either. It passes 254 and draws the factor 255, and then 0.
 use crate::setting::{
     FOE, USER, assert_bytes, assert_same, assert_told, bytes_of, started_with, who, with,
 };
@@ -20,7 +20,8 @@ use std::test::Fail;
 
 const SLOT: Pick = Pick::Use(UsedMove::Slot(1));
 
-// Whether the battle is over after the user's action, and what the sweep draws next. The events are those of this action.
+// Whether the battle is over after the user's action, and the next draw of the sweep. The events are those of this
+// action.
 fn acted(battle: &mut Packed, pick: Pick, from: u8, events: &mut EventList) -> (bool, u8) {
     events.clear();
     let mut known = Known::new();
@@ -49,7 +50,7 @@ fn dig_is_prepared_and_costs_pp_as_it_strikes(rt: HostRuntime) -> Result<(), Fai
         acted(&mut battle, SLOT, 178, &mut events),
         (false, 178),
     );
-    // Charging is bit 4, and Invulnerable bit 5; the current move stands at 197.
+    // Charging is bit 4, and Invulnerable bit 5. The current move is at 197.
     let charged = with(with(before, 185, &[48]), 197, &[1]);
     assert_bytes(&rt, &battle, charged);
     let dig = MoveId::from_name("Dig").ok_or("no such move")?;
@@ -60,7 +61,7 @@ fn dig_is_prepared_and_costs_pp_as_it_strikes(rt: HostRuntime) -> Result<(), Fai
         acted(&mut battle, Pick::Continue, 178, &mut events),
         (false, 181),
     );
-    // 88 at the factor 217 is 74; HP 279 are 23 beside 256, and 9 PP are left of 10.
+    // 88 with the factor 217 is 74. HP of 279 are 23 + 256, and 9 of 10 PP are left.
     let struck = with(with(with(before, 3, &[74]), 208, &[23, 1]), 43, &[9]);
     assert_bytes(&rt, &battle, with(struck, 197, &[1]));
     let told = [uses("Dig")?, hurt(FOE, 279, DamageSource::Direct)?];
@@ -80,7 +81,7 @@ fn a_move_costs_pp(rt: HostRuntime) -> Result<(), Fail> {
             acted(&mut battle, SLOT, 178, &mut events),
             (false, 181),
         );
-        // 106 at the factor 217 is 90, and HP 263 are 7 beside 256.
+        // 106 with the factor 217 is 90, and HP of 263 are 7 + 256.
         let after = with(with(before, 3, &[90]), 208, &[7, 1]);
         assert_bytes(&rt, &battle, with(with(after, 43, &[left]), 197, &[1]));
         let told = [uses("Strength")?, hurt(FOE, 263, DamageSource::Direct)?];
@@ -91,7 +92,7 @@ fn a_move_costs_pp(rt: HostRuntime) -> Result<(), Fail> {
 
 #[test]
 fn an_action_draws_with_any_generator(rt: HostRuntime) -> Result<(), Fail> {
-    // Bytes of 217: not critical, since 206 is not below 55; the factor 236; and below 255.
+    // Ten link numbers of 217: not critical, since 206 isn't below 55, then the factor 236, and then below 255.
     let mut battle = started_with("Strength", 100)?;
     let mut known = Known::new();
     let mut link = LinkRandom::new([217; 10]);
@@ -118,7 +119,7 @@ fn struggle_costs_no_pp_and_recoils(rt: HostRuntime) -> Result<(), Fail> {
         acted(&mut battle, pick, 178, &mut events),
         (false, 181),
     );
-    // 67 at the factor 217 is 57, of which half is 28: HP 296 and 325. Struggle is number 5 as the current move.
+    // 67 with the factor 217 is 57, half of which is 28: HP 296 and 325. Struggle is number 5 as the current move.
     let hit = with(with(before, 3, &[57]), 208, &[40, 1]);
     assert_bytes(&rt, &battle, with(with(hit, 28, &[69, 1]), 197, &[5]));
     let told = [
@@ -132,7 +133,7 @@ fn struggle_costs_no_pp_and_recoils(rt: HostRuntime) -> Result<(), Fail> {
 
 #[test]
 fn rage_keeps_its_accuracy(rt: HostRuntime) -> Result<(), Fail> {
-    // The foe's evasion at +1 makes 66 percent of what was kept, each time.
+    // The foe's evasion at +1 makes 66 percent of the kept byte, each time.
     let mut battle = started_with("Rage", 100)?;
     battle.put_evasion(FOE, 7);
     let mut events = EventList::new();
@@ -180,7 +181,7 @@ fn a_fault_keeps_the_accuracy_of_rage(rt: HostRuntime) -> Result<(), Fail> {
 fn thrashing_ends_in_confusion(rt: HostRuntime) -> Result<(), Fail> {
     let mut battle = started_with("Thrash", 100)?;
     let mut events = EventList::new();
-    // 252 is even, so two turns more come; and as a count of confusion it is 2.
+    // 252 is even, so two more turns come. As a count of confusion it is 2.
     for (pick, from, left, kept, hp) in [
         (SLOT, 252, Some(2), 255, 235),
         (Pick::Continue, 253, Some(1), 255, 117),
@@ -206,7 +207,7 @@ fn thrashing_ends_in_confusion(rt: HostRuntime) -> Result<(), Fail> {
 
 #[test]
 fn wrap_with_0_pp_is_used_anew(rt: HostRuntime) -> Result<(), Fail> {
-    // It was to go on, and who it trapped has left.
+    // It was to go on, and the member that it trapped has left.
     let mut battle = started_with("Wrap", 100)?;
     battle.put_current_move(USER, UsedMove::Slot(1));
     battle.put_pp(USER, 1, 0);
@@ -240,7 +241,7 @@ fn wrap_goes_on_without_a_draw(rt: HostRuntime) -> Result<(), Fail> {
         acted(&mut battle, Pick::Continue, 9, &mut events),
         (false, 9),
     );
-    // The turns stand at 194; HP 332 are 76 beside 256.
+    // The turns are at 194. HP of 332 are 76 + 256.
     assert_bytes(&rt, &battle, with(with(before, 194, &[0]), 208, &[76, 1]));
     let told = [uses("Wrap")?, hurt(FOE, 332, DamageSource::Direct)?];
     assert_told(&rt, &events, &told);
@@ -273,7 +274,7 @@ fn bide_stores_and_lets_go(rt: HostRuntime) -> Result<(), Fail> {
 
 #[test]
 fn a_kick_that_misses_crashes(rt: HostRuntime) -> Result<(), Fail> {
-    // From 240: not critical, a factor, and 242, which is not below the accuracy byte of 242.
+    // From 240: not critical, a factor, and 242, which isn't below the accuracy byte of 242.
     let mut battle = started_with("Jump Kick", 100)?;
     let mut events = EventList::new();
     assert_same(
@@ -293,7 +294,7 @@ fn a_kick_that_misses_crashes(rt: HostRuntime) -> Result<(), Fail> {
 
 #[test]
 fn a_ghost_is_immune(rt: HostRuntime) -> Result<(), Fail> {
-    // A critical draw and a hit test, and no factor between them.
+    // A critical draw and a hit test, without a factor between them.
     let mut battle = started_with("Strength", 100)?;
     battle.put_types(FOE, Element::Ghost, Element::Poison);
     let mut events = EventList::new();
@@ -351,7 +352,7 @@ fn a_defense_of_512_under_reflect_ends_the_battle(rt: HostRuntime) -> Result<(),
     let mut events = EventList::new();
     assert_same(&rt, acted(&mut battle, SLOT, 178, &mut events), (true, 179));
     assert_same(&rt, battle.outcome(), Outcome::Fault(1));
-    // What came before the fault stands: 14 PP, and the current move.
+    // What came before the fault stays: 14 PP, and the current move.
     battle.put_outcome(Outcome::Ongoing);
     assert_bytes(&rt, &battle, with(with(before, 43, &[14]), 197, &[1]));
     assert_told(&rt, &events, &[uses("Strength")?]);
@@ -360,7 +361,7 @@ fn a_defense_of_512_under_reflect_ends_the_battle(rt: HostRuntime) -> Result<(),
 
 #[test]
 fn psywave_at_level_1_ends_the_battle(rt: HostRuntime) -> Result<(), Fail> {
-    // It hits below 204. At level 2 numbers are drawn until one is 1 or 2.
+    // It hits below 204. At level 2, numbers are drawn until one is 1 or 2.
     for (level, over, next, outcome) in [
         (1, true, 1, Outcome::Fault(2)),
         (2, false, 2, Outcome::Ongoing),

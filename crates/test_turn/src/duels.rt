@@ -1,4 +1,4 @@
-//! Battles of a few members that know some moves, what is chosen and played in them, and what is told of it.
+//! Battles of a few members that know some moves, with the choices and the events in them.
 use crate::setting::{SEED, member_with, who};
 use gen1_layout::Packed;
 use gen1_machine::{
@@ -45,7 +45,7 @@ pub(crate) fn play<R: Rolls + Copy>(
     events
 }
 
-// What is told
+// The events
 
 pub(crate) fn uses(user: Who, name: &str, foe: Who) -> Result<Event, Fail> {
     Ok(Event::Move(user, named(name)?, foe))

@@ -1,4 +1,4 @@
-//! The end of an update, by docs/MECHANICS.md, "Falls and requests" and "Turn limit".
+//! The end of an update (docs/MECHANICS.md, "Falls and requests", "Turn limit").
 use crate::setting::{
     FOE, USER, assert_bytes, assert_same, assert_told, bytes_of, started, started_alone,
     started_within, turn, who, with,
@@ -9,7 +9,7 @@ use gen1_requests::close;
 use gen1_stats::Status;
 use std::test::Fail;
 
-// What the end of an update tells in which these sides' members have fallen, and side 1 acted last.
+// The events of the end of an update in which the members of these sides have fallen, and side 1 acted last.
 fn closed_with(battle: &mut Packed, fallen: &[Side]) -> EventList {
     for side in fallen {
         battle.put_hp(*side, 0);
@@ -23,7 +23,7 @@ fn requests(battle: &Packed) -> (Request, Request) {
     (battle.request(USER), battle.request(FOE))
 }
 
-// Nobody has fallen (docs/MECHANICS.md, "Falls and requests").
+// No member has fallen (docs/MECHANICS.md, "Falls and requests").
 #[test]
 fn the_next_turn_begins(rt: HostRuntime) -> Result<(), Fail> {
     let mut battle = started()?;
@@ -35,7 +35,7 @@ fn the_next_turn_begins(rt: HostRuntime) -> Result<(), Fail> {
     Ok(())
 }
 
-// By who has fallen (docs/MECHANICS.md, "Falls and requests").
+// By which members have fallen (docs/MECHANICS.md, "Falls and requests").
 #[test]
 fn a_switch_is_asked_for_who_fell(rt: HostRuntime) -> Result<(), Fail> {
     for (side, asked) in [
@@ -64,7 +64,7 @@ fn the_rest_of_the_fallen_stays(rt: HostRuntime) -> Result<(), Fail> {
     let mut battle = started()?;
     battle.put_attack(FOE, 12, 999);
     battle.put_confused(FOE, Some(2));
-    // HP stand at 208, and what is asked at 17.
+    // HP are at 208, and the requests at 17.
     let before = bytes_of(&battle);
     closed_with(&mut battle, &[FOE]);
     let after = with(with(before, 208, &[0, 0]), 17, &[0, 2]);
@@ -72,7 +72,7 @@ fn the_rest_of_the_fallen_stays(rt: HostRuntime) -> Result<(), Fail> {
     Ok(())
 }
 
-// By who acted last (docs/MECHANICS.md, "Falls and requests").
+// By which side acted last (docs/MECHANICS.md, "Falls and requests").
 #[test]
 fn the_foe_of_the_last_actor_faints_first(rt: HostRuntime) -> Result<(), Fail> {
     for (actor, foe) in [(USER, FOE), (FOE, USER)] {
@@ -91,7 +91,7 @@ fn the_foe_of_the_last_actor_faints_first(rt: HostRuntime) -> Result<(), Fail> {
     Ok(())
 }
 
-// One side has nobody left (docs/MECHANICS.md, "Falls and requests").
+// One side has no member left (docs/MECHANICS.md, "Falls and requests").
 #[test]
 fn the_last_to_live_wins(rt: HostRuntime) -> Result<(), Fail> {
     for (winner, loser, outcome) in [(USER, FOE, Outcome::WinOne), (FOE, USER, Outcome::WinTwo)] {
@@ -105,7 +105,7 @@ fn the_last_to_live_wins(rt: HostRuntime) -> Result<(), Fail> {
     Ok(())
 }
 
-// Neither side has anybody left (docs/MECHANICS.md, "Falls and requests").
+// Neither side has a member left (docs/MECHANICS.md, "Falls and requests").
 #[test]
 fn nobody_lives_in_a_tie(rt: HostRuntime) -> Result<(), Fail> {
     let mut battle = started_alone()?;

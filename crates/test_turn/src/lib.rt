@@ -1,5 +1,5 @@
-//! Tests of `gen1_requests` and `gen1_turn`, through their public functions. A crate with tests is proved twice, so they stand
-//! in a crate of their own.
+//! Tests of `gen1_requests` and `gen1_turn`, through their public functions. They are in a crate of their own because
+//! a crate with tests is proved twice.
 //!
 //! - `start`: the first update
 //! - `switching_in`: members that come out
@@ -10,7 +10,7 @@
 //! - `falls`: the end of an update
 //! - `recorded`: recorded battles
 //! - `duels`: battles of a few members
-//! - `setting`: the battle that most begin with
+//! - `setting`: the battle at the start of most tests
 #![tactic(auto)]
 
 #[cfg(test)]

@@ -1,4 +1,4 @@
-//! What each side may choose, by docs/MECHANICS.md, "Offered choices".
+//! What each side may choose (docs/MECHANICS.md, "Offered choices").
 use crate::setting::{FOE, SEED, USER, assert_same, member_of};
 use arrayvec::ArrayVec;
 use gen1_layout::{Conditions, Packed};
@@ -29,7 +29,7 @@ fn started() -> Result<Packed, Fail> {
     Ok(battle)
 }
 
-// The bytes of what a side is offered.
+// The bytes of a side's offered choices.
 fn bytes(battle: &Packed, side: Side) -> Result<ArrayVec<u8, 9>, Fail> {
     let mut bytes = ArrayVec::new();
     for choice in offered(battle, side).as_slice() {

@@ -1,5 +1,5 @@
-//! Whole battles that an independent program recorded, played by `start`, `turn` and `replace`: after each update all 384 bytes
-//! and the log are the recorded ones. `tools/recorded.py` wrote them down.
+//! Whole battles that an independent program recorded, played by `start`, `turn` and `replace`. After each update all
+//! 384 bytes and the log are as recorded. `tools/recorded.py` writes these files.
 use gen1_events::{LogBuf, write};
 use gen1_layout::Packed;
 use gen1_machine::{Choice, EventList, Request, Rules, Side, TurnLimit};
@@ -11,7 +11,7 @@ mod digging;
 mod outnumbered;
 mod raging;
 
-// An update: the bytes of both choices, and in hex the log, and the header and three lines of each side.
+// An update: the bytes of both choices, and in hex the log, the header, and three lines for each side.
 #[derive(Clone, Copy, Drop)]
 pub(crate) struct Update {
     pub(crate) choices: (u8, u8),
@@ -19,7 +19,7 @@ pub(crate) struct Update {
     pub(crate) bytes: [&'static str; 7],
 }
 
-// How many updates came out as they were recorded, up to the first that did not.
+// How many updates came out as recorded, up to the first that didn't.
 pub(crate) fn played(
     one: &Team,
     two: &Team,
@@ -41,7 +41,7 @@ pub(crate) fn played(
     Ok(updates.len())
 }
 
-// The update that was asked for; a turn draws from the generator in the bytes, and leaves it there.
+// Plays the update that was asked for. A turn draws from the generator in the bytes, and writes it back.
 fn play(battle: &mut Packed, one: Choice, two: Choice) -> EventList {
     let mut events = EventList::new();
     match (battle.request(Side::One), battle.request(Side::Two)) {

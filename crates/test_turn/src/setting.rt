@@ -1,5 +1,6 @@
-//! The battle that the tests begin with: each side has a Tauros out, and a Gengar behind it, both at level 100 and with the
-//! greatest DVs and experience. Their stats are by docs/MECHANICS.md, "Stats", and their bytes by docs/LAYOUT.md.
+//! The battle at the start of the tests. Each side has a Tauros out, and then a Gengar, both at level 100 and with
+//! the greatest DVs and experience. Their stats are those of docs/MECHANICS.md, "Stats", and their bytes those of
+//! docs/LAYOUT.md.
 use arrayvec::ArrayVec;
 use gen1_layout::Packed;
 use gen1_machine::{
@@ -18,8 +19,8 @@ pub(crate) const FOE: Side = Side::Two;
 
 pub(crate) const SEED: [u8; 10] = [1, 36, 255, 7, 31, 100, 179, 254, 127, 10];
 
-// Their active blocks as they come out: place, types, stages of 6, Attack, Defense, Speed and Special, and nothing else. Tauros has
-// 298, 288, 318 and 238; Gengar 228, 218, 318 and 358.
+// Their active blocks after they come out: place, types, stages of 6, Attack, Defense, Speed and Special, and nothing
+// else. Tauros has 298, 288, 318 and 238, and Gengar 228, 218, 318 and 358.
 pub(crate) const TAUROS_OUT: [u8; 36] = [
     1, 0, 0, 6, 6, 6, 6, 6, 6, 42, 1, 32, 1, 62, 1, 238, 0, 0, 0, 0, 0, 0, 0, 0, 0, 0, 0, 0, 0, 0,
     0, 0, 0, 0, 0, 0,
@@ -39,7 +40,7 @@ pub(crate) fn member_with(name: &str, known: &str, level: u8) -> Result<MemberSp
     member_of(name, level, [15; 4], [65535; 5], &[(known, 0)])
 }
 
-// A member as it may be asked for, with the PP ups of each move.
+// The specification of a member, with the PP ups of each move.
 pub(crate) fn member_of(
     species: &str,
     level: u8,
@@ -92,7 +93,7 @@ pub(crate) fn started_alone() -> Result<Packed, Fail> {
     Ok(battle)
 }
 
-// The same with members at this level that know this move alone.
+// The same with members at this level that know only this move.
 pub(crate) fn started_with(known: &str, level: u8) -> Result<Packed, Fail> {
     let team = Team::new(&[member_with("Tauros", known, level)?])?;
     let mut battle = Packed::new(&team, &team, SEED);
@@ -108,7 +109,7 @@ pub(crate) fn bytes_of(battle: &Packed) -> [u8; 384] {
     bytes
 }
 
-// These bytes with others from some place on.
+// These bytes with others from an offset on.
 pub(crate) fn with(mut bytes: [u8; 384], start: usize, block: &[u8]) -> [u8; 384] {
     for (place, byte) in bytes.iter_mut().skip(start).zip(block) {
         *place = *byte;

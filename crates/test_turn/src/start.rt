@@ -1,4 +1,4 @@
-//! The first update of a battle, by docs/MECHANICS.md, "Switching in" and "Falls and requests".
+//! The first update of a battle (docs/MECHANICS.md, "Switching in", "Falls and requests").
 use crate::setting::{
     FOE, TAUROS_OUT, USER, assert_bytes, assert_same, assert_told, bytes_of, started_within,
     tauros_out, turn, unstarted, unstarted_alone, with,
@@ -20,7 +20,7 @@ fn a_battle_begins_with_turn_1(rt: HostRuntime) -> Result<(), Fail> {
         turn(1)?,
     ];
     assert_told(&rt, &events, &told);
-    // The turn is 1, moves are asked of both, and both are out; no draw was made.
+    // The turn is 1, both are asked for moves, and both members are out. Nothing was drawn.
     let turned = with(with(before, 1, &[1, 0]), 17, &[1, 1]);
     let out = with(with(turned, 168, &TAUROS_OUT), 348, &TAUROS_OUT);
     assert_bytes(&rt, &battle, out);
@@ -34,7 +34,7 @@ fn the_first_members_come_out(rt: HostRuntime) -> Result<(), Fail> {
     start(&mut battle, &mut events);
     assert_same(&rt, (battle.place(USER), battle.place(FOE)), (1, 1));
     assert_same(&rt, events.len(), 3);
-    // Turn 1 is still to be played, also where it is the last.
+    // Turn 1 is still to be played, even if it is the last.
     assert_same(
         &rt,
         (battle.turn(), battle.outcome()),
@@ -56,7 +56,7 @@ fn two_members_face_each_other_before_turn_1(rt: HostRuntime) -> Result<(), Fail
     send_both_first(&mut battle, &mut events);
     let told = [tauros_out(USER, 353, None)?, tauros_out(FOE, 353, None)?];
     assert_told(&rt, &events, &told);
-    // Both are out, and nothing else has changed: the turn is 0, and nothing is asked.
+    // Both members are out, and nothing else has changed: the turn is 0, and nothing is asked for.
     let out = with(with(before, 168, &TAUROS_OUT), 348, &TAUROS_OUT);
     assert_bytes(&rt, &battle, out);
     Ok(())

@@ -1,4 +1,4 @@
-//! Members that come out in a battle, by docs/MECHANICS.md, "Switching in" and "Falls and requests".
+//! Members that come out in a battle (docs/MECHANICS.md, "Switching in", "Falls and requests").
 use crate::setting::{
     FOE, GENGAR_OUT, USER, assert_bytes, assert_same, assert_told, bytes_of, gengar_out, started,
     tauros_out, turn, with,
@@ -14,7 +14,7 @@ fn place(number: u8) -> Result<Place, Fail> {
     Ok(Place::new(number).ok_or("no such place")?)
 }
 
-// The user goes away and comes back, with what is told of its coming back.
+// The user leaves and comes back, with the events of its coming back.
 fn away_and_back(battle: &mut Packed) -> Result<EventList, Fail> {
     send_out(battle, USER, place(2)?, &mut EventList::new());
     let mut events = EventList::new();
@@ -134,7 +134,7 @@ fn a_replacement_comes_out(rt: HostRuntime) -> Result<(), Fail> {
     replace(&mut battle, Choice::Pass, choice, &mut events);
     let told = [gengar_out(FOE)?, turn(2)?];
     assert_told(&rt, &events, &told);
-    // Turn 2, and moves are asked of both.
+    // The turn is 2, and both are asked for moves.
     let turned = with(with(before, 1, &[2, 0]), 17, &[1, 1]);
     assert_bytes(&rt, &battle, with(turned, 348, &GENGAR_OUT));
     Ok(())

@@ -1,5 +1,5 @@
-//! Turns, by docs/MECHANICS.md, "Order of a turn", and what follows at their end, by "Falls and requests". Tauros has 353 HP and
-//! the greater Speed, Snorlax 523.
+//! Turns (docs/MECHANICS.md, "Order of a turn"), and their end ("Falls and requests"). Tauros has 353 HP and is
+//! faster. Snorlax has 523 HP.
 use crate::duels::{both, duel, hurt, knowing, play, poisoned, slot, switch, uses};
 use crate::setting::{
     FOE, SEED, USER, assert_same, assert_told, bytes_of, gengar_out, tauros_out, turn,
@@ -15,7 +15,7 @@ use gen1_stats::Status;
 use gen1_turn::start;
 use std::test::Fail;
 
-// A Tauros that knows a move, with a Gengar behind it, against a Snorlax that knows a move, with a Gengar behind it.
+// A Tauros that knows one move against a Snorlax that knows one move. Each has a Gengar at place 2.
 fn facing(mine: &str, foes: &str) -> Result<Packed, Fail> {
     let one = [knowing("Tauros", mine)?, knowing("Gengar", "Splash")?];
     let two = [knowing("Snorlax", foes)?, knowing("Gengar", "Splash")?];
@@ -70,7 +70,7 @@ fn both_switch_with_no_draw(rt: HostRuntime) -> Result<(), Fail> {
     Ok(())
 }
 
-// The same battle with a poisoned Gengar on side 1, of so many HP. Its bytes begin at 48.
+// The same battle with a poisoned Gengar on side 1, with this many HP. Its bytes begin at 48.
 fn poisoned_behind(hp: u16) -> Result<Packed, Fail> {
     let bytes = bytes_of(&facing("Splash", "Splash")?);
     let low = (hp % 256) as u8;
@@ -165,7 +165,7 @@ fn each_suffers_after_its_own_action(rt: HostRuntime) -> Result<(), Fail> {
     let events = play(&mut battle, slot(1)?, slot(1)?, &mut Sweep::new(0));
     let first = splash(one, two)?;
     let second = splash(two, one)?;
-    // A 16th of 353 is 22, one of 523 is 32.
+    // A 16th of 353 is 22, and one of 523 is 32.
     let told = [
         first[0],
         first[1],
@@ -254,7 +254,7 @@ fn a_fault_ends_the_battle_at_once(rt: HostRuntime) -> Result<(), Fail> {
     Ok(())
 }
 
-// The user is in the middle of a Wrap that did 10 damage.
+// The user is in the middle of a Wrap that dealt 10 damage.
 fn wrapping(turns: u8) -> Result<Packed, Fail> {
     let mut battle = facing("Wrap", "Splash")?;
     battle.put_current_move(USER, UsedMove::Slot(1));
@@ -310,7 +310,7 @@ fn wrap_is_used_anew_where_the_foe_switches(rt: HostRuntime) -> Result<(), Fail>
     let (one, two) = both("Tauros", "Tauros")?;
     assert_same(&rt, events.len(), 5);
     assert_same(&rt, events.get(1).copied(), Some(uses(one, "Wrap", two)?));
-    // 0 is drawn for the turns, 1 is a critical hit, as 8 is below 55.
+    // 0 is drawn for the turns. 1 is a critical hit, since 8 is below 55.
     assert_same(&rt, events.get(2).copied(), Some(Event::Crit(two)));
     assert_same(
         &rt,

@@ -1,4 +1,5 @@
-//! Who acts first in a turn, by docs/MECHANICS.md, "Order of a turn". Tauros has a Speed of 318, Snorlax one of 158.
+//! Who acts first in a turn (docs/MECHANICS.md, "Order of a turn"). Tauros has a Speed of 318, and Snorlax one of
+//! 158.
 use crate::duels::{both, duel, hurt, knowing, play, slot, uses};
 use crate::setting::{FOE, USER, assert_same, assert_told, turn};
 use gen1_layout::Packed;
@@ -12,7 +13,7 @@ fn facing(one: (&str, &str), two: (&str, &str)) -> Result<Packed, Fail> {
     duel(&[knowing(one.0, one.1)?], &[knowing(two.0, two.1)?])
 }
 
-// Both splash, and then turn 2 begins.
+// Both use Splash, and then turn 2 begins.
 fn splashes(first: Who, second: Who) -> Result<[Event; 5], Fail> {
     Ok([
         uses(first, "Splash", second)?,
@@ -23,7 +24,7 @@ fn splashes(first: Who, second: Who) -> Result<[Event; 5], Fail> {
     ])
 }
 
-// How many bytes a sweep from there on has drawn.
+// The number of bytes that a sweep from there on has drawn.
 fn drawn_since(start: u8, mut sweep: Sweep) -> u8 {
     sweep.draw().wrapping_sub(start)
 }
@@ -85,8 +86,9 @@ fn a_slower_quick_attack_is_first(rt: HostRuntime) -> Result<(), Fail> {
     let mut sweep = Sweep::new(1);
     let events = play(&mut battle, slot(1)?, slot(1)?, &mut sweep);
     let (one, two) = both("Snorlax", "Tauros")?;
-    // The first draw is that of the critical hit: 1 rotated is 8, and the bound is 15; 2 would be 16. At level 200 the damage is
-    // 82 * 40 * 79 / 72 / 50 + 2 = 73, with its own type 109, and with the factor 217, of the byte 179, it is 92.
+    // The first draw is the critical draw: 1 rotated is 8, and the bound is 15. 2 would be 16. At level 200 the
+    // damage is 82 * 40 * 79 / 72 / 50 + 2 = 73, and 109 for the user's own type. With the factor 217, of the byte
+    // 179, it is 92.
     let told = [
         uses(one, "Quick Attack", two)?,
         Event::Crit(two),
@@ -96,7 +98,7 @@ fn a_slower_quick_attack_is_first(rt: HostRuntime) -> Result<(), Fail> {
         turn(2)?,
     ];
     assert_told(&rt, &events, &told);
-    // 180 is that of the hit test.
+    // 180 is the draw of the hit test.
     assert_same(&rt, drawn_since(1, sweep), 180);
     Ok(())
 }
@@ -147,7 +149,7 @@ fn counters_of_equal_speed_take_one_draw(rt: HostRuntime) -> Result<(), Fail> {
             turn(2)?,
         ];
         assert_told(&rt, &events, &told);
-        // One for the order, and the critical draw of each.
+        // One draw for the order, and the critical draw of each.
         assert_same(&rt, drawn_since(byte, sweep), 3);
     }
     Ok(())

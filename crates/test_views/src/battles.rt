@@ -1,4 +1,4 @@
-//! Whole battles: after each update the view that followed the logs shows what the bytes of the battle do.
+//! Whole battles: after each update the view that followed the logs shows what the bytes of the battle say.
 use crate::comparing::assert_same;
 use crate::teams::{SEED, lead_and_chansey, tauros};
 use gen1_engine::Battle;
@@ -9,7 +9,7 @@ use gen1_stats::Team;
 use gen1_tables::Stat;
 use std::test::Fail;
 
-// Where the parts of a battle stand in its bytes (docs/LAYOUT.md).
+// The offsets of the parts of a battle in its bytes (docs/LAYOUT.md).
 const SIDES: usize = 24;
 
 const SIDE_LENGTH: usize = 180;
@@ -99,7 +99,7 @@ fn shows(view: &View, bytes: &[u8]) -> bool {
         && shows_side(view, Side::Two, two)
 }
 
-// The choice of this byte if it is offered, else the first that is.
+// The choice of this byte if it is offered, otherwise the first that is.
 fn choice(battle: &Battle, side: Side, wish: u8) -> Result<Choice, Fail> {
     let offered = battle.choices(side);
     for choice in offered.as_slice() {
@@ -110,7 +110,7 @@ fn choice(battle: &Battle, side: Side, wish: u8) -> Result<Choice, Fail> {
     Ok(offered.first().copied().ok_or("nothing is offered")?)
 }
 
-// Starts a battle, and plays a pair of bytes in each further update.
+// Starts a battle, and plays one pair of bytes in each further update.
 fn watch(one: &Team, two: &Team, wishes: &[(u8, u8)]) -> Result<View, Fail> {
     let mut battle = Battle::new(one, two, SEED);
     let mut view = View::new(one, two);

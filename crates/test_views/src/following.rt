@@ -6,8 +6,8 @@ use gen1_machine::{Outcome, Side};
 use gen1_spectator::{View, followers_agree, watchers_agree};
 use std::test::Fail;
 
-// The log of the battle that is stored in crates/battle_tool (stdin, stdout): both come out, the first turn hits each, and the
-// second fells side 2.
+// The log of the battle that is stored in crates/battle_tool (stdin, stdout): both come out, the first turn hits
+// each, and the second makes side 2 fall.
 static LOG: [u8; 82] = [
     0x02, 1, 128, 1, 100, 97, 1, 97, 1, 0, 0x02, 2, 128, 1, 100, 97, 1, 97, 1, 0, 0x01, 1, 0, 0x03,
     1, 128, 70, 2, 128, 0x07, 2, 128, 0x05, 2, 128, 149, 0, 97, 1, 0, 0, 0x03, 2, 128, 70, 1, 128,

@@ -1,12 +1,12 @@
-//! Tests of `gen1_spectator` and `gen1_room`, through their public functions. A crate with tests is proved twice, so they stand
-//! in a crate of their own.
+//! Tests of `gen1_spectator` and `gen1_room`, through their public functions. They are in a crate of their own
+//! because a crate with tests is proved twice.
 //!
 //! - `view`: what each event changes
 //! - `following`: a view that follows log bytes
 //! - `battles`: views and bytes of whole battles
 //! - `rooms`: rooms
 //! - `teams`: the teams
-//! - `comparing`: how a test asserts
+//! - `comparing`: how tests assert
 #![tactic(auto)]
 
 #[cfg(test)]

@@ -25,7 +25,7 @@ fn two_chanseys() -> Result<Room, Fail> {
     Ok(Room::new(Battle::new(&team, &team, SEED)))
 }
 
-// Whether a pair ended, and the battle goes on with a turn.
+// Whether a pair was completed, and the battle goes on with a turn.
 fn goes_on(reply: &Reply) -> bool {
     let Ok(Submitted::Advanced(result)) = reply else {
         return false;
@@ -103,7 +103,8 @@ fn who_submits_first_changes_nothing(rt: HostRuntime) -> Result<(), Fail> {
     Ok(())
 }
 
-// Three pairs: six times somebody submits for the current pair, side 2 where the bit of the order is set; then whoever is due.
+// Three pairs. Six times a player submits for the current pair: side 2 if the bit of the order is set. Then each side
+// that is still due submits.
 fn interleaved(order: u8) -> Result<Room, Fail> {
     let mut room = two_chanseys()?;
     for bit in [1, 2, 4, 8, 16, 32] {

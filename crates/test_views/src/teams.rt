@@ -4,7 +4,7 @@ use gen1_stats::{MemberSpec, Team};
 use gen1_tables::{MoveId, Species};
 use std::test::Fail;
 
-// That of the battle that is stored in crates/battle_tool.
+// The seed of the battle that is stored in crates/battle_tool.
 pub(crate) const SEED: [u8; 10] = [1, 36, 255, 7, 31, 100, 179, 254, 127, 10];
 
 fn member(species: &str, moves: &[&str]) -> Result<MemberSpec, Fail> {

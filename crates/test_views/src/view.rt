@@ -14,7 +14,7 @@ const ONE: Side = Side::One;
 
 const TWO: Side = Side::Two;
 
-// Who is named does not depend on the species.
+// Which member is named doesn't depend on the species.
 fn who(side: Side) -> Result<Who, Fail> {
     let species = Species::new(128).ok_or("no such species")?;
     Ok(Who { side, species })
@@ -205,7 +205,7 @@ fn stages_are_cut_at_six(rt: HostRuntime) -> Result<(), Fail> {
     Ok(())
 }
 
-// Haze writes ClearAll for both sides. It ends no substitute, and a Cure of its own tells of the foe's status.
+// Haze writes ClearAll for both sides. It ends no substitute, and a separate Cure reports the foe's status.
 #[test]
 fn haze_clears_both_sides(rt: HostRuntime) -> Result<(), Fail> {
     let mut view = begun()?;

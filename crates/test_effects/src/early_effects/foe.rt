@@ -5,7 +5,7 @@ use gen1_machine::{Event, Kind, Volatile, Who};
 use gen1_tables::Element::{self, Grass, Ground, Normal, Poison, Rock};
 use std::test::Fail;
 
-// A foe of these types, behind a Substitute of 88 HP or not.
+// A foe of these types, with or without a Substitute of 88 HP.
 fn against(first: Element, second: Element, substitute: bool) -> Result<Packed, Fail> {
     let mut battle = tauros()?;
     battle.put_types(FOE, first, second);
@@ -55,7 +55,7 @@ fn who_is_spared(rt: HostRuntime) -> Result<(), Fail> {
     Ok(())
 }
 
-// What a move brings upon the foe.
+// What a move does to the foe.
 #[derive(Clone, Copy)]
 enum Brought {
     Status(Kind),
@@ -87,11 +87,11 @@ const PARALYSED: (Brought, Changes) = (
     &[(218, 64), (361, 79), (362, 0)],
 );
 
-// The 2 beside the 16 of the seed is the Substitute.
+// The 2 added to the seed's 16 is the Substitute.
 const SEEDED: (Brought, Changes) = (Brought::Volatile(Volatile::LeechSeed), &[(366, 18)]);
 
-// Whether the foe has a Substitute, the last draw that hits, what it brings with how many draws, and which move fails then,
-// with its draws.
+// Whether the foe has a Substitute, the last draw that hits, the effect and its number of draws, and a move that
+// fails then, with its number of draws.
 const BRINGS: [(bool, &str, u8, (Brought, Changes), u8, &str, u8); 6] = [
     (false, "Supersonic", 6, CONFUSED, 2, "Supersonic", 1),
     (false, "Toxic", 215, BADLY_POISONED, 1, "Toxic", 0),
@@ -114,7 +114,7 @@ fn what_is_brought_once(rt: HostRuntime) -> Result<(), Fail> {
     Ok(())
 }
 
-// Thunder Wave spares the type Ground, and Glare does not.
+// Thunder Wave has no effect on a Ground type, and Glare has.
 #[test]
 fn glare_on_rock_and_ground(rt: HostRuntime) -> Result<(), Fail> {
     for link in BOTH {

@@ -1,4 +1,4 @@
-//! Haze, which acts on both (docs/MECHANICS.md, "Early effects").
+//! Haze, which acts on both sides (docs/MECHANICS.md, "Early effects").
 use super::{BOTH, EarlyEffects, FOE, USER, bytes_with, named, play_from, tauros};
 use crate::battles::assert_same;
 use gen1_action::Known;
@@ -10,8 +10,8 @@ use gen1_stats::Status;
 use gen1_status::inflict;
 use std::test::Fail;
 
-// Both burned, the user with Mist, Reflect and a Substitute, the foe paralysed before, confused, seeded, badly poisoned and
-// with a disabled move, at other stages; at last the foe is frozen.
+// Both are burned, and their stages are changed. The user has Mist, Reflect and a Substitute. The foe was paralysed
+// before, and is confused, seeded and badly poisoned, and has a disabled move. At the end the foe is frozen.
 fn before_haze() -> Result<Packed, Fail> {
     let mut battle = tauros()?;
     let mut events = EventList::new();

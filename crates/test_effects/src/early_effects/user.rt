@@ -78,7 +78,7 @@ fn chansey_at(hp: u16) -> Result<Packed, Fail> {
     Ok(battle)
 }
 
-// At full HP, and where the HP lost are 255 or 511.
+// At full HP, and after a loss of 255 or 511 HP.
 #[test]
 fn recoveries_that_fail(rt: HostRuntime) -> Result<(), Fail> {
     for link in BOTH {
@@ -91,7 +91,7 @@ fn recoveries_that_fail(rt: HostRuntime) -> Result<(), Fail> {
     Ok(())
 }
 
-// Of a maximum of 703, which is 191 and 2 as bytes, half are 351; and 451 is 195 and 1.
+// For a maximum of 703, whose bytes are 191 and 2, half is 351. The bytes of 451 are 195 and 1.
 const RECOVERIES: [(u16, u16, u8, u8); 3] = [
     (449, 703, 191, 2),
     (447, 703, 191, 2),
@@ -120,7 +120,7 @@ fn recover(rt: HostRuntime) -> Result<(), Fail> {
     Ok(())
 }
 
-// In place of a paralysis, whose quartered Speed stays.
+// It replaces a paralysis, whose quartered Speed stays.
 #[test]
 fn rest(rt: HostRuntime) -> Result<(), Fail> {
     for link in BOTH {

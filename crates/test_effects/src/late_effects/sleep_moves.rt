@@ -1,4 +1,5 @@
-//! Sleep, with the sleep clause and without (docs/MECHANICS.md, "Late effects", "Rules (sleep clause, freeze clause)").
+//! Sleep, with and without the sleep clause (docs/MECHANICS.md, "Late effects", "Rules (sleep clause, freeze
+//! clause)").
 use super::{
     Abort, BOTH, Conditions, Event, FOE, Fail, Ghost, Kind, LateEffects, LinkRandom, Operation,
     Packed, Stat, Status, Sweep, USER, compare, fails, misses, play_from, plays, send_out, tauros,
@@ -10,7 +11,7 @@ const fn asleep(turns: u8, marked: bool) -> Status {
     Status::Asleep { turns, marked }
 }
 
-// A sleep move that goes through: the foe has this status then, and the other bytes are as wanted.
+// A sleep move that succeeds: the foe then has this status, and the other bytes are as expected.
 fn sleeps(
     rt: &impl Abort,
     battle: &mut Packed,
@@ -33,7 +34,7 @@ fn teammate_with(rules: u8, status: Status) -> Result<Packed, Fail> {
     Ok(battle)
 }
 
-// With draws that begin with each byte, by a sweep and by link numbers that are all the same: the count, and the draws.
+// Draws that begin with each byte, of a sweep and of ten equal link numbers: the count, and the number of draws.
 const COUNTS: [(&str, u8, bool, u8, u8); 6] = [
     ("Spore", 254, false, 7, 2),
     ("Spore", 7, false, 1, 3),
@@ -63,7 +64,7 @@ fn counts_of_sleep(rt: HostRuntime) -> Result<(), Fail> {
     Ok(())
 }
 
-// Accuracy bytes 140 and 255; a Ghost is immune to the Normal type, which a miss alone tells.
+// The accuracy bytes are 140 and 255. A Ghost is immune to the Normal type, which only a miss reports.
 #[test]
 fn sleep_moves_that_miss(rt: HostRuntime) -> Result<(), Fail> {
     for link in BOTH {
@@ -90,7 +91,7 @@ const STATUSES: [Status; 5] = [
     Status::Paralysed,
 ];
 
-// Any status makes it fail, with no draw.
+// Any status makes it fail, without a draw.
 #[test]
 fn who_cannot_fall_asleep(rt: HostRuntime) -> Result<(), Fail> {
     for link in BOTH {
@@ -105,7 +106,7 @@ fn who_cannot_fall_asleep(rt: HostRuntime) -> Result<(), Fail> {
     Ok(())
 }
 
-// A Substitute does not keep sleep away.
+// A Substitute doesn't keep sleep away.
 #[test]
 fn sleep_past_a_substitute(rt: HostRuntime) -> Result<(), Fail> {
     for (link, turns) in [(false, 3), (true, 2)] {
@@ -119,8 +120,8 @@ fn sleep_past_a_substitute(rt: HostRuntime) -> Result<(), Fail> {
     Ok(())
 }
 
-// A foe that must recharge falls asleep with no test: the first draw, 253, has the count, 5. Sleep replaces its paralysis, and
-// the penalty of that stays.
+// A foe that has to recharge falls asleep without a test: the first draw, 253, gives the count, 5. Sleep replaces its
+// paralysis, and the penalty stays.
 #[test]
 fn who_must_recharge_falls_asleep(rt: HostRuntime) -> Result<(), Fail> {
     for link in BOTH {
@@ -161,13 +162,14 @@ fn ten_draws(rt: HostRuntime) -> Result<(), Fail> {
     Ok(())
 }
 
-// The foe's first member sleeps for a turn, and has the mark or not.
+// The foe's first member sleeps for one turn, with or without the mark.
 fn marks(rt: &impl Abort, battle: &Packed, marked: bool) {
     assert_same(rt, battle.member(FOE, 1)[14], 1);
     assert_same(rt, battle.mark(FOE, 1), marked);
 }
 
-// A living teammate has the mark: the move fails after the hit test, and with no draw where the foe must recharge.
+// A living teammate has the mark, so the move fails: after the hit test, or without a draw if the foe has to
+// recharge.
 #[test]
 fn one_sleeper_at_a_time(rt: HostRuntime) -> Result<(), Fail> {
     for link in BOTH {
@@ -180,7 +182,7 @@ fn one_sleeper_at_a_time(rt: HostRuntime) -> Result<(), Fail> {
     Ok(())
 }
 
-// Who recharges may itself have the mark: then it is the one that sleeps, and stays as it is.
+// A foe that has to recharge may have the mark itself. Then it is the one that sleeps, and it stays as it is.
 #[test]
 fn the_active_has_the_mark(rt: HostRuntime) -> Result<(), Fail> {
     let mut battle = tauros_under(1)?;
@@ -196,7 +198,7 @@ fn the_active_has_the_mark(rt: HostRuntime) -> Result<(), Fail> {
     Ok(())
 }
 
-// A teammate that fell has no mark any more.
+// A teammate that fell has lost its mark.
 #[test]
 fn the_clause_counts_no_fallen(rt: HostRuntime) -> Result<(), Fail> {
     for (link, turns) in [(false, 2), (true, 1)] {
@@ -210,7 +212,7 @@ fn the_clause_counts_no_fallen(rt: HostRuntime) -> Result<(), Fail> {
     Ok(())
 }
 
-// The user's own marked sleeper is of no account.
+// The user's own marked sleeper doesn't count.
 #[test]
 fn the_clause_counts_no_sleeper_of_the_users(rt: HostRuntime) -> Result<(), Fail> {
     for (link, turns) in [(false, 2), (true, 1)] {

@@ -4,7 +4,7 @@ use super::{
     fails, misses, plays, tauros,
 };
 
-// As the bytes of a side's stage, which has 6 in the middle, and of the stat there.
+// Writes a stage as its byte, where 6 is the middle, and the stat at it.
 fn put(battle: &mut Packed, side: Side, stat: Stat, stage: u8, value: u16) {
     match stat {
         Stat::Attack => battle.put_attack(side, stage, value),
@@ -16,7 +16,7 @@ fn put(battle: &mut Packed, side: Side, stat: Stat, stage: u8, value: u16) {
     }
 }
 
-// By how many stages, and the stat that this makes: 150 and 200 hundredths of the user's. Evasion has none.
+// The number of stages, and the stat after them: 150 or 200 percent of the user's. Evasion has none.
 const RISES: [(&str, Stat, u8, u16); 8] = [
     ("Meditate", Stat::Attack, 1, 447),
     ("Swords Dance", Stat::Attack, 2, 596),
@@ -41,8 +41,8 @@ fn stats_of_the_user_rise(rt: HostRuntime) -> Result<(), Fail> {
     Ok(())
 }
 
-// The accuracy bytes are 255, but 216 for Screech's 85 percent and 242 for String Shot's 95; the stats are 66 and 50
-// hundredths of the foe's, rounded down.
+// The accuracy bytes are 255, but 216 for Screech's 85 percent and 242 for String Shot's 95. The stats are 66 and 50
+// percent of the foe's, rounded down.
 const FALLS: [(&str, Stat, u8, u16, u8); 5] = [
     ("Growl", Stat::Attack, 1, 196, 255),
     ("Tail Whip", Stat::Defense, 1, 190, 255),
@@ -60,7 +60,7 @@ fn stats_of_the_foe_fall(rt: HostRuntime) -> Result<(), Fail> {
             let told = [Event::Unboost(want.who(FOE), stat, count(by)?)];
             let last = accuracy.wrapping_sub(1);
             plays(&rt, &mut tauros()?, (name, last, link), &told, 1, &want)?;
-            // One more misses, and nothing falls but the last damage.
+            // A draw one higher misses, and only the last damage changes.
             misses(
                 &rt,
                 &mut tauros()?,
@@ -73,7 +73,7 @@ fn stats_of_the_foe_fall(rt: HostRuntime) -> Result<(), Fail> {
     Ok(())
 }
 
-// With no draw.
+// Without a draw.
 #[test]
 fn a_substitute_keeps_a_stat_from_falling(rt: HostRuntime) -> Result<(), Fail> {
     for link in BOTH {
@@ -86,7 +86,7 @@ fn a_substitute_keeps_a_stat_from_falling(rt: HostRuntime) -> Result<(), Fail> {
     Ok(())
 }
 
-// With no draw.
+// Without a draw.
 #[test]
 fn mist_and_an_invulnerable_foe_are_missed(rt: HostRuntime) -> Result<(), Fail> {
     for link in BOTH {
@@ -101,7 +101,7 @@ fn mist_and_an_invulnerable_foe_are_missed(rt: HostRuntime) -> Result<(), Fail> 
     Ok(())
 }
 
-// At -6 nothing changes, after a draw; at +6 with none.
+// At -6 nothing changes, after a draw. At +6 nothing changes, without a draw.
 #[test]
 fn shifts_that_fail(rt: HostRuntime) -> Result<(), Fail> {
     for link in BOTH {
@@ -117,7 +117,7 @@ fn shifts_that_fail(rt: HostRuntime) -> Result<(), Fail> {
     Ok(())
 }
 
-// Agility with no draw, and what the Speed of 378 and its stage are then.
+// Agility without a draw, and the user's Speed and its stage afterwards, from a Speed of 378.
 fn agility(
     rt: &impl Abort,
     battle: &mut Packed,
@@ -131,8 +131,8 @@ fn agility(
     plays(rt, battle, ("Agility", 0, false), told, 0, &want)
 }
 
-// An Electrode's Speed of 378 is 756 at +2 and 999 at +4, where 1,134 would be too much. Then two stages more are one, and a
-// failure; and then none.
+// An Electrode's Speed of 378 is 756 at +2. At +4 it is 999, since 1,134 is above the limit. Then a rise by two
+// stages is one stage and a failure, and after that none.
 #[test]
 fn a_speed_of_999(rt: HostRuntime) -> Result<(), Fail> {
     let mut battle = electrode()?;
@@ -147,7 +147,8 @@ fn a_speed_of_999(rt: HostRuntime) -> Result<(), Fail> {
     agility(&rt, &mut battle, &[fails], 11, 999)
 }
 
-// The foe is burned, with Attack 298, now 149: 196 at -1 is halved to 98, and the user's Swords Dance makes it 49.
+// The foe is burned, and its Attack of 298 is 149 now. At -1 it is 196, halved to 98, and the user's Swords Dance
+// makes it 49.
 #[test]
 fn growl_and_swords_dance(rt: HostRuntime) -> Result<(), Fail> {
     for link in BOTH {

@@ -1,4 +1,5 @@
-//! Flinching, confusion, stages that fall, recharging, and what has no side effect (docs/MECHANICS.md, "Side effects").
+//! Flinching, confusion, stages that fall, recharging, and moves without a side effect (docs/MECHANICS.md, "Side
+//! effects").
 use super::{Abort, BOTH, FOE, Packed, USER, does_nothing, plays, tauros};
 use crate::battles::assert_same;
 use gen1_layout::Conditions;
@@ -19,7 +20,7 @@ fn foe_with_a_substitute() -> Result<Packed, Fail> {
     Ok(battle)
 }
 
-// A flinch is not told.
+// A flinch has no event.
 #[test]
 fn flinching(rt: HostRuntime) -> Result<(), Fail> {
     for (name, last, next) in [("Bite", 25, 26), ("Stomp", 76, 77)] {
@@ -40,8 +41,8 @@ fn flinching(rt: HostRuntime) -> Result<(), Fail> {
     Ok(())
 }
 
-// A Substitute does not keep confusion away. The second draw is 25 of the sweep, for 1 + 2 turns, and 24 of the link numbers,
-// for 0 + 2.
+// A Substitute doesn't keep confusion away. The second draw is 25 for the sweep, which gives 1 + 2 turns, and 24 for
+// the link numbers, which gives 0 + 2.
 #[test]
 fn confusion(rt: HostRuntime) -> Result<(), Fail> {
     for name in ["Psybeam", "Confusion"] {
@@ -89,7 +90,7 @@ fn has_stage(rt: &impl Abort, battle: &Packed, stat: Stat, stage: u8, value: u16
     assert_same(rt, battle.current_stat(FOE, stat), value);
 }
 
-// At -6 the draw is taken, and no failure is told.
+// At -6 the draw is taken, and no failure is reported.
 #[test]
 fn the_lowest_stage(rt: HostRuntime) -> Result<(), Fail> {
     let mut battle = tauros()?;

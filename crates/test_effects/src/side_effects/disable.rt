@@ -7,7 +7,7 @@ use gen1_layout::Packed;
 use gen1_machine::{DisabledSlot, Event, EventList, Volatile};
 use gen1_rolls::{LinkRandom, Rolls, Sweep};
 
-// Its answer, its events and what it came to know.
+// The result, the events, and what is known afterwards.
 fn disable<R: Rolls>(
     battle: &mut Packed,
     random: &mut R,
@@ -27,7 +27,7 @@ const fn barred(slot: u8, turns: u8) -> Option<DisabledSlot> {
     Some(DisabledSlot { slot, turns })
 }
 
-// Ones: nine of 1, of 6 and of 31, and then 156s, which name slot 1 and a count of 5.
+// Equal link numbers of 1: nine of 1, of 6 and of 31, and then 156s, which name slot 1 and a count of 5.
 #[test]
 fn ten_ones(rt: HostRuntime) -> Result<(), Fail> {
     let mut battle = tauros()?;
@@ -45,7 +45,8 @@ fn ten_ones(rt: HostRuntime) -> Result<(), Fail> {
     Ok(())
 }
 
-// A sweep from 1: the hit test, 2 and 3 in vain, 4 for slot 1, and 5 for a count of 6. A Substitute does not help.
+// A sweep from 1: the hit test, 2 and 3 without success, 4 for slot 1, and 5 for a count of 6. A Substitute doesn't
+// prevent it.
 #[test]
 fn a_sweep(rt: HostRuntime) -> Result<(), Fail> {
     let mut battle = tauros()?;
@@ -60,7 +61,7 @@ fn a_sweep(rt: HostRuntime) -> Result<(), Fail> {
     Ok(())
 }
 
-// With two moves a sweep from 0 names slot 2 by 1. From 3 it names slot 1 by 4, or where that has no PP slot 2 by 5.
+// With two moves, a sweep from 0 names slot 2 by 1. From 3 it names slot 1 by 4, or slot 2 by 5 if slot 1 has no PP.
 #[test]
 fn the_drawn_slot(rt: HostRuntime) -> Result<(), Fail> {
     for (from, pp, slot, turns) in [(0, 15, 2, 3), (3, 15, 1, 6), (3, 0, 2, 7)] {
@@ -86,7 +87,7 @@ fn a_miss(rt: HostRuntime) -> Result<(), Fail> {
     Ok(())
 }
 
-// One move at a time.
+// At most one move is disabled.
 #[test]
 fn disabled_already(rt: HostRuntime) -> Result<(), Fail> {
     for link in BOTH {
@@ -99,7 +100,8 @@ fn disabled_already(rt: HostRuntime) -> Result<(), Fail> {
     Ok(())
 }
 
-// Without any PP it fails at the first draw of slot 1, before the count: 4 of a sweep from 1, and the second of zeros.
+// Without any PP it fails at the first draw of slot 1, before the count: at 4 of a sweep from 1, and at the second of
+// zeros.
 #[test]
 fn without_pp(rt: HostRuntime) -> Result<(), Fail> {
     for (from, link, draws) in [(1, false, 4), (0, true, 2)] {

@@ -17,7 +17,7 @@ fn of_types(first: Element, second: Element) -> Result<Packed, Fail> {
     Ok(battle)
 }
 
-// A member of none of the moves' types.
+// A member that has none of the moves' types.
 fn of_rock() -> Result<Packed, Fail> {
     of_types(Rock, Rock)
 }
@@ -26,7 +26,7 @@ fn has(rt: &impl Abort, battle: &Packed, status: Status) {
     assert_same(rt, battle.status(FOE), status);
 }
 
-// Each with the highest draw at which it comes, and the next.
+// Each with the highest draw at which the effect happens, and the next draw.
 const CHANCES: [(&str, u8, u8, Status, Kind); 8] = [
     ("Poison Sting", 51, 52, Status::Poisoned, Kind::Poison),
     ("Smog", 102, 103, Status::Poisoned, Kind::Poison),
@@ -68,7 +68,7 @@ fn penalties(rt: HostRuntime) -> Result<(), Fail> {
     Ok(())
 }
 
-// No draw is taken on any status.
+// No draw is taken if the foe has a status.
 #[test]
 fn nothing_is_drawn_on_a_status(rt: HostRuntime) -> Result<(), Fail> {
     for (name, _, _, status, _) in CHANCES {
@@ -79,7 +79,7 @@ fn nothing_is_drawn_on_a_status(rt: HostRuntime) -> Result<(), Fail> {
     Ok(())
 }
 
-// Nor on the type.
+// No draw is taken if the foe has the type.
 #[test]
 fn nothing_is_drawn_on_the_type(rt: HostRuntime) -> Result<(), Fail> {
     for (name, kind) in [
@@ -96,7 +96,7 @@ fn nothing_is_drawn_on_the_type(rt: HostRuntime) -> Result<(), Fail> {
     does_nothing(&rt, &mut tauros()?, "Body Slam", 0, 0)
 }
 
-// By a Fire move with a burn, also for a foe of type Fire.
+// A Fire move thaws, and its burn does the same for a foe of type Fire.
 #[test]
 fn the_thaw(rt: HostRuntime) -> Result<(), Fail> {
     for link in BOTH {
@@ -113,7 +113,7 @@ fn the_thaw(rt: HostRuntime) -> Result<(), Fail> {
     does_nothing(&rt, &mut battle, "Thunderbolt", 0, 0)
 }
 
-// The second member of the foe's is frozen, and the first has to recharge.
+// The foe's second member is frozen, and its first has to recharge.
 fn one_frozen_under(rules: u8) -> Result<Packed, Fail> {
     let mut battle = tauros_under(rules)?;
     send_out(&mut battle, FOE, 2);

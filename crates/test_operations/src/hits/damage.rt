@@ -1,4 +1,4 @@
-//! Values worked out by hand (docs/MECHANICS.md, "Damage formula", "Types", "Factors").
+//! Worked values (docs/MECHANICS.md, "Damage formula", "Types", "Factors").
 use crate::battles::{assert_same, named, two_tauros};
 use gen1_hits::{
     Numbers, damage, damage_list, factor, has_usual_damage, is_factor, numbers, own_numbers,
@@ -79,7 +79,7 @@ fn a_divisor_of_0(rt: HostRuntime) -> Result<(), Fail> {
     Ok(())
 }
 
-// 42 * 40 * 74 / 72 / 50 + 2 is 36; under the foe's Reflect the 72 are 144 (docs/MECHANICS.md, "Hit on itself").
+// 42 * 40 * 74 / 72 / 50 + 2 is 36. With the foe's Reflect the 72 is 144 (docs/MECHANICS.md, "Hit on itself").
 #[test]
 fn a_hit_on_itself(rt: HostRuntime) -> Result<(), Fail> {
     let mut battle = two_tauros()?;
@@ -118,7 +118,7 @@ fn factors_are_drawn(rt: HostRuntime) {
     assert_same(&rt, random.index(), 2);
 }
 
-// Power alone does not make it (docs/MECHANICS.md, "Fixed damage and one-hit moves", "Counter").
+// Power alone isn't enough (docs/MECHANICS.md, "Fixed damage and one-hit moves", "Counter").
 #[test]
 fn moves_with_the_usual_damage(rt: HostRuntime) -> Result<(), Fail> {
     let usual = [

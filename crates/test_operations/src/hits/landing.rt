@@ -44,7 +44,7 @@ fn hp_is_lost_and_gained(rt: HostRuntime) -> Result<(), Fail> {
     Ok(())
 }
 
-// So much damage of side 1's: how it lands, and what is told.
+// This much damage of side 1: where it lands, and the events.
 fn lands(rt: &impl Abort, battle: &mut Packed, damage: u16, landed: Landed, told: &[Event]) {
     let mut events = EventList::new();
     let answer = land(battle, USER, damage, &mut events);
@@ -107,7 +107,7 @@ fn damage_lands_on_a_substitute(rt: HostRuntime) -> Result<(), Fail> {
     Ok(())
 }
 
-// The critical draw of side 1 by each generator, where this byte is drawn.
+// The critical draw of side 1 with each generator, when it draws this byte.
 fn draws_critical(rt: &impl Abort, battle: &Packed, id: MoveId, byte: u8, is: bool) {
     let mut sweep = Sweep::new(byte);
     let mut link = LinkRandom::new([byte; 10]);
@@ -162,7 +162,7 @@ fn accuracy_between_stages(rt: HostRuntime) -> Result<(), Fail> {
     Ok(())
 }
 
-// The hit test of a move of side 1 by each generator, where this byte is drawn next, and how many draws it takes.
+// The hit test of a move of side 1 with each generator, when it draws this byte next, and the number of draws.
 fn hits(rt: &impl Abort, battle: &mut Packed, id: MoveId, byte: u8, hit: Hit, draws: u8) {
     let base = id.accuracy_byte();
     let mut sweep = Sweep::new(byte);

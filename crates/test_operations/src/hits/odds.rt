@@ -1,4 +1,4 @@
-//! What a use of a move would come to (docs/MECHANICS.md, "Critical hits", "Hit test").
+//! The odds of a use of a move (docs/MECHANICS.md, "Critical hits", "Hit test").
 use crate::battles::{assert_same, named, persian_and_tauros};
 use gen1_layout::Conditions;
 use gen1_machine::Side;
@@ -6,7 +6,8 @@ use gen1_odds::{odds_of, takes_hit_test};
 use std::process::Abort;
 use std::test::Fail;
 
-// Persian's base Speed is 115, so 57 of 256 draws are critical, and with Slash 255; under Focus Energy 14 and 112.
+// Persian's base Speed is 115, so 57 of 256 draws are critical, and 255 with Slash. With Focus Energy they are 14 and
+// 112.
 #[test]
 fn chances_of_persian(rt: HostRuntime) -> Result<(), Fail> {
     let mut battle = persian_and_tauros()?;
@@ -18,7 +19,7 @@ fn chances_of_persian(rt: HostRuntime) -> Result<(), Fail> {
         let found = odds_of(&battle, Side::One, slash).critical_draws;
         assert_same(&rt, found, many);
     }
-    // 100, 70 and 55 % in 255ths; Swift hits without a draw, and Dream Eater misses who is awake.
+    // 100, 70 and 55 percent in 255ths. Swift hits without a draw, and Dream Eater misses a foe that is awake.
     let accuracies = [
         ("Strength", 255),
         ("Thunder", 178),

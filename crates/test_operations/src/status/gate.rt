@@ -11,7 +11,7 @@ use gen1_status::{Gate, gate, pick, used_by};
 use std::process::Abort;
 use std::test::Fail;
 
-// What tells that the user is confused.
+// The event that reports the user's confusion.
 fn shows(battle: &Packed) -> Event {
     Event::Activate(battle.who(USER), Volatile::Confusion)
 }
@@ -22,7 +22,7 @@ fn cannot(battle: &Packed, reason: CantReason) -> Event {
 
 const STRENGTH: Pick = Pick::Use(UsedMove::Slot(1));
 
-// What the gate answers a user, and writes.
+// The result of the gate for a user, and its events.
 fn gates<R: Rolls>(
     rt: &impl Abort,
     battle: &mut Packed,
@@ -81,7 +81,7 @@ fn what_a_pick_uses(rt: HostRuntime) -> Result<(), Fail> {
     Ok(())
 }
 
-// Held by the foe's trapping too (docs/MECHANICS.md, "Picks").
+// A member that the foe's trapping holds too (docs/MECHANICS.md, "Picks").
 #[test]
 fn picks_of_who_must_wait(rt: HostRuntime) -> Result<(), Fail> {
     for status in [asleep(3, false), Status::Frozen] {
@@ -156,7 +156,7 @@ fn sleeping(rt: HostRuntime) -> Result<(), Fail> {
     Ok(())
 }
 
-// Frost, and the foe's trapping (docs/MECHANICS.md, "Gate").
+// Freeze, and the foe's trapping (docs/MECHANICS.md, "Gate").
 #[test]
 fn frozen_or_held(rt: HostRuntime) -> Result<(), Fail> {
     let mut battle = two_tauros()?;
@@ -179,7 +179,7 @@ fn frozen_or_held(rt: HostRuntime) -> Result<(), Fail> {
     Ok(())
 }
 
-// Each is waited for once (docs/MECHANICS.md, "Gate").
+// Each of them passes after one turn (docs/MECHANICS.md, "Gate").
 #[test]
 fn flinching_and_recharging(rt: HostRuntime) -> Result<(), Fail> {
     let mut battle = two_tauros()?;
@@ -255,7 +255,7 @@ fn is_confused(rt: &impl Abort, battle: &Packed, turns: Option<u8>) {
     assert_same(rt, battle.confused(USER), turns);
 }
 
-// 42 * 40 * 74 / 72 / 50 + 2: a Tauros takes 36 from itself (docs/MECHANICS.md, "Hit on itself", "Gate").
+// 42 * 40 * 74 / 72 / 50 + 2: a Tauros takes 36 from its own hit (docs/MECHANICS.md, "Hit on itself", "Gate").
 #[test]
 fn confused(rt: HostRuntime) -> Result<(), Fail> {
     let mut battle = two_tauros()?;
@@ -290,7 +290,7 @@ fn has_substitute(rt: &impl Abort, battle: &Packed, hp: Option<u8>) {
     assert_same(rt, battle.substitute(FOE), hp);
 }
 
-// Own and foe's substitute (docs/MECHANICS.md, "Hit on itself").
+// The user's own substitute, and the foe's (docs/MECHANICS.md, "Hit on itself").
 #[test]
 fn confused_behind_a_substitute(rt: HostRuntime) -> Result<(), Fail> {
     let mut battle = two_tauros()?;
@@ -314,7 +314,8 @@ fn confused_behind_a_substitute(rt: HostRuntime) -> Result<(), Fail> {
     Ok(())
 }
 
-// A Defense of 512 under Reflect is 1024, divided by 4 is 256, and its low byte is 0 (docs/MECHANICS.md, "Hit on itself").
+// A Defense of 512 with Reflect is 1024. Divided by 4 it is 256, whose low byte is 0 (docs/MECHANICS.md, "Hit on
+// itself").
 #[test]
 fn a_divisor_of_0(rt: HostRuntime) -> Result<(), Fail> {
     let mut battle = two_tauros()?;

@@ -1,4 +1,4 @@
-//! Statuses, stages and what poison, a burn and Leech Seed take.
+//! Statuses, stages, and the damage of poison, a burn and Leech Seed.
 use crate::battles::{FOE, USER, assert_same, tells, two_electrode, two_magikarp, two_tauros};
 use gen1_layout::{Conditions, Packed};
 use gen1_machine::{DamageSource, Event, EventList, Health, Kind, Side, StageCount, Who};
@@ -66,7 +66,7 @@ fn sleep(rt: HostRuntime) -> Result<(), Fail> {
     Ok(())
 }
 
-// A shift by the user's move: whether it succeeds, what the stage and the stat are then, and what is told.
+// A shift by the user's move: whether it succeeds, the stage and the stat afterwards, and the events.
 fn shifts(
     rt: &impl Abort,
     battle: &mut Packed,
@@ -83,7 +83,7 @@ fn shifts(
     tells(rt, &events, told);
 }
 
-// The foe is burned, with Attack 298, now 149 (docs/MECHANICS.md, "Stage shift", "Penalties").
+// The foe is burned, and its Attack of 298 is 149 now (docs/MECHANICS.md, "Stage shift", "Penalties").
 #[test]
 fn growl_and_swords_dance(rt: HostRuntime) -> Result<(), Fail> {
     let mut battle = two_tauros()?;
@@ -111,7 +111,7 @@ fn ends_of_the_stages(rt: HostRuntime) -> Result<(), Fail> {
     let sand = lower_stage(&mut battle, USER, FOE, Stat::Accuracy, 1, &mut events);
     assert_same(&rt, (double_team, sand), (false, false));
     tells(&rt, &events, &[]);
-    // From +5 by 2 to +6, by one stage.
+    // From +5, a rise by 2 is one stage, to +6.
     battle.put_evasion(USER, 11);
     let double_team = raise_stage(&mut battle, USER, USER, Stat::Evasion, 2, &mut events);
     assert_same(&rt, double_team, true);
@@ -121,8 +121,8 @@ fn ends_of_the_stages(rt: HostRuntime) -> Result<(), Fail> {
     Ok(())
 }
 
-// An Electrode's Speed of 378 is 756 at +2 and 999 at +4, where 1,134 would be too much (docs/MECHANICS.md, "Stage shift",
-// "Stages").
+// An Electrode's Speed of 378 is 756 at +2. At +4 it is 999, since 1,134 is above the limit (docs/MECHANICS.md,
+// "Stage shift", "Stages").
 #[test]
 fn a_stat_of_999(rt: HostRuntime) -> Result<(), Fail> {
     let mut battle = two_electrode()?;
@@ -137,7 +137,7 @@ fn a_stat_of_999(rt: HostRuntime) -> Result<(), Fail> {
     Ok(())
 }
 
-// A Magikarp's Attack at level 1 is 5: 2 at -2, and 1 at -4 (docs/MECHANICS.md, "Stage shift", "Stages").
+// A Magikarp's Attack at level 1 is 5. It is 2 at -2, and 1 at -4 (docs/MECHANICS.md, "Stage shift", "Stages").
 #[test]
 fn a_stat_of_1(rt: HostRuntime) -> Result<(), Fail> {
     let mut battle = two_magikarp()?;
@@ -150,7 +150,7 @@ fn a_stat_of_1(rt: HostRuntime) -> Result<(), Fail> {
     Ok(())
 }
 
-// Bad poison with counter 0, and seeded, from so many HP; the foe has 300 of 353.
+// A member that is badly poisoned, with counter 0, and seeded, with this many HP. The foe has 300 of 353.
 fn badly_poisoned(hp: u16) -> Result<Packed, Fail> {
     let mut battle = two_tauros()?;
     battle.put_hp(USER, hp);
@@ -165,7 +165,7 @@ fn health(hp: u16, kind: Option<Kind>) -> Result<Health, Fail> {
     Ok(Health::new(hp, 353, kind).ok_or("no such health")?)
 }
 
-// Damage of who is poisoned, which leaves so many HP.
+// Damage of a poisoned member, which leaves this many HP.
 fn hurt(who: Who, hp: u16, source: DamageSource) -> Result<Event, Fail> {
     Ok(Event::Damage(who, health(hp, Some(Kind::Poison))?, source))
 }
@@ -193,7 +193,7 @@ fn bad_poison_and_a_seed(rt: HostRuntime) -> Result<(), Fail> {
     Ok(())
 }
 
-// From 20 HP it falls at once, and the seed still heals the full amount (docs/MECHANICS.md, "Residual damage").
+// With 20 HP it falls at once, and the seed still heals the full amount (docs/MECHANICS.md, "Residual damage").
 #[test]
 fn a_seed_on_the_fallen(rt: HostRuntime) -> Result<(), Fail> {
     let mut battle = badly_poisoned(20)?;

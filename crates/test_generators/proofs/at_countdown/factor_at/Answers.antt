@@ -5,7 +5,7 @@ use Rattle.gen1_machine.specs.Damage.{is_factor}
 use Rattle.test_generators.specs.Countdown.{one_down}
 use Rattle.test_generators.proofs.at_countdown.factor_at.Goals as goal
 
--- a number that is a factor is the first of its countdown
+-- A number that is a factor is the first of its countdown.
 at_once : (n : ℕ) → is_factor n ≡ true → first (stream_of (λ x. x) one_down 1000 n) 0 is_factor ≡ Some 0
 unfolding first first_within byte_at
 at_once n e =
