@@ -36,7 +36,7 @@ pub fn is_late_but_bide(effect: Effect) -> bool
 ///
 /// The action has just begun. The hit test, if there is one, and a count of sleep are drawn. It needs two free places
 /// in `events`. What the effect doesn't change stays as it is.
-pub fn late_effect<R: Rolls, S: EventSink>(
+pub fn group_two<R: Rolls, S: EventSink>(
     battle: &mut Packed,
     side: Side,
     id: MoveId,
@@ -51,12 +51,12 @@ pub fn late_effect<R: Rolls, S: EventSink>(
     ensures room { AddsAtMost S.room 2 events.old events.new }
 {
     let mut known = Known::new().begun(side);
-    late_effect_knowing(battle, side, id, &mut known, random, events);
+    group_two_knowing(battle, side, id, &mut known, random, events);
 }
 
 /// The same in the middle of an action, of which more may be known. The action ends with it (docs/MECHANICS.md,
 /// "Action").
-pub fn late_effect_knowing<R: Rolls, S: EventSink>(
+pub fn group_two_knowing<R: Rolls, S: EventSink>(
     battle: &mut Packed,
     side: Side,
     id: MoveId,

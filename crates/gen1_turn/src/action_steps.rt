@@ -13,7 +13,7 @@ use crate::action_damage::damage_of;
 use crate::lead_up::lead_up;
 use crate::strike::strike;
 use gen1_action::Known;
-use gen1_effects::{is_late_but_bide, late_effect_knowing};
+use gen1_effects::{group_two_knowing, is_late_but_bide};
 use gen1_events::EventSink;
 use gen1_layout::Packed;
 use gen1_machine::{Pick, Side};
@@ -162,7 +162,7 @@ fn late_effect<R: Rolls, S: EventSink>(
     ensures quiet { result ≡ false → AddsNone S.room events.old events.new }
 {
     if is_late_but_bide(id.effect()) {
-        late_effect_knowing(battle, side, id, known, random, events);
+        group_two_knowing(battle, side, id, known, random, events);
         return true;
     }
     if id.effect().bides() {

@@ -12,7 +12,7 @@ ghost use Rattle.gen1_turn.specs.ByEffect.{makes_substitute};
 
 use crate::used_move::use_move;
 use gen1_action::Known;
-use gen1_effects::{early_effect_knowing, is_early_but_substitute};
+use gen1_effects::{group_one_knowing, is_early_but_substitute};
 use gen1_events::EventSink;
 use gen1_layout::Packed;
 use gen1_machine::{Pick, Side};
@@ -88,7 +88,7 @@ fn early_effect<R: Rolls, S: EventSink>(
     ensures quiet { result ≡ false → AddsNone S.room events.old events.new }
 {
     if is_early_but_substitute(id.effect()) {
-        early_effect_knowing(battle, side, id, known, random, events);
+        group_one_knowing(battle, side, id, known, random, events);
         return true;
     }
     if makes_substitute(id.effect()) {

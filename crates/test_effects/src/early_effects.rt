@@ -3,7 +3,7 @@
 //! 348.
 use crate::battles::{FOE, USER, assert_same, chansey, named, tauros};
 use crate::draws::{BOTH, Operation, play_from};
-use gen1_effects::{early_effect, is_early_but_substitute};
+use gen1_effects::{group_one, is_early_but_substitute};
 use gen1_layout::Packed;
 use gen1_machine::{Event, EventList};
 use gen1_rolls::Rolls;
@@ -23,7 +23,7 @@ impl Operation for EarlyEffects {
             return Err("no early effect")?;
         }
         let mut events = EventList::new();
-        early_effect(battle, USER, id, random, &mut events);
+        group_one(battle, USER, id, random, &mut events);
         Ok(events)
     }
 

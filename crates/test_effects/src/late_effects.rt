@@ -2,7 +2,7 @@
 //! (sleep clause, freeze clause)". The last damage was 75.
 use crate::battles::{self, FOE, USER, assert_same, electrode, named, send_out};
 use crate::draws::{BOTH, Operation, play_from};
-use gen1_effects::{is_late_but_bide, late_effect};
+use gen1_effects::{group_two, is_late_but_bide};
 use gen1_layout::{Conditions, Packed};
 use gen1_machine::{Event, EventList, Kind, Side, StageCount};
 use gen1_rolls::{LinkRandom, Rolls, Sweep};
@@ -34,7 +34,7 @@ impl Operation for LateEffects {
             return Err("another effect")?;
         }
         let mut events = EventList::new();
-        late_effect(battle, USER, id, random, &mut events);
+        group_two(battle, USER, id, random, &mut events);
         Ok(events)
     }
 

@@ -51,7 +51,7 @@ pub fn is_early_but_substitute(effect: Effect) -> bool
 ///
 /// The action has just begun. It takes at most two draws and writes at most two events, and needs two free places in
 /// `events`. A move that fails or misses reports that by an event, and changes nothing but what a miss changes.
-pub fn early_effect<R: Rolls, S: EventSink>(
+pub fn group_one<R: Rolls, S: EventSink>(
     battle: &mut Packed,
     side: Side,
     id: MoveId,
@@ -66,13 +66,13 @@ pub fn early_effect<R: Rolls, S: EventSink>(
     ensures room { AddsAtMost S.room 2 events.old events.new }
 {
     let mut known = Known::new().begun(side);
-    early_effect_knowing(battle, side, id, &mut known, random, events);
+    group_one_knowing(battle, side, id, &mut known, random, events);
 }
 
 /// The same as [`group_one`] in the middle of an action, which `known` describes.
 ///
 /// Afterwards `known` holds the miss and the byte of a hit test, and after Haze whether the foe is skipped this turn.
-pub fn early_effect_knowing<R: Rolls, S: EventSink>(
+pub fn group_one_knowing<R: Rolls, S: EventSink>(
     battle: &mut Packed,
     side: Side,
     id: MoveId,

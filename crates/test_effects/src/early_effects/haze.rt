@@ -2,7 +2,7 @@
 use super::{BOTH, EarlyEffects, FOE, USER, bytes_with, named, play_from, tauros};
 use crate::battles::assert_same;
 use gen1_action::Known;
-use gen1_effects::{early_effect_knowing, is_early_but_substitute};
+use gen1_effects::{group_one_knowing, is_early_but_substitute};
 use gen1_layout::{Conditions, Packed};
 use gen1_machine::{DisabledSlot, Event, EventList, Kind};
 use gen1_rolls::Sweep;
@@ -57,7 +57,7 @@ fn skips(status: Status) -> Result<bool, Fail> {
         return Err(Fail::from("no early effect"));
     }
     let mut random = Sweep::new(0);
-    early_effect_knowing(&mut battle, USER, id, &mut known, &mut random, &mut events);
+    group_one_knowing(&mut battle, USER, id, &mut known, &mut random, &mut events);
     Ok(known.skips)
 }
 

@@ -10,7 +10,7 @@ use Rattle.gen1_turn.proofs.action_steps.late_effect.Goals as goal
 
 pub returns-then-is_late_but_bide-clause-shown : goal.returns-then-is_late_but_bide-clause-shown
 returns-then-is_late_but_bide-clause-shown t c origin g p plan doing v h =
-    drawn_if_so _ _ _ (two-late _ (sym (c.is_late_but_bide.ensures ∙ ap is_late_but_bide c.effect.ensures) ∙ c.if-is_late_but_bide.true)) (c.late_effect_knowing.ensures.shown origin g p h)
+    drawn_if_so _ _ _ (two-late _ (sym (c.is_late_but_bide.ensures ∙ ap is_late_but_bide c.effect.ensures) ∙ c.if-is_late_but_bide.true)) (c.group_two_knowing.ensures.shown origin g p h)
 
 pub returns-then-bides-clause-shown : goal.returns-then-bides-clause-shown
 returns-then-bides-clause-shown t c origin g p plan doing v h =

@@ -10,7 +10,7 @@ use Rattle.gen1_turn.proofs.lead_up.early_effect.Goals as goal
 
 pub returns-then-is_early_but_substitute-clause-shown : goal.returns-then-is_early_but_substitute-clause-shown
 returns-then-is_early_but_substitute-clause-shown t c origin g p h =
-    drawn_if_so _ _ _ (one-early _ (sym (c.is_early_but_substitute.ensures ∙ ap is_early_but_substitute c.effect.ensures) ∙ c.if-is_early_but_substitute.true)) (c.early_effect_knowing.ensures.shown origin g p h)
+    drawn_if_so _ _ _ (one-early _ (sym (c.is_early_but_substitute.ensures ∙ ap is_early_but_substitute c.effect.ensures) ∙ c.if-is_early_but_substitute.true)) (c.group_one_knowing.ensures.shown origin g p h)
 
 pub returns-then-is_early_but_substitute-clause-early : goal.returns-then-is_early_but_substitute-clause-early
 returns-then-is_early_but_substitute-clause-early t c = sym (one-early _ (sym (c.is_early_but_substitute.ensures ∙ ap is_early_but_substitute c.effect.ensures) ∙ c.if-is_early_but_substitute.true))

@@ -8,7 +8,7 @@ use Rattle.gen1_action.proofs.Knowledge.{plain_still}
 use Rattle.gen1_effects.proofs.LateEffects.{lowers, no_other, raises, sleeps}
 use Rattle.gen1_effects.proofs.Searching.{ended}
 use Rattle.gen1_effects.proofs.ShiftingMoves.{falls-by, rises-by}
-use Rattle.gen1_effects.proofs.late_effects.late_effect_knowing.Goals as goal
+use Rattle.gen1_effects.proofs.late_effects.group_two_knowing.Goals as goal
 
 pub returns-in-StatUp-clause-shown : goal.returns-in-StatUp-clause-shown
 returns-in-StatUp-clause-shown t c origin g p h =

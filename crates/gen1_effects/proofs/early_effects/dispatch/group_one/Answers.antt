@@ -2,9 +2,9 @@ use Rattle.std.proofs.Common.{ap, ◌∙◌, ◌≡◌}
 use Rattle.gen1_action.specs.Alone.{just_begun}
 use Rattle.gen1_action.specs.Knowing.{begun}
 use Rattle.gen1_action.proofs.Knowledge.{leaves}
-use Rattle.gen1_effects.proofs.early_effects.dispatch.early_effect.Goals as goal
+use Rattle.gen1_effects.proofs.early_effects.dispatch.group_one.Goals as goal
 
 pub returns-clause-shown : goal.returns-clause-shown
 returns-clause-shown t c origin g p h =
     let known : c.begun-known.result ≡ just_begun c.args.side = c.begun-known.ensures ∙ ap (begun c.args.side) c.new.ensures in
-    leaves g (c.early_effect_knowing.ensures.shown origin g p (rw known h))
+    leaves g (c.group_one_knowing.ensures.shown origin g p (rw known h))

@@ -3,7 +3,7 @@ use Rattle.gen1_action.proofs.Knowledge.{does_still, plain_still}
 use Rattle.gen1_effects.specs.EarlyEffects.{way_of}
 use Rattle.gen1_effects.proofs.EarlyEffects.{early-by}
 use Rattle.gen1_effects.proofs.Failing.{drawn_ended}
-use Rattle.gen1_effects.proofs.early_effects.dispatch.early_effect_knowing.Goals as goal
+use Rattle.gen1_effects.proofs.early_effects.dispatch.group_one_knowing.Goals as goal
 
 pub returns-in-Fails-clause-shown : goal.returns-in-Fails-clause-shown
 returns-in-Fails-clause-shown t c origin g p h = rw (early-by c.args.side _ _ _ c.requires.early (sym (c.way_of.ensures ∙ ap way_of c.effect.ensures) ∙ c.in-Fails.is)) (drawn_ended _ (plain_still c.args.known.now g _ c.fail.ensures.shown h))
