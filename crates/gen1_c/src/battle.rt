@@ -58,7 +58,7 @@ pub extern "C" fn gen1_load(battle: &mut Packed, bytes: &[u8]) -> u8
     ensures battle { result ≡ 0 ↔ IsBattle bytes.now }
     ensures stands { result ≡ 0 → StandsForSome battle.new }
 {
-    match Packed::load(bytes) {
+    match Packed::read(bytes) {
         Ok(packed) => {
             *battle = packed;
             0

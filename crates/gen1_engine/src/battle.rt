@@ -108,7 +108,7 @@ impl Battle {
         ensures battle { IsOk result ↔ IsBattle bytes.now }
         ensures stands { IfOk result (λ loaded. StandsForSome loaded) }
     {
-        match Packed::load(bytes) {
+        match Packed::read(bytes) {
             Ok(packed) => Ok(Battle { packed }),
             Err(fault) => Err(fault),
         }

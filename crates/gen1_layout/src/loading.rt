@@ -65,7 +65,7 @@ impl Packed {
     ///
     /// The first of the seven tests that the bytes fail. They pass all of them exactly if they represent a valid
     /// state.
-    pub fn load(bytes: &[u8]) -> Result<Packed, LoadFault>
+    pub fn read(bytes: &[u8]) -> Result<Packed, LoadFault>
         ensures tests { IsLoadedAs result bytes.now }
         ensures battle { IsOk result ↔ IsBattle bytes.now }
         ensures stands { IfOk result (λ loaded. StandsForSome loaded) }

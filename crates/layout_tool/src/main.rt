@@ -19,7 +19,7 @@ fn main(rt: HostRuntime) -> Result<()> {
 
 fn answer<W: Write>(alloc: Global, line: &str, out: &mut W) -> Result<()> {
     let bytes = hex::decode(alloc, line)?;
-    match Packed::load(bytes.as_slice()) {
+    match Packed::read(bytes.as_slice()) {
         Ok(battle) => writeln!(out, "0 {}", hex::encode(alloc, battle.as_bytes())?)?,
         Err(fault) => writeln!(out, "{}", fault.number())?,
     }

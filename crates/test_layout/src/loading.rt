@@ -61,7 +61,7 @@ fn changed(changes: &[(usize, u8)]) -> [u8; 384] {
 
 // Whether bytes are read, and give this form.
 fn is_loaded_as(bytes: &[u8], form: &[u8; 384]) -> bool {
-    match Packed::load(bytes) {
+    match Packed::read(bytes) {
         Ok(loaded) => loaded.as_bytes() == form.as_slice(),
         Err(_) => false,
     }
@@ -69,7 +69,7 @@ fn is_loaded_as(bytes: &[u8], form: &[u8; 384]) -> bool {
 
 // 0 if the bytes are read, otherwise the error.
 fn answer(bytes: &[u8]) -> u8 {
-    match Packed::load(bytes) {
+    match Packed::read(bytes) {
         Ok(_) => 0,
         Err(fault) => fault.number(),
     }

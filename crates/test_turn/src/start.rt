@@ -70,7 +70,7 @@ fn a_hurt_and_burned_member_comes_out_first(rt: HostRuntime) -> Result<(), Fail>
         218,
         &[16],
     );
-    let mut battle = Packed::load(&hurt)?;
+    let mut battle = Packed::read(&hurt)?;
     let mut events = EventList::new();
     start(&mut battle, &mut events);
     let told = [

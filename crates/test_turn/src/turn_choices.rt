@@ -75,7 +75,7 @@ fn poisoned_behind(hp: u16) -> Result<Packed, Fail> {
     let bytes = bytes_of(&facing("Splash", "Splash")?);
     let low = (hp % 256) as u8;
     let high = (hp / 256) as u8;
-    Ok(Packed::load(&with(with(bytes, 52, &[low, high]), 62, &[8]))?)
+    Ok(Packed::read(&with(with(bytes, 52, &[low, high]), 62, &[8]))?)
 }
 
 fn comes_out_poisoned(hp: u16) -> Result<Event, Fail> {

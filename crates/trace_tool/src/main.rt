@@ -109,8 +109,8 @@ fn write_hex<W: Write>(alloc: Global, bytes: &[u8], out: &mut W) -> Result<()> {
 
 /// How many draws lead from one battle's generator to another's.
 fn draws_between(before: &[u8], after: &[u8]) -> Option<u32> {
-    let mut random = Packed::load(before).ok()?.generator()?;
-    let end = Packed::load(after).ok()?.generator()?;
+    let mut random = Packed::read(before).ok()?.generator()?;
+    let end = Packed::read(after).ok()?.generator()?;
     for drawn in 0..=MOST_DRAWS {
         if random.index() == end.index() && random.numbers() == end.numbers() {
             return Some(drawn);

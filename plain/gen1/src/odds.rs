@@ -120,7 +120,7 @@ impl Battle {
 
     /// The battle in the form that functions on its bytes take.
     pub(crate) fn packed(&self) -> Packed {
-        Packed::load(self.bytes()).expect("only choices that are offered have updated the battle")
+        Packed::read(self.bytes()).expect("only choices that are offered have updated the battle")
     }
 
     /// As [`Battle::packed`], but an error before members are out.

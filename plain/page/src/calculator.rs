@@ -92,13 +92,13 @@ fn standing(input: &[u8]) -> Result<Packed, Wrong> {
     let mut battle = Battle::new(&teams.0, &teams.1, [0; 10]);
     let _ = battle.update(Choice::Pass, Choice::Pass);
     let lost = Wrong::Text("the members cannot be in this state");
-    let Ok(mut packed) = Packed::load(battle.bytes()) else {
+    let Ok(mut packed) = Packed::read(battle.bytes()) else {
         return Err(lost);
     };
     put_standing(&mut packed, Side::One, &one[MEMBER..])?;
     put_standing(&mut packed, Side::Two, &two[MEMBER..])?;
     // Loading once more checks that the changed bytes are a battle.
-    Packed::load(packed.as_bytes()).map_err(|_| lost)
+    Packed::read(packed.as_bytes()).map_err(|_| lost)
 }
 
 pub fn write(input: &[u8], out: &mut Out<'_>) -> usize {

@@ -69,7 +69,7 @@ pub fn known(packed: &Packed, side: Side) -> impl Iterator<Item = (u8, MoveId)> 
 
 /// The battle of the input, if members are out.
 pub fn started(input: &[u8]) -> Option<Packed> {
-    Packed::load(input.get(..BATTLE)?)
+    Packed::read(input.get(..BATTLE)?)
         .ok()
         .filter(|packed| packed.turn() > 0)
 }

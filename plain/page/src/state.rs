@@ -46,7 +46,7 @@ fn request_word(request: Request) -> &'static str {
 }
 
 pub fn write(input: &[u8], out: &mut Out<'_>) -> usize {
-    let (Some(battle), Ok(packed)) = (battle_of(input), Packed::load(&input[..BATTLE])) else {
+    let (Some(battle), Ok(packed)) = (battle_of(input), Packed::read(&input[..BATTLE])) else {
         return 0;
     };
     let result = battle.result();

@@ -1,7 +1,7 @@
 use Rattle.std.proofs.Common.{ap, refl, ◌∙◌}
 use Rattle.gen1_layout.specs.Parts.{parts_of}
 use Rattle.gen1_layout.proofs.Loaded.{stands_for_some}
-use Rattle.gen1_layout.proofs.packed.Packed.load.Goals as goal
+use Rattle.gen1_layout.proofs.packed.Packed.read.Goals as goal
 
 pub returns-clause-tests : goal.returns-clause-tests
 returns-clause-tests c =
