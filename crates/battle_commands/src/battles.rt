@@ -42,11 +42,11 @@ pub fn play<A: AllocGlobal, R: Source, W: Sink>(
         Ok(bout) => bout,
         Err(fault) => return Err(fault),
     };
-    play_pairs(rt.alloc(), &mut bout.battle, bout.items.as_slice(), writer)
+    print_pairs(rt.alloc(), &mut bout.battle, bout.items.as_slice(), writer)
 }
 
 /// Plays pairs, and sends the lines of each.
-fn play_pairs<W: Sink>(
+fn print_pairs<W: Sink>(
     alloc: Global,
     battle: &mut Battle,
     pairs: &[(u8, u8)],

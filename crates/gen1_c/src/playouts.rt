@@ -93,7 +93,7 @@ fn end_of(start: &Battle, random: &mut ChoiceGenerator) -> Outcome
     match copy_of(start) {
         Ok(copy) => {
             let mut copy = copy;
-            play_out(&mut copy, random)
+            run_to_end(&mut copy, random)
         }
         // A copy allocates nothing, so this does not happen.
         Err(_) => start.result().outcome,
@@ -108,7 +108,7 @@ fn copy_of(battle: &Battle) -> Result<Battle, AllocError>
 }
 
 // Plays a battle to its end by random choices, and returns how it ended.
-fn play_out(battle: &mut Battle, random: &mut ChoiceGenerator) -> Outcome
+fn run_to_end(battle: &mut Battle, random: &mut ChoiceGenerator) -> Outcome
     ensures ends { (s : State) → Stands battle.old s → EndsAs s result }
     ensures played { (s : State) → Stands battle.old s
         → IsPlayedOut s random.old.state result random.new.state }

@@ -131,7 +131,7 @@ pub fn update_offered<S: EventSink>(
     ensures result { (s : State) → Stands battle.new s → result ≡ result_of s }
     ensures room { AddsAtMost S.room 51 events.old events.new }
 {
-    play(battle, one, two, events);
+    step(battle, one, two, events);
     result(battle)
 }
 
@@ -153,7 +153,7 @@ fn is_over(battle: &Packed) -> bool
 }
 
 // An update by offered choices.
-fn play<S: EventSink>(battle: &mut Packed, one: Choice, two: Choice, events: &mut S)
+fn step<S: EventSink>(battle: &mut Packed, one: Choice, two: Choice, events: &mut S)
     requires empty { S.tells events.old [] }
     requires room { HasRoom S.room 51 events.old }
     ensures stepped { (s : State) → Stands battle.old s → AreOffered s one two
@@ -161,7 +161,7 @@ fn play<S: EventSink>(battle: &mut Packed, one: Choice, two: Choice, events: &mu
     ensures room { AddsAtMost S.room 51 events.old events.new }
 {
     match battle.request(Side::One) {
-        Request::Move => play_turn(battle, one, two, events),
+        Request::Move => step_turn(battle, one, two, events),
         _ => {
             if battle.turn() == 0 {
                 start(battle, events);
@@ -173,7 +173,7 @@ fn play<S: EventSink>(battle: &mut Packed, one: Choice, two: Choice, events: &mu
 }
 
 // A turn draws from the numbers of the header, and leaves them there as they are afterwards.
-fn play_turn<S: EventSink>(battle: &mut Packed, one: Choice, two: Choice, events: &mut S)
+fn step_turn<S: EventSink>(battle: &mut Packed, one: Choice, two: Choice, events: &mut S)
     requires empty { S.tells events.old [] }
     requires room { HasRoom S.room 51 events.old }
     ensures stepped { (s : State) → Stands battle.old s → Plays s Move one two

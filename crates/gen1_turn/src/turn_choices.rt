@@ -39,7 +39,7 @@ pub(crate) fn take_turn<R: Rolls, S: EventSink>(
 {
     end_flinch(battle, Side::One);
     end_flinch(battle, Side::Two);
-    play_choices(battle, one, two, known, random, events);
+    act_on_choices(battle, one, two, known, random, events);
 }
 
 fn end_flinch(battle: &mut Packed, side: Side)
@@ -49,7 +49,7 @@ fn end_flinch(battle: &mut Packed, side: Side)
     battle.put_flag(side, Conditions::FLINCH, false);
 }
 
-fn play_choices<R: Rolls, S: EventSink>(
+fn act_on_choices<R: Rolls, S: EventSink>(
     battle: &mut Packed,
     one: Choice,
     two: Choice,

@@ -2,7 +2,7 @@
 //! docs/LAYOUT.md, the user's member begins at byte 24 and its active block at 168. Those of the foe begin at 204 and
 //! 348.
 use crate::battles::{FOE, USER, assert_same, chansey, named, tauros};
-use crate::draws::{BOTH, Operation, play_from};
+use crate::draws::{BOTH, Operation, apply_from};
 use gen1_effects::{group_one, is_early_but_substitute};
 use gen1_layout::Packed;
 use gen1_machine::{Event, EventList};
@@ -17,7 +17,7 @@ mod user;
 struct EarlyEffects;
 
 impl Operation for EarlyEffects {
-    fn play<R: Rolls>(battle: &mut Packed, name: &str, random: &mut R) -> Result<EventList, Fail> {
+    fn apply<R: Rolls>(battle: &mut Packed, name: &str, random: &mut R) -> Result<EventList, Fail> {
         let id = named(name)?;
         if !is_early_but_substitute(id.effect()) {
             return Err("no early effect")?;
@@ -46,7 +46,7 @@ fn plays(
     changes: &[(usize, u8)],
 ) -> Result<(), Fail> {
     let after = bytes_with(battle, changes);
-    let (events, drawn) = play_from::<EarlyEffects>(battle, played)?;
+    let (events, drawn) = apply_from::<EarlyEffects>(battle, played)?;
     let (name, _, _) = played;
     assert_same(rt, (name, events.as_slice()), (name, told));
     assert_same(rt, (name, drawn), (name, draws));

@@ -1,7 +1,7 @@
 //! Stages that rise and fall, and sleep, with the numbers of docs/MECHANICS.md, "Late effects", "Stage shift", "Rules
 //! (sleep clause, freeze clause)". The last damage was 75.
 use crate::battles::{self, FOE, USER, assert_same, electrode, named, send_out};
-use crate::draws::{BOTH, Operation, play_from};
+use crate::draws::{BOTH, Operation, apply_from};
 use gen1_effects::{group_two, is_late_but_bide};
 use gen1_layout::{Conditions, Packed};
 use gen1_machine::{Event, EventList, Kind, Side, StageCount};
@@ -28,7 +28,7 @@ fn tauros() -> Result<Packed, Fail> {
 struct LateEffects;
 
 impl Operation for LateEffects {
-    fn play<R: Rolls>(battle: &mut Packed, name: &str, random: &mut R) -> Result<EventList, Fail> {
+    fn apply<R: Rolls>(battle: &mut Packed, name: &str, random: &mut R) -> Result<EventList, Fail> {
         let id = named(name)?;
         if !is_late_but_bide(id.effect()) {
             return Err("another effect")?;
@@ -53,7 +53,7 @@ fn plays(
     draws: u8,
     want: &Packed,
 ) -> Result<(), Fail> {
-    let (events, drawn) = play_from::<LateEffects>(battle, played)?;
+    let (events, drawn) = apply_from::<LateEffects>(battle, played)?;
     let (name, _, _) = played;
     assert_same(rt, (name, drawn), (name, draws));
     compare(rt, battle, &events, told, want);

@@ -1,6 +1,6 @@
 //! What a move may do in addition to its damage, with the numbers of docs/MECHANICS.md, "Side effects".
 use crate::battles::{FOE, USER, assert_same, named, send_out, tauros, tauros_under, tauros_with};
-use crate::draws::{BOTH, Operation, play_from};
+use crate::draws::{BOTH, Operation, apply_from};
 use gen1_effects::side_effect;
 use gen1_layout::Packed;
 use gen1_machine::{Event, EventList};
@@ -15,7 +15,7 @@ mod status_chance;
 struct SideEffects;
 
 impl Operation for SideEffects {
-    fn play<R: Rolls>(battle: &mut Packed, name: &str, random: &mut R) -> Result<EventList, Fail> {
+    fn apply<R: Rolls>(battle: &mut Packed, name: &str, random: &mut R) -> Result<EventList, Fail> {
         let id = named(name)?;
         let mut events = EventList::new();
         side_effect(battle, USER, id, random, &mut events);
@@ -36,7 +36,7 @@ fn plays(
     told: &[Event],
     draws: u8,
 ) -> Result<(), Fail> {
-    let (events, drawn) = play_from::<SideEffects>(battle, played)?;
+    let (events, drawn) = apply_from::<SideEffects>(battle, played)?;
     let (name, _, _) = played;
     assert_same(rt, (name, drawn), (name, draws));
     tells(rt, &events, told);

@@ -34,7 +34,7 @@ pub(crate) fn switch(place: u8) -> Result<Choice, Fail> {
     Ok(Choice::Switch(Place::new(place).ok_or("no such place")?))
 }
 
-pub(crate) fn play<R: Rolls + Copy>(
+pub(crate) fn run_turn<R: Rolls + Copy>(
     battle: &mut Packed,
     one: Choice,
     two: Choice,

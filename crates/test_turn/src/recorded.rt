@@ -32,7 +32,7 @@ pub(crate) fn played(
     for (number, update) in updates.iter().enumerate() {
         let first = Choice::from_byte(update.choices.0).ok_or("no such choice")?;
         let second = Choice::from_byte(update.choices.1).ok_or("no such choice")?;
-        let events = play(&mut battle, first, second);
+        let events = run_update(&mut battle, first, second);
         let log = log_of(&events);
         if !is_written(&log, &[update.log]) || !is_written(battle.as_bytes(), &update.bytes) {
             return Ok(number);
@@ -42,7 +42,7 @@ pub(crate) fn played(
 }
 
 // Plays the update that was asked for. A turn draws from the generator in the bytes, and writes it back.
-fn play(battle: &mut Packed, one: Choice, two: Choice) -> EventList {
+fn run_update(battle: &mut Packed, one: Choice, two: Choice) -> EventList {
     let mut events = EventList::new();
     match (battle.request(Side::One), battle.request(Side::Two)) {
         (Request::Pass, Request::Pass) => start(battle, &mut events),

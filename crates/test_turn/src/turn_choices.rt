@@ -1,6 +1,6 @@
 //! Turns (docs/MECHANICS.md, "Order of a turn"), and their end ("Falls and requests"). Tauros has 353 HP and is
 //! faster. Snorlax has 523 HP.
-use crate::duels::{both, duel, hurt, knowing, play, poisoned, slot, switch, uses};
+use crate::duels::{both, duel, hurt, knowing, poisoned, run_turn, slot, switch, uses};
 use crate::setting::{
     FOE, SEED, USER, assert_same, assert_told, bytes_of, gengar_out, tauros_out, turn,
     unstarted_alone, who, with,
@@ -36,7 +36,7 @@ fn requests_of(battle: &Packed) -> (Request, Request) {
 #[test]
 fn a_switch_comes_before_quick_attack(rt: HostRuntime) -> Result<(), Fail> {
     let mut battle = facing("Quick Attack", "Splash")?;
-    let events = play(&mut battle, slot(1)?, switch(2)?, &mut Sweep::new(0));
+    let events = run_turn(&mut battle, slot(1)?, switch(2)?, &mut Sweep::new(0));
     let (one, two) = both("Tauros", "Gengar")?;
     let told = [
         gengar_out(FOE)?,
@@ -46,7 +46,7 @@ fn a_switch_comes_before_quick_attack(rt: HostRuntime) -> Result<(), Fail> {
     ];
     assert_told(&rt, &events, &told);
     let mut battle = facing("Splash", "Quick Attack")?;
-    let events = play(&mut battle, switch(2)?, slot(1)?, &mut Sweep::new(0));
+    let events = run_turn(&mut battle, switch(2)?, slot(1)?, &mut Sweep::new(0));
     let (one, two) = both("Gengar", "Snorlax")?;
     let told = [
         gengar_out(USER)?,
@@ -62,7 +62,7 @@ fn a_switch_comes_before_quick_attack(rt: HostRuntime) -> Result<(), Fail> {
 fn both_switch_with_no_draw(rt: HostRuntime) -> Result<(), Fail> {
     let mut battle = facing("Splash", "Splash")?;
     let mut sweep = Sweep::new(9);
-    let events = play(&mut battle, switch(2)?, switch(2)?, &mut sweep);
+    let events = run_turn(&mut battle, switch(2)?, switch(2)?, &mut sweep);
     let told = [gengar_out(USER)?, gengar_out(FOE)?, turn(2)?];
     assert_told(&rt, &events, &told);
     assert_same(&rt, (battle.place(USER), battle.place(FOE)), (2, 2));
@@ -94,7 +94,7 @@ fn who_comes_out_suffers_before_the_other_acts(rt: HostRuntime) -> Result<(), Fa
     let snorlax = who(FOE, "Snorlax")?;
     let splash = splash(snorlax, gengar)?;
     let mut battle = poisoned_behind(323)?;
-    let events = play(&mut battle, switch(2)?, slot(1)?, &mut Sweep::new(0));
+    let events = run_turn(&mut battle, switch(2)?, slot(1)?, &mut Sweep::new(0));
     let told = [
         comes_out_poisoned(323)?,
         poisoned(gengar, 303, 323)?,
@@ -104,7 +104,7 @@ fn who_comes_out_suffers_before_the_other_acts(rt: HostRuntime) -> Result<(), Fa
     ];
     assert_told(&rt, &events, &told);
     let mut battle = poisoned_behind(323)?;
-    let events = play(&mut battle, switch(2)?, switch(2)?, &mut Sweep::new(0));
+    let events = run_turn(&mut battle, switch(2)?, switch(2)?, &mut Sweep::new(0));
     let told = [
         comes_out_poisoned(323)?,
         poisoned(gengar, 303, 323)?,
@@ -125,7 +125,7 @@ fn where_who_comes_out_falls_nobody_else_acts(rt: HostRuntime) -> Result<(), Fai
     ];
     for choice in [slot(1)?, switch(2)?] {
         let mut battle = poisoned_behind(20)?;
-        let events = play(&mut battle, switch(2)?, choice, &mut Sweep::new(0));
+        let events = run_turn(&mut battle, switch(2)?, choice, &mut Sweep::new(0));
         assert_told(&rt, &events, &told);
         assert_same(&rt, battle.place(FOE), 1);
         assert_same(
@@ -144,7 +144,7 @@ fn who_fells_its_foe_is_spared_its_residual(rt: HostRuntime) -> Result<(), Fail>
     battle.put_status(USER, Status::Poisoned);
     battle.put_hp(FOE, 1);
     // 7 rotated is 56, and the bound of a critical hit is 55.
-    let events = play(&mut battle, slot(1)?, slot(1)?, &mut Sweep::new(7));
+    let events = run_turn(&mut battle, slot(1)?, slot(1)?, &mut Sweep::new(7));
     let told = [
         uses(one, "Strength", two)?,
         hurt(two, 0, 523)?,
@@ -162,7 +162,7 @@ fn each_suffers_after_its_own_action(rt: HostRuntime) -> Result<(), Fail> {
     let mut battle = facing("Splash", "Splash")?;
     battle.put_status(USER, Status::Poisoned);
     battle.put_status(FOE, Status::Poisoned);
-    let events = play(&mut battle, slot(1)?, slot(1)?, &mut Sweep::new(0));
+    let events = run_turn(&mut battle, slot(1)?, slot(1)?, &mut Sweep::new(0));
     let first = splash(one, two)?;
     let second = splash(two, one)?;
     // A 16th of 353 is 22, and one of 523 is 32.
@@ -185,7 +185,7 @@ fn a_fall_by_poison_ends_the_turn(rt: HostRuntime) -> Result<(), Fail> {
     let mut battle = facing("Splash", "Splash")?;
     battle.put_status(USER, Status::Poisoned);
     battle.put_hp(USER, 22);
-    let events = play(&mut battle, slot(1)?, slot(1)?, &mut Sweep::new(0));
+    let events = run_turn(&mut battle, slot(1)?, slot(1)?, &mut Sweep::new(0));
     let first = splash(one, two)?;
     let told = [
         first[0],
@@ -203,7 +203,7 @@ fn the_foe_of_the_last_actor_faints_first(rt: HostRuntime) -> Result<(), Fail> {
     let (one, two) = both("Tauros", "Snorlax")?;
     let mut battle = facing("Explosion", "Splash")?;
     battle.put_hp(FOE, 1);
-    let events = play(&mut battle, slot(1)?, slot(1)?, &mut Sweep::new(7));
+    let events = run_turn(&mut battle, slot(1)?, slot(1)?, &mut Sweep::new(7));
     let told = [
         uses(one, "Explosion", two)?,
         hurt(two, 0, 523)?,
@@ -218,7 +218,7 @@ fn the_foe_of_the_last_actor_faints_first(rt: HostRuntime) -> Result<(), Fail> {
     );
     let mut battle = facing("Splash", "Explosion")?;
     battle.put_hp(USER, 1);
-    let events = play(&mut battle, slot(1)?, slot(1)?, &mut Sweep::new(7));
+    let events = run_turn(&mut battle, slot(1)?, slot(1)?, &mut Sweep::new(7));
     let first = splash(one, two)?;
     let told = [
         first[0],
@@ -238,7 +238,7 @@ fn a_fault_ends_the_battle_at_once(rt: HostRuntime) -> Result<(), Fail> {
     let mut battle = facing("Strength", "Splash")?;
     battle.put_status(USER, Status::Poisoned);
     battle.put_defense(FOE, 6, 0);
-    let events = play(&mut battle, slot(1)?, slot(1)?, &mut Sweep::new(7));
+    let events = run_turn(&mut battle, slot(1)?, slot(1)?, &mut Sweep::new(7));
     assert_same(&rt, events.len(), 2);
     assert_same(
         &rt,
@@ -270,7 +270,7 @@ fn trapping_ends_with_a_whole_turn(rt: HostRuntime) -> Result<(), Fail> {
     for (turns, left) in [(1, None), (2, Some(1))] {
         let mut battle = wrapping(turns)?;
         let mut sweep = Sweep::new(0);
-        let events = play(&mut battle, slot(0)?, slot(0)?, &mut sweep);
+        let events = run_turn(&mut battle, slot(0)?, slot(0)?, &mut sweep);
         let told = [
             uses(one, "Wrap", two)?,
             hurt(two, 513, 523)?,
@@ -288,7 +288,7 @@ fn trapping_stays_where_the_turn_was_cut(rt: HostRuntime) -> Result<(), Fail> {
     let (one, two) = both("Tauros", "Snorlax")?;
     let mut battle = wrapping(1)?;
     battle.put_hp(FOE, 10);
-    let events = play(&mut battle, slot(0)?, slot(0)?, &mut Sweep::new(0));
+    let events = run_turn(&mut battle, slot(0)?, slot(0)?, &mut Sweep::new(0));
     let told = [
         uses(one, "Wrap", two)?,
         hurt(two, 0, 523)?,
@@ -306,7 +306,7 @@ fn wrap_is_used_anew_where_the_foe_switches(rt: HostRuntime) -> Result<(), Fail>
     battle.put_current_move(USER, UsedMove::Slot(1));
     battle.put_trapping(USER, 2);
     battle.put_pp(USER, 1, 0);
-    let events = play(&mut battle, slot(0)?, switch(2)?, &mut Sweep::new(0));
+    let events = run_turn(&mut battle, slot(0)?, switch(2)?, &mut Sweep::new(0));
     let (one, two) = both("Tauros", "Tauros")?;
     assert_same(&rt, events.len(), 5);
     assert_same(&rt, events.get(1).copied(), Some(uses(one, "Wrap", two)?));
@@ -331,7 +331,7 @@ fn a_flinch_is_cleared_as_a_turn_begins(rt: HostRuntime) -> Result<(), Fail> {
     let mut battle = facing("Splash", "Splash")?;
     battle.put_flag(USER, Conditions::FLINCH, true);
     battle.put_flag(FOE, Conditions::FLINCH, true);
-    let events = play(&mut battle, slot(1)?, slot(1)?, &mut Sweep::new(0));
+    let events = run_turn(&mut battle, slot(1)?, slot(1)?, &mut Sweep::new(0));
     let first = splash(one, two)?;
     let second = splash(two, one)?;
     let told = [first[0], first[1], second[0], second[1], turn(2)?];
@@ -359,7 +359,7 @@ fn a_sleeper_that_haze_met_is_skipped(rt: HostRuntime) -> Result<(), Fail> {
         },
     );
     battle.put_flag(USER, Conditions::SEEDED, true);
-    let events = play(&mut battle, slot(1)?, slot(0)?, &mut Sweep::new(0));
+    let events = run_turn(&mut battle, slot(1)?, slot(0)?, &mut Sweep::new(0));
     let told = [
         uses(one, "Haze", two)?,
         Event::ClearAll,
@@ -384,7 +384,7 @@ fn the_stored_run_is_told_as_it_was_printed(rt: HostRuntime) -> Result<(), Fail>
     ];
     assert_told(&rt, &events, &first);
     let (one, two) = both("Tauros", "Tauros")?;
-    let events = play(&mut battle, slot(1)?, slot(1)?, &mut link);
+    let events = run_turn(&mut battle, slot(1)?, slot(1)?, &mut link);
     let second = [
         uses(one, "Strength", two)?,
         Event::Crit(two),
@@ -394,7 +394,7 @@ fn the_stored_run_is_told_as_it_was_printed(rt: HostRuntime) -> Result<(), Fail>
         turn(2)?,
     ];
     assert_told(&rt, &events, &second);
-    let events = play(&mut battle, slot(1)?, slot(1)?, &mut link);
+    let events = run_turn(&mut battle, slot(1)?, slot(1)?, &mut link);
     let third = [
         uses(one, "Strength", two)?,
         Event::Crit(two),

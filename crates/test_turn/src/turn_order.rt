@@ -1,6 +1,6 @@
 //! Who acts first in a turn (docs/MECHANICS.md, "Order of a turn"). Tauros has a Speed of 318, and Snorlax one of
 //! 158.
-use crate::duels::{both, duel, hurt, knowing, play, slot, uses};
+use crate::duels::{both, duel, hurt, knowing, run_turn, slot, uses};
 use crate::setting::{FOE, USER, assert_same, assert_told, turn};
 use gen1_layout::Packed;
 use gen1_machine::{CantReason, Event, EventList, UsedMove, Volatile, Who};
@@ -32,7 +32,7 @@ fn drawn_since(start: u8, mut sweep: Sweep) -> u8 {
 fn tied_splash(byte: u8) -> Result<(EventList, u8), Fail> {
     let mut battle = facing(("Tauros", "Splash"), ("Tauros", "Splash"))?;
     let mut sweep = Sweep::new(byte);
-    let events = play(&mut battle, slot(1)?, slot(1)?, &mut sweep);
+    let events = run_turn(&mut battle, slot(1)?, slot(1)?, &mut sweep);
     Ok((events, drawn_since(byte, sweep)))
 }
 
@@ -58,7 +58,7 @@ fn a_tie_is_drawn_from_a_link_battles_numbers(rt: HostRuntime) -> Result<(), Fai
     for (byte, first, second) in [(127, one, two), (128, two, one)] {
         let mut battle = facing(("Tauros", "Splash"), ("Tauros", "Splash"))?;
         let mut link = LinkRandom::new([byte; 10]);
-        let events = play(&mut battle, slot(1)?, slot(1)?, &mut link);
+        let events = run_turn(&mut battle, slot(1)?, slot(1)?, &mut link);
         assert_told(&rt, &events, &splashes(first, second)?);
         assert_same(&rt, link.index(), 1);
     }
@@ -69,12 +69,12 @@ fn a_tie_is_drawn_from_a_link_battles_numbers(rt: HostRuntime) -> Result<(), Fai
 fn the_faster_acts_first_with_no_draw(rt: HostRuntime) -> Result<(), Fail> {
     let mut battle = facing(("Snorlax", "Splash"), ("Tauros", "Splash"))?;
     let mut sweep = Sweep::new(0);
-    let events = play(&mut battle, slot(1)?, slot(1)?, &mut sweep);
+    let events = run_turn(&mut battle, slot(1)?, slot(1)?, &mut sweep);
     let (one, two) = both("Snorlax", "Tauros")?;
     assert_told(&rt, &events, &splashes(two, one)?);
     assert_same(&rt, drawn_since(0, sweep), 0);
     let mut battle = facing(("Tauros", "Splash"), ("Snorlax", "Splash"))?;
-    let events = play(&mut battle, slot(1)?, slot(1)?, &mut Sweep::new(255));
+    let events = run_turn(&mut battle, slot(1)?, slot(1)?, &mut Sweep::new(255));
     let (one, two) = both("Tauros", "Snorlax")?;
     assert_told(&rt, &events, &splashes(one, two)?);
     Ok(())
@@ -84,7 +84,7 @@ fn the_faster_acts_first_with_no_draw(rt: HostRuntime) -> Result<(), Fail> {
 fn a_slower_quick_attack_is_first(rt: HostRuntime) -> Result<(), Fail> {
     let mut battle = facing(("Snorlax", "Quick Attack"), ("Tauros", "Splash"))?;
     let mut sweep = Sweep::new(1);
-    let events = play(&mut battle, slot(1)?, slot(1)?, &mut sweep);
+    let events = run_turn(&mut battle, slot(1)?, slot(1)?, &mut sweep);
     let (one, two) = both("Snorlax", "Tauros")?;
     // The first draw is the critical draw: 1 rotated is 8, and the bound is 15. 2 would be 16. At level 200 the
     // damage is 82 * 40 * 79 / 72 / 50 + 2 = 73, and 109 for the user's own type. With the factor 217, of the byte
@@ -122,7 +122,7 @@ fn a_sleeper_keeps_the_move_that_it_picked(rt: HostRuntime) -> Result<(), Fail> 
             },
         );
         let mut sweep = Sweep::new(0);
-        let events = play(&mut battle, slot(0)?, slot(1)?, &mut sweep);
+        let events = run_turn(&mut battle, slot(0)?, slot(1)?, &mut sweep);
         let told = if first {
             [cant, splash[0], splash[1], turn(2)?]
         } else {
@@ -140,7 +140,7 @@ fn counters_of_equal_speed_take_one_draw(rt: HostRuntime) -> Result<(), Fail> {
     for (byte, first, second) in [(127, one, two), (128, two, one)] {
         let mut battle = facing(("Tauros", "Counter"), ("Tauros", "Counter"))?;
         let mut sweep = Sweep::new(byte);
-        let events = play(&mut battle, slot(1)?, slot(1)?, &mut sweep);
+        let events = run_turn(&mut battle, slot(1)?, slot(1)?, &mut sweep);
         let told = [
             uses(first, "Counter", second)?,
             Event::Miss(first),
@@ -159,7 +159,7 @@ fn counters_of_equal_speed_take_one_draw(rt: HostRuntime) -> Result<(), Fail> {
 fn a_counter_is_last(rt: HostRuntime) -> Result<(), Fail> {
     let mut battle = facing(("Tauros", "Counter"), ("Snorlax", "Splash"))?;
     let mut sweep = Sweep::new(0);
-    let events = play(&mut battle, slot(1)?, slot(1)?, &mut sweep);
+    let events = run_turn(&mut battle, slot(1)?, slot(1)?, &mut sweep);
     let (one, two) = both("Tauros", "Snorlax")?;
     let told = [
         uses(two, "Splash", one)?,
@@ -179,7 +179,7 @@ fn who_is_held_has_picked_no_move(rt: HostRuntime) -> Result<(), Fail> {
     let mut battle = facing(("Tauros", "Splash"), ("Snorlax", "Quick Attack"))?;
     battle.put_picked_move(FOE, UsedMove::Slot(1));
     battle.put_trapping(USER, 2);
-    let events = play(&mut battle, slot(1)?, slot(0)?, &mut Sweep::new(0));
+    let events = run_turn(&mut battle, slot(1)?, slot(0)?, &mut Sweep::new(0));
     let (one, two) = both("Tauros", "Snorlax")?;
     let told = [
         uses(one, "Splash", two)?,

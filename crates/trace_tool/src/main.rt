@@ -25,13 +25,13 @@ fn main(rt: HostRuntime) -> Result<()> {
             Ok(sheet) => sheet,
             Err(_) => return Err(anyhow!("a line asks for no battle")),
         };
-        play(alloc, &sheet, &mut out)?;
+        write_trace(alloc, &sheet, &mut out)?;
     }
     out.flush()?;
     Ok(())
 }
 
-fn play<W: Write>(alloc: Global, sheet: &Sheet<(u8, u8)>, out: &mut W) -> Result<()> {
+fn write_trace<W: Write>(alloc: Global, sheet: &Sheet<(u8, u8)>, out: &mut W) -> Result<()> {
     let asked = &sheet.battle;
     let one = Team::new(asked.one.as_slice())?;
     let two = Team::new(asked.two.as_slice())?;

@@ -1,5 +1,5 @@
 //! Haze, which acts on both sides (docs/MECHANICS.md, "Early effects").
-use super::{BOTH, EarlyEffects, FOE, USER, bytes_with, named, play_from, tauros};
+use super::{BOTH, EarlyEffects, FOE, USER, apply_from, bytes_with, named, tauros};
 use crate::battles::assert_same;
 use gen1_action::Known;
 use gen1_effects::{group_one_knowing, is_early_but_substitute};
@@ -36,7 +36,7 @@ fn before_haze() -> Result<Packed, Fail> {
 fn haze(rt: HostRuntime) -> Result<(), Fail> {
     for link in BOTH {
         let mut battle = before_haze()?;
-        let (events, draws) = play_from::<EarlyEffects>(&mut battle, ("Haze", 0, link))?;
+        let (events, draws) = apply_from::<EarlyEffects>(&mut battle, ("Haze", 0, link))?;
         let cure = Event::Cure(battle.who(FOE), Kind::Freeze);
         assert_same(&rt, events.as_slice(), [Event::ClearAll, cure].as_slice());
         assert_same(&rt, draws, 0);

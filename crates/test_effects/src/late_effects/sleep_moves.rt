@@ -2,7 +2,7 @@
 //! clause)").
 use super::{
     Abort, BOTH, Conditions, Event, FOE, Fail, Ghost, Kind, LateEffects, LinkRandom, Operation,
-    Packed, Stat, Status, Sweep, USER, compare, fails, misses, play_from, plays, send_out, tauros,
+    Packed, Stat, Status, Sweep, USER, apply_from, compare, fails, misses, plays, send_out, tauros,
     tauros_under,
 };
 use crate::battles::assert_same;
@@ -73,7 +73,7 @@ fn sleep_moves_that_miss(rt: HostRuntime) -> Result<(), Fail> {
         }
         let mut battle = tauros()?;
         battle.put_types(FOE, Ghost, Ghost);
-        let (events, _) = play_from::<LateEffects>(&mut battle, ("Sing", 140, link))?;
+        let (events, _) = apply_from::<LateEffects>(&mut battle, ("Sing", 140, link))?;
         let immune = [Event::Immune(battle.who(FOE))];
         assert_same(&rt, events.as_slice(), immune.as_slice());
     }
@@ -151,7 +151,7 @@ fn ten_draws(rt: HostRuntime) -> Result<(), Fail> {
     ] {
         let mut battle = teammate_with(rules, teammate)?;
         let mut random = LinkRandom::new([0; 10]);
-        let events = LateEffects::play(&mut battle, "Spore", &mut random)?;
+        let events = LateEffects::apply(&mut battle, "Spore", &mut random)?;
         let mut want = teammate_with(rules, teammate)?;
         want.put_status(FOE, asleep(1, marked));
         let told = [Event::Status(want.who(FOE), Kind::Sleep)];
@@ -192,7 +192,7 @@ fn the_active_has_the_mark(rt: HostRuntime) -> Result<(), Fail> {
     want.put_status(FOE, asleep(3, true));
     let told = [Event::Fail(battle.who(USER))];
     let mut random = Sweep::new(1);
-    let events = LateEffects::play(&mut battle, "Spore", &mut random)?;
+    let events = LateEffects::apply(&mut battle, "Spore", &mut random)?;
     compare(&rt, &battle, &events, &told, &want);
     assert_same(&rt, random, Sweep::new(1));
     Ok(())
@@ -206,7 +206,7 @@ fn the_clause_counts_no_fallen(rt: HostRuntime) -> Result<(), Fail> {
         send_out(&mut battle, FOE, 2);
         battle.put_fallen(FOE);
         send_out(&mut battle, FOE, 1);
-        play_from::<LateEffects>(&mut battle, ("Spore", 1, link))?;
+        apply_from::<LateEffects>(&mut battle, ("Spore", 1, link))?;
         assert_same(&rt, battle.status(FOE), asleep(turns, true));
     }
     Ok(())
@@ -218,7 +218,7 @@ fn the_clause_counts_no_sleeper_of_the_users(rt: HostRuntime) -> Result<(), Fail
     for (link, turns) in [(false, 2), (true, 1)] {
         let mut battle = tauros_under(1)?;
         battle.put_status(USER, asleep(3, true));
-        play_from::<LateEffects>(&mut battle, ("Spore", 1, link))?;
+        apply_from::<LateEffects>(&mut battle, ("Spore", 1, link))?;
         assert_same(&rt, battle.status(FOE), asleep(turns, true));
     }
     Ok(())

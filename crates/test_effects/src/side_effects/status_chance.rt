@@ -1,7 +1,7 @@
 //! Poison, burns, freezes and paralysis, and the thaw (docs/MECHANICS.md, "Side effects", "Rules (sleep clause, freeze
 //! clause)").
 use super::{
-    Abort, BOTH, FOE, SideEffects, does_nothing, play_from, plays, send_out, tauros, tauros_under,
+    Abort, BOTH, FOE, SideEffects, apply_from, does_nothing, plays, send_out, tauros, tauros_under,
 };
 use crate::battles::assert_same;
 use gen1_layout::{Conditions, Packed};
@@ -61,7 +61,7 @@ fn penalties(rt: HostRuntime) -> Result<(), Fail> {
             ("Thunderbolt", Stat::Speed, 79),
         ] {
             let mut battle = of_rock()?;
-            play_from::<SideEffects>(&mut battle, (name, 0, link))?;
+            apply_from::<SideEffects>(&mut battle, (name, 0, link))?;
             assert_same(&rt, battle.current_stat(FOE, stat), value);
         }
     }

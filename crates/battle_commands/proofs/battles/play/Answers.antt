@@ -13,4 +13,4 @@ returns-in-Err-clause-write g c = no_writes _ _ c.in-Err.ensures.write
 pub returns-clause-answers : goal.returns-clause-answers
 returns-clause-answers g c =
     answers_opened (due_from lines 0) asked_to_run c.in-Ok.bout _ _ _ _ c.in-Ok.ensures.opens
-    (λ x stands items. rw (c.as_slice.ensures.value, items) at (c.play_pairs.ensures.answers x.state stands))
+    (λ x stands items. rw (c.as_slice.ensures.value, items) at (c.print_pairs.ensures.answers x.state stands))

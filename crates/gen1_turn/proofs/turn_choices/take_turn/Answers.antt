@@ -16,5 +16,5 @@ returns-clause-shown t c origin g p plan (one, two, x, y) v h =
     let vb = (flinch-planned terms plan Two).kept _ va in
     let still_one = flinch-comes c.args.one Two One _ (flinch-comes c.args.one One One p x) in
     let still_two = flinch-comes c.args.two Two Two _ (flinch-comes c.args.two One Two p y) in
-    let q = c.play_choices.ensures.shown origin g _ plan (one, two, still_one, still_two) vb (h.0, b) in
-    ends_as c.play_choices.new.known g _ _ (then-goes (on_conditions One without_flinch) _ p a.shows.ends ∙ then-goes (on_conditions Two without_flinch) _ _ b.shows.ends) q
+    let q = c.act_on_choices.ensures.shown origin g _ plan (one, two, still_one, still_two) vb (h.0, b) in
+    ends_as c.act_on_choices.new.known g _ _ (then-goes (on_conditions One without_flinch) _ p a.shows.ends ∙ then-goes (on_conditions Two without_flinch) _ _ b.shows.ends) q

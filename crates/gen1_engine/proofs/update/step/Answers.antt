@@ -3,12 +3,12 @@ use Rattle.gen1_machine.specs.declared.terms.Request.TheVariants as requests
 use Rattle.gen1_layout.specs.Within.{setting_of}
 use Rattle.gen1_requests.proofs.BetweenUpdates.{packs_of}
 use Rattle.gen1_engine.proofs.Making.{plays_switches, plays_turn, starts_of, starts_so}
-use Rattle.gen1_engine.proofs.update.play.Goals as goal
+use Rattle.gen1_engine.proofs.update.step.Goals as goal
 
 pub returns-in-Move-clause-stepped : goal.returns-in-Move-clause-stepped
 returns-in-Move-clause-stepped t c s h o =
     let asked = sym (c.request.ensures.packs (setting_of s) s.field (packs_of h)) ∙ c.in-Move.is in
-    c.play_turn.ensures.stepped s h (plays_turn o asked)
+    c.step_turn.ensures.stepped s h (plays_turn o asked)
 
 pub returns-then-turn-eq0-clause-stepped : goal.returns-then-turn-eq0-clause-stepped
 returns-then-turn-eq0-clause-stepped t c s h o =

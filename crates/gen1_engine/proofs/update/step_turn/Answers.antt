@@ -11,7 +11,7 @@ use Rattle.gen1_machine.specs.Step.{close_update, opened}
 use Rattle.gen1_layout.specs.Within.{setting_of}
 use Rattle.gen1_requests.proofs.BetweenUpdates.{within_asked}
 use Rattle.gen1_engine.proofs.Making.{both_move, turn_made, turned_so}
-use Rattle.gen1_engine.proofs.update.play_turn.Goals as goal
+use Rattle.gen1_engine.proofs.update.step_turn.Goals as goal
 
 pub returns-in-Some-clause-stepped : goal.returns-in-Some-clause-stepped
 returns-in-Some-clause-stepped t c s h plays =

@@ -1,7 +1,7 @@
 use Rattle.gen1_layout.proofs.Words.{false, ◌∙◌}
 use Rattle.gen1_machine.specs.declared.side.Side.TheVariants.{One, Two}
 use Rattle.gen1_turn.proofs.Turns.{ends_as, ends_still, picked-both, picked-one, play-first_passes, play-moves, play-one, play-second_passes, play-switches, play-two}
-use Rattle.gen1_turn.proofs.turn_choices.play_choices.Goals as goal
+use Rattle.gen1_turn.proofs.turn_choices.act_on_choices.Goals as goal
 
 pub returns-in-Move-two-clause-shown : goal.returns-in-Move-two-clause-shown
 returns-in-Move-two-clause-shown t c origin g p plan (one, two, x, y) v h =

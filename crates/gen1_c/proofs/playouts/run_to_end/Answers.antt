@@ -9,7 +9,7 @@ use Rattle.gen1_engine.specs.declared.result.BattleResult.{BattleResult}
 use Rattle.gen1_c.specs.Playouts.{Playout, played}
 use Rattle.gen1_c.proofs.Accepting.{accepts-more, accepts-none}
 use Rattle.gen1_c.proofs.Playing.{drawn-offered, ended, offers-drawn, plays_on-more, plays_on-none}
-use Rattle.gen1_c.proofs.playouts.play_out.Goals as goal
+use Rattle.gen1_c.proofs.playouts.run_to_end.Goals as goal
 
 pub updates-init : goal.updates-init
 updates-init c s h = (accepts-none s h, plays_on-none s c.args.random.now.state h)

@@ -5,7 +5,7 @@ use Rattle.gen1_engine.specs.Update.{refusal_number}
 use Rattle.battle_commands.specs.declared.fault.ToolFault.TheVariants.{Pair}
 use Rattle.battle_commands.proofs.Outcomes.{or_false}
 use Rattle.battle_commands.proofs.Standing.{answered_err, answered_ok, answers_memory, answers_over, answers_refused, answers_write, stood_first, stood_more}
-use Rattle.battle_commands.proofs.battles.play_pairs.Goals as goal
+use Rattle.battle_commands.proofs.battles.print_pairs.Goals as goal
 
 pub loop-number-init : goal.loop-number-init
 loop-number-init g c = (refl, λ s h. stood_first lines s c.args.pairs.now c.args.battle.now _ h)

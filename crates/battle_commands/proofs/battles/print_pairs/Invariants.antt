@@ -4,7 +4,7 @@ use Rattle.gen1_machine.specs.Lines.{lines}
 use Rattle.gen1_machine.specs.State.{State}
 use Rattle.gen1_layout.specs.Within.{Stands}
 use Rattle.battle_commands.proofs.Standing.{Stood}
-use Rattle.battle_commands.proofs.battles.play_pairs.Given as goal
+use Rattle.battle_commands.proofs.battles.print_pairs.Given as goal
 
 abbrev pub invariant-loop-number : goal.invariant-loop-number
 invariant-loop-number g l =
