@@ -33,12 +33,12 @@ const NOT_A_MOVE: u8 = 255;
 /// Computes the odds of a move of a side, with both active members as they are now. Returns 0, or the first code that applies, as
 /// `gen1_damage` returns it; then nothing has changed.
 #[unsafe(no_mangle)]
-pub extern "C" fn gen1_odds_now(battle: &Packed, side: u8, number: u8, hit: &mut Odds) -> u8
+pub extern "C" fn gen1_odds_now(battle: &Packed, side: u8, number: u8, odds: &mut Odds) -> u8
     ensures tells { (s : State) (which : Side) → Stands battle.now s → side ≡ side_number which
-        → TellsOdds (odds_due which number s.field) hit.old hit.new result }
-    ensures no_side { IsNoSide side → (result ≡ 1) × (hit.new ≡ hit.old) }
+        → TellsOdds (odds_due which number s.field) odds.old odds.new result }
+    ensures no_side { IsNoSide side → (result ≡ 1) × (odds.new ≡ odds.old) }
     // For any bytes, valid or not.
-    ensures kept { result ≢ 0 → hit.new ≡ hit.old }
+    ensures kept { result ≢ 0 → odds.new ≡ odds.old }
 {
     let Some(side) = Side::from_number(side) else {
         return NO_SIDE;
@@ -49,7 +49,7 @@ pub extern "C" fn gen1_odds_now(battle: &Packed, side: u8, number: u8, hit: &mut
     if battle.turn() == 0 {
         return NOBODY;
     }
-    *hit = odds_of(battle, side, id);
+    *odds = odds_of(battle, side, id);
     0
 }
 
@@ -60,12 +60,12 @@ pub extern "C" fn gen1_odds_between(
     user: &MemberForm,
     foe: &MemberForm,
     number: u8,
-    hit: &mut Odds,
+    odds: &mut Odds,
 ) -> u32
     ensures fault { result ≡ between_fault user.now foe.now number }
-    ensures told { result ≡ 0 → hit.new ≡ odds_in One (move_at number)
+    ensures told { result ≡ 0 → odds.new ≡ odds_in One (move_at number)
         (facing (team_of (sheet_of user.now ∷ [])) (team_of (sheet_of foe.now ∷ []))).field }
-    ensures kept { result ≢ 0 → hit.new ≡ hit.old }
+    ensures kept { result ≢ 0 → odds.new ≡ odds.old }
 {
     let Some(id) = MoveId::new(number) else {
         return NO_SUCH_MOVE;
@@ -78,7 +78,7 @@ pub extern "C" fn gen1_odds_between(
         Ok(team) => team,
         Err(fault) => return 131072 + fault,
     };
-    *hit = odds_of(&sent_out(&user, &foe), Side::One, id);
+    *odds = odds_of(&sent_out(&user, &foe), Side::One, id);
     0
 }
 
