@@ -114,7 +114,7 @@ fn header_bytes(seed: &[u8], rules: Rules, limit: TurnLimit) -> [u8; 24]
     ]
 }
 
-// The bytes of the member at a place from 1, or zeros if there is no member.
+// The bytes of the member at a place from 1, or zeros for an empty place.
 fn block_of(members: &[Member], place: u8) -> [u8; 24]
     requires { 1 ≤ place }
     ensures { result ≡ member_block (slice_index_or members.now (place - 1) nobody) }

@@ -107,7 +107,7 @@ impl Packed {
         self.member(side, place)[0]
     }
 
-    /// The HP of the member at a place, 1 to 6: 0 to its maximum HP, and 0 if there is no member.
+    /// The HP of the member at a place, 1 to 6: 0 to its maximum HP, and 0 for an empty place.
     pub fn hp_at(&self, side: Side, place: u8) -> u16
         requires low { 1 ≤ place }
         requires high { place ≤ 6 }
@@ -129,7 +129,7 @@ impl Packed {
         status_from(member[14], member[23])
     }
 
-    /// The level of the member at a place, 1 to 6: 1 to 100, or 0 if there is no member.
+    /// The level of the member at a place, 1 to 6: 1 to 100, or 0 for an empty place.
     pub fn level_at(&self, side: Side, place: u8) -> u8
         requires low { 1 ≤ place }
         requires high { place ≤ 6 }
@@ -138,7 +138,7 @@ impl Packed {
         self.member(side, place)[1]
     }
 
-    /// The maximum HP of the member at a place, 1 to 6: 11 to 999, or 0 if there is no member.
+    /// The maximum HP of the member at a place, 1 to 6: 11 to 999, or 0 for an empty place.
     pub fn max_hp_at(&self, side: Side, place: u8) -> u16
         requires low { 1 ≤ place }
         requires high { place ≤ 6 }

@@ -81,7 +81,7 @@ unfolding computing
 switches_come_first = (refl, refl, refl)
 
 -- Sending out (docs/MECHANICS.md, "Switching in"): one event reports it, with the health that the member brings. A
--- paralyzed member's Speed of 318 is quartered to 79, and the foe's trapping ends
+-- paralysed member's Speed of 318 is quartered to 79, and the foe's trapping ends
 
 abbrev sent_in : Progress
 sent_in = send_out Two 2 (joined_by Two (record (left_with 200) { status = Paralysed })

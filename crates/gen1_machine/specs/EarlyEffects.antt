@@ -114,7 +114,7 @@ poison_foe s move =
     ▸ must_hit s move ▸ inflict (other s) Poisoned kinds.Poison
     ▸ only (move.number == toxic) (on_conditions (other s) with_bad_poison)
 
--- Paralysis passes a substitute. An Electric move doesn't paralyze a Ground type.
+-- Paralysis passes a substitute. An Electric move doesn't paralyse a Ground type.
 unfoldable pub paralyse_foe : Side → Move → Phase
 paralyse_foe s move =
     fails_if s (has_status (other s))

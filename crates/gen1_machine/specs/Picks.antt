@@ -1,4 +1,4 @@
--- What a side's choice of a move comes to as the turn begins (docs/MECHANICS.md, "Picks").
+-- What a side's choice of a move becomes as the turn begins (docs/MECHANICS.md, "Picks").
 use Rattle.std.specs.Prelude.{Bool, List, None, Option, Some, false, if◌then◌else◌, is_some, suc, true, zero, ℕ, ◌==◌, ◌||◌}
 use Rattle.gen1_stats.specs.declared.known_move.KnownMove.{KnownMove}
 use Rattle.gen1_machine.specs.declared.side.Side.{Side}

@@ -1,7 +1,7 @@
 -- What the sides plan in a turn: the move that each is about to use, or is using. Bide, thrashing, trapping,
 -- charging, recharging and rage need the move that began them as their explanation. No field holds a move before it
 -- is used, so code takes the plan as a premise, and its callers pass it on. It goes from an offered choice (`PlanOf`,
--- `Comes`) to the pick that it comes to (`FitsPick`), and then to the move that is used.
+-- `Comes`) to the pick that it becomes (`FitsPick`), and then to the move that is used.
 use Rattle.std.specs.Prelude.{List, length, suc, ℕ, ◌≡◌, ◌≢◌}
 use Rattle.gen1_tables.specs.declared.effect.Effect.{Effect}
 use Rattle.gen1_tables.specs.declared.effect.Effect.TheVariants as effects

@@ -55,7 +55,7 @@ IsStatus rules (Asleep turns marked) = IsBetween 1 7 turns × OnlyWith rules.sle
 IsStatus rules _ = Unit {0}
 
 pub record IsMemberUnder (rules : Rules) (m : Member) : Type 0 where
-  pub numbers : IsMember m  -- level, HP, stats, and one to four different moves with their PP: none left out, nor Struggle
+  pub numbers : IsMember m  -- level, HP, stats, and one to four different moves with their PP: neither Struggle nor a move that is left out
   pub species : IsBetween 1 151 m.species
   pub moves : All (λ (k : KnownMove). IsBetween 1 165 k.id) m.moves
   pub status : IsStatus rules m.status

@@ -6,7 +6,7 @@
 //! - `side`: the two sides
 //! - `ranges`: numbers that keep to a range
 //! - `choice`: what a side chooses
-//! - `picks`: what a side's choice comes to in a turn
+//! - `picks`: what a side's choice becomes in a turn
 //! - `terms`: outcomes, requests, rules and the turn limit
 //! - `formulas`: a link number, and a stat at its stage
 //! - `io`: sinks and sources

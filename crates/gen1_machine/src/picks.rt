@@ -11,7 +11,7 @@ pub enum UsedMove {
     Struggle,
 }
 
-/// What a side's choice of a move comes to as the turn begins (docs/MECHANICS.md, "Picks").
+/// What a side's choice of a move becomes as the turn begins (docs/MECHANICS.md, "Picks").
 #[derive(Debug, Clone, Copy, PartialEq, Eq)]
 pub enum Pick {
     /// A move that is picked for this turn.

@@ -9,7 +9,7 @@ use gen1_layout::Packed;
 use gen1_machine::Side;
 use gen1_tables::MoveId;
 
-// Why there are no damages, with the numbers of `gen1_damage` of gen1_c.
+// The reasons for having no damages, with the numbers of `gen1_damage` of gen1_c.
 const UNUSUAL: u8 = 3;
 
 const DIVISOR: u8 = 5;

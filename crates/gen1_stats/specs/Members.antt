@@ -10,7 +10,7 @@ use Rattle.gen1_stats.specs.declared.status.Status.TheVariants.{Asleep, Frozen, 
 pub record Member : Type 0 where
   pub species : ℕ
   pub level : ℕ
-  pub max : ℕ  -- its HP where it is unhurt
+  pub max : ℕ  -- its HP while it is unhurt
   pub hp : ℕ
   pub attack : ℕ
   pub defense : ℕ

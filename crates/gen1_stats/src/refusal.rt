@@ -9,7 +9,7 @@ use std::fmt;
 /// from 1.
 #[derive(Debug, Clone, Copy, PartialEq, Eq)]
 pub enum TeamRefusal {
-    /// There are no members.
+    /// The list of members is empty.
     Empty,
     /// There are more than six members.
     TooMany,

@@ -1,7 +1,7 @@
 //! What keeps a member from acting, and the effect of statuses and stages on it, over the bytes of a battle
 //! (docs/MECHANICS.md, "Penalties", "Stage shift", "Picks" to "Hit on itself", "Residual damage").
 //!
-//! - `picks`: what a side's choice comes to
+//! - `picks`: what a side's choice becomes
 //! - `gate_tests`: what keeps a member from acting
 //! - `gate_answer`: the result of the gate
 //! - `hit_on_itself`: the hit of a confused member on itself

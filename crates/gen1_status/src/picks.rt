@@ -1,4 +1,4 @@
-//! What a side's choice comes to as the turn begins (docs/MECHANICS.md, "Picks").
+//! What a side's choice becomes as the turn begins (docs/MECHANICS.md, "Picks").
 ghost use Rattle.std.specs.Prelude.{◌≡◌};
 ghost use Rattle.gen1_layout.specs.Words.{Reads, active_in, underway_in, zero, ℕ};
 ghost use Rattle.gen1_machine.specs.Picks.{must_continue, pick_in, used_by};
@@ -6,7 +6,7 @@ ghost use Rattle.gen1_machine.specs.Picks.{must_continue, pick_in, used_by};
 use gen1_layout::{Conditions, Packed};
 use gen1_machine::{Choice, Pick, Side, UsedMove};
 
-/// What a choice of a move comes to (docs/MECHANICS.md, "Picks").
+/// What a choice of a move becomes (docs/MECHANICS.md, "Picks").
 ///
 /// Slots 1 to 4 are picked as they are. The meaning of slot 0 depends on the conditions and the status. A choice that
 /// isn't a move has no pick, and returns the same as slot 0.

@@ -67,7 +67,7 @@ pub(crate) fn move_taken(battle: &Packed, side: Side, pick: Pick) -> MoveId
     }
 }
 
-// The number of a move, by where it comes from. 0 is no move.
+// The number of a move, by where it comes from, or 0 for none.
 pub(crate) fn number_of(battle: &Packed, side: Side, used: UsedMove) -> u8
     ensures stands { (g : Setting) (f : Field) → Within g battle.now f
         → IsUsedMove (length (member_in side f).moves) used

@@ -96,7 +96,7 @@ fn nothing_is_drawn_on_the_type(rt: HostRuntime) -> Result<(), Fail> {
     does_nothing(&rt, &mut tauros()?, "Body Slam", 0, 0)
 }
 
-// A Fire move thaws, and its burn does the same for a foe of type Fire.
+// A Fire move that can burn thaws a frozen foe, even one of type Fire.
 #[test]
 fn the_thaw(rt: HostRuntime) -> Result<(), Fail> {
     for link in BOTH {
