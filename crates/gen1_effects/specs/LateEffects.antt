@@ -1,4 +1,4 @@
--- Moves that act at the place of the damage (docs/MECHANICS.md, "Late effects"), without Bide, which lasts.
+-- Moves that act after the damage step (docs/MECHANICS.md, "Late effects"), without Bide, which lasts.
 use Rattle.std.specs.Prelude.{Bool, false, true}
 use Rattle.gen1_tables.specs.declared.effect.Effect.{Effect}
 use Rattle.gen1_tables.specs.declared.effect.Effect.TheVariants as effects

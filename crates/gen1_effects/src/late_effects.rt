@@ -1,4 +1,4 @@
-//! Moves that act at the place of the damage: they raise and lower stages, and put the foe to sleep
+//! Moves that act after the damage step: they raise and lower stages, and put the foe to sleep
 //! (docs/MECHANICS.md, "Late effects"). Bide, which lasts, isn't one of these.
 ghost use Rattle.std.specs.Prelude.{◌≡◌};
 ghost use Rattle.gen1_layout.specs.Words.{AddsAtMost, HasRoom, move_at, stop, true, ◌▸◌};

@@ -2,7 +2,7 @@
 //! effects", "Late effects", "Side effects").
 //!
 //! - `early_effects`: effects before any damage
-//! - `late_effects`: effects at the place of the damage
+//! - `late_effects`: effects after the damage step
 //! - `side_effects`: effects in addition to damage
 //! - `targets`: what a move finds at a member
 #![tactic(auto)]

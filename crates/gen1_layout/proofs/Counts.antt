@@ -13,7 +13,7 @@ use Rattle.gen1_layout.specs.Flags.{SameNumbers, count_bytes}
 use Rattle.gen1_layout.specs.Storable.{IsStorableConditions, IsStorableUnderway, IsStorableBide}
 use Rattle.gen1_layout.proofs.Bits.{bits_of-is, bits_of-lt}
 
--- 17 bits
+-- The conditions are 17 bits.
 pub number_small : (c : ActiveConditions) → conditions_number c < 131072
 number_small c = let bits = condition_bits c in let e = bits_of-is bits in let small = bits_of-lt bits in omega (arith, e, small)
 

@@ -47,7 +47,7 @@ impl Packed {
         packed
     }
 
-    // Zeros.
+    // A battle whose bytes are all zeros.
     fn blank() -> Packed
         ensures header { result.header ≡ replicate 24 0 }
         ensures one { result.one ≡ record

@@ -24,7 +24,7 @@ use Rattle.gen1_machine.proofs.GateCosts.{starts-costs, lose-costs, gain-costs, 
 abbrev pub shifted : Bound → Bound
 shifted b = either b (either (goes 0 0 0 ⨟ goes 0 1 5 ⨟ b) (goes 0 1 5))
 
--- The effects whose loop comes at the place of the damage.
+-- The effects whose loop comes after the damage step.
 abbrev pub loops_late : Effect → Bool
 loops_late effects.InflictSleep = true
 loops_late effects.Disable = true
@@ -217,7 +217,7 @@ module _ {limit : ℕ} where
   early_effect-costs s move effects.Splash = more (splash-costs s) refl
   early_effect-costs s move _ = more (fail-costs s) refl
 
-  -- At the place of the damage
+  -- After the damage step
 
   pub ready_to_sleep-costs : (s : Side) (move : Move) → Costs limit (ready_to_sleep s move) (may_stop 1 0 0 1 1 3)
   unfolding ready_to_sleep

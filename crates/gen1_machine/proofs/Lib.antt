@@ -26,7 +26,7 @@ pub mod WatchedEnds
 pub mod Spectators
 -- Which states are valid.
 pub mod FirstStates
--- Runs end.
+-- Every run ends.
 pub mod Keeps
 pub mod Free
 pub mod Leads
@@ -56,7 +56,7 @@ pub mod KeptActs
 pub mod KeptTurns
 pub mod ValidStates
 pub mod Fits
--- Worked examples of single rules, computed.
+-- Worked examples of single rules.
 pub mod Computing
 pub mod WorkedRules
 pub mod WorkedHits

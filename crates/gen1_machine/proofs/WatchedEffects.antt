@@ -385,7 +385,7 @@ module _ {v : View} where
   early_effect-tells s move effects.Splash = splash-tells s
   early_effect-tells s move _ = fail-tells s
 
-  -- At the place of the damage
+  -- After the damage step
 
   pub ready_to_sleep-tells : (s : Side) (move : Move) → Tells v (ready_to_sleep s move)
   unfolding ready_to_sleep seeing

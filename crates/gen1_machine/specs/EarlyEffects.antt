@@ -1,4 +1,4 @@
--- Moves that act before any damage (docs/MECHANICS.md, "Early effects").
+-- Moves that act before any damage, and end the action (docs/MECHANICS.md, "Early effects").
 use Rattle.std.specs.Prelude.{Bool, None, Option, Some, false, nat_lt, true, ℕ, ◌&&◌, ◌+◌, ◌-◌, ◌/◌, ◌==◌, ◌||◌}
 use Rattle.gen1_tables.specs.declared.element.Element.TheVariants.{Poison, Ground, Grass, Electric}
 use Rattle.gen1_tables.specs.declared.effect.Effect.{Effect}

@@ -1,4 +1,4 @@
--- Moves that act where others deal their damage (docs/MECHANICS.md, "Late effects").
+-- Moves that act after the damage step, and end the action (docs/MECHANICS.md, "Late effects").
 use Rattle.std.specs.Prelude.{Bool, false, true, ℕ, ◌+◌}
 use Rattle.gen1_tables.specs.declared.effect.Stat.{Stat}
 use Rattle.gen1_tables.specs.declared.effect.Effect.{Effect}

@@ -5,7 +5,7 @@
 pub enum UsedMove {
     /// No move yet since the member was sent out.
     Nothing,
-    /// The move in this slot, from 1 to 4.
+    /// The move in this slot, 1 to 4.
     Slot(u8),
     /// Struggle, which is in no slot.
     Struggle,

@@ -27,7 +27,7 @@ impl Outcome {
     }
 }
 
-/// What is asked of a side for the next update (docs/MECHANICS.md, "Falls and requests").
+/// What a side is asked for in the next update (docs/MECHANICS.md, "Falls and requests").
 #[derive(Clone, Copy, Debug, PartialEq, Eq, Drop)]
 pub enum Request {
     /// Nothing. The side passes.

@@ -21,8 +21,10 @@ use gen1_machine::{Event, FaultCode, Outcome, Request, Side, TurnNumber};
 ///
 /// `actor` is the side that acted, was skipped, or was sent out last in a turn. It is side 1 if there was no turn.
 ///
-/// The fallen members that are out faint, the foe of `actor` first. Then the battle ends with a win or a tie, or each
-/// side with a fallen member is asked for a switch, or the turn number rises by 1 and both sides are asked for moves.
+/// The fallen members that are out faint, the foe of `actor` first. Then one of three things happens. The battle ends
+/// with a win or a tie, each side with a fallen member is asked for a switch, or the turn number rises by 1 and both
+/// sides are asked for moves.
+///
 /// If the outcome is a fault, no member faints, and nothing more is asked for. It writes at most 3 events.
 #[inline(always)] // docs/SPEED.md, "Hints on inlining"
 pub fn close<S: EventSink>(battle: &mut Packed, actor: Side, events: &mut S)

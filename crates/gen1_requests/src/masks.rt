@@ -20,7 +20,7 @@ pub(crate) const SLEEPS_OR_FREEZES: u8 = 0x27;
 
 /// What a side may choose, as a number of twelve binary digits (docs/MECHANICS.md, "Offered choices").
 ///
-/// Each digit says whether a choice is offered. By rising bytes and from the lowest digit, Pass is digit 0, Move with
+/// Each digit says whether a choice is offered, by rising bytes and from the lowest digit. Pass is digit 0. Move with
 /// slots 0 to 4 is digits 1 to 5, and Switch to places 1 to 6 is digits 6 to 11. The number is 0 once the battle is
 /// over.
 #[inline(always)] // docs/SPEED.md, "Hints on inlining"
@@ -161,7 +161,7 @@ fn moves(battle: &Packed, side: Side, member: &[u8]) -> u32
     if usable == 0 { 2 } else { 2 * usable }
 }
 
-// Whether no slot can be chosen, by the byte of its status.
+// Whether no slot can be chosen, by the byte of the member's status.
 #[inline(always)]
 fn picks_none(battle: &Packed, side: Side, status: u8) -> bool
     ensures stands { (g : Setting) (f : Field) → Within g battle.now f

@@ -27,7 +27,7 @@ pub fn offered(battle: &Packed, side: Side) -> Choices
     }
 }
 
-// While the battle goes on.
+// The choices while the battle goes on.
 fn offered_now(battle: &Packed, side: Side) -> Choices
     ensures { (s : State) → Stands battle.now s → is_over s.field.outcome ≡ false
         → result.items ≡ offered_for (request_of side s.field) side s.field }
@@ -66,7 +66,7 @@ fn offered_to_move(battle: &Packed, side: Side) -> Choices
     choices
 }
 
-// The moves alone.
+// The moves, without the switches.
 fn moves_offered(battle: &Packed, side: Side) -> Choices
     ensures few { array_vec_len result ≤ 4 }
     ensures stands { Reads battle.now result.items (moves_offered side) }
@@ -81,7 +81,7 @@ fn moves_offered(battle: &Packed, side: Side) -> Choices
     choices
 }
 
-// The moves of slots that have PP and are not disabled.
+// The moves of slots that have PP and aren't disabled.
 fn usable_moves(battle: &Packed, side: Side) -> Choices
     ensures few { array_vec_len result ≤ 4 }
     ensures stands { Reads battle.now result.items λ f. usable_from 1

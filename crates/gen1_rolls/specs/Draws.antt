@@ -1,8 +1,8 @@
 -- What a generator draws, what a search by draws finds, and the place of a generator in a stream (docs/MECHANICS.md,
 -- "Link numbers").
 --
--- A generator of any type is described by three things: the byte that it draws next (`byte`), the generator after a
--- draw (`next`), and a number of draws in a row that hold every byte (`width`). Under a bound `R: Rolls` these are
+-- Three things describe a generator of any type: the byte that it draws next (`byte`), its value after a draw
+-- (`next`), and a number of draws in a row that hold every byte (`width`). Under a bound `R: Rolls` these are
 -- `R.byte`, `R.next` and `R.SPAN`.
 use Rattle.std.specs.Prelude.{◌≡◌, ℕ, ◌+◌, ◌<◌, Bool, IsFalse}
 use Rattle.gen1_rolls.specs.Streams.{iterate, Stream, byte_at, span, IsFirstOf, Drawn}

@@ -1,4 +1,4 @@
--- A member that is not refused joins the team.
+-- A member that isn't refused joins the team.
 use Rattle.std.proofs.Common.{List, None, ap, drop, get_or, length, sym, ℕ, ◌+◌, ◌<◌, ◌≡◌, ◌∙◌, ◌∷◌}
 use Rattle.std.proofs.lemmas.List.{drop_more}
 use Rattle.std.specs.Option.{option_or}

@@ -1,5 +1,5 @@
--- Cases with nothing to do: the gate of a member that is held, the gate of a member that only its status can stop,
--- and the residual damage of a member without any.
+-- Cases with nothing to do: the gate of a member that is held or that only its status can stop, and the residual
+-- damage of a member without any.
 use Rattle.std.proofs.Common.{◌||◌, ◌∷◌, ◌≡◌}
 use Rattle.gen1_layout.proofs.Words.{Bool, DisabledSlot, Field, None, Option, Phase, Progress, Side, Some, [], active_in, ap, choose, choose-false, conditions_in, false, given, is_some, member_in, refl, stay, stop, then-goes, true, underway_in, ◌∙◌, ◌▸◌}
 use Rattle.gen1_stats.specs.declared.status.Status.{Status}

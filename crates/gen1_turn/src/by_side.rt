@@ -1,4 +1,4 @@
-//! A generator by two types, one for the action of each side (docs/MECHANICS.md, "Order of a turn").
+//! A generator as two types, one for the action of each side (docs/MECHANICS.md, "Order of a turn").
 
 use gen1_rolls::Rolls;
 use std::marker::Model;

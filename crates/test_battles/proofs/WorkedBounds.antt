@@ -273,9 +273,9 @@ invulnerable_to_a_drop : ((lowers_by_swift as_is (set with_invulnerability)).eve
 unfolding computing
 invulnerable_to_a_drop = (refl, refl)
 
--- Disable (docs/MECHANICS.md, "Side effects"). After the hit test a draw of 0 names slot 1, which has no PP, one of 3
--- names slot 4, which holds no move, and one of 1 names slot 2, which is disabled for (6 & 7) + 1 turns. If no move
--- has PP, a draw of 1 names slot 2, which holds no move, and one of 0 names slot 1, where Disable fails
+-- Disable (docs/MECHANICS.md, "Side effects"). After the hit test a draw of 0 names slot 1, which has no PP, and one
+-- of 3 names slot 4, which holds no move. A draw of 1 names slot 2, which is disabled for (6 & 7) + 1 turns. If no
+-- move has PP, a draw of 1 names slot 2, which holds no move, and one of 0 names slot 1, where Disable fails
 
 abbrev knowing_two : ℕ → ℕ → Member
 knowing_two first second = record tauros { moves = record { id = 70; pp = first } ∷ record { id = 36; pp = second } ∷ [] }

@@ -66,8 +66,8 @@ then_idles = splashes Two ++ events.Turn 2 ∷ []
 abbrev pp_of : Side → Progress → ℕ
 pp_of s p = (known_in 1 (member s p).moves).pp
 
--- Hyper Beam is used again (docs/MECHANICS.md, "Action"). Its power is 150: 42 * 150 * 74 / 72 is 6475, / 50 is 129,
--- + 2 is 131, and 196 for the user's own type, which leaves 157 of 353. Its user, side 2, chose to recharge
+-- Hyper Beam is used again (docs/MECHANICS.md, "Action"). With its power of 150, 42 * 150 * 74 / 72 is 6475, / 50 is
+-- 129, + 2 is 131, and 196 for the user's own type. That leaves 157 of 353. Its user, side 2, chose to recharge
 
 abbrev recharging : Member → ℕ → Stream → Progress
 recharging user pp_left stream = facing user as_is (slower (knowing 63 pp_left)) (amid with_recharge) stream

@@ -45,7 +45,7 @@ uses_on move species = events.Move (tauros_of One) move (foe_of species)
 abbrev falls_to : ℕ → ℕ → Event
 falls_to species hp = events.Damage (foe_of species) (healthy_at hp) sources.Direct
 
--- A landing, part by part (docs/MECHANICS.md, "Order of events"). Twineedle on a Hypno with Rage: a draw of 0 is a
+-- A landing, part by part (docs/MECHANICS.md, "Order of events"). Twineedle hits a Hypno with Rage. A draw of 0 is a
 -- critical hit, so 82 * 25 * 74 / 72 is 2106, / 50 is 42, + 2 is 44, and 88 for Bug on Psychic. The reports before
 -- the first hit come once. The rage builds at each of the two hits. Their number comes after the last hit, and then
 -- the poison, at a draw of 51

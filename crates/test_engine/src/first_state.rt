@@ -60,7 +60,7 @@ fn chosen(mask: u16, place: u8) -> Option<Choice> {
     Some(choice_at(mask, place))
 }
 
-// Digit 0 is Pass; digits 2 and 11 are the first move and the switch to the last place (docs/MECHANICS.md, "Offered choices").
+// Digit 0 is Pass. Digits 2 and 11 are the first move and the switch to the last place (docs/MECHANICS.md, "Offered choices").
 #[test]
 fn choices_of_masks(rt: HostRuntime) -> Result<(), Fail> {
     let battle = two_tauros()?;

@@ -13,13 +13,13 @@ pub(crate) const START: [u8; 23] = [
     2, 1, 128, 1, 100, 97, 1, 97, 1, 0, 2, 2, 128, 1, 100, 97, 1, 97, 1, 0, 1, 1, 0,
 ];
 
-// Strength, critical, 149 left; Strength, 263 left; turn 2.
+// A critical Strength leaves 149 HP, a Strength leaves 263, and turn 2 begins.
 pub(crate) const FIRST: [u8; 36] = [
     3, 1, 128, 70, 2, 128, 7, 2, 128, 5, 2, 128, 149, 0, 97, 1, 0, 0, 3, 2, 128, 70, 1, 128, 5, 1,
     128, 7, 1, 97, 1, 0, 0, 1, 2, 0,
 ];
 
-// Strength, critical, 0 left; side 2's falls, and side 1 wins.
+// A critical Strength leaves 0 HP, side 2's member falls, and side 1 wins.
 pub(crate) const SECOND: [u8; 23] = [
     3, 1, 128, 70, 2, 128, 7, 2, 128, 5, 2, 128, 0, 0, 97, 1, 0, 0, 25, 2, 128, 26, 1,
 ];

@@ -1,4 +1,4 @@
--- What the clause of the gate says of a generator that begins at its own stream, and of a member that is free.
+-- What the clause of the gate says about a generator at the beginning of its own stream, and about a member that is free.
 use Rattle.std.proofs.Common.{◌≡◌}
 use Rattle.gen1_layout.proofs.Words.{Bool, Event, Field, List, Parts, Progress, Setting, Side, Told, ap, choose, choose-true, draw, false, nat_lt, note, on_conditions, on_field, refl, stay, stop, sym, true, ℕ, ◌∙◌, ◌▸◌}
 use Rattle.gen1_rolls.specs.Draws.{stream_of}

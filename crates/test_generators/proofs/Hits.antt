@@ -1,4 +1,4 @@
--- What the clauses of the operations of a hit say of a generator that begins at its own stream.
+-- What the clauses of the operations of a hit say about a generator at the beginning of its own stream.
 use Rattle.gen1_layout.proofs.Words.{Action, Bool, Field, None, Option, Parts, Progress, Setting, ShowsDrawn, Side, Some, Told, [], ap, arith, choose, draw, false, given, nat_le, nat_lt, nat_tests, on_conditions, on_field, refl, set_last_damage, stay, sym, true, with_last_damage, ℕ, ◌∙◌, ◌▸◌}
 use Rattle.std.proofs.Common.{if◌then◌else◌, not, ◌+◌, ◌<◌, ◌≡◌, ◌≤◌}
 use Rattle.gen1_rolls.specs.Draws.{draws_of, stream_of}

@@ -1,4 +1,4 @@
-//! A battle at turn 0 by docs/LAYOUT.md, and each reader and writer once.
+//! A battle at turn 0 (docs/LAYOUT.md), and each read and write function once.
 ghost use Rattle.std.specs.Prelude.{◌≡◌};
 
 use crate::comparing::assert_same;
@@ -102,7 +102,7 @@ fn rules_and_limit(rt: HostRuntime) -> Result<(), Fail> {
     Ok(())
 }
 
-// Readers and writers of the header (docs/LAYOUT.md, "Header").
+// Reads and writes of the header (docs/LAYOUT.md, "Header").
 #[test]
 fn the_header(rt: HostRuntime) -> Result<(), Fail> {
     let mut packed = begun()?;
@@ -127,7 +127,7 @@ fn the_header(rt: HostRuntime) -> Result<(), Fail> {
     Ok(())
 }
 
-// Readers and writers of a member (docs/LAYOUT.md, "Member").
+// Reads and writes of a member (docs/LAYOUT.md, "Member").
 #[test]
 fn a_member(rt: HostRuntime) -> Result<(), Fail> {
     let mut packed = begun()?;
@@ -170,7 +170,7 @@ fn a_member(rt: HostRuntime) -> Result<(), Fail> {
     Ok(())
 }
 
-// Readers and writers of an active block (docs/LAYOUT.md, "Active block").
+// Reads and writes of an active block (docs/LAYOUT.md, "Active block").
 #[test]
 fn an_active_block(rt: HostRuntime) -> Result<(), Fail> {
     let mut packed = begun()?;

@@ -102,7 +102,7 @@ fn damage_is_doubled_up_to_65535(rt: HostRuntime) -> Result<(), Fail> {
 
 #[test]
 fn a_counter_that_hits(rt: HostRuntime) -> Result<(), Fail> {
-    // The draw 0 is critical; 8 is 64 once rotated, and is not. The second draw is below 255.
+    // The draw 0 is critical. 8 is 64 after rotation, and isn't critical. The second draw is below 255.
     for (byte, critical) in [(0, true), (8, false)] {
         let mut battle = picked(&FIRST, Slot(1))?;
         let before = bytes_of(&battle);

@@ -1,4 +1,4 @@
-//! Rooms, by the table and the example of docs/MECHANICS.md, "Rooms".
+//! Rooms, with the table and the example of docs/MECHANICS.md, "Rooms".
 use crate::comparing::assert_same;
 use crate::teams::{SEED, chansey, gengar, lead_and_chansey, tauros};
 use gen1_engine::Battle;

@@ -68,7 +68,7 @@ const DROPS: [(&str, Stat, u16); 4] = [
     ("Psychic", Stat::Special, 157),
 ];
 
-// Mist does not help.
+// Mist doesn't prevent it.
 #[test]
 fn stages(rt: HostRuntime) -> Result<(), Fail> {
     let one = StageCount::new(1).ok_or("no such count")?;
