@@ -1,4 +1,4 @@
-"""What the tools of this folder know of the repository: its crates, what stands on what, and its edits."""
+"""The crates of the repository, what they depend on, and their edits; and helpers that several tools use."""
 
 import os
 import re
@@ -14,12 +14,12 @@ ROOT = Path(__file__).resolve().parent.parent
 
 
 def version():
-    """The version of the repository, which the file VERSION has and no other."""
+    """The version of the repository, from the file VERSION."""
     return (ROOT / "VERSION").read_text().strip()
 
 
 def crates():
-    """Each crate of crates.txt with the crates of the repository that it names, lowest first."""
+    """Each crate of crates.txt with the crates of the repository that it depends on, lowest first."""
     lines = [line.partition("#")[0].strip() for line in (ROOT / "crates.txt").read_text().splitlines()]
     named = {name.split()[0]: used.split() for name, _, used in (line.partition(":") for line in lines if line)}
     used = {name: [it for it in them if it in named] for name, them in named.items()}
@@ -37,7 +37,7 @@ def crates():
 
 
 def below(names, all_crates):
-    """The crates that any of these stands on, and these, lowest first."""
+    """These crates and those that they depend on, lowest first."""
     wanted = set(names)
     for name in reversed(all_crates):
         if name in wanted:
@@ -46,7 +46,7 @@ def below(names, all_crates):
 
 
 def above(names, all_crates):
-    """These crates and those that stand on any of them, lowest first."""
+    """These crates and those that depend on them, lowest first."""
     wanted = set(names)
     for name, used in all_crates.items():
         if wanted.intersection(used):
@@ -96,12 +96,26 @@ def processors():
 def program(path):
     """The whole path of a program that a command line names, for argparse."""
     if not (os.path.isfile(path) and os.access(path, os.X_OK)):
-        raise ArgumentTypeError(f"{path} is no program")
+        raise ArgumentTypeError(f"{path} is not a program")
+    return Path(path).resolve()
+
+
+def existing_file(path):
+    """The whole path of a file that a command line names, for argparse."""
+    if not os.path.isfile(path):
+        raise ArgumentTypeError(f"{path} is not a file")
+    return Path(path).resolve()
+
+
+def existing_folder(path):
+    """The whole path of a folder that a command line names, for argparse."""
+    if not os.path.isdir(path):
+        raise ArgumentTypeError(f"{path} is not a folder")
     return Path(path).resolve()
 
 
 def run(words, folder):
-    """The status of a command that is run in a folder, and what it printed, which is kept out of the way on disk."""
+    """Runs a command in a folder; returns its status and what it printed."""
     with tempfile.TemporaryFile("w+", errors="replace") as said:
         status = subprocess.run(words, cwd=folder, stdin=subprocess.DEVNULL, stdout=said, stderr=subprocess.STDOUT).returncode
         said.seek(0)
@@ -109,7 +123,7 @@ def run(words, folder):
 
 
 def copied(room, names):
-    """Copies these crates, with what earlier checks kept of them, into a new folder that is a repository of its own."""
+    """Copies these crates, with the results of earlier checks, into a new folder that is a repository of its own."""
     lines = (ROOT / "crates.txt").read_text().splitlines()
     listed = [line for line in lines if line.partition(":")[0].strip().split(" ")[0] in names]
     (room / "crates.txt").write_text("\n".join(listed) + "\n")
@@ -120,7 +134,7 @@ def copied(room, names):
 
 
 def edited(crate, edit):
-    """The texts of the files that an edit changes in a crate's folder, before and after it; none where it cannot be applied."""
+    """The texts of the files that an edit changes in a crate's folder, before and after it; None where it cannot be applied."""
     before, after, file, old = {}, {}, None, ""
     for line in edit.text.split("\n"):
         key, _, text = line.partition(":")
