@@ -81,7 +81,7 @@ void note(void)
         memcpy(blocks[number].before, blocks[number].pages, GUARDED_ROOM);
 }
 
-/* Whether a block's pages are as they were, but for the block's first bytes. */
+/* Whether a block's pages are unchanged, except for the block's first bytes. */
 static bool kept_behind(const guarded *it, size_t size)
 {
     size_t begin = (size_t)(it->bytes - it->pages), end = begin + size;

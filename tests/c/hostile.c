@@ -1,24 +1,24 @@
 /*
- * Calls each function of the library with arguments out of their ranges, and holds the code that is answered, and all memory, against
+ * Calls each function of the library with arguments out of their ranges, and compares the code that is returned, and all memory, with
  * what include/gen1.h says.
  *
  *     cc -I include -I tests/c tests/c/hostile*.c tests/c/lawful.c tests/c/guarded.c crates/gen1_c/out/libgen1_c.a -o hostile
  *     ./hostile CALLS SEED      CALLS of each function
  *
- * Which code is due is worked out here, from the header's words. A battle is a lawful one on its way, or one that is over, or one that
- * has not begun, or any 384 bytes: then the code is whatever it is, but no memory beside the battle's may have changed, and at
- * a code none at all. Status 0 where every call was answered as it has to be, 1 where one was not, 2 where the words are wrong.
+ * The expected code is computed here, by the header. A battle is a lawful one before, during or after play, or any 384 bytes. Of any
+ * bytes the code is not checked, but no memory except the battle's may change, and none at all where the code is not 0. Status 0 where
+ * every call returned what it has to, 1 where one did not, 2 where the arguments are wrong.
  */
 #include "lawful.h"
 
 #include <stdio.h>
 #include <stdlib.h>
 
-/* The functions that try a call each, by their files; each list ends with NULL. */
+/* The functions that each try one call, by file; each list ends with NULL. */
 extern try_call *const tries_of_battles[], *const tries_of_batches[], *const tries_of_texts[], *const tries_of_views[],
-    *const tries_of_rooms[], *const tries_of_hits[];
+    *const tries_of_rooms[], *const tries_of_odds[];
 
-static try_call *const *const tries[] = {tries_of_battles, tries_of_batches, tries_of_texts, tries_of_views, tries_of_rooms, tries_of_hits};
+static try_call *const *const tries[] = {tries_of_battles, tries_of_batches, tries_of_texts, tries_of_views, tries_of_rooms, tries_of_odds};
 
 int main(int count, char **words)
 {

@@ -5,7 +5,7 @@
 
 enum { MANY = 8 };
 
-/* The mask that the list of choices comes to. */
+/* The mask of a list of choices. */
 static uint16_t mask_of(const gen1_battle *battle, uint8_t side)
 {
     uint8_t choices[9];

@@ -5,7 +5,7 @@
 
 /* ---- gen1_new ---- */
 
-/* What is at fault in a member by itself, before the rules of teams: its species or a move is no number of one. */
+/* The fault of a member by itself, before the rules of teams: its species or a move is not a number of one. */
 static uint32_t fault_of_numbers(const gen1_member *it)
 {
     if (it->species < 1 || it->species > 151)
@@ -21,7 +21,7 @@ static bool is_left_out(uint8_t move)
     return move == 102 || move == 118 || move == 119 || move == 144;
 }
 
-/* Whether a move stands at two places. */
+/* Whether a move is at two places. */
 static bool has_repeated_move(const gen1_member *it)
 {
     for (int at = 0; at < 4; at++)
@@ -204,7 +204,7 @@ static bool is_choice(uint8_t byte)
     return byte == GEN1_PASS || (GEN1_MOVE(0) <= byte && byte <= GEN1_MOVE(4)) || (GEN1_SWITCH(1) <= byte && byte <= GEN1_SWITCH(6));
 }
 
-/* The code of an update that tests no more than the room and that both bytes stand for choices. */
+/* The code of an update that tests only the room, and that both bytes are choices. */
 static uint8_t fault_of_bytes(uint8_t one, uint8_t two, size_t room)
 {
     if (room != 0 && room < GEN1_LOG_ROOM)
@@ -214,7 +214,7 @@ static uint8_t fault_of_bytes(uint8_t one, uint8_t two, size_t room)
     return is_choice(two) ? 0 : GEN1_NOT_OFFERED_TWO;
 }
 
-/* By choices that are offered it does what gen1_update does; by any others it writes the same memory and no more. */
+/* With offered choices it does what gen1_update does; with any others it writes to the same memory and no other. */
 static void try_update_offered(void)
 {
     bool is_valid;
@@ -245,7 +245,7 @@ static void try_update_offered(void)
 
 /* ---- gen1_next_event, gen1_next_line ---- */
 
-/* A log that was met, some of its bytes changed, or any bytes; in the block 0. */
+/* A log of lawful play, some of its bytes changed, or any bytes; in the block 0. */
 const uint8_t *some_log(size_t *count)
 {
     int which = (int)draw(MET);
@@ -258,13 +258,13 @@ const uint8_t *some_log(size_t *count)
     return log;
 }
 
-/* A place in a log, or behind it, or far behind it. */
+/* An offset in a log, or past its end, or far past it. */
 size_t some_place(size_t count)
 {
     return one_in(4) ? SIZE_MAX - draw(3) : one_in(4) ? count + draw(3) : one_in(2) || count == 0 ? 0 : draw((uint32_t)count);
 }
 
-/* The code that is due at a place, where it can be seen from the tag's byte alone; else `otherwise`. */
+/* The expected code at an offset, where the byte of the tag determines it; else `otherwise`. */
 static uint8_t fault_of_place(const uint8_t *log, size_t count, size_t at, uint8_t otherwise)
 {
     return at >= count ? GEN1_LOG_END : log[at] < 1 || log[at] > GEN1_FAULT ? GEN1_LOG_TAG : otherwise;

@@ -1,4 +1,4 @@
-/* Calls of rooms and of what a watcher knows, with arguments out of their ranges (hostile.c). */
+/* Calls of rooms and spectators, with arguments out of their ranges (hostile.c). */
 #include "lawful.h"
 
 #include <string.h>
@@ -10,13 +10,13 @@ static bool is_side(uint8_t side)
     return side == GEN1_ONE || side == GEN1_TWO;
 }
 
-/* What is asked of a side, as gen1_result tells it. */
+/* What is asked of a side, by gen1_result. */
 static uint8_t request_of(uint8_t result, uint8_t side)
 {
     return side == GEN1_ONE ? GEN1_REQUEST_ONE(result) : GEN1_REQUEST_TWO(result);
 }
 
-/* A room as it stands at the beginning of a pair: a side of which nothing is asked has its Pass there. */
+/* A room before a pair of choices: a side of which nothing is asked has its Pass. */
 static bool is_fresh(const gen1_room *room, uint32_t number)
 {
     uint8_t result = gen1_result(&room->battle);
@@ -26,7 +26,7 @@ static bool is_fresh(const gen1_room *room, uint32_t number)
     return is_right;
 }
 
-/* The battle and the log are those of an update by these choices. */
+/* Whether the battle and the log are those of an update by these choices. */
 static bool is_updated(const gen1_room *room, gen1_battle from, uint8_t one, uint8_t two)
 {
     uint8_t log[GEN1_LOG_ROOM];
@@ -54,7 +54,7 @@ static void try_room_begin(void)
     tell("gen1_room_begin", is_right, room->number, 0);
 }
 
-/* A room that lawful play came upon, perhaps with one of the choices there; or any bytes. */
+/* A room of lawful play, perhaps with one of the choices; or any bytes. */
 static gen1_room some_room(bool *is_valid)
 {
     gen1_room room;
@@ -99,7 +99,7 @@ static uint8_t fault_of_submission(const gen1_room *room, uint8_t side, uint32_t
                                                                       : 0;
 }
 
-/* What a choice that was taken makes of a lawful room. */
+/* What an accepted choice makes of a lawful room. */
 static bool is_taken(const gen1_room *room, gen1_room from, uint8_t side, uint8_t choice)
 {
     from.chosen[side - 1] = choice;
@@ -143,7 +143,7 @@ static void try_spectator_begin(void)
     tell("gen1_spectator_begin", got == want && is_kept, got, want);
 }
 
-/* Whether a watcher knows of a side what shows of it, as gen1_get_state has it. */
+/* Whether a spectator knows of a side what gen1_get_state says that it shows. */
 static bool is_shown(const gen1_shown_side *shown, const gen1_side_state *side)
 {
     const gen1_active_state *out = &side->active;
@@ -161,7 +161,7 @@ static bool is_shown(const gen1_shown_side *shown, const gen1_side_state *side)
         && shown->reflect == ((out->conditions & GEN1_CONDITION_REFLECT) != 0);
 }
 
-/* A battle from its beginning and a watcher of it, who has not yet been given the log of the last update. */
+/* A battle from its beginning, and a spectator of it that lacks the log of the last update. */
 static void watch(gen1_battle *battle, gen1_spectator *spectator, uint8_t log[GEN1_LOG_ROOM], size_t *length)
 {
     gen1_team one = lawful_team(), two = lawful_team();
@@ -182,7 +182,7 @@ static void watch(gen1_battle *battle, gen1_spectator *spectator, uint8_t log[GE
     }
 }
 
-/* The log of an update, cut anywhere, tells what shows; a log that is none, and bytes of no watcher, are answered and change nothing else. */
+/* Feeds the log of an update, cut anywhere; bytes that are not a log, or not a spectator, return a code and change nothing else. */
 static void try_spectator_feed(void)
 {
     gen1_battle battle;

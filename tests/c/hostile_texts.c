@@ -1,4 +1,4 @@
-/* Calls that read teams out of text, with texts that are none (hostile.c). */
+/* Calls that read teams from text, with texts that are not a team (hostile.c). */
 #include "lawful.h"
 
 #include <string.h>

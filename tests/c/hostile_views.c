@@ -1,4 +1,4 @@
-/* Calls of names, codes in words, views, choices and new numbers to draw, with arguments out of their ranges (hostile.c). */
+/* Calls of names, codes in words, states, choices and new numbers to draw, with arguments out of their ranges (hostile.c). */
 #include "lawful.h"
 
 #include <string.h>
@@ -10,7 +10,7 @@ static void try_version(void)
     tell("gen1_version", got == GEN1_VERSION_NUMBER && unchanged(), got, GEN1_VERSION_NUMBER);
 }
 
-/* A name of the tables, or bytes that name nothing. */
+/* A name of the tables, or bytes that are not a name. */
 static const char *some_name(const char *name, size_t *count, bool *is_name)
 {
     *is_name = one_in(2);
@@ -43,7 +43,7 @@ static void try_move_from_name(void)
     tell("gen1_move_from_name", got == want && unchanged(), got, want);
 }
 
-/* The view has to agree with what other calls answer of the battle. */
+/* Whether the state agrees with what other calls return. */
 static void try_view(void)
 {
     bool is_valid;
@@ -81,7 +81,7 @@ static void try_choice_slot(void)
     tell("gen1_choice_slot", got == want && unchanged(), got, want);
 }
 
-/* At 0 the numbers are as they were given, and nothing else has changed. */
+/* Where the code is 0, the numbers are the given ones, and nothing else has changed. */
 static void try_reseed(void)
 {
     bool is_valid;
@@ -100,7 +100,7 @@ static void try_reseed(void)
     tell("gen1_reseed", got == want && is_kept && (is_due || !is_valid), got, want);
 }
 
-/* What a text that is due has to look like, of a call that wrote to blocks 1 and 2; `due` is the code without a small room. */
+/* Whether a call has written its text to blocks 1 and 2 as it must; `due` is the code where there is room. */
 static void tell_text(const char *name, uint8_t got, uint8_t due, uint8_t small, const size_t *length, size_t room)
 {
     if (got != 0)
@@ -154,7 +154,7 @@ static void try_move_data(void)
     tell("gen1_move_data", got == want && (got == 0 ? changed_only(0, sizeof *row) : unchanged()), got, want);
 }
 
-/* Of a valid battle, what GEN1_WORDS_NOBODY is due to is not worked out here. */
+/* Where a valid battle returns GEN1_WORDS_NOBODY is not computed here. */
 static void try_choice_words(void)
 {
     bool is_valid;

@@ -1,4 +1,4 @@
-/* Battles and logs that lawful play came upon (lawful.h). */
+/* Battles and logs of lawful play (lawful.h). */
 #include "lawful.h"
 
 #include <stdlib.h>

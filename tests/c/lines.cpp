@@ -4,7 +4,7 @@
  *     c++ -std=c++17 tests/c/lines.cpp $(pkg-config --cflags --libs gen1) -o lines
  */
 #include "gen1.h"
-#include "gen1.h" // A header is included more than once in any longer program.
+#include "gen1.h" // Twice: a longer program includes it more than once.
 
 #include <array>
 #include <iostream>

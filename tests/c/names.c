@@ -1,10 +1,10 @@
 /*
- * What the header names by itself, held against what docs/MECHANICS.md has and the library says: sizes, the bits of choices, and the
- * details of events in the lines that they print.
+ * Compares what only the header names with docs/MECHANICS.md and the library: sizes, the bits of choices, and the details of events in
+ * the lines that they print.
  *
  *     cc -std=c11 -I include tests/c/names.c crates/gen1_c/out/libgen1_c.a -o names
  *
- * Status 0 where all is right; else what is not is printed.
+ * Status 0 where all is right; else it prints what is wrong.
  */
 #include "gen1.h"
 
@@ -18,7 +18,7 @@ _Static_assert(sizeof(gen1_spectator) == GEN1_SPECTATOR_SIZE && _Alignof(gen1_sp
 /* "Offered choices": Pass, Move 0 to 4, Switch 1 to 6, by their bytes. */
 static const int choices[12] = {0x00, 0x10, 0x11, 0x12, 0x13, 0x14, 0x21, 0x22, 0x23, 0x24, 0x25, 0x26};
 
-/* How many bytes and bits are not as `choices` has them. */
+/* How many bytes and bits differ from `choices`. */
 static int wrong_bits(void)
 {
     int wrong = 0, bits[256];
@@ -30,12 +30,12 @@ static int wrong_bits(void)
         wrong += GEN1_BIT(byte) != bits[byte];
     for (int bit = 0; bit < 12;) {
         int want = choices[bit];
-        wrong += GEN1_CHOICE(bit++) != want; /* the argument counts once */
+        wrong += GEN1_CHOICE(bit++) != want; /* the macro evaluates its argument once */
     }
     return wrong;
 }
 
-/* Bytes of an event, as "Log bytes" has them, its detail, and the line by "Events". */
+/* The bytes of an event by "Log bytes", its detail, and its line by "Events". */
 typedef struct told {
     uint8_t bytes[9];
     uint8_t detail;

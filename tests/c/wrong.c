@@ -18,7 +18,7 @@ uint8_t __real_gen1_spectator_feed(gen1_spectator *, const uint8_t *, size_t);
 uint8_t __real_gen1_odds_now(const gen1_battle *, uint8_t, uint8_t, gen1_odds *);
 uint32_t __real_gen1_odds_between(const gen1_member *, const gen1_member *, uint8_t, gen1_odds *);
 
-/* 1: a DV of 16 is taken as 15, so that its team is no longer refused. 2: a refused battle is emptied. */
+/* 1: a DV of 16 is taken as 15, so that its team is accepted. 2: a refused battle is emptied. */
 uint32_t __wrap_gen1_new(gen1_battle *battle, const gen1_team *one, const gen1_team *two, const uint8_t seed[10], uint8_t rules,
                          uint16_t limit)
 {
@@ -38,7 +38,7 @@ uint8_t __wrap_gen1_load(gen1_battle *battle, const uint8_t *bytes, size_t count
     return __real_gen1_load(battle, bytes, WRONG == 3 && count > 384 ? 384 : count);
 }
 
-/* 4: a choice is written behind the last. */
+/* 4: a choice is written after the last. */
 uint8_t __wrap_gen1_choices(const gen1_battle *battle, uint8_t side, uint8_t choices[9])
 {
     uint8_t count = __real_gen1_choices(battle, side, choices);
@@ -47,7 +47,7 @@ uint8_t __wrap_gen1_choices(const gen1_battle *battle, uint8_t side, uint8_t cho
     return count;
 }
 
-/* 5: a byte is written behind the log. 6: the length is set at a refusal. 7: a battle that is over answers what is not offered. */
+/* 5: a byte is written after the log. 6: the length is set at a refusal. 7: a finished battle returns choices that are not offered. */
 uint8_t __wrap_gen1_update(gen1_battle *battle, uint8_t one, uint8_t two, uint8_t *log, size_t room, size_t *length)
 {
     uint8_t answer = __real_gen1_update(battle, one, two, log, room, length);
@@ -58,7 +58,7 @@ uint8_t __wrap_gen1_update(gen1_battle *battle, uint8_t one, uint8_t two, uint8_
     return WRONG == 7 && answer == GEN1_OVER ? GEN1_NOT_OFFERED_ONE : answer;
 }
 
-/* 8: the byte behind the log is looked at. 9: the place goes on at a fault. */
+/* 8: the byte after the log is read. 9: the offset moves at a fault. */
 uint8_t __wrap_gen1_next_event(const uint8_t *log, size_t count, size_t *at, gen1_event *event)
 {
     if (WRONG == 8 && count > 0 && *(const volatile uint8_t *)(log + count) == 0)
@@ -69,7 +69,7 @@ uint8_t __wrap_gen1_next_event(const uint8_t *log, size_t count, size_t *at, gen
     return answer;
 }
 
-/* 10: a zero is written behind the line. */
+/* 10: a zero is written after the line. */
 uint8_t __wrap_gen1_next_line(const uint8_t *log, size_t count, size_t *at, char *text, size_t room, size_t *length)
 {
     uint8_t answer = __real_gen1_next_line(log, count, at, text, room, length);
@@ -98,7 +98,7 @@ uint8_t __wrap_gen1_room_submit(gen1_room *room, uint8_t side, uint32_t number, 
     return answer;
 }
 
-/* 15: what is held of an event is dropped. 16: of a log that is at fault the front is taken in. */
+/* 15: the held part of an event is dropped. 16: the prefix of a log with a fault is read. */
 uint8_t __wrap_gen1_spectator_feed(gen1_spectator *spectator, const uint8_t *log, size_t count)
 {
     if (WRONG == 15)
@@ -111,19 +111,19 @@ uint8_t __wrap_gen1_spectator_feed(gen1_spectator *spectator, const uint8_t *log
 }
 
 /* 17: one draw more hits. 18: one draw less is critical. */
-uint8_t __wrap_gen1_odds_now(const gen1_battle *battle, uint8_t side, uint8_t move, gen1_odds *hit)
+uint8_t __wrap_gen1_odds_now(const gen1_battle *battle, uint8_t side, uint8_t move, gen1_odds *odds)
 {
-    uint8_t answer = __real_gen1_odds_now(battle, side, move, hit);
-    if (WRONG == 17 && answer == 0 && hit->hit_draws > 0 && hit->hit_draws < 256)
-        hit->hit_draws++;
-    if (WRONG == 18 && answer == 0 && hit->critical_draws > 0)
-        hit->critical_draws--;
+    uint8_t answer = __real_gen1_odds_now(battle, side, move, odds);
+    if (WRONG == 17 && answer == 0 && odds->hit_draws > 0 && odds->hit_draws < 256)
+        odds->hit_draws++;
+    if (WRONG == 18 && answer == 0 && odds->critical_draws > 0)
+        odds->critical_draws--;
     return answer;
 }
 
 /* 19: the user's member is its own foe. */
-uint32_t __wrap_gen1_odds_between(const gen1_member *user, const gen1_member *foe, uint8_t move, gen1_odds *hit)
+uint32_t __wrap_gen1_odds_between(const gen1_member *user, const gen1_member *foe, uint8_t move, gen1_odds *odds)
 {
-    uint32_t answer = __real_gen1_odds_between(user, foe, move, hit);
-    return WRONG == 19 && answer == 0 ? __real_gen1_odds_between(user, user, move, hit) : answer;
+    uint32_t answer = __real_gen1_odds_between(user, foe, move, odds);
+    return WRONG == 19 && answer == 0 ? __real_gen1_odds_between(user, user, move, odds) : answer;
 }

@@ -1,9 +1,9 @@
-/* Calls of what a use of a move would come to, with arguments out of their ranges (hostile.c). */
+/* Calls of the odds of a move, with arguments out of their ranges (hostile.c). */
 #include "lawful.h"
 
 #include <string.h>
 
-/* Damages as gen1_damage has them: as many numbers, or its code. */
+/* Whether damages are those of gen1_damage: as many numbers, or its code. */
 static bool is_as_damage(const gen1_damages *got, const gen1_battle *battle, uint8_t side, uint8_t move, bool critical)
 {
     uint16_t numbers[39] = {0};
@@ -11,8 +11,8 @@ static bool is_as_damage(const gen1_damages *got, const gen1_battle *battle, uin
     return got->code == code && got->count == (code == 0 ? 39 : 0) && memcmp(got->numbers, numbers, sizeof numbers) == 0;
 }
 
-/* Chances that can be seen from the battle alone: without stages a move has its own accuracy, where nothing settles the test. */
-static bool is_likely(const gen1_odds *hit, const gen1_battle *battle, uint8_t side, uint8_t move)
+/* Whether the chances are those of the battle, where they can be computed here: without stages a move has its own accuracy. */
+static bool is_likely(const gen1_odds *odds, const gen1_battle *battle, uint8_t side, uint8_t move)
 {
     gen1_state state;
     gen1_move row;
@@ -26,10 +26,10 @@ static bool is_likely(const gen1_odds *hit, const gen1_battle *battle, uint8_t s
     bool is_plain = !(user->conditions & GEN1_CONDITION_FOCUS_ENERGY) && !is_often;
     bool is_level = user->stages[4] == 6 && foe->stages[5] == 6 && !(foe->conditions & (GEN1_CONDITION_INVULNERABLE | GEN1_CONDITION_MIST));
     bool is_settled = move == GEN1_MOVE_SWIFT || move == GEN1_MOVE_DREAM_EATER;
-    uint16_t critical = hit->usual.code == GEN1_DAMAGE_UNUSUAL ? 0 : is_plain ? base.stats[3] / 2 : hit->critical_draws;
-    return hit->critical_draws == critical && hit->critical_draws <= 255 && hit->hit_draws <= 256
-        && (!is_level || is_settled || hit->hit_draws == (row.accuracy > 1 ? row.accuracy : 1))
-        && (move != GEN1_MOVE_SWIFT || hit->hit_draws == 256);
+    uint16_t critical = odds->usual.code == GEN1_DAMAGE_UNUSUAL ? 0 : is_plain ? base.stats[3] / 2 : odds->critical_draws;
+    return odds->critical_draws == critical && odds->critical_draws <= 255 && odds->hit_draws <= 256
+        && (!is_level || is_settled || odds->hit_draws == (row.accuracy > 1 ? row.accuracy : 1))
+        && (move != GEN1_MOVE_SWIFT || odds->hit_draws == 256);
 }
 
 static void try_odds_now(void)
@@ -38,23 +38,23 @@ static void try_odds_now(void)
     gen1_battle from = some_battle(&is_valid);
     uint8_t side = one_in(4) ? any_byte() : (uint8_t)(1 + draw(2)), move = one_in(4) ? any_byte() : (uint8_t)(1 + draw(165));
     const gen1_battle *battle = block_of(0, &from, sizeof from);
-    gen1_odds *hit = block(1, sizeof *hit);
+    gen1_odds *odds = block(1, sizeof *odds);
     gen1_state state;
     gen1_get_state(&from, &state);
     note();
-    uint8_t got = gen1_odds_now(battle, side, move, hit);
+    uint8_t got = gen1_odds_now(battle, side, move, odds);
     uint8_t want = side != GEN1_ONE && side != GEN1_TWO ? GEN1_DAMAGE_SIDE
         : move < 1 || move > 165                         ? GEN1_DAMAGE_MOVE
         : state.turn == 0                                ? GEN1_DAMAGE_NOBODY
                                                          : 0;
-    bool is_right = got != 0 ? unchanged() : changed_only(1, sizeof *hit);
+    bool is_right = got != 0 ? unchanged() : changed_only(1, sizeof *odds);
     if (got == 0 && want == 0 && is_valid)
-        is_right &= is_as_damage(&hit->usual, &from, side, move, false) && is_as_damage(&hit->critical, &from, side, move, true)
-            && is_likely(hit, &from, side, move);
+        is_right &= is_as_damage(&odds->usual, &from, side, move, false) && is_as_damage(&odds->critical, &from, side, move, true)
+            && is_likely(odds, &from, side, move);
     tell("gen1_odds_now", got == want && is_right, got, want);
 }
 
-/* A member alone as a team. */
+/* A team of one member. */
 static gen1_team alone(const gen1_member *member)
 {
     gen1_team team;
@@ -73,10 +73,10 @@ static void try_odds_between(void)
     uint8_t move = one_in(4) ? any_byte() : (uint8_t)(1 + draw(165));
     uint32_t want = move < 1 || move > 165 ? GEN1_NO_SUCH_MOVE : fault_of_new(&first, &second, 0, GEN1_LIMIT);
     const gen1_member *user = block_of(0, &first.members[0], sizeof *user), *foe = block_of(1, &second.members[0], sizeof *foe);
-    gen1_odds *hit = block(2, sizeof *hit);
+    gen1_odds *odds = block(2, sizeof *odds);
     note();
-    uint32_t got = gen1_odds_between(user, foe, move, hit);
-    bool is_right = got != 0 ? unchanged() : changed_only(2, sizeof *hit);
+    uint32_t got = gen1_odds_between(user, foe, move, odds);
+    bool is_right = got != 0 ? unchanged() : changed_only(2, sizeof *odds);
     if (got == 0 && want == 0) {
         gen1_battle battle;
         uint8_t seed[10];
@@ -85,12 +85,12 @@ static void try_odds_between(void)
         memcpy(seed, "any seed..", sizeof seed);
         gen1_new(&battle, &first, &second, seed, 0, GEN1_LIMIT);
         gen1_update(&battle, GEN1_PASS, GEN1_PASS, NULL, 0, &length);
-        is_right &= gen1_odds_now(&battle, GEN1_ONE, move, &due) == 0 && memcmp(hit, &due, sizeof due) == 0;
+        is_right &= gen1_odds_now(&battle, GEN1_ONE, move, &due) == 0 && memcmp(odds, &due, sizeof due) == 0;
     }
     tell("gen1_odds_between", got == want && is_right, got, want);
 }
 
-/* What is due of some moves by docs/MECHANICS.md, "Hit test"; of the others either answer. */
+/* The expected result of some moves by docs/MECHANICS.md, "Hit test"; of the others either result. */
 static uint8_t due_test(uint8_t move, uint8_t got)
 {
     switch (move) {
@@ -116,4 +116,4 @@ static void try_takes_hit_test(void)
     tell("gen1_takes_hit_test", got == want && unchanged(), got, want);
 }
 
-try_call *const tries_of_hits[] = {try_odds_now, try_odds_between, try_takes_hit_test, NULL};
+try_call *const tries_of_odds[] = {try_odds_now, try_odds_between, try_takes_hit_test, NULL};
