@@ -1,4 +1,4 @@
-"""What tools/c_gate compares of each program of examples/c, and of tests/c/names.c: its output on cases, against what is due."""
+"""The cases of tools/c_gate for each program of examples/c and for tests/c/names.c, with the expected output."""
 
 import json
 import math
@@ -36,7 +36,7 @@ as_numbers, SPECIES, MOVES = (getattr(EXAMPLES_OF_LANGUAGES, name) for name in (
 
 @dataclass
 class Case:
-    """A run of a program: its words and input, and what it has to print, as bytes or as a pattern, with which status."""
+    """A run of a program: its arguments and input, the expected output as bytes or a pattern, and the status."""
 
     name: str
     words: tuple
@@ -49,7 +49,7 @@ class Case:
 
 @dataclass
 class Example:
-    """An example: its name, its sources, and the cases that it is run on, by the gate."""
+    """An example: its name, its sources, and a function from the gate to its cases."""
 
     name: str
     sources: tuple
@@ -57,17 +57,17 @@ class Example:
 
 
 def recorded_case(case, words, given):
-    """A recorded case for an example, which has to print the same, by its words and input."""
+    """A recorded case for an example, which must print the same for these arguments and this input."""
     return Case(case["name"], words, given, case["stdout"].encode(), case.get("stderr", "").encode(), case.get("status", 0))
 
 
 TAUROS, TAUROS_LINES = ROOT / "examples" / "tauros.txt", (ROOT / "crates" / "battle_tool" / "stdout").read_bytes()
-# What is no number from 0 to 255, of which 2 to the power of 32 and the powers above come to 0 or 17 where they are cut.
+# Words that are not a number from 0 to 255; those past 2 to the power of 32 become 0 or 17 where their high bits are cut.
 NO_BYTES = (b"256", b"273", b"-1", b"-239", b"four", b"17x", b"4294967296", b"4294967313", b"18446744073709551633", b"0" * 30 + b"17")
 
 
 def of_play(gate):
-    """Every recorded battle; and choices that are none, behind a first update, which are refused whatever they are cut to."""
+    """Every recorded battle; and after a first update words that are not a choice, which are refused."""
     for name in PLAYED:
         for case in cases(recorded(f"{name}.jsonl", gate.cases)):
             yield recorded_case(case, (), as_numbers(json.loads(case["input"])).encode())
@@ -86,7 +86,7 @@ def of_names(_gate):
 
 
 def of_text(_gate):
-    """Faults in the second line of a text, and in the fifth field of the second member of a packed line: GEN1_TEXT_MOVE; and a battle."""
+    """GEN1_TEXT_MOVE in the second line of a text, and in the fifth field of the second member of a packed line; and a battle."""
     faults = rb"line 2, member 0, field 0: code 10\nline 0, member 2, field 5: code 10\n"
     yield Case("status", (), b"", re.compile(faults + rb"outcome [123]\n"), b"")
 
@@ -133,7 +133,7 @@ NOT_FOR_TEAMS = ("Metronome", "Mimic", "Mirror Move", "Transform", "Struggle")
 
 
 def of_damage(gate):
-    """Every recorded hit by a move that a member may know, which is the attacker's only one; as numbers, and as text where that can be."""
+    """Every recorded hit by a move that a member may know, as the attacker's only move; as numbers, and as text where text can say it."""
     for case in cases(recorded("calc.jsonl", gate.cases)):
         asked = {} if "error: json" in case.get("stderr", "") else json.loads(case["input"])
         if not asked or asked["move"] in NOT_FOR_TEAMS:
@@ -154,14 +154,14 @@ def of_damage(gate):
     tauros = {"species": "Tauros", "level": 100, "moves": [["Body Slam", 3]]}
     none = dict(tauros, moves=[["Body Slam", 3], ["Budy Slam", 3]])
     words = team_files(gate, "no move", tauros, none)
-    # GEN1_TEXT_MOVE, in the line behind species, level and the other move.
+    # GEN1_TEXT_MOVE, in the line after species, level and the other move.
     yield Case("no move", words, b"", b"", f"error: {words[1]}: line 4 member 0 code 10 rule 0\n".encode(), 1)
     for word in (b"4294967424", b"-128", b"Tauros", b"0" * 30 + b"128"):
         yield Case(f"the species {word}", (), TAUROS.read_bytes().replace(b"128", word, 1), b"", b"error: input\n", 1)
 
 
 def team_files(gate, name, *members):
-    """Files with a team of each member as text. What it does not say comes to the stats of DVs of 15 and experience of 65,535."""
+    """Files with a team of each member as text, which has DVs of 15 and the experience 65,535."""
     folder = gate.work / "teams"
     folder.mkdir(exist_ok=True)
     files = [folder / f"{name}, {which}.txt" for which in ("one", "two")]
@@ -172,7 +172,7 @@ def team_files(gate, name, *members):
 
 
 def damage_row(recorded_line, hp, is_critical):
-    """A pattern of the row of a move, with the numbers of the hit that was recorded: the usual one, or the critical one."""
+    """A pattern of the row of a move, with the numbers of the recorded hit, usual or critical."""
     damages = list(map(int, recorded_line.split()))
     least, most = min(damages), max(damages)
     numbers = re.escape("%3d to %3d, %3d to %3d%%" % (least, most, least * 100 // hp, most * 100 // hp))
@@ -189,7 +189,7 @@ UNTESTED = ("AlwaysFails", "Bide", "Conversion", "FocusEnergy", "Haze", "Heal", 
 
 
 def chances_of(species, move, has_damage):
-    """How many of 256 draws hit and are critical, of members that have just been sent out, by docs/TABLES.md and docs/MECHANICS.md."""
+    """How many of 256 draws hit and are critical for members just sent out, by docs/TABLES.md and docs/MECHANICS.md."""
     document = (ROOT / "docs" / "TABLES.md").read_text()
     row = next(it for it in table(document, "Moves") if it[1] == move)
     if row[6].split("(")[0] in UNTESTED:
@@ -207,18 +207,18 @@ def of_bot(_gate):
 
 
 def choices_of(asked, side):
-    """What a side is recorded to have chosen, where it was asked: Pass is only for a side of which nothing is asked."""
+    """The recorded choices of a side, where it was asked: Pass is only for a side of which nothing is asked."""
     return [pair[side] for pair in asked["choices"][1:] if pair[side] != 0]
 
 
 def refused(side, choices):
-    """How often tests/c/rude_player.py is refused as a side, by code, as the room prints it."""
+    """The lines of the room that count the refusals of tests/c/rude_player.py as a side, by code."""
     rubbish = 7 * len(choices) + 3000
     return "".join(f"side {side}: refused {code}: {times}\n" for code, times in ((2, len(choices)), (4, len(choices)), (5, rubbish)))
 
 
 def of_room(gate):
-    """Recorded battles to their end, between processes that choose as recorded; every other one has a player that is rude."""
+    """Recorded battles to their end, between processes that choose as recorded; every second one has a rude player."""
     folder, player = gate.work / "room", gate.work / "player"
     folder.mkdir(exist_ok=True)
     ran("cc", "-O2", "-Wall", "-Wextra", "-Werror", "examples/c/room/player.c", "-o", player)
@@ -236,7 +236,7 @@ def of_room(gate):
         said = "".join(refused(side, choices) for side, choices in ((1, one), (2, two)) if players[side - 1] == rude)
         yield Case(case["name"], (file, *words, "60"), b"", case["stdout"].encode(), said.encode())
     flooded = re.compile(rb"side 2: refused 5: \d+\n")
-    # What a shell ignores, all that it begins ignores too.
+    # All processes that a shell starts ignore the signals that it ignores.
     deaf = f"trap '' TERM; {player}; exec sleep 1000"
     for name, one, two, said in (
         ("a flood without an end", f"exec {player}", "exec yes", flooded),
@@ -253,12 +253,12 @@ def of_room(gate):
 
 
 def of_player(_gate):
-    """The choices of its words, and then what is offered first; other lines are passed over."""
+    """The choices of its arguments, then the first offered one; other lines are passed over."""
     yield Case("asked thrice", ("18",), b"ask 7 17 18\nline |turn|2\ntaken\nask 8 34 35\nrefused 2\nask 9 0\n", b"7 18\n8 34\n9 0\n", b"")
 
 
 def is_whole(case):
-    """Whether a recorded battle was played to its end, and no pair of it was refused."""
+    """Whether a recorded battle was played to its end without a refused pair."""
     return case.get("status", 0) == 0 and case["stdout"].splitlines()[-1:] and case["stdout"].splitlines()[-1].startswith(("|win|", "|tie"))
 
 

@@ -1,4 +1,4 @@
-"""What tools/c_gate tries of an installation by tools/install: what it puts, programs that are built over it, pages, taking it away."""
+"""The checks of tools/c_gate for tools/install: its files, programs built with them, manual pages, and removing it."""
 
 import os
 import re
@@ -11,7 +11,7 @@ sys.dont_write_bytecode = True
 from c_library import Unbuilt, calls, needed, ran, shown, version
 from repository import ROOT
 
-# What the library may want of the C library; abort only where it is of plain Rust.
+# The functions that the library may need of the C library; abort only where it is the plain one.
 OF_THE_C_LIBRARY = {"memcpy", "memmove", "memset", "abort"}
 INPUT = ROOT / "examples" / "tauros.txt"
 LINES = ROOT / "crates" / "battle_tool" / "stdout"
@@ -25,7 +25,7 @@ def installed(*words, library=None, **variables):
 
 
 def plays(program, folder):
-    """What is wrong with what a program prints of the battle of two Tauros; it finds the shared library in a folder."""
+    """What is wrong with the output of a program for the battle of two Tauros; the shared library is in a folder."""
     done = subprocess.run([program], stdin=open(INPUT), capture_output=True, text=True, env={**os.environ, "LD_LIBRARY_PATH": str(folder)})
     if done.returncode or done.stderr:
         return f"status {done.returncode}: {done.stderr}"
@@ -33,7 +33,7 @@ def plays(program, folder):
 
 
 class Tried:
-    """An installation that is tried."""
+    """An installation to check."""
 
     def __init__(self, gate):
         self.gate, self.prefix = gate, gate.work / "prefix"
@@ -41,7 +41,7 @@ class Tried:
         self.environment = {**os.environ, "PKG_CONFIG_PATH": str(self.lib / "pkgconfig")}
 
     def try_out(self, name, check, *needs):
-        """Runs a check, which answers what is wrong; it is skipped where a program that it needs is missing."""
+        """Runs a check, which returns what is wrong; it is skipped where a program that it needs is missing."""
         lacks = next((tool for tool in needs if not shutil.which(tool)), None)
         if lacks:
             return self.gate.skip(f"install, {name}", lacks)
@@ -51,7 +51,7 @@ class Tried:
             self.gate.tell(f"install, {name}", fault)
 
     def files(self):
-        """Every file is there, and nothing else."""
+        """Exactly the expected files are installed."""
         found = sorted(str(path.relative_to(self.prefix)) for path in self.prefix.rglob("*") if not path.is_dir())
         real = f"lib/libgen1.so.{'.'.join(version())}"
         want = ["include/gen1.h", "lib/libgen1.a", "lib/libgen1.so", "lib/libgen1.so.1", real, "lib/libgen1_c.a",
@@ -60,11 +60,11 @@ class Tried:
         return None if found == sorted(want) else f"there are {found}"
 
     def names(self):
-        """The shared library shows the documented names and nothing else, and wants no more than it says."""
+        """The shared library exports exactly the documented names, and needs only the functions that are allowed."""
         shows, wants = shown(self.lib / "libgen1.so"), needed(self.lib / "libgen1.so")
         if shows != set(calls()):
-            return f"it shows {sorted(shows ^ set(calls()))} otherwise than the header"
-        return f"it wants {sorted(wants)}" if not wants <= OF_THE_C_LIBRARY else None
+            return f"its names and the header differ in {sorted(shows ^ set(calls()))}"
+        return f"it needs {sorted(wants)}" if not wants <= OF_THE_C_LIBRARY else None
 
     def soname(self):
         dynamic = ran("readelf", "-d", self.lib / "libgen1.so")
@@ -72,14 +72,14 @@ class Tried:
         return None if found and found[1] == "libgen1.so.1" and "(TEXTREL)" not in dynamic else dynamic
 
     def archive(self):
-        """The static library is the very one that was given."""
+        """The static library is the given one, to the byte."""
         return None if (self.lib / "libgen1_c.a").read_bytes() == self.gate.library.read_bytes() else "it is another library"
 
     def flags(self, *words):
         return ran("pkg-config", *words, "gen1", env=self.environment).split()
 
     def built(self, compiler, name, *words):
-        """Builds a program by a compiler, and plays the battle by it."""
+        """Builds a program by a compiler and plays the battle with it."""
         program = self.gate.work / name
         ran(compiler, *STRICT, *words, "-o", program)
         return plays(program, self.lib)
@@ -97,7 +97,7 @@ class Tried:
         return self.built(compiler, f"lines_{compiler}", "-std=c++17", "tests/c/lines.cpp", *self.flags("--cflags", "--libs"))
 
     def as_their_readmes_say(self):
-        """Each example is built by the line of its README, over the installed library."""
+        """Each example is built by the line of its README, with the installed library."""
         folder = self.gate.work / "examples_c"
         shutil.rmtree(folder, ignore_errors=True)
         shutil.copytree(ROOT / "examples" / "c", folder)
@@ -106,15 +106,15 @@ class Tried:
             for line in re.findall(r"(?m)^    (cc .*)$", readme.read_text()):
                 ran("sh", "-c", line, cwd=readme.parent, env=self.environment)
                 built += 1
-        return None if built >= 5 else f"there were {built} lines to build by"
+        return None if built >= 5 else f"only {built} lines build an example"
 
     def versions(self):
-        """pkg-config knows the version that the header has."""
+        """pkg-config prints the version of the header."""
         found = self.flags("--modversion")
         return None if found == [".".join(version())] else f"version {found}"
 
     def by_cmake(self):
-        """Programs over both targets, and one in C++17."""
+        """Programs with both targets, and one in C++17."""
         build = self.gate.work / "cmake"
         shutil.rmtree(build, ignore_errors=True)
         ran("cmake", "-S", "tests/c/find_package", "-B", build, f"-DCMAKE_PREFIX_PATH={self.prefix}")
@@ -122,7 +122,7 @@ class Tried:
         return next((f"{name}: {fault}" for name in ("shared", "static", "lines") if (fault := plays(build / name, "/nowhere"))), None)
 
     def cmake_refuses(self):
-        """A project that wants another major version is told so."""
+        """A project that wants another major version is refused with a message."""
         build = self.gate.work / "cmake_other"
         shutil.rmtree(build, ignore_errors=True)
         try:
@@ -132,7 +132,7 @@ class Tried:
         return "version 2.0 was found"
 
     def manual(self):
-        """The pages are read without a warning, and name every call."""
+        """The manual pages give no warning, and name every call."""
         man = self.prefix / "share" / "man"
         done = subprocess.run(["man", "--warnings", "-E", "ascii", "-l", man / "man3" / "gen1.3"], capture_output=True, text=True,
                               env={**os.environ, "MANWIDTH": "100", "MANPAGER": "cat"})
@@ -143,12 +143,12 @@ class Tried:
         return None if found.endswith(".3") else f"{calls()[0]} is found as {found}"
 
     def doxygen(self):
-        """Pages of the header, without a warning."""
+        """Doxygen makes pages of the header without a warning."""
         ran("doxygen", "packaging/Doxyfile")
         return None if (ROOT / "out" / "doxygen" / "index.html").is_file() else "there is no index.html"
 
     def staged(self):
-        """Below DESTDIR everything says that it stands below PREFIX; other folders are taken too."""
+        """Files below DESTDIR name PREFIX and not DESTDIR; other folders work too."""
         to = self.gate.work / "staged"
         shutil.rmtree(to, ignore_errors=True)
         given = {"PREFIX": "/opt/gen1", "LIBDIR": "/opt/gen1/lib/x86_64-linux-gnu", "DESTDIR": to}
@@ -158,17 +158,17 @@ class Tried:
         installed("--uninstall", **given)
         left = [path for path in to.rglob("*") if not path.is_dir()]
         right = "libdir=/opt/gen1/lib/x86_64-linux-gnu\n" in pc
-        return None if right and not said and not left else f"{said} say DESTDIR; {left} are left; {pc}"
+        return None if right and not said and not left else f"{said} name DESTDIR; {left} are left; {pc}"
 
     def from_anywhere(self):
-        """A FILE by a relative path is one of the folder that tools/install is run in, and words stand in any order."""
+        """A relative FILE is relative to the current folder, and arguments come in any order."""
         to = self.gate.work / "anywhere"
         shutil.rmtree(to, ignore_errors=True)
         ran(ROOT / "tools" / "install", "PREFIX=/opt/gen1", "--library", self.gate.library.name, f"DESTDIR={to}", cwd=self.gate.library.parent)
         return None if (to / "opt/gen1/lib/libgen1.so").is_file() else "there is no library"
 
     def older(self):
-        """Shared libraries of other versions with the same major number are taken away too, and no other file."""
+        """Shared libraries of other versions with the same major number are removed too, and no other file."""
         prefix, major = self.gate.work / "older", version()[0]
         shutil.rmtree(prefix, ignore_errors=True)
         (prefix / "lib").mkdir(parents=True)
@@ -180,7 +180,7 @@ class Tried:
         return None if left == others else f"{sorted(left)} are left"
 
     def without_the_kit(self):
-        """tools/library says in a sentence that there is no kit and what needs none, and has a help as the other tools."""
+        """Without the kit tools/library prints one line that names a command that needs none; it has a help like the other tools."""
         nowhere = self.gate.work / "nowhere"
         nowhere.mkdir(exist_ok=True)
         for words, status, said in ((), 1, "tools/install --plain"), (("--wasm64",), 1, "tools/install --plain"), (("--other",), 2, "--other"):
@@ -190,13 +190,13 @@ class Tried:
         return None if "tools/library --wasm64" in ran(sys.executable, ROOT / "tools" / "library", "--help") else "there is no help"
 
     def refuses(self):
-        """Words that mean nothing are refused, and nothing is put anywhere."""
+        """Wrong arguments are refused, and nothing is installed."""
         no_library = ["--library", "/nowhere.a", f"PREFIX={self.gate.work}/not"]
         for words in (["PREFIX=here"], ["PREFX=/tmp"], no_library, ["--uninstall", "--plain"]):
             done = subprocess.run([ROOT / "tools" / "install", *words], capture_output=True, text=True)
             if done.returncode == 0 or "tools/install" not in done.stderr and "install: error" not in done.stderr:
                 return f"{words}: status {done.returncode}: {done.stderr}"
-        return "it put something" if (self.gate.work / "not").exists() else None
+        return "it installed something" if (self.gate.work / "not").exists() else None
 
     def taken_away(self):
         installed("--uninstall", PREFIX=self.prefix)
@@ -206,7 +206,7 @@ class Tried:
 
 
 def compare_install(gate):
-    """Installs the library of the gate, twice, and tries everything of it."""
+    """Installs the library of the gate twice, and runs all checks."""
     it = Tried(gate)
     shutil.rmtree(it.prefix, ignore_errors=True)
     if not shutil.which("cc"):

@@ -1,4 +1,4 @@
-"""What the tools of this folder know of the C library: the calls that its header documents, its version, and how to build and link it."""
+"""The C library: the calls and the version of its header, and how to build and link it."""
 
 import os
 import re
@@ -19,11 +19,11 @@ PLAIN_FEATURES = ("--no-default-features", "--features", "panic_handler")
 
 
 class Unbuilt(Exception):
-    """A library that could not be built, by why not."""
+    """A library could not be built, for this reason."""
 
 
 class Missing(Unbuilt):
-    """A library that could not be built since a program is missing, by which."""
+    """A library could not be built since this program is missing."""
 
 
 def calls(header=HEADER):
@@ -32,12 +32,12 @@ def calls(header=HEADER):
 
 
 def version(header=HEADER):
-    """The header's version, as three words of digits."""
+    """The header's version, as three strings of digits."""
     return VERSION.search(header.read_text()).groups()
 
 
 def ran(*words, cwd=ROOT, env=None):
-    """What a command wrote; Unbuilt where it could not be run or its status is not 0."""
+    """What a command printed; Unbuilt where it could not be run or its status is not 0."""
     try:
         done = subprocess.run([str(word) for word in words], cwd=cwd, env=env, stdin=subprocess.DEVNULL, stdout=subprocess.PIPE,
                               stderr=subprocess.STDOUT, text=True, errors="replace")
@@ -50,9 +50,9 @@ def ran(*words, cwd=ROOT, env=None):
 
 
 def plain_library(folder):
-    """Builds the library of the sources as plain Rust in a folder (docs/PLAIN.md), and answers its path.
+    """Builds the library of the sources as plain Rust in a folder (docs/PLAIN.md), and returns its path.
 
-    Only the library's own object is taken: those of rustc's core beside it are not needed.
+    Only the library's own object is taken; those of rustc's core are not needed.
     """
     folder = folder.resolve()
     folder.mkdir(parents=True, exist_ok=True)
@@ -73,7 +73,7 @@ def plain_library(folder):
 
 
 def link_shared(archive, to, soname):
-    """Links the archive into a shared library that shows the documented calls, and nothing else."""
+    """Links the archive into a shared library that exports only the documented calls."""
     archive, to = archive.resolve(), to.resolve()
     script = to.with_name(to.name + ".map")
     names = calls()
@@ -91,10 +91,10 @@ def link_shared(archive, to, soname):
 
 
 def shown(shared):
-    """The names that a shared library shows."""
+    """The names that a shared library exports."""
     return {line.split()[-1] for line in ran("nm", "-D", "--defined-only", shared).splitlines() if line}
 
 
 def needed(shared):
-    """The names that a shared library wants from others."""
+    """The names that a shared library needs from others."""
     return {line.split()[-1].partition("@")[0] for line in ran("nm", "-D", "--undefined-only", shared).splitlines() if line}

@@ -1,4 +1,4 @@
-"""Writes the manual page gen1(3) of what include/gen1.h says: its first comment, its sections, and each call with its comment."""
+"""Writes the manual page gen1(3) from include/gen1.h: its first comment, its sections, and each call with its comment."""
 
 import re
 import sys
@@ -8,12 +8,12 @@ from c_library import HEADER, calls, version
 
 SECTION = re.compile(r"(?m)^/\* ---- (.*) ---- \*/$")
 COMMENT = re.compile(r"/\*(.*?)\*/", re.S)
-# More lines of code than this are a table, for which a reader is sent to the header.
+# Longer code is a table; the page refers to the header for it.
 LONG = 45
 
 
 def escaped(text):
-    """A text for roff: marks of code in bold, no line that reads as a request."""
+    """A text for roff: code in bold, and no line that roff takes for a request."""
     text = text.replace("\\", "\\e").replace("-", "\\-")
     text = re.sub(r"`([^`]*)`", r"\\fB\1\\fP", text)
     return re.sub(r"(?m)^([.'])", r"\\&\1", text)
@@ -31,7 +31,7 @@ def paragraphs(comment):
 
 
 def code(text):
-    """Declarations, as they stand in the header."""
+    """Declarations, as in the header."""
     lines = text.rstrip().split("\n")
     if len(lines) > LONG:
         return f".PP\n.nf\n{escaped(lines[0])}\n{escaped(lines[1])}\n    ...\n{escaped(lines[-1])}\n.fi\n.PP\nThe rest is in the header."
@@ -39,7 +39,7 @@ def code(text):
 
 
 def sections(text):
-    """The header's sections: what stands before the first, and each by its title."""
+    """The header's sections by their titles, and what comes before the first."""
     body = text[text.index('extern "C" {\n#endif\n') + len('extern "C" {\n#endif\n'):text.rindex("#ifdef __cplusplus")]
     parts = SECTION.split(body)
     return [("types and numbers", parts[0]), *zip(parts[1::2], parts[2::2])]
@@ -67,5 +67,5 @@ def page(header=HEADER):
         for comment, below in pieces(body):
             lines += [code(below)] if below.strip() else []
             lines += paragraphs(comment) if comment else []
-    lines += [".SH SEE ALSO", "The comments of gen1.h, of which this page is made."]
+    lines += [".SH SEE ALSO", "The comments of gen1.h, from which this page is generated."]
     return "\n".join(lines) + "\n"

@@ -1,8 +1,8 @@
-// Preloaded by tools/hostile: a system that refuses a program one request, or moves one byte in each read and write.
+// Preloaded by tools/hostile: a system that refuses one request of a program, or moves one byte in each read and write.
 //
-// HOSTILE_KIND is the kind of request that is counted, `memory`, `read`, `out` (a write to standard output) or `err` (one to
-// standard error); HOSTILE_AT the one that is refused, from 1, or 0 for none. HOSTILE_ZERO: a write that is refused takes no byte,
-// in place of an error. HOSTILE_BYTE: each read and write moves one byte. The refusal is told by a byte to descriptor HOSTILE_TELL.
+// HOSTILE_KIND is the kind of request that is counted: `memory`, `read`, `out` (a write to standard output) or `err` (one to
+// standard error). HOSTILE_AT is the number of the refused one, from 1, or 0 for none. HOSTILE_ZERO: a refused write takes no byte
+// instead of failing. HOSTILE_BYTE: each read and write moves one byte. A refusal writes a byte to descriptor HOSTILE_TELL.
 #define _GNU_SOURCE
 #include <errno.h>
 #include <stddef.h>
