@@ -1,6 +1,6 @@
 /*
- * Plays a battle by itself, and looks at what else the library answers: what is offered, how the battle stands, events as
- * structs, the damage of a hit, names, what a battle stands for, and a battle that is kept, tried and loaded.
+ * Plays a battle, and shows other calls of the library: offered choices, the result, events as structs, damage and odds, names, the
+ * state of a battle, and a battle that is copied and loaded.
  *
  *     cc -O2 -I include examples/c/look.c crates/gen1_c/out/libgen1_c.a -o look
  *     ./look
@@ -20,7 +20,7 @@ static const gen1_member tauros = {
     .exp = {65535, 65535, 65535, 65535, 65535},
 };
 
-/* Prints what a move of side 1 would take at least and at most. */
+/* Prints the least and the most damage of a move of side 1. */
 static void show_damage(const gen1_battle *battle, uint8_t move)
 {
     uint16_t damages[39];
@@ -35,7 +35,7 @@ static void show_damage(const gen1_battle *battle, uint8_t move)
         printf("%.*s: %.*s\n", (int)length, name, (int)count, why);
 }
 
-/* Prints how likely a move of side 1 hits, and is critical: as the battle stands, and of two Tauros that were just sent out. */
+/* Prints the odds of a move of side 1: in the current state, and between two Tauros that have just been sent out. */
 static bool show_odds(const gen1_battle *battle, uint8_t move)
 {
     gen1_odds now, fresh;
@@ -74,7 +74,7 @@ static void show_choice(const gen1_battle *battle, uint8_t choice)
         printf("side 1 chooses %.*s: kind %d, slot %d\n", (int)length, words, gen1_choice_kind(choice), gen1_choice_slot(choice));
 }
 
-/* Prints what the tables say of a species and of a move, by their names; and whether both were found. */
+/* Prints the rows of a species and of a move, by their names; returns whether both were found. */
 static bool show_tables(const char *species, const char *move)
 {
     uint8_t of_species = gen1_species_from_name(species, strlen(species)), of_move = gen1_move_from_name(move, strlen(move));
@@ -89,7 +89,7 @@ static bool show_tables(const char *species, const char *move)
     return true;
 }
 
-/* Prints HP and PP as the battle stands. */
+/* Prints the current HP and PP. */
 static void show_state(const gen1_battle *battle)
 {
     gen1_state state;
@@ -100,7 +100,7 @@ static void show_state(const gen1_battle *battle)
     }
 }
 
-/* Prints the turns, the damage and the paralysis that the events of a log tell of. */
+/* Prints the turns, the damage and the paralysis in the events of a log. */
 static void show_events(const uint8_t *log, size_t count)
 {
     gen1_event event;
@@ -114,19 +114,19 @@ static void show_events(const uint8_t *log, size_t count)
     }
 }
 
-/* Plays a battle in a room, where each player makes its first choice, and watches it by its log alone, byte by byte. */
+/* Plays a battle in a room, where each player makes its first choice, with a spectator that is fed the log byte by byte. */
 static bool play_in_room(const gen1_team *team, const uint8_t seed[10])
 {
     gen1_room room;
-    gen1_spectator watcher;
-    if (gen1_new(&room.battle, team, team, seed, 0, GEN1_LIMIT) != 0 || gen1_spectator_begin(&watcher, team, team) != 0)
+    gen1_spectator spectator;
+    if (gen1_new(&room.battle, team, team, seed, 0, GEN1_LIMIT) != 0 || gen1_spectator_begin(&spectator, team, team) != 0)
         return false;
     gen1_room_begin(&room);
     for (;;) {
         for (uint16_t at = 0; at < room.log_length; at++)
-            if (gen1_spectator_feed(&watcher, room.log + at, 1) != 0)
+            if (gen1_spectator_feed(&spectator, room.log + at, 1) != 0)
                 return false;
-        if (watcher.outcome != GEN1_ONGOING)
+        if (spectator.outcome != GEN1_ONGOING)
             break;
         uint32_t number = room.number;
         for (uint8_t side = GEN1_ONE; side <= GEN1_TWO; side++) {
@@ -135,8 +135,8 @@ static bool play_in_room(const gen1_team *team, const uint8_t seed[10])
                 return false;
         }
     }
-    printf("in a room, as a watcher knows: outcome %d in turn %d, and side 1 has %d HP\n", watcher.outcome, watcher.turn,
-           watcher.sides[0].members[0].hp);
+    printf("in a room, as a spectator knows: outcome %d in turn %d, and side 1 has %d HP\n", spectator.outcome, spectator.turn,
+           spectator.sides[0].members[0].hp);
     return true;
 }
 
@@ -152,7 +152,7 @@ int main(void)
         return 1;
     if (gen1_new(&battle, &team, &team, seed, 0, GEN1_LIMIT) != 0)
         return 1;
-    show_damage(&battle, GEN1_MOVE_BODY_SLAM); /* nobody is out yet */
+    show_damage(&battle, GEN1_MOVE_BODY_SLAM); /* no member is out yet */
     while (GEN1_OUTCOME(gen1_result(&battle)) == GEN1_ONGOING) {
         uint8_t one = first_choice(&battle, GEN1_ONE), two = first_choice(&battle, GEN1_TWO);
         show_choice(&battle, one);
@@ -165,7 +165,7 @@ int main(void)
     printf("outcome %d\n", GEN1_OUTCOME(gen1_result(&battle)));
     show_state(&battle);
     show_damage(&battle, GEN1_MOVE_BODY_SLAM);
-    show_damage(&battle, GEN1_MOVE_GUILLOTINE); /* a move with no usual damage */
+    show_damage(&battle, GEN1_MOVE_GUILLOTINE); /* a move without the usual damage */
     if (!show_odds(&battle, GEN1_MOVE_BLIZZARD) || !play_in_room(&team, seed))
         return 1;
 

@@ -1,5 +1,5 @@
 /*
- * Plays many battles of a team at once, by masks and batches, and asks playouts who is ahead.
+ * Plays many battles of a team at once, with masks and batches, and uses playouts to see which side is ahead.
  *
  *     cc -O2 -I include examples/c/many.c crates/gen1_c/out/libgen1_c.a -o many
  *     ./many
@@ -11,7 +11,7 @@
 
 enum { BATTLES = 100, ROUNDS = 1000 };
 
-/* A team as a packed line (text.c has more of that). */
+/* A team as a packed line (see also text.c). */
 static const char packed[] = "Tauros||||BodySlam,HyperBeam,Blizzard,Earthquake|||||||]Chansey||||IceBeam,Thunderbolt|||||||";
 
 /* The choice of the lowest bit. */
@@ -23,7 +23,7 @@ static uint8_t first_choice(uint16_t mask)
     return GEN1_CHOICE(bit);
 }
 
-/* An update of all battles by the first choice of each side: how many went on, or -1 where something else than the end kept one. */
+/* Updates all battles with the first choice of each side. Returns how many were updated, or -1 if one that isn't over was refused. */
 static int step(gen1_battle battles[BATTLES])
 {
     uint16_t masks[2][BATTLES];
@@ -45,7 +45,7 @@ static int step(gen1_battle battles[BATTLES])
     return went_on;
 }
 
-/* Makes the battles, each with a seed of its own. */
+/* Creates the battles, each with a different seed. */
 static bool begin(gen1_battle battles[BATTLES])
 {
     gen1_team team;

@@ -4,9 +4,9 @@
  *     cc -O2 -I include examples/c/play.c crates/gen1_c/out/libgen1_c.a -o play
  *     ./play < examples/tauros.txt
  *
- * The input is decimal numbers with white space between them: the rules, the turn limit and the ten numbers of the seed; for
- * each team how many members it has, and of each member species, level, four DVs, five numbers of experience, and four moves
- * with their PP ups (0 0 where there is no move); and then pairs of choices, up to the end.
+ * The input is decimal numbers separated by white space: the rules, the turn limit and the ten numbers of the seed; then for each
+ * team the number of members, and for each member its species, level, four DVs, five numbers of experience, and four moves with
+ * their PP ups (0 0 for no move); and then pairs of choices, up to the end.
  */
 #include "gen1.h"
 
@@ -14,7 +14,7 @@
 #include <stdlib.h>
 #include <string.h>
 
-/* Ends the program, whose input is no battle. */
+/* Ends the program, because its input is not a battle. */
 static void stop_at_input(void)
 {
     fputs("error: input\n", stderr);
@@ -30,13 +30,13 @@ static int number_or_end(int most)
             stop_at_input();
         return -1;
     }
-    /* A word that fills the room may go on behind it; no number here is as long. */
+    /* A word that fills the buffer may be longer than it; no number here is that long. */
     if (strspn(word, "0123456789") != strlen(word) || strlen(word) == sizeof word - 1 || strtol(word, NULL, 10) > most)
         stop_at_input();
     return (int)strtol(word, NULL, 10);
 }
 
-/* The next number, where there has to be one. */
+/* The next number, which is required. */
 static int number_up_to(int most)
 {
     int value = number_or_end(most);
@@ -66,7 +66,7 @@ static void read_team(gen1_team *team)
         read_member(&team->members[at]);
 }
 
-/* Begins the battle that standard input asks for. */
+/* Creates the battle that standard input describes. */
 static void begin(gen1_battle *battle)
 {
     gen1_team one = {0}, two = {0};

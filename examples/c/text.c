@@ -1,5 +1,5 @@
 /*
- * Teams out of text: one as a team builder exports it, which plays against itself, and two with a fault, of which it is said where.
+ * Teams from text: one as a team builder exports it, which plays against itself, and two with an error, whose place is printed.
  *
  *     cc -O2 -I include examples/c/text.c crates/gen1_c/out/libgen1_c.a -o text
  *     ./text
@@ -15,7 +15,7 @@ static const char misspelt_packed[] = "Tauros||||BodySlam|||||||]Chansey||||IceB
 
 typedef uint8_t reading(const char *text, size_t count, gen1_team *team, gen1_text_fault *fault);
 
-/* Prints where a text is at fault; whether it is. */
+/* Prints where a text has an error; returns whether it has one. */
 static bool show_fault(reading *read, const char *of)
 {
     gen1_team team;

@@ -26,7 +26,7 @@ const gen1 = await load(new URL("./gen1.wasm", import.meta.url));
 const team = gen1.teamFromText(TEAM);
 let drawn = 1;
 
-// A number from 0 to `count` - 1; the same ones in each run.
+// A random number from 0 to `count` - 1; the same sequence in each run.
 /** @param {number} count */
 function random(count) {
   drawn = (Math.imul(drawn, 1664525) + 1013904223) >>> 0;
@@ -38,7 +38,7 @@ const seed = () => Array.from({ length: 10 }, () => random(256));
 /** @template T @param {readonly T[]} list */
 const any = (list) => list[random(list.length)];
 
-// How often side 1 wins after a choice. A copy holds the numbers that the battle will draw, so each fork is given others.
+// How often side 1 wins after a choice. A copy draws the same numbers as the battle, so each fork gets others.
 /** @param {import("./gen1.mjs").Battle} battle @param {import("./gen1.mjs").ChoiceName} choice */
 function wins(battle, choice) {
   let won = 0;

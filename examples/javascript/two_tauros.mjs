@@ -1,4 +1,4 @@
-// The battle of README.md, two Tauros with Strength: each side takes the first choice that it is offered. Prints its lines.
+// Plays the battle of README.md, two Tauros with Strength, with the first offered choice of each side, and prints its lines.
 import { load } from "./gen1.mjs";
 
 const gen1 = await load(new URL("./gen1.wasm", import.meta.url));

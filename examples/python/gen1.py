@@ -1,4 +1,4 @@
-"""The calls of include/gen1.h by ctypes, one by one. A program takes the package python/gen1, which checks and explains more.
+"""The calls of include/gen1.h through ctypes. Programs should use the package python/gen1, which checks and explains more.
 
     cc -shared -o libgen1.so -Wl,--whole-archive crates/gen1_c/out/libgen1_c.a -Wl,--no-whole-archive
 """
@@ -64,27 +64,27 @@ class SpectatorBytes(Structure):
 
 
 class Refused(Exception):
-    """A pair of choices, or what a side submits to a room, was refused, by its number."""
+    """A pair of choices, or a submission to a room, was refused; with the number of the refusal."""
 
 
 class TeamFault(Exception):
-    """There is no battle of these teams: the side, the place and the code."""
+    """Teams were refused; with the side, the place and the code."""
 
 
 class LoadFault(Exception):
-    """Bytes are no battle: the number of the first test that they fail."""
+    """Bytes are not a battle; with the number of the first test that they fail."""
 
 
 class LogFault(Exception):
-    """Bytes are no log: the number of the fault."""
+    """Bytes are not a log; with the number of the error."""
 
 
 class DamageFault(Exception):
-    """There are no damages: the code."""
+    """A move has no damage; with the code."""
 
 
 def within(number, most):
-    """A number from 0 to `most`. ctypes would cut another one to its lowest bits without a word."""
+    """A number from 0 to `most`. ctypes would silently truncate another one to its lowest bits."""
     if not 0 <= number <= most:
         raise ValueError(f"{number} is not 0 to {most}")
     return number
@@ -100,7 +100,7 @@ def member(species, level, dvs, exp, moves):
 
 
 def team(members):
-    """A team. A count above six is the library's to refuse."""
+    """A team. The library refuses a count above six."""
     return Team(members=tuple(members[:6]), count=min(len(members), 255))
 
 
@@ -177,7 +177,7 @@ class Library:
 
 
 class Battle:
-    """A battle, all of which is its bytes."""
+    """A battle, which consists of its bytes."""
 
     def __init__(self, library):
         self.library, self.calls, self.held = library, library.calls, BattleBytes()
@@ -192,7 +192,7 @@ class Battle:
         return bytes(self.held.bytes)
 
     def choices(self, side):
-        """What a side, 1 or 2, may choose."""
+        """The choices that a side, 1 or 2, is offered."""
         choices = (c_uint8 * 9)()
         count = self.calls.gen1_choices(byref(self.held), within(side, 255), choices)
         if count == NO_SIDE:
@@ -200,7 +200,7 @@ class Battle:
         return list(choices[:count])
 
     def update(self, one, two):
-        """An update by a choice of each side; its log."""
+        """Updates the battle with a choice of each side, and returns the log."""
         log, length = (c_uint8 * LOG_ROOM)(), c_size_t(0)
         refused = self.calls.gen1_update(byref(self.held), within(one, 255), within(two, 255), log, LOG_ROOM, byref(length))
         if refused:
@@ -213,7 +213,7 @@ class Battle:
         return result & 7, result >> 3 & 3, result >> 5 & 3
 
     def damage(self, side, number, critical=False):
-        """The damage of a hit by a move of a side, at each factor."""
+        """The damage of a side's move at each factor."""
         damages = (c_uint16 * 39)()
         code = self.calls.gen1_damage(byref(self.held), within(side, 255), within(number, 255), critical, damages)
         if code:
@@ -221,7 +221,7 @@ class Battle:
         return list(damages)
 
     def odds(self, side, number):
-        """What a use of a move by a side would come to."""
+        """The odds of a side's move."""
         odds = Odds()
         code = self.calls.gen1_odds_now(byref(self.held), within(side, 255), within(number, 255), byref(odds))
         if code:
@@ -238,11 +238,11 @@ class Room:
 
     @property
     def log(self):
-        """The log of the last pair that ended; before one has, of the battle's start."""
+        """The log of the last pair that ended; before the first, of the battle's start."""
         return bytes(self.held.log[:self.held.log_length])
 
     def choices(self, side):
-        """What a side, 1 or 2, may submit."""
+        """The choices that a side, 1 or 2, may submit."""
         choices = (c_uint8 * 9)()
         count = self.calls.gen1_room_choices(byref(self.held), within(side, 255), choices)
         if count == NO_SIDE:
@@ -250,14 +250,14 @@ class Room:
         return list(choices[:count])
 
     def submit(self, side, number, choice):
-        """A side's choice for the pair of this number."""
+        """Submits a side's choice for the pair with this number."""
         refused = self.calls.gen1_room_submit(byref(self.held), within(side, 255), within(number, 2**32 - 1), within(choice, 255))
         if refused:
             raise Refused(refused)
 
 
 class Spectator:
-    """What a watcher knows of a battle of two teams, by its logs."""
+    """What a spectator knows of a battle of two teams from its logs."""
 
     def __init__(self, library, one, two):
         self.calls, self.held = library.calls, SpectatorBytes()
@@ -266,7 +266,7 @@ class Spectator:
             raise TeamFault(fault >> 16, fault >> 8 & 0xff, fault & 0xff)
 
     def feed(self, log):
-        """Takes in the next bytes of the log, which may be cut anywhere."""
+        """Reads the next bytes of the log, in pieces of any size."""
         fault = self.calls.gen1_spectator_feed(byref(self.held), log, len(log))
         if fault:
             raise LogFault(fault)

@@ -4,7 +4,7 @@
     cc -shared -o libgen1.so -Wl,--whole-archive crates/gen1_c/out/libgen1_c.a -Wl,--no-whole-archive
     python3 examples/python/play.py ./libgen1.so < examples/tauros.txt
 
-The input is decimal numbers with white space between them, as examples/c/play.c says.
+The input is decimal numbers separated by white space, as described in examples/c/play.c.
 """
 
 import sys

@@ -1,8 +1,8 @@
-//! The library for Rust: of include/gen1.h what the programs of this folder call, in Rust's words. Its functions take any values,
-//! so the calls are safe; the slices are handed over as pointer and length, which Rust's types keep together.
+//! The C library from Rust: the part of include/gen1.h that the programs in this folder call. Its functions accept any values, so the
+//! calls are safe. Slices are passed as pointer and length, which Rust's types keep together.
 #![allow(dead_code)]
 
-/// A battle, all of which are these bytes.
+/// A battle, which consists of these bytes.
 #[repr(C)]
 #[derive(Clone, Copy)]
 pub struct Battle {
@@ -29,7 +29,7 @@ pub struct Team {
     pub count: u8,
 }
 
-/// The damage of a hit at each factor, or the code that says why there is none.
+/// The damage of a hit at each factor, or the code of why there is none.
 #[repr(C)]
 #[derive(Clone, Copy, Debug, PartialEq, Eq)]
 pub struct Damages {
@@ -38,7 +38,7 @@ pub struct Damages {
     pub code: u8,
 }
 
-/// What a use of a move would come to. Chances are so many of 256 draws.
+/// The odds of a move. Chances are given as how many of 256 draws have the result.
 #[repr(C)]
 #[derive(Clone, Copy, Debug, PartialEq, Eq)]
 pub struct Odds {
@@ -48,7 +48,7 @@ pub struct Odds {
     pub hit_draws: u16,
 }
 
-/// A battle of two players who choose apart from each other.
+/// A battle of two players who choose independently.
 #[repr(C)]
 #[derive(Clone, Copy)]
 pub struct Room {
@@ -59,7 +59,7 @@ pub struct Room {
     log: [u8; 512],
 }
 
-/// What shows of a member.
+/// What a spectator knows of a member.
 #[repr(C)]
 #[derive(Clone, Copy, Debug, Default, PartialEq, Eq)]
 pub struct ShownMember {
@@ -67,7 +67,7 @@ pub struct ShownMember {
     pub status: u8,
 }
 
-/// What shows of a side.
+/// What a spectator knows of a side.
 #[repr(C)]
 #[derive(Clone, Copy, Debug, Default, PartialEq, Eq)]
 pub struct ShownSide {
@@ -81,7 +81,7 @@ pub struct ShownSide {
     pub reflect: u8,
 }
 
-/// What a watcher knows who has both teams and the logs.
+/// What a spectator knows from both teams and the logs.
 #[repr(C)]
 #[derive(Clone, Copy, Debug, Default, PartialEq, Eq)]
 pub struct Spectator {
@@ -117,7 +117,7 @@ unsafe extern "C" {
     fn gen1_spectator_feed(spectator: &mut Spectator, log: *const u8, count: usize) -> u8;
 }
 
-/// Why there is no battle of two teams.
+/// Why teams were refused.
 pub struct TeamFault {
     pub side: u32,
     pub place: u32,
@@ -125,7 +125,7 @@ pub struct TeamFault {
 }
 
 impl TeamFault {
-    /// An answer that is not 0, taken apart.
+    /// The parts of a return value that is not 0.
     fn of(answer: u32) -> TeamFault {
         TeamFault {
             side: answer >> 16,
@@ -135,7 +135,7 @@ impl TeamFault {
     }
 }
 
-/// What is overwritten.
+/// A value for the library to overwrite.
 const NO_ODDS: Odds = {
     let none = Damages {
         numbers: [0; 39],
@@ -150,7 +150,7 @@ const NO_ODDS: Odds = {
     }
 };
 
-/// What a use of a move would come to by a member against another that have both just been sent out.
+/// The odds of a move between two members that have just been sent out.
 pub fn odds_between(user: &Member, foe: &Member, id: u8) -> Result<Odds, TeamFault> {
     let mut odds = NO_ODDS;
     match gen1_odds_between(user, foe, id, &mut odds) {
@@ -159,15 +159,15 @@ pub fn odds_between(user: &Member, foe: &Member, id: u8) -> Result<Odds, TeamFau
     }
 }
 
-/// The choices at the front of an array, of which there are so many; none where the side is none.
-fn front_of(choices: [u8; 9], count: u8) -> Vec<u8> {
+/// The first `count` choices of an array; none if the side was not 1 or 2.
+fn first_of(choices: [u8; 9], count: u8) -> Vec<u8> {
     match count {
         255 => Vec::new(),
         count => choices[..usize::from(count)].to_vec(),
     }
 }
 
-/// A choice of a side was not offered, or the battle is over, or a room refuses what is submitted: the number of the refusal.
+/// An update or a submission to a room was refused; with the number of the refusal.
 pub struct Refused(pub u8);
 
 /// The log of one update.
@@ -185,30 +185,30 @@ impl Battle {
         }
     }
 
-    /// The battle of these bytes, or the number of the first test that they fail.
+    /// Loads a battle from bytes, or returns the number of the first test that they fail.
     pub fn load(bytes: &[u8]) -> Result<Battle, u8> {
         let mut battle = Battle { bytes: [0; 384] };
-        // The pointer and the length are those of one slice, apart from the new battle.
+        // The pointer and the length are those of one slice, which does not overlap the new battle.
         match unsafe { gen1_load(&mut battle, bytes.as_ptr(), bytes.len()) } {
             0 => Ok(battle),
             test => Err(test),
         }
     }
 
-    /// What a side, 1 or 2, may choose.
+    /// The choices that a side, 1 or 2, is offered.
     pub fn choices(&self, side: u8) -> Vec<u8> {
         let mut choices = [0; 9];
         let count = gen1_choices(self, side, &mut choices);
-        front_of(choices, count)
+        first_of(choices, count)
     }
 
-    /// An update, and its log.
+    /// Updates the battle with a choice of each side, and returns the log.
     pub fn update(&mut self, one: u8, two: u8) -> Result<Log, Refused> {
         let mut log = Log {
             bytes: [0; 512],
             length: 0,
         };
-        // The pointer and the length are those of one array, apart from the battle and the length.
+        // The pointer and the length are those of one array, which does not overlap the battle or the length.
         let refused = unsafe { gen1_update(self, one, two, log.bytes.as_mut_ptr(), log.bytes.len(), &mut log.length) };
         match refused {
             0 => Ok(log),
@@ -222,7 +222,7 @@ impl Battle {
         (result & 7, result >> 3 & 3, result >> 5 & 3)
     }
 
-    /// What a use of a move by a side would come to, as both members that are out stand, or the code that says why it is not told.
+    /// The odds of a side's move in the current state, or the code of why there are none.
     pub fn odds(&self, side: u8, id: u8) -> Result<Odds, u8> {
         let mut odds = NO_ODDS;
         match gen1_odds_now(self, side, id, &mut odds) {
@@ -233,7 +233,7 @@ impl Battle {
 }
 
 impl Room {
-    /// The room of a battle, which is started if it has not begun.
+    /// Creates a room for a battle, which is started if it has not begun.
     pub fn new(battle: Battle) -> Room {
         let mut room = Room {
             battle,
@@ -246,14 +246,14 @@ impl Room {
         room
     }
 
-    /// What a side, 1 or 2, may submit for the current pair.
+    /// The choices that a side, 1 or 2, may submit for the current pair.
     pub fn choices(&self, side: u8) -> Vec<u8> {
         let mut choices = [0; 9];
         let count = gen1_room_choices(self, side, &mut choices);
-        front_of(choices, count)
+        first_of(choices, count)
     }
 
-    /// A side's choice for the pair of this number.
+    /// Submits a side's choice for the pair with this number.
     pub fn submit(&mut self, side: u8, number: u32, choice: u8) -> Result<(), Refused> {
         match gen1_room_submit(self, side, number, choice) {
             0 => Ok(()),
@@ -261,7 +261,7 @@ impl Room {
         }
     }
 
-    /// The log of the last pair that ended; before one has, of the battle's start.
+    /// The log of the last pair that ended; before the first, of the battle's start.
     pub fn log(&self) -> Log {
         Log {
             bytes: self.log,
@@ -271,7 +271,7 @@ impl Room {
 }
 
 impl Spectator {
-    /// What is known before a battle of two teams.
+    /// Creates a spectator before a battle of two teams.
     pub fn new(one: &Team, two: &Team) -> Result<Spectator, TeamFault> {
         let mut spectator = Spectator::default();
         match gen1_spectator_begin(&mut spectator, one, two) {
@@ -280,9 +280,9 @@ impl Spectator {
         }
     }
 
-    /// Takes in the next bytes of the battle's log, which may be cut anywhere; or answers the number of the fault.
+    /// Reads the next bytes of the battle's log, in pieces of any size, or returns the number of the error.
     pub fn feed(&mut self, log: &[u8]) -> Result<(), u8> {
-        // The pointer and the length are those of one slice, apart from the spectator.
+        // The pointer and the length are those of one slice, which does not overlap the spectator.
         match unsafe { gen1_spectator_feed(self, log.as_ptr(), log.len()) } {
             0 => Ok(()),
             code => Err(code),
@@ -295,12 +295,12 @@ impl Log {
         &self.bytes[..self.length]
     }
 
-    /// Hands each line to a function, its line feed included.
+    /// Calls a function with each line, including its line feed.
     pub fn each_line(&self, mut take: impl FnMut(&[u8])) {
         let log = self.bytes();
         let (mut at, mut line, mut length) = (0, [0; 96], 0);
         loop {
-            // Each pointer and the length behind it are those of one slice, and no two of them overlap.
+            // Each pointer and the length after it are those of one slice, and no two of them overlap.
             let code = unsafe {
                 gen1_next_line(
                     log.as_ptr(),

@@ -1,4 +1,4 @@
-//! What standard input tells the programs of this folder: decimal numbers with white space between them, as examples/c/play.c says.
+//! The input of the programs in this folder: decimal numbers separated by white space, as described in examples/c/play.c.
 use crate::gen1::{Battle, Member, Team};
 use std::str::SplitWhitespace;
 
@@ -54,7 +54,7 @@ impl<'a> Numbers<'a> {
         Some(team)
     }
 
-    /// A battle with its teams, or why there is none.
+    /// The battle with its teams, or an error.
     pub fn battle(&mut self) -> Result<(Battle, [Team; 2]), String> {
         let asked = || "input".to_string();
         let rules = self.next().ok_or_else(asked)?;

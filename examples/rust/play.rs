@@ -3,7 +3,7 @@
 //!     rustc --edition 2024 -O -L crates/gen1_c/out examples/rust/play.rs -o play
 //!     ./play < examples/tauros.txt
 //!
-//! The input is decimal numbers with white space between them, as examples/c/play.c says.
+//! The input is decimal numbers separated by white space, as described in examples/c/play.c.
 mod gen1;
 mod numbers;
 
@@ -11,7 +11,7 @@ use numbers::Numbers;
 use std::io::{self, Write};
 use std::process::ExitCode;
 
-/// The line of the first fault, if there is one.
+/// Plays the battle, or returns the text of the first error.
 fn run_battle(input: &str, out: &mut impl Write) -> Result<(), String> {
     let mut numbers = Numbers::of(input);
     let (mut battle, _) = numbers.battle()?;

@@ -2,9 +2,9 @@
 //!
 //!     rustc --edition 2024 -O -L crates/gen1_c/out examples/rust/submit.rs -o submit
 //!
-//! The input is that of play.rs, with submissions in the place of the choices: each a side, the number of its pair and the byte of
-//! its choice. Beside it a watcher is told of each log, and has to know how the battle stands; and what a move would come to between
-//! both first members has to be the same in the battle and without one.
+//! The input is that of play.rs, with submissions instead of choices: each is a side, the number of the pair and the byte of a choice.
+//! The program also checks two things: a spectator that is fed each log knows the outcome, and the odds of the moves of both first
+//! members are the same in the battle and without one.
 mod gen1;
 mod numbers;
 
@@ -13,7 +13,7 @@ use numbers::Numbers;
 use std::io::{self, Write};
 use std::process::ExitCode;
 
-/// What is printed of a submission that is refused.
+/// The line that is printed for a refused submission.
 fn refusal(code: u8, number: u32) -> String {
     match code {
         2 => format!("|room|refused|2|{number}\n"),
@@ -21,17 +21,17 @@ fn refusal(code: u8, number: u32) -> String {
     }
 }
 
-/// The log's lines are printed, and the watcher is told of it, in two parts.
-fn tell(log: &Log, watcher: &mut Spectator, out: &mut impl Write) -> Result<(), String> {
+/// Prints the lines of a log, and feeds it to the spectator, in two parts.
+fn report(log: &Log, spectator: &mut Spectator, out: &mut impl Write) -> Result<(), String> {
     log.each_line(|line| out.write_all(line).expect("standard output"));
-    let (front, rest) = log.bytes().split_at(log.bytes().len() / 2);
-    for part in [front, rest] {
-        watcher.feed(part).map_err(|code| format!("log {code}"))?;
+    let (first, second) = log.bytes().split_at(log.bytes().len() / 2);
+    for part in [first, second] {
+        spectator.feed(part).map_err(|code| format!("log {code}"))?;
     }
     Ok(())
 }
 
-/// The odds of each move between both first members, who have just been sent out.
+/// Compares the odds of each move between both first members, which have just been sent out.
 fn compare_odds(battle: &Battle, one: &Team, two: &Team) -> Result<(), String> {
     for id in 1..=165 {
         let between = gen1::odds_between(&one.members[0], &two.members[0], id);
@@ -42,13 +42,13 @@ fn compare_odds(battle: &Battle, one: &Team, two: &Team) -> Result<(), String> {
     Ok(())
 }
 
-/// The line of the first fault, if there is one.
+/// Runs the room, or returns the text of the first error.
 fn run_room(input: &str, out: &mut impl Write) -> Result<(), String> {
     let mut numbers = Numbers::of(input);
     let (battle, [one, two]) = numbers.battle()?;
-    let mut watcher = Spectator::new(&one, &two).map_err(|_| "team")?;
+    let mut spectator = Spectator::new(&one, &two).map_err(|_| "team")?;
     let mut room = Room::new(battle);
-    tell(&room.log(), &mut watcher, out)?;
+    report(&room.log(), &mut spectator, out)?;
     compare_odds(&room.battle, &one, &two)?;
     while let Some(side) = numbers.next() {
         let number = numbers.next().ok_or("input")?;
@@ -61,14 +61,14 @@ fn run_room(input: &str, out: &mut impl Write) -> Result<(), String> {
             Ok(()) if room.number == current => writeln!(out, "|room|waiting").expect("standard output"),
             Ok(()) => {
                 writeln!(out, "|room|advanced").expect("standard output");
-                tell(&room.log(), &mut watcher, out)?;
+                report(&room.log(), &mut spectator, out)?;
             }
         }
         let result = room.battle.result();
-        if watcher.outcome != result.0 {
+        if spectator.outcome != result.0 {
             return Err(format!(
-                "the watcher knows of outcome {}, not {}",
-                watcher.outcome, result.0
+                "the spectator knows of outcome {}, not {}",
+                spectator.outcome, result.0
             ));
         }
     }

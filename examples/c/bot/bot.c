@@ -1,12 +1,12 @@
 /*
- * Plays battles of a bot that tries each of its choices in forks of the battle, against one that chooses at random.
+ * Plays battles of a bot that tries each of its choices in forks of the battle, against a player that chooses at random.
  *
  *     cc -O2 bot.c $(pkg-config --cflags --libs gen1) -o bot
  *     ./bot [BATTLES [SEED]]
  *
- * Side 1 is the bot. For each choice that it is offered it copies the battle, gives the copy other numbers to draw, plays it to
- * its end with random choices, some times over, and takes the choice that won most. Both sides have the same four members, so that
- * choices and luck alone decide. Prints how many battles each side has won; the same words give the same battles.
+ * Side 1 is the bot. For each offered choice it copies the battle several times, gives each copy other numbers to draw, and plays it to
+ * its end with random choices. It makes the choice that won most. Both sides have the same four members, so that only choices and luck
+ * decide. Prints how many battles each side won; the same arguments give the same battles.
  */
 #include "gen1.h"
 
@@ -14,10 +14,10 @@
 #include <stdlib.h>
 #include <string.h>
 
-/* How often each choice is played to the end; how many members a side has; and how many there are to be drawn. */
+/* How many forks are played for each choice; how many members a side has; and from how many they are drawn. */
 enum { PLAYOUTS = 32, MEMBERS_OF_A_SIDE = 4, MEMBERS = 12 };
 
-/* Who may be drawn: species, and four moves. */
+/* The members to draw from: species, and four moves. */
 static const uint8_t members[MEMBERS][5] = {
     {GEN1_SPECIES_CHARIZARD, GEN1_MOVE_FLAMETHROWER, GEN1_MOVE_SLASH, GEN1_MOVE_LEER, GEN1_MOVE_GROWL},
     {GEN1_SPECIES_BLASTOISE, GEN1_MOVE_SURF, GEN1_MOVE_ICE_BEAM, GEN1_MOVE_WITHDRAW, GEN1_MOVE_TAIL_WHIP},
@@ -33,7 +33,7 @@ static const uint8_t members[MEMBERS][5] = {
     {GEN1_SPECIES_LAPRAS, GEN1_MOVE_ICE_BEAM, GEN1_MOVE_SURF, GEN1_MOVE_MIST, GEN1_MOVE_GROWL},
 };
 
-/* Numbers of the bots' own, which have nothing to do with what a battle draws. */
+/* Random numbers of the players, which are independent of those that a battle draws. */
 static uint64_t state;
 
 static uint32_t draw(uint32_t bound)
@@ -76,7 +76,7 @@ static uint8_t random_choice(const gen1_battle *battle, uint8_t side)
     return count == 0 ? GEN1_PASS : choices[draw(count)];
 }
 
-/* Ends the program at a code. No call here is to answer one. */
+/* Ends the program if a call returns a code, which none here should. */
 static void stop_if_refused(uint8_t code)
 {
     if (code != 0) {
@@ -91,7 +91,7 @@ static void update(gen1_battle *battle, uint8_t one, uint8_t two)
     stop_if_refused(gen1_update(battle, one, two, NULL, 0, &length));
 }
 
-/* A copy that does not draw what the battle itself will draw: else the bot would know its dice. */
+/* A copy that draws other numbers than the battle, so that the bot doesn't know its luck. */
 static gen1_battle fork_of(const gen1_battle *battle)
 {
     gen1_battle fork = *battle;
@@ -101,7 +101,7 @@ static gen1_battle fork_of(const gen1_battle *battle)
     return fork;
 }
 
-/* What a fork comes to for side 1, after its choice and random ones up to the end: 2 for a win, 1 for a tie. */
+/* The score of side 1 in a fork, after its choice and random ones up to the end: 2 for a win, 1 for a tie. */
 static int played_out(gen1_battle fork, uint8_t choice)
 {
     update(&fork, choice, random_choice(&fork, GEN1_TWO));
@@ -112,7 +112,7 @@ static int played_out(gen1_battle fork, uint8_t choice)
     return outcome(&fork) == GEN1_WIN_ONE ? 2 : outcome(&fork) == GEN1_TIE ? 1 : 0;
 }
 
-/* The choice of side 1 that comes to most in its forks. */
+/* The choice of side 1 with the highest score in its forks. */
 static uint8_t best_choice(const gen1_battle *battle)
 {
     uint8_t choices[9], best = GEN1_PASS;
@@ -130,7 +130,7 @@ static uint8_t best_choice(const gen1_battle *battle)
     return best;
 }
 
-/* Plays a battle, and answers its outcome. */
+/* Plays a battle, and returns its outcome. */
 static uint8_t played(void)
 {
     gen1_team team = draw_team();

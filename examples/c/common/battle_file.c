@@ -4,11 +4,11 @@
 #include <stdlib.h>
 #include <string.h>
 
-/* The next number, where there is one from 0 up to `most`; else `*is_read` becomes false. */
+/* The next number, from 0 up to `most`; if there is none, `*is_read` becomes false. */
 static uint16_t next(FILE *from, int most, bool *is_read)
 {
     char word[12];
-    /* A word that fills the room may go on behind it; no number here is as long. */
+    /* A word that fills the buffer may be longer than it; no number here is that long. */
     *is_read = *is_read && fscanf(from, "%11s", word) == 1 && strspn(word, "0123456789") == strlen(word)
         && strlen(word) < sizeof word - 1 && strtol(word, NULL, 10) <= most;
     return *is_read ? (uint16_t)strtol(word, NULL, 10) : 0;

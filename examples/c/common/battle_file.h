@@ -1,5 +1,5 @@
 /*
- * battle_file.h - what the examples read: a battle as decimal numbers, as examples/tauros.txt has it and examples/c/play.c says, and
+ * battle_file.h - input of the examples: a battle as decimal numbers, as in examples/tauros.txt (examples/c/play.c has the format), and
  * a team as Pokemon Showdown's team builder exports it (docs/TEAM_TEXT.md).
  */
 #ifndef BATTLE_FILE_H
@@ -9,7 +9,7 @@
 
 #include <stdio.h>
 
-/* What a battle is made of: the arguments of gen1_new. */
+/* The arguments of gen1_new. */
 typedef struct battle_file {
     uint8_t rules;
     uint16_t limit;
@@ -17,13 +17,13 @@ typedef struct battle_file {
     gen1_team one, two;
 } battle_file;
 
-/* Reads up to the end of side 2's team; the choices behind it are left to be read. Whether every number was there and fits its field. */
+/* Reads up to the end of side 2's team, but not the choices after it. Returns whether every number was present and in range. */
 bool read_battle(FILE *from, battle_file *to);
 
-/* Reads the team of a file of text. Where there is none it prints why not, with line and code of gen1.h, and answers false. */
+/* Reads a team from a text file. If that fails, prints the reason, with line and code as in gen1.h, and returns false. */
 bool read_team_text(const char *path, gen1_team *team);
 
-/* Prints why gen1_new made no battle, as `battle_tool` does. */
+/* Prints why gen1_new refused the teams, as `battle_tool` does. */
 void print_team_fault(uint32_t fault);
 
 #endif

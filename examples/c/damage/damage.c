@@ -1,18 +1,20 @@
 /*
- * Prints what each move of each member of team one takes from each member of team two, as a table.
+ * Prints the damage of each move of each member of team one to each member of team two, as a table.
  *
  *     cc -O2 -I ../common damage.c ../common/battle_file.c $(pkg-config --cflags --libs gen1) -o damage
  *     ./damage ours.txt theirs.txt
  *     ./damage < ../../tauros.txt
  *
- * The words are files with the teams as Pokemon Showdown's team builder exports them. Without words the input is a battle as decimal
- * numbers, as ../play.c says; its choices are not looked at. Both members are at full HP, just sent out. A row has the move, the least
- * and most damage of a usual hit with its percent of the foe's HP, the same of a critical hit, how many usual hits are enough at the
- * worst, and of 256 draws how many hit and how many are critical; of a move without damage, how many hit where it takes the hit test.
+ * The arguments are files with teams as Pokemon Showdown's team builder exports them. Without arguments the input is a battle as decimal
+ * numbers (../play.c has the format), whose choices are ignored. Both members are at full HP and have just been sent out.
+ *
+ * A row has the move; the least and the most damage of a usual hit, with percentages of the foe's HP; the same for a critical hit; how
+ * many usual hits are enough in the worst case; and how many of 256 draws hit and are critical. For a move without damage, the row has
+ * how many of 256 draws hit, if it takes the hit test.
  */
 #include "battle_file.h"
 
-/* The least and the most of damages, and their percents of the foe's HP. */
+/* Prints the least and the most damage, and their percentages of the foe's HP. */
 static void print_range(const char *before, const gen1_damages *it, uint16_t hp)
 {
     uint16_t least = it->numbers[0], most = it->numbers[it->count - 1];
@@ -40,7 +42,7 @@ static void print_row(const gen1_odds *odds, uint8_t move, uint16_t hp)
     printf("; %d of 256 hit, %d of 256 critical\n", odds->hit_draws, odds->critical_draws);
 }
 
-/* The table of a member against another, who has so many HP. */
+/* Prints the table of a member against a foe with this many HP. */
 static void print_table(const gen1_member *user, const gen1_member *foe, uint16_t hp)
 {
     gen1_odds odds;
@@ -50,7 +52,7 @@ static void print_table(const gen1_member *user, const gen1_member *foe, uint16_
             print_row(&odds, user->moves[at], hp);
 }
 
-/* Both teams, from two files of text or from standard input; what is wrong is printed. */
+/* Reads both teams, from two text files or from standard input; prints errors. */
 static bool read_teams(int count, char **words, battle_file *to)
 {
     *to = (battle_file){.limit = GEN1_LIMIT};
@@ -65,17 +67,17 @@ static bool read_teams(int count, char **words, battle_file *to)
 int main(int count, char **words)
 {
     battle_file file;
-    gen1_spectator watched;
+    gen1_spectator spectator;
     if (!read_teams(count, words, &file))
         return 1;
-    /* Both teams are tested whole before anything is printed. A watcher knows the HP of both. */
-    uint32_t fault = gen1_spectator_begin(&watched, &file.one, &file.two);
+    /* This checks both teams before anything is printed, and the spectator knows the HP of all members. */
+    uint32_t fault = gen1_spectator_begin(&spectator, &file.one, &file.two);
     if (fault != 0) {
         print_team_fault(fault);
         return 1;
     }
     for (int one = 0; one < file.one.count; one++)
         for (int two = 0; two < file.two.count; two++)
-            print_table(&file.one.members[one], &file.two.members[two], watched.sides[1].members[two].hp);
+            print_table(&file.one.members[one], &file.two.members[two], spectator.sides[1].members[two].hp);
     return 0;
 }

@@ -4,18 +4,18 @@
  *     cc -O2 replay.c $(pkg-config --cflags --libs gen1) -o replay
  *     ./replay [FILE]
  *
- * The log bytes are what gen1_update writes, those of any number of updates one after the other; without FILE they come from
- * standard input. Status 0 where all were read, and 1 where they are no log: then no line is printed, but which fault and where.
+ * The log bytes are what gen1_update writes, of any number of updates one after the other. Without FILE they are read from standard
+ * input. Status 0 means that all lines were printed. Status 1 means that the bytes are not a log; then only an error is printed.
  */
 #include "gen1.h"
 
 #include <stdio.h>
 #include <stdlib.h>
 
-/* A battle's log takes no more: its updates are at most its turn limit and eleven. */
+/* The log of a battle is never longer: it has at most eleven updates more than its turn limit. */
 enum { MOST = (9999 + 11) * GEN1_LOG_ROOM };
 
-/* All bytes of a file, which the caller frees; NULL where they cannot be read, or are more than any battle's. */
+/* All bytes of a file, which the caller frees; NULL if they cannot be read, or are more than any battle has. */
 static uint8_t *read_all(FILE *from, size_t *count)
 {
     uint8_t *bytes = malloc(MOST + 1);
@@ -30,7 +30,7 @@ static uint8_t *read_all(FILE *from, size_t *count)
     return bytes;
 }
 
-/* Goes through all events; GEN1_LOG_END where they are a log, else the code of the first fault, which begins at `*at`. */
+/* Reads all events. Returns GEN1_LOG_END for a log, else the code of the first error, with `*at` at the event where it is. */
 static uint8_t tested(const uint8_t *log, size_t count, size_t *at)
 {
     gen1_event event;

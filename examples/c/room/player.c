@@ -1,5 +1,5 @@
 /*
- * A player for the room: chooses by the numbers of its command line, one after the other, and behind the last what is offered first.
+ * A player for the room. It makes the choices on its command line, one after the other, and then always the first one offered.
  *
  *     cc -O2 player.c -o player
  *     ./room ../../tauros.txt './player 17 17' ./player

@@ -1,22 +1,21 @@
 /*
- * Plays a battle of two players, each of them a process of its own at the other end of two pipes.
+ * Plays a battle of two players, each of which is a process at the other end of two pipes.
  *
  *     cc -O2 -I ../common room.c ../common/battle_file.c $(pkg-config --cflags --libs gen1) -o room
  *     ./room ../../tauros.txt 'COMMAND OF PLAYER 1' 'COMMAND OF PLAYER 2' [SECONDS]
  *
- * The first word is a file with a battle as decimal numbers (../play.c); its choices are not looked at. What a player reads and writes
- * are lines:
+ * The first argument is a file with a battle as decimal numbers (../play.c); its choices are ignored. A player reads and writes lines:
  *
- *     ask NUMBER CHOICE ..   the number of the pair that is current, and the bytes of what may be chosen for it
- *     taken | refused CODE   what became of the player's last line: the codes of gen1_room_submit, or 5 for what is no choice at all
+ *     ask NUMBER CHOICE ..   the number of the current pair, and the bytes of the choices that are offered for it
+ *     taken | refused CODE   the result of the player's last line: a code of gen1_room_submit, or 5 for a line that is not a choice
  *     line TEXT              a line of the battle
- *     NUMBER CHOICE          (the player) a choice for a pair
+ *     NUMBER CHOICE          (from the player) a choice for a pair
  *
- * Neither sees what the other has chosen before both have. What a player sends otherwise is refused by its code, and changes nothing;
- * one that floods the room is read no faster than the other, and what it does not read in turn is not kept for it. For a player that
- * leaves, or lets SECONDS go by (1 to 86,400; ten, where they are not given), the room chooses what is offered first. So every battle
- * comes to its end. Its lines are printed, and on standard error how often each player was refused, by code. A player is told by the end
- * of its input and by SIGTERM that the battle is over; what has not ended a second later is killed.
+ * Neither player sees the other's choice before both have chosen. Any other line of a player is refused with a code, and changes nothing.
+ * A player that floods the room is read no faster than the other, and lines that it does not read in time are dropped. For a player that
+ * leaves, or does not choose within SECONDS (1 to 86,400; 10 by default), the room makes the first choice that is offered. So every
+ * battle ends. The room prints the battle's lines, and on standard error how often each player was refused, by code. After the battle it
+ * closes a player's input and sends SIGTERM; a second later it kills the player.
  */
 #define _POSIX_C_SOURCE 200809L
 #include "battle_file.h"
@@ -34,22 +33,22 @@
 
 enum { USUAL_PATIENCE = 10, MOST_PATIENCE = 86400, LINE_MOST = 32, READ_AT_ONCE = 4096 };
 
-/* How often the room looks whether a player has ended before it kills it, and how many milliseconds it waits each time. */
+/* How often the room checks whether a player has ended before it kills it, and how many milliseconds it waits each time. */
 enum { LOOKS = 100, LOOK_EVERY = 10 };
 
-/* The code of a line that is no number of a pair with a choice, behind those of gen1_room_submit. */
+/* The code of a line that is not a pair's number and a choice; it follows those of gen1_room_submit. */
 enum { RUBBISH = GEN1_ROOM_NOT_OFFERED + 1, CODES };
 
 typedef struct player {
     uint8_t side;
     pid_t pid;
     int to, from;         /* the room's ends of both pipes; -1 once closed */
-    char line[LINE_MOST]; /* what came of a line that is not yet whole; longer ones are cut, and so refused */
+    char line[LINE_MOST]; /* the incomplete line so far; longer lines are cut, and so refused */
     size_t filled;
     long refused[CODES];
 } player;
 
-/* ---- what goes over the pipes ---- */
+/* ---- writing to the players ---- */
 
 /* Closes an end of a pipe, if it is open. */
 static void close_end(int *end)
@@ -59,7 +58,7 @@ static void close_end(int *end)
     *end = -1;
 }
 
-/* Sends a line. A player that does not read does not get it: the room never waits for one. */
+/* Sends a line. If the player does not read, the line is dropped: the room never waits. */
 static void send(player *to, const char *format, ...)
 {
     char text[GEN1_LINE_ROOM + 16];
@@ -71,7 +70,7 @@ static void send(player *to, const char *format, ...)
         close_end(&to->to);
 }
 
-/* Asks a player for its choice, where one is due. */
+/* Asks a player for its choice, if it has to make one. */
 static void ask(player *of, const gen1_room *at)
 {
     uint8_t choices[9];
@@ -97,9 +96,9 @@ static void tell_both(player players[2], const gen1_room *at)
     ask(&players[1], at);
 }
 
-/* ---- what a player says ---- */
+/* ---- reading from the players ---- */
 
-/* The two numbers of a line, if that is what it is. */
+/* Reads the two numbers of a line; returns whether it has exactly these. */
 static bool read_line(const char *line, uint32_t *number, uint8_t *choice)
 {
     unsigned long pair;
@@ -113,7 +112,7 @@ static bool read_line(const char *line, uint32_t *number, uint8_t *choice)
     return true;
 }
 
-/* A line has come from a player: it is taken, or refused by its code. */
+/* Handles a line of a player: it is accepted, or refused with a code. */
 static void take_line(player players[2], player *from, gen1_room *at)
 {
     uint32_t number, before = at->number;
@@ -131,7 +130,7 @@ static void take_line(player players[2], player *from, gen1_room *at)
         tell_both(players, at);
 }
 
-/* Reads what a player has sent, no more than a share at a time. */
+/* Reads what a player has sent, up to a limit at a time. */
 static void listen_to(player players[2], player *from, gen1_room *at)
 {
     char bytes[READ_AT_ONCE];
@@ -145,7 +144,7 @@ static void listen_to(player players[2], player *from, gen1_room *at)
             from->line[from->filled++] = bytes[k];
 }
 
-/* Chooses what is offered first for each player that has left, or, where the time is up, for each that has not chosen. */
+/* Makes the first choice for each player that has left, or, if the time is up, for each that has not chosen. */
 static void choose_for_missing(player players[2], gen1_room *at, bool is_time_up)
 {
     uint32_t before = at->number;
@@ -160,7 +159,7 @@ static void choose_for_missing(player players[2], gen1_room *at, bool is_time_up
 
 /* ---- the battle ---- */
 
-/* Seconds of a clock that nobody sets. */
+/* Seconds of a clock that is never adjusted. */
 static time_t now(void)
 {
     struct timespec it;
@@ -168,7 +167,7 @@ static time_t now(void)
     return it.tv_sec;
 }
 
-/* Waits for either player until a time, and reads what there is. */
+/* Waits for either player until a time, and reads what they sent. */
 static void listen_to_both(player players[2], gen1_room *at, time_t until)
 {
     struct pollfd ends[2] = {{.fd = players[0].from, .events = POLLIN}, {.fd = players[1].from, .events = POLLIN}};
@@ -203,7 +202,7 @@ static void or_stop(bool is_done, const char *what)
     }
 }
 
-/* Begins a player's process, in a group of its own, with pipes that the other player does not have. */
+/* Starts a player's process, in its own process group, with pipes that the other player does not inherit. */
 static player begin(uint8_t side, const char *command)
 {
     int to[2], from[2];
@@ -213,7 +212,7 @@ static player begin(uint8_t side, const char *command)
     fcntl(to[1], F_SETFL, O_NONBLOCK);
     pid_t pid = fork();
     or_stop(pid >= 0, "fork");
-    setpgid(pid, pid); /* here and there, so that it is done whichever goes on first */
+    setpgid(pid, pid); /* in both processes, so that it is done whichever runs first */
     if (pid == 0) {
         signal(SIGPIPE, SIG_DFL);
         dup2(to[0], STDIN_FILENO);
@@ -228,7 +227,7 @@ static player begin(uint8_t side, const char *command)
     return (player){.side = side, .pid = pid, .to = to[1], .from = from[0]};
 }
 
-/* Gives a process time to end. It is left to be waited for, so that its number stays its own. */
+/* Gives a process time to end. It is not reaped yet, so that its process ID stays reserved. */
 static void let_end(pid_t pid)
 {
     siginfo_t it = {0};
@@ -236,7 +235,7 @@ static void let_end(pid_t pid)
         poll(NULL, 0, LOOK_EVERY);
 }
 
-/* Ends a player's process, with what it has begun, and says how often it was refused. */
+/* Ends a player's process and the processes that it started, and prints how often it was refused. */
 static void end(player *of)
 {
     kill(-of->pid, SIGTERM);
@@ -250,7 +249,7 @@ static void end(player *of)
             fprintf(stderr, "side %d: refused %d: %ld\n", of->side, code, of->refused[code]);
 }
 
-/* The number of seconds that a word says, or 0 where it is none from 1 up to MOST_PATIENCE. */
+/* The number of seconds in an argument, or 0 if it is not a number from 1 to MOST_PATIENCE. */
 static int seconds_of(const char *word)
 {
     bool is_number = word[0] != '\0' && strspn(word, "0123456789") == strlen(word) && strlen(word) <= 5;

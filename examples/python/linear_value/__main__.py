@@ -1,11 +1,11 @@
 #!/usr/bin/env python3
-"""Trains a linear value of a battle by self-play, and shows how often it then beats random choices.
+"""Trains a linear value function for battles by self-play, and shows how often it then beats random choices.
 
     python3 examples/python/linear_value --out curve
 
-It plays battles against itself, and after each step moves what a side saw toward what it sees then (TD(0)). From time to time it plays
-against random choices, with luck of its own. OUT becomes a folder with curve.csv, curve.png (curve.svg where there is no matplotlib)
-and weights.csv. The same words give the same curve, on the same machine with the same numpy.
+It plays battles against itself, and after each step moves the value of what a side saw before toward the value of what it sees now
+(TD(0)). From time to time it plays test battles against random choices. OUT becomes a folder with curve.csv, curve.png (curve.svg
+without matplotlib) and weights.csv. The same arguments give the same curve, on the same machine with the same numpy.
 """
 
 import argparse
@@ -14,7 +14,7 @@ import sys
 import time
 from pathlib import Path
 
-# One core, and sums that do not depend on how many there are.
+# One core, so that sums do not depend on the number of cores.
 os.environ.setdefault("OPENBLAS_NUM_THREADS", "1")
 try:
     import numpy as np
@@ -54,7 +54,7 @@ def parser():
 
 
 def trained(asked, each):
-    """The weights, and the points of the curve; calls a function with each point."""
+    """Trains: the weights, and the points of the curve. Calls a function with each point."""
     import value
 
     learning, testing = (np.random.default_rng((asked.seed, which)) for which in (0, 1))
@@ -70,12 +70,12 @@ def trained(asked, each):
 
 
 def shown(point):
-    """A point for people."""
+    """Prints a point."""
     print(f"{point.battles:7} {point.won:5} of {point.tested}  {point.share:6.1%}  {point.low:.1%} to {point.high:.1%}", flush=True)
 
 
 def write(weights, points, out):
-    """The files."""
+    """Writes the files."""
     out.mkdir(parents=True, exist_ok=True)
     (out / "curve.csv").write_text(curve.as_csv(points))
     (out / "weights.csv").write_text("feature,weight\n" + "".join(f"{name},{weight:.6f}\n" for name, weight in weights.items()))

@@ -1,4 +1,4 @@
-"""The curve of a training: as CSV, and as a picture by matplotlib, or where that is not there as a small SVG."""
+"""The curve of a training: as CSV, and as a picture with matplotlib, or without it as a small SVG."""
 
 import csv
 import io
@@ -12,7 +12,7 @@ ACROSS, UP = "battles of self-play", "share of battles won"
 
 @dataclass(frozen=True)
 class Point:
-    """What a value won after so many battles of self-play, with Wilson's interval of the share."""
+    """How many test battles were won after a number of battles of self-play, with Wilson's interval of the share."""
 
     battles: int
     steps: int
@@ -25,7 +25,7 @@ class Point:
 
 
 def interval(won, count, z=1.959963984540054):
-    """Wilson's interval of a share: 95 %, or that of another number of standard deviations."""
+    """Wilson's interval of a share, for 95 % or another number of standard deviations."""
     p = won / count
     middle, half = p + z * z / (2 * count), z * math.sqrt(p * (1 - p) / count + z * z / (4 * count * count))
     return (middle - half) / (1 + z * z / count), (middle + half) / (1 + z * z / count)
@@ -37,7 +37,7 @@ def point(battles, steps, tested, won, tied):
 
 
 def as_csv(points):
-    """The points, with their names in the first line."""
+    """The points as CSV, with a header line."""
     text = io.StringIO()
     writer = csv.writer(text, lineterminator="\n")
     writer.writerow(it.name for it in fields(Point))
@@ -46,7 +46,7 @@ def as_csv(points):
 
 
 def draw(points, folder, by_matplotlib=find_spec("matplotlib") is not None):
-    """Writes the picture to a folder, and answers its path."""
+    """Writes the picture to a folder, and returns its path."""
     if not by_matplotlib:
         path = folder / "curve.svg"
         path.write_text(as_svg(points))

@@ -1,23 +1,23 @@
-"""A linear value of a battle for one side, by what that side knows: its features, the choices that it leads to, and how it learns."""
+"""A linear value function for one side of a battle, from what that side knows: features, choices and learning."""
 
 import numpy as np
 from gen1 import Battle, BattleArray, Choice, Member
 from gen1.arrays import CHOICES, bits
 from gen1.observations import COLUMNS, STAGES, STATUSES, UP
 
-# Both sides have this team. With another one the weights are learned anew.
+# Both sides have this team. Another team needs its own training.
 TEAM = (
     Member("Starmie", ["Surf", "Thunderbolt", "Thunder Wave", "Recover"]),
     Member("Snorlax", ["Body Slam", "Reflect", "Rest", "Ice Beam"]),
     Member("Tauros", ["Body Slam", "Hyper Beam", "Blizzard", "Earthquake"]),
 )
 LIMIT = 300
-# How many forks are made for each choice.
+# The number of forks for each choice.
 FORKS = 2
 
 
 def columns(side):
-    """The columns of `observe` that are features as they are, of one's own side ("own") or the foe's."""
+    """The columns of `observe` that are used unchanged as features, for the own side ("own") or the foe's."""
     for place in range(1, len(TEAM) + 1):
         yield f"{side} {place} hp / max_hp"
         for status in STATUSES:
@@ -42,39 +42,39 @@ def features(seen):
 
 
 def values(weights, seen):
-    """What battles are worth to the side that sees them, (n): 1 won, -1 lost; in between where they go on."""
+    """The values of battles for the side that sees them, (n): 1 for won, -1 for lost, between them while a battle goes on."""
     going_on = np.clip(features(seen) @ weights, -1, 1)
     over = seen[:, WON] + seen[:, LOST] > 0
     return np.where(over, seen[:, WON] - seen[:, LOST], going_on)
 
 
 def start():
-    """A battle after its start, with the sleep clause and the freeze clause."""
+    """A battle after its first update, with the sleep clause and the freeze clause."""
     battle = Battle(TEAM, TEAM, seed=range(10), rules=3, limit=LIMIT)
     battle.update_silent(Choice.PASS, Choice.PASS)
     return battle
 
 
 def battles(count, dice):
-    """So many battles after their start, each with numbers of its own to draw."""
+    """`count` battles after their first update, each with its own numbers to draw."""
     return BattleArray(count, start(), dice.integers(0, 256, (count, 10), np.uint8))
 
 
 def at_random(offered, dice):
-    """A place of a true item in each row, each as likely as the others; 0 in a row without one."""
+    """The index of a random true item in each row, all equally likely; 0 in a row without one."""
     return np.where(offered, dice.random(offered.shape), 0).argmax(1)
 
 
 def random_choices(array, side, dice):
-    """A choice of a side in each battle, each as likely as the others."""
+    """A random choice of a side in each battle, all equally likely."""
     return CHOICES[at_random(bits(array.masks())[side - 1], dice)]
 
 
 def best_choices(weights, array, side, dice):
-    """For each battle the choice of a side that leads to the greatest value, on average over some forks.
+    """For each battle the choice of a side with the highest value, on average over some forks.
 
-    A fork is a copy of the battle with other numbers to draw, in which the foe chooses at random. What it comes to is judged by what the
-    side would then see. Of equal choices one is taken by chance.
+    A fork is a copy of the battle with other numbers to draw, in which the foe chooses at random. Its value is computed from what the side
+    would then see. Among equal choices one is chosen at random.
     """
     offered = bits(array.masks())[side - 1]
     battle, choice = (np.repeat(it, FORKS) for it in offered.nonzero())
@@ -90,9 +90,9 @@ def best_choices(weights, array, side, dice):
 
 
 def learn(weights, count, dice, rate, chance):
-    """Plays so many battles of the value against itself, and learns from each step by TD(0); how many steps there were.
+    """Plays `count` battles of the value against itself, learns from each step by TD(0), and returns the number of steps.
 
-    What a side sees is moved toward what it sees one step later. Each side takes a choice at random with some chance.
+    The value of what a side sees is moved toward the value of what it sees one step later. With probability `chance` a choice is random.
     """
     array, steps = battles(count, dice), 0
     seen = [array.observe(side) for side in (1, 2)]
@@ -113,7 +113,7 @@ def learn(weights, count, dice, rate, chance):
 
 
 def against_random(weights, count, dice):
-    """How many of so many battles the value wins against random choices, as side 1 in the first half, and how many are tied."""
+    """How many of `count` battles the value wins against random choices, as side 1 in the first half, and how many are ties."""
     array, is_one = battles(count, dice), np.arange(count) < count // 2
     while not array.over.all():
         best = [best_choices(weights, array, side, dice) for side in (1, 2)]

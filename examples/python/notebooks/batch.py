@@ -1,8 +1,8 @@
-"""A batch: thousands of battles at once by numpy, how long they last, and how many of them a second.
+"""A batch: thousands of battles at once with numpy, how long they last, and the speed.
 
     python3 examples/python/notebooks/batch.py [PICTURE]
 
-A notebook as a script: editors that know the cells below (# %%) run them one by one. It needs numpy, and matplotlib for the plot.
+A notebook as a script: many editors can run the cells below (# %%) one by one. It needs numpy, and matplotlib for the plot.
 """
 
 # %% One battle, ten thousand seeds
@@ -21,7 +21,7 @@ dice = np.random.default_rng(1)
 count = 10_000
 battles = BattleArray(count, Battle(team, team, bytes(10)), dice.integers(0, 256, (count, 10), np.uint8))
 
-# %% All of them to their end, both sides by chance
+# %% All of them to their end, with random choices
 steps, begun = 0, time.perf_counter()
 while not battles.over.all():
     battles.random_step(dice)

@@ -1,8 +1,8 @@
-"""A bot against random choice: it tries each of its choices on copies with other numbers to draw, and plays these out.
+"""A bot against random choices: it tries each of its choices on copies with other numbers to draw, and plays these out.
 
     python3 examples/python/notebooks/bot.py
 
-A notebook as a script: editors that know the cells below (# %%) run them one by one.
+A notebook as a script: many editors can run the cells below (# %%) one by one.
 """
 
 # %% Two teams
@@ -20,9 +20,9 @@ team = [
 
 # %% The bot
 def ends_well(battle, choice):
-    """Whether side 1 wins a copy of the battle in which it takes a choice, and then both sides play by chance: 0 or 1.
+    """Whether side 1 wins a copy of the battle in which it makes this choice, and then both sides choose at random: 0 or 1.
 
-    A copy would draw the numbers that the battle itself will draw. So it is reseeded: a player does not know these.
+    A copy draws the same numbers as the battle, which a player does not know. So the copy is reseeded.
     """
     copy = battle.copy()
     copy.reseed(dice.randbytes(10))
@@ -31,7 +31,7 @@ def ends_well(battle, choice):
 
 
 def bot(battle, rounds=8):
-    """The choice of side 1 that wins most of so many playouts."""
+    """The choice of side 1 that wins most playouts."""
     return max(battle.choices(Side.ONE), key=lambda it: sum(ends_well(battle, it) for _ in range(rounds)))
 
 

@@ -1,8 +1,8 @@
-"""A damage table as a plot: what each of some moves takes from a defender, by the 39 numbers of each.
+"""A damage table as a plot: the damage of several moves to a defender, from the 39 numbers of each.
 
     python3 examples/python/notebooks/damage_table.py [PICTURE]
 
-A notebook as a script: editors that know the cells below (# %%) run them one by one. It needs matplotlib.
+A notebook as a script: many editors can run the cells below (# %%) one by one. It needs matplotlib.
 """
 
 # %% The members
@@ -17,7 +17,7 @@ from gen1 import Battle, Choice, Member, odds
 attacker = Member("Tauros", ["Body Slam", "Hyper Beam", "Blizzard", "Earthquake"])
 defender = Member("Starmie", ["Surf"])
 
-# %% The numbers: of each move without and with a critical hit, and the defender's HP
+# %% The numbers: for each move without and with a critical hit, and the defender's HP
 told = {move.label: odds(attacker, defender, move) for move in attacker.moves}
 rows = {(name, critical): (it.critical if critical else it.usual).numbers for name, it in told.items() for critical in (False, True)}
 battle = Battle([attacker], [defender], bytes(10))

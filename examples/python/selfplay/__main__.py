@@ -1,13 +1,13 @@
 #!/usr/bin/env python3
-"""Battles of players against each other in great numbers: a table of wins, and a data set of logs.
+"""Large numbers of battles between players: a table of wins, and a data set of logs.
 
     python3 examples/python/selfplay --battles 200 --out results
     python3 examples/python/selfplay --players greedy playouts --battles 10000 --workers 4 --out results
     python3 examples/python/selfplay --battles 10000 --dask tcp://HOST:8786 --out results
 
-OUT becomes a folder with table.csv, table.json and logs.npz (results.py says what is in it). The battles are cut into jobs by their
-seeds. A job that is lost with its worker is played again and comes out the same; so the files are the same, byte for byte, for any
-number of workers. How far it is goes to standard error.
+OUT becomes a folder with table.csv, table.json and logs.npz (results.py describes it). The battles are divided into jobs. A job that is
+lost with its worker is played again with the same result, so the files are the same, byte for byte, for any number of workers. Progress
+is printed to standard error.
 """
 
 import argparse
@@ -58,7 +58,7 @@ def jobs_of(pairs, asked):
 
 
 def played(jobs, asked):
-    """The records of all jobs, in the order in which they are done."""
+    """The records of all jobs, in the order in which they end."""
     if asked.dask:
         done = workers.by_dask(jobs, asked.dask)
     else:
@@ -67,7 +67,7 @@ def played(jobs, asked):
 
 
 def write(rows, records, asked):
-    """The files, each of which is there whole or not at all."""
+    """Writes the files, each completely or not at all."""
     asked.out.mkdir(parents=True, exist_ok=True)
     about = {"players": asked.players, "battles": asked.battles, "seed": asked.seed, "limit": arena.LIMIT, "rounds": arena.ROUNDS}
     (asked.out / "table.csv").write_text(results.as_csv(rows))

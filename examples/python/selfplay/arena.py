@@ -1,6 +1,6 @@
-"""What a worker does: players, and jobs of battles between two of them that come out the same wherever they are played.
+"""The work of a worker: players, and jobs of battles between two of them, whose results are the same wherever they are played.
 
-It is one file that needs gen1 and numpy alone, so that it can be sent to a worker on another machine (with the same numpy).
+It is one file that needs only gen1 and numpy, so that it can be sent to a worker on another machine (with the same numpy).
 """
 
 import hashlib
@@ -38,12 +38,12 @@ LIMIT = 200
 
 
 def random_player(battle, side, team, dice):
-    """One of the choices, each as likely as the others."""
+    """A random choice, all equally likely."""
     return dice.choice(battle.choices(side))
 
 
 def greedy_player(battle, side, team, dice):
-    """The move that deals most on average where it hits; one by chance where none deals damage."""
+    """The move with the highest average damage if it hits; a random choice if no move deals damage."""
     known, offered = team[max(battle.place(side), 1) - 1].moves, battle.choices(side)
     dealt = {it: average(battle, side, known[it.slot - 1]) for it in offered if it.is_move and it.slot}
     best = max(dealt, key=dealt.get, default=None)
@@ -58,9 +58,9 @@ def average(battle, side, move):
 
 
 def playout_player(battle, side, team, dice):
-    """The choice after which most of some battles by chance are won, less those that are lost.
+    """The choice with the most wins minus losses in random battles.
 
-    They are copies with numbers of their own to draw, all played at once: it knows both teams, but not what the battle will draw.
+    These are copies with their own numbers to draw, all played at once. So the player knows both teams, but not what the battle will draw.
     """
     offered = battle.choices(side)
     if len(offered) == 1:
@@ -80,7 +80,7 @@ PLAYERS = {"random": random_player, "greedy": greedy_player, "playouts": playout
 
 @dataclass(frozen=True)
 class Job:
-    """Battles of two players: which pair it is, their names, the first battle, how many, and the seed of it all."""
+    """Battles of two players: the number of the pair, their names, the first battle, the number of battles, and the seed."""
 
     pair: int
     names: tuple
@@ -91,7 +91,7 @@ class Job:
 
 @dataclass(frozen=True)
 class Record:
-    """A battle: its pair and number, who was on side 1 (0 or 1 of the pair's names), the teams, the seed, and how it went."""
+    """A battle: its pair and number, which player was side 1 (0 or 1 of the pair's names), the teams, the seed, and how it ended."""
 
     pair: int
     number: int
@@ -105,18 +105,18 @@ class Record:
 
 
 def drawn(job, number, what, count):
-    """Bytes for a battle that depend on nothing but the seed, the pair, the battle's number and what they are for."""
+    """Random bytes for a battle that depend only on the seed, the pair, the battle's number and their purpose."""
     text = f"{job.seed} {job.pair} {number} {what}"
     return hashlib.blake2b(text.encode(), digest_size=count).digest()
 
 
 def play_job(job):
-    """The records of a job's battles: the same each time, on each machine."""
+    """Plays a job: the records of its battles, which are the same each time and on each machine."""
     return [play_battle(job, number) for number in range(job.first, job.first + job.count)]
 
 
 def play_battle(job, number):
-    """A battle. Each two in a row have the same teams and swap the players."""
+    """Plays a battle. Battles 2n and 2n + 1 have the same teams, with the players swapped."""
     first = number % 2
     names = (job.names[first], job.names[1 - first])
     teams = tuple(it % len(TEAMS) for it in drawn(job, number // 2, "teams", 2))

@@ -11,7 +11,7 @@ import numpy as np
 
 @dataclass(frozen=True)
 class Row:
-    """Battles of a pair: how many each won and how many were ties, and the share that `one` won with its 95 % interval.
+    """The battles of a pair: how many each player won, how many were ties, and the share that `one` won with its 95 % interval.
 
     A tie counts as half a win. The interval is Wilson's.
     """
@@ -48,7 +48,7 @@ def table(pairs, records):
 
 
 def as_text(rows):
-    """The rows for people."""
+    """The rows as text."""
     lines = [f"{'one':10} {'two':10} {'battles':>7} {'won':>6} {'lost':>6} {'ties':>5}  {'share':>6}  95 % interval"]
     for it in rows:
         counts = f"{it.battles:7} {it.wins_one:6} {it.wins_two:6} {it.ties:5}"
@@ -57,7 +57,7 @@ def as_text(rows):
 
 
 def as_csv(rows):
-    """The rows as CSV, with their names in the first line."""
+    """The rows as CSV, with a header line."""
     text = io.StringIO()
     writer = csv.DictWriter(text, [*asdict(rows[0])], lineterminator="\n")
     writer.writeheader()
@@ -66,12 +66,12 @@ def as_csv(rows):
 
 
 def as_json(rows, **about):
-    """The rows as JSON, with what they were made by."""
+    """The rows as JSON, with the arguments and versions that they were made with."""
     return json.dumps({**about, "rows": [asdict(it) for it in rows]}, indent=1) + "\n"
 
 
 def data_set(records):
-    """The index of the battles as arrays, in the order of pairs and numbers, and `log`, all log bytes one after the other.
+    """The data of the battles as arrays, in the order of pairs and numbers, and `log`, all log bytes one after the other.
 
     The log of battle i is `log[begin[i]:begin[i + 1]]`.
     """
@@ -92,12 +92,12 @@ def data_set(records):
 
 
 def write_npz(path, arrays):
-    """The data set as one file of numpy's. Its bytes depend on the arrays alone."""
+    """The data set as one file of numpy, whose bytes depend only on the arrays."""
     np.savez_compressed(path, **arrays)
 
 
 def write_parquet(path, arrays):
-    """The data set as Parquet, a row for each battle; it takes pyarrow."""
+    """The data set as Parquet, with a row for each battle; needs pyarrow."""
     import pyarrow
     import pyarrow.parquet
 

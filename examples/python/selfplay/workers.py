@@ -1,4 +1,4 @@
-"""Where jobs are played: here, by processes of this machine, or by Dask's workers. What comes out is the same."""
+"""Where jobs are played: in this process, in processes of this machine, or by Dask's workers. The results are the same."""
 
 import sys
 import time
@@ -12,17 +12,17 @@ TRIES = 10
 
 
 class Lost(Exception):
-    """Workers were lost again and again, and no job was done in between."""
+    """Workers were lost repeatedly, and no job was done in between."""
 
 
 def here(jobs):
-    """Plays them one after the other."""
+    """Plays jobs one after the other."""
     for job in jobs:
         yield job, arena.play_job(job)
 
 
 def by_processes(jobs, count):
-    """Plays them by so many processes. Where one of these is lost, what it held is played again by new ones."""
+    """Plays jobs with this many processes. If one is lost, new processes play its jobs again."""
     left, tries = list(jobs), 0
     while left:
         before = len(left)
@@ -41,7 +41,7 @@ def by_processes(jobs, count):
 
 
 def by_dask(jobs, address):
-    """Plays them by the workers of a Dask scheduler, which plays those of a lost worker again."""
+    """Plays jobs with the workers of a Dask scheduler, which runs the jobs of a lost worker again."""
     from distributed import Client
     from distributed import as_completed as as_done
 
@@ -53,7 +53,7 @@ def by_dask(jobs, address):
 
 
 def send(client):
-    """Sends what they have to know to Dask's workers; again, where one is lost meanwhile."""
+    """Sends the module to Dask's workers; again if one is lost meanwhile."""
     for left in reversed(range(TRIES)):
         try:
             client.upload_file(str(Path(arena.__file__)))

@@ -116,7 +116,7 @@ def test_what_is_wrong_is_named(battle):
         (lambda: array.random_step(None), "dice must be a numpy.random.Generator, not None"),
         (lambda: array.random_step(random.Random(1)), "dice must be a numpy.random.Generator"),
         (lambda: BattleArray.of(5), "battles must be a list, not 5 (int)"),
-        (lambda: BattleArray.of([]), "battles must be one or more"),
+        (lambda: BattleArray.of([]), "battles must have at least one battle"),
         (lambda: BattleArray.of([battle, 5]), "battles[1] must be a Battle, not 5 (int)"),
         (lambda: BattleArray(5, None), "battle must be a Battle, not None"),
     ):

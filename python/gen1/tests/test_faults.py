@@ -311,7 +311,7 @@ def test_what_cannot_be_shown():
 
     with pytest.raises(BadType) as fault:
         Choice.move(Hidden())
-    assert str(fault.value) == "slot must be a whole number, not what cannot be shown (Hidden)"
+    assert str(fault.value) == "slot must be a whole number, not a value that cannot be shown (Hidden)"
 
 
 def test_types_that_are_wrong_say_where(team, tauros):

@@ -1,27 +1,27 @@
-//! The players: one that tries its choices in playouts, and one that chooses at random.
+//! The players: one that tries its choices with playouts, and one that chooses at random.
 use crate::random::Random;
 use gen1::{Battle, Choice, Outcome, Side};
 
-/// What playouts of a choice came to.
+/// The result of playouts of a choice.
 #[derive(Clone, Copy, Debug, PartialEq)]
 pub struct Tried {
     /// The choice that they began with.
     pub choice: Choice,
-    /// How many of them were won, of one; a tie counts as half.
+    /// The share that was won, from 0 to 1; a tie counts as half.
     pub won: f64,
 }
 
-/// One of a side's choices, each as likely as the others. The battle goes on.
+/// A random choice of a side, all equally likely. The battle must not be over.
 pub fn random_choice(battle: &Battle, side: Side, random: &mut Random) -> Choice {
     let offered = battle.offered_mask(side);
     let place = random.below(offered.len());
     offered.get(place).expect("the battle goes on")
 }
 
-/// Each of a side's choices, with what some playouts of it came to. The battle goes on.
+/// Each of a side's choices, with the result of playouts that begin with it. The battle must not be over.
 ///
-/// A fork of a battle holds the numbers that the battle itself will draw, so each fork is given others first: a bot that plays
-/// them out as they are knows its dice. It does know both teams, and how both sides stand.
+/// A fork of a battle draws the same numbers as the battle, so each fork gets others first. Without that the bot would know its luck.
+/// It does know both teams, and the whole state of both sides.
 pub fn tried(battle: &Battle, side: Side, playouts: u32, random: &mut Random) -> Vec<Tried> {
     let mut won = |choice| -> u32 {
         (0..playouts)
@@ -42,7 +42,7 @@ pub fn tried(battle: &Battle, side: Side, playouts: u32, random: &mut Random) ->
         .collect()
 }
 
-/// The choice that came to most, and of those the first. There is at least one.
+/// The choice that won most, the first one among equals. There is at least one.
 pub fn best(tried: &[Tried]) -> Choice {
     let mut best = tried[0];
     for &other in &tried[1..] {
@@ -53,7 +53,7 @@ pub fn best(tried: &[Tried]) -> Choice {
     best.choice
 }
 
-/// Plays a battle to its end: first a side's choice, and everything else at random.
+/// Plays a battle to its end: first with a side's choice, and then with random choices.
 fn play_out(mut battle: Battle, side: Side, first: Choice, random: &mut Random) -> Outcome {
     let other = random_choice(&battle, side.other(), random);
     let mut pair = if side == Side::One {
@@ -83,7 +83,7 @@ mod tests {
     use super::*;
     use gen1::{Team, member};
 
-    /// A battle after its start, in which Earthquake, which comes first, is a win, and Sonic Boom is one for the foe.
+    /// A battle after its first update, in which Earthquake, the first choice, wins, and with Sonic Boom the foe wins.
     fn at_the_edge(seed: u8) -> Battle {
         let alone = |species, moves: &[&str]| {
             let mut member = member(species, moves).unwrap();

@@ -1,4 +1,4 @@
-//! Battles of a player that tries each of its choices in playouts, against one that chooses at random.
+//! Battles of a player that tries each of its choices with playouts, against one that chooses at random.
 mod bot;
 mod random;
 mod share;
@@ -16,9 +16,9 @@ use std::time::Instant;
 
 /// Plays battles of a bot against another player, and prints how many it won
 ///
-/// The bot plays each choice that it is offered to the battle's end, some times over, in forks of the battle that draw numbers of
-/// their own, and takes the choice that won most. Both sides have the same team, and the bot is side 1 in every other battle. The
-/// same words give the same battles, for any number of threads.
+/// For each offered choice the bot plays forks of the battle to their end, with random choices and other numbers to draw, and makes
+/// the choice that won most. Both sides have the same team, and the bot is side 1 in every other battle. The same arguments give the
+/// same battles, for any number of threads.
 #[derive(Parser)]
 #[command(
     name = "bot",
@@ -26,25 +26,25 @@ use std::time::Instant;
     after_help = "Status: 0 all was played, 1 standard output cannot be written, 2 the words are wrong."
 )]
 struct Words {
-    /// How many battles are played
+    /// The number of battles
     #[arg(long, default_value_t = 100, value_parser = clap::value_parser!(u32).range(1..=1_000_000))]
     battles: u32,
-    /// How many playouts the bot gives each choice
+    /// How many playouts the bot makes for each choice
     #[arg(long, default_value_t = 32, value_parser = clap::value_parser!(u32).range(1..=100_000))]
     playouts: u32,
-    /// How many the other player gives; 0 chooses at random
+    /// How many playouts the other player makes; with 0 it chooses at random
     #[arg(long, default_value_t = 0, value_parser = clap::value_parser!(u32).range(0..=100_000))]
     foe: u32,
-    /// How many members a side has
+    /// The number of members of each team
     #[arg(long, default_value_t = 4, value_parser = clap::value_parser!(u8).range(1..=6))]
     members: u8,
     /// Another seed gives other teams, battles and choices
     #[arg(long, default_value_t = 1)]
     seed: u64,
-    /// How many threads play; as many as there are processors, where it is not given
+    /// The number of threads; by default the number of processors
     #[arg(long, value_parser = clap::value_parser!(u16).range(1..=1024))]
     threads: Option<u16>,
-    /// Shows the first battle alone: its lines, and what each choice of the bot came to
+    /// Shows only the first battle: its lines, and the result of each choice that the bot tried
     #[arg(long)]
     show: bool,
 }
@@ -93,7 +93,7 @@ impl Words {
         }
     }
 
-    /// A player's choice, and what it tried for it: nothing, where there is only one choice, or it has no playouts.
+    /// A player's choice, and the choices that it tried: none if there is only one choice, or it makes no playouts.
     fn choice(
         &self,
         battle: &Battle,
@@ -108,7 +108,7 @@ impl Words {
         (bot::best(&tried), tried)
     }
 
-    /// Plays all battles on some threads, and answers how many were won, lost and tied.
+    /// Plays all battles on several threads, and returns how many were won, lost and tied.
     fn all(&self) -> [u32; 3] {
         let threads = self.threads.map_or_else(
             || thread::available_parallelism().map_or(1, usize::from),
@@ -159,7 +159,7 @@ impl Words {
         )
     }
 
-    /// The first battle, with what the bot tried before each line that came of it.
+    /// The lines of the first battle, with what the bot tried before each update.
     fn shown(&self) -> String {
         let mut text = String::new();
         self.played(0, |me, tried, update| {
@@ -177,11 +177,11 @@ impl Words {
     }
 }
 
-/// Says how far it is, where somebody looks.
+/// Prints the progress, if standard error is a terminal.
 fn progress(done: u32, of: u32) {
     let mut to = std::io::stderr();
     if to.is_terminal() {
-        // Where standard error cannot be written, nobody looks.
+        // If standard error cannot be written, the progress is dropped.
         let _ = write!(
             to,
             "\r{done} of {of} battles{}",

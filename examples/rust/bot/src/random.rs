@@ -1,11 +1,11 @@
-//! Random numbers of the players' own. They have nothing to do with what a battle draws.
+//! Random numbers of the players, which are independent of those that a battle draws.
 
-/// A generator (SplitMix64) whose seed settles all that it gives.
+/// A random number generator (SplitMix64), whose output depends only on its seed.
 #[derive(Clone)]
 pub struct Random(u64);
 
 impl Random {
-    /// The generator of a number below a seed: each number has one of its own.
+    /// The generator with a number of a seed; different numbers give different generators.
     pub fn new(seed: u64, number: u64) -> Self {
         let mut first = Random(seed);
         let start = first.next() ^ number.wrapping_mul(0xd134_2543_de82_ef95);
@@ -24,7 +24,7 @@ impl Random {
 
     /// A number below another, which is not 0.
     pub fn below(&mut self, bound: usize) -> usize {
-        // The high bits of a product: no number is likelier than another by more than 1 in 2^57 here.
+        // The high bits of a product: the chances of two numbers differ by at most 1 in 2^57 here.
         ((u128::from(self.next()) * bound as u128) >> 64) as usize
     }
 
@@ -49,7 +49,7 @@ mod tests {
         assert_ne!(draws(1, 2), draws(2, 2));
     }
 
-    /// The first numbers of SplitMix64 from 0, as its authors' program gives them.
+    /// The first numbers of SplitMix64 from 0, as in its authors' program.
     #[test]
     fn numbers_are_those_of_splitmix64() {
         let mut random = Random(0);

@@ -1,4 +1,4 @@
-//! How sure a share of wins is.
+//! The confidence interval of a share of wins.
 
 /// Wilson's 95 % interval of a share: `won` of `count`, which is not 0.
 pub fn interval(won: u32, count: u32) -> (f64, f64) {
@@ -14,7 +14,7 @@ pub fn interval(won: u32, count: u32) -> (f64, f64) {
 mod tests {
     use super::interval;
 
-    /// The numbers of textbooks: 8 of 10, none of 10, and 81 of 263 (Newcombe 1998).
+    /// Published numbers: 8 of 10, none of 10, and 81 of 263 (Newcombe 1998).
     #[test]
     fn intervals_are_wilsons() {
         for (won, count, low, high) in [

@@ -1,8 +1,8 @@
-//! Teams to play with.
+//! Teams.
 use crate::random::Random;
 use gen1::{MemberSpec, Team, member};
 
-/// Who may be drawn: species, and four moves.
+/// The members to draw from: species, and four moves.
 const MEMBERS: [(&str, [&str; 4]); 12] = [
     ("Charizard", ["Flamethrower", "Slash", "Leer", "Growl"]),
     ("Blastoise", ["Surf", "Ice Beam", "Withdraw", "Tail Whip"]),

@@ -1,4 +1,4 @@
-//! The program as a user runs it: the same words give the same battles, and wrong ones are told.
+//! The program as a user runs it: the same arguments give the same battles, and wrong arguments give an error.
 use std::process::{Command, Output};
 
 fn bot(words: &[&str]) -> Output {
@@ -48,7 +48,7 @@ fn the_same_words_give_the_same_battles() {
     );
 }
 
-/// Of 20 battles between equals 17 or more are won once in 776.
+/// Between equal players, 17 or more of 20 battles are won once in 776 runs.
 #[test]
 fn few_playouts_already_beat_random() {
     let done = bot(&["--battles", "20", "--playouts", "6", "--members", "3"]);

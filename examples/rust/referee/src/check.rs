@@ -1,24 +1,24 @@
-//! Whether a battle goes as a line says.
+//! Comparing a battle with what a line says.
 use crate::sheet::{Expected, Sheet, Update};
 use gen1::{
     Battle, BattleResult, EventList, Line, LogBuf, Outcome, Refusal, Request, Side, events_of,
     write_log,
 };
 
-/// The first thing that is not as a line says.
+/// The first difference from what a line says.
 #[derive(Debug, PartialEq)]
 pub struct Difference {
-    /// The number of the pair from 0, with its choices; `None` where the battle does not begin.
+    /// The number of the pair from 0, with its choices; `None` if the battle does not begin.
     pub pair: Option<(usize, [u8; 2])>,
-    /// What is not the same: `result`, `log`, ..
+    /// What differs: `result`, `log`, ..
     pub what: String,
     /// What the line says.
     pub expected: String,
-    /// What the engine answers.
+    /// What the engine returns.
     pub came: String,
 }
 
-/// What is compared of one pair.
+/// The values that are compared for one pair.
 struct Came {
     refused: Option<Refusal>,
     result: BattleResult,
@@ -27,7 +27,7 @@ struct Came {
     draws: Option<u32>,
 }
 
-/// Plays a battle, and answers how many pairs it has, or the first difference.
+/// Plays a battle, and returns the number of its pairs, or the first difference.
 ///
 /// # Errors
 ///
@@ -59,7 +59,7 @@ fn played(mut battle: Battle, sheet: &Sheet, expected: &Expected) -> Result<usiz
             compare(at, update, &came, &battle)?;
         }
         if let Some(why) = came.refused {
-            // The program ends at a refusal; pairs that say what they come to go on.
+            // The program `run` ends at a refusal; a battle with `updates` goes on after one.
             told = format!("error: pair {number} refused {}\n", why.number());
             if expected.updates.is_none() {
                 break;
@@ -86,7 +86,7 @@ fn played(mut battle: Battle, sheet: &Sheet, expected: &Expected) -> Result<usiz
     Ok(sheet.choices.len())
 }
 
-/// A pair of choices, and all that comes of it.
+/// Plays a pair of choices, with all its results.
 fn update(battle: &mut Battle, pair: [u8; 2]) -> Came {
     let (before, mut events, mut log) = (battle.clone(), EventList::new(), LogBuf::new());
     let answer = battle.update_events_by_bytes(pair[0], pair[1], &mut events);
@@ -106,7 +106,7 @@ fn update(battle: &mut Battle, pair: [u8; 2]) -> Came {
 /// A pair's number and choices.
 type At = Option<(usize, [u8; 2])>;
 
-/// Compares all that a line says of one pair.
+/// Compares everything that a line says of one pair.
 fn compare(at: At, said: &Update, came: &Came, battle: &Battle) -> Result<(), Difference> {
     let answer =
         |refused: Option<u8>| refused.map_or("taken".into(), |number| format!("refused {number}"));
@@ -153,7 +153,7 @@ fn compare(at: At, said: &Update, came: &Came, battle: &Battle) -> Result<(), Di
     )
 }
 
-/// All bytes of a battle, told from the first that is not the same.
+/// The bytes of a battle, from the first one that differs.
 fn same_bytes(at: At, said: &[u8], came: &[u8]) -> Result<(), Difference> {
     let first = said
         .iter()
@@ -189,7 +189,7 @@ fn codes(result: BattleResult) -> [u8; 3] {
     ]
 }
 
-/// The lines that are expected behind those of a pair.
+/// The expected lines after those of a pair.
 fn lines_left<'a>(at: At, left: &'a str, came: &str) -> Result<&'a str, Difference> {
     let mut rest = left;
     for line in came.split_inclusive('\n') {
@@ -200,14 +200,14 @@ fn lines_left<'a>(at: At, left: &'a str, came: &str) -> Result<&'a str, Differen
     Ok(rest)
 }
 
-/// The log bytes that are expected behind those of a pair.
+/// The expected log bytes after those of a pair.
 fn log_left<'a>(at: At, left: &'a [u8], came: &[u8]) -> Result<&'a [u8], Difference> {
     let (said, rest) = left.split_at(left.len().min(came.len()));
     same_log(at, said, came)?;
     Ok(rest)
 }
 
-/// Log bytes, told by the first event that is not the same.
+/// Log bytes, from the first event that differs.
 fn same_log(at: At, said: &[u8], came: &[u8]) -> Result<(), Difference> {
     if said == came {
         return Ok(());
@@ -252,7 +252,7 @@ fn same(at: At, what: &str, expected: &str, came: &str) -> Result<(), Difference
 /// How many draws lead from one battle's numbers to another's (docs/MECHANICS.md, "Link numbers"; docs/LAYOUT.md, "Header").
 fn draws_between(before: &[u8], after: &[u8]) -> Option<u32> {
     let (mut index, mut numbers) = (before[5], before[6..15].to_vec());
-    // No update takes more.
+    // No update draws more numbers.
     for draws in 0..=4700 {
         if (index, &numbers[..]) == (after[5], &after[6..15]) {
             return Some(draws);

@@ -1,4 +1,4 @@
-//! A referee: it plays the battles of a file, and names the first pair that is not as the file says.
+//! A referee: it plays the battles of a file, and names the first pair that differs from what the file says.
 mod check;
 mod sheet;
 
@@ -11,12 +11,12 @@ use std::path::{Path, PathBuf};
 use std::process::ExitCode;
 use std::time::{Duration, Instant};
 
-/// Plays the battles of a file, and names the first pair that is not as the file says
+/// Plays the battles of a file, and names the first pair that differs from what the file says
 ///
-/// FILE has a battle in each line, as JSON: the object of the program's run with `lines` (as run prints them) or `log` (hexadecimal
-/// digits) beside it; a recorded run (`args`, `input`, `stdout`, `stderr`); or a battle below `object` with `updates`, of which each has
-/// any of `refused`, `result`, `offered`, `log`, `draws` and `bytes`. With --log FILE is one battle, and the log bytes are in a file of
-/// their own, as the program's print reads them.
+/// FILE has a battle in each line, as JSON. It is the object of the program's run with `lines` (as run prints them) or `log`
+/// (hexadecimal digits); or a recorded run (`args`, `input`, `stdout`, `stderr`); or a battle in `object` with `updates`, each of which
+/// has any of `refused`, `result`, `offered`, `log`, `draws` and `bytes`. With --log, FILE is one battle, and its log bytes are in a
+/// separate file, as the program's print reads them.
 #[derive(Parser)]
 #[command(
     name = "referee",
@@ -29,18 +29,18 @@ struct Words {
     /// The log bytes of the one battle in FILE
     #[arg(long, value_name = "FILE")]
     log: Option<PathBuf>,
-    /// Goes on behind a battle that is not as FILE says, and counts them
+    /// Goes on after a difference, and counts the battles that differ
     #[arg(long)]
     all: bool,
-    /// Says on standard error how far it is, once a second; without it only where that is a terminal
+    /// Prints the progress to standard error once a second; by default only if that is a terminal
     #[arg(long)]
     progress: bool,
 }
 
-/// No line may be longer.
+/// The maximum length of a line.
 const LINE_MOST: u64 = 64 << 20;
 
-/// What was played.
+/// Counts of what was played.
 #[derive(Default)]
 struct Count {
     battles: u64,
@@ -85,7 +85,7 @@ impl Referee {
         })
     }
 
-    /// Checks all lines, and prints each difference that is to be told.
+    /// Checks all lines, and prints the differences.
     fn lines(&mut self) -> Result<(), String> {
         let mut text = String::new();
         for number in 1_u64.. {
@@ -124,7 +124,7 @@ impl Referee {
         Ok(())
     }
 
-    /// Counts a battle, prints what is not as the file says of it, and answers whether that was enough.
+    /// Counts a battle, prints its first difference, and returns whether to stop.
     fn found(&mut self, at: &str, done: Result<usize, Difference>) -> bool {
         self.count.battles += 1;
         match done {
@@ -138,7 +138,7 @@ impl Referee {
         false
     }
 
-    /// Says how far it is, at most once a second.
+    /// Prints the progress, at most once a second.
     fn progress(&mut self) {
         if !self.is_shown || self.said.elapsed() < Duration::from_secs(1) {
             return;
@@ -148,7 +148,7 @@ impl Referee {
             .size
             .filter(|&size| size > 0)
             .map(|size| format!(", {} %", 100 * self.read / size));
-        // Where standard error cannot be written, nobody looks.
+        // If standard error cannot be written, the progress is dropped.
         let _ = writeln!(
             io::stderr(),
             "{} battles{}",
@@ -158,7 +158,7 @@ impl Referee {
     }
 }
 
-/// A difference in three lines.
+/// A difference as three lines.
 fn told(it: &Difference) -> String {
     let pair = it.pair.map_or("its teams".into(), |(number, pair)| {
         format!("pair {number} {pair:?}")
@@ -178,12 +178,12 @@ fn told(it: &Difference) -> String {
     )
 }
 
-/// Prints a text; where that cannot be done the status says all.
+/// Prints a text; if that fails, only the status reports the result.
 fn put(text: &str) {
     let _ = io::stdout().write_all(text.as_bytes());
 }
 
-/// The one battle of FILE against a log file.
+/// Compares the one battle of FILE with a log file.
 fn with_log(words: &Words, log: &Path) -> Result<Count, String> {
     let text = std::fs::read_to_string(&words.file)
         .map_err(|why| format!("{}: {why}", words.file.display()))?;
@@ -214,7 +214,7 @@ fn checked(words: &Words) -> Result<Count, String> {
     Ok(referee.count)
 }
 
-/// What the file is called.
+/// The name of the file in messages.
 fn name_of(file: &Path) -> String {
     if file == Path::new("-") {
         "standard input".into()

@@ -20,7 +20,7 @@ fn usual_limit() -> u16 {
     TurnLimit::default().number()
 }
 
-/// Why there is no battle: the side whose team is refused, and the refusal.
+/// Why a battle cannot begin: the side whose team is refused, and the refusal.
 pub type TeamFault = (u8, TeamRefusal);
 
 impl Sheet {
@@ -28,7 +28,7 @@ impl Sheet {
     ///
     /// # Errors
     ///
-    /// A text that is no battle says what was expected; a refusal of a team is an answer like another.
+    /// For a text that is not a battle, what was expected. The refusal of a team is not an error here, but a result to compare.
     pub fn battle(&self) -> Result<Result<Battle, TeamFault>, String> {
         let rules = Rules::new(self.rules).ok_or("rules: 0 to 3 were expected")?;
         let limit = TurnLimit::new(self.limit).ok_or("limit: 1 to 9,999 were expected")?;
@@ -38,20 +38,20 @@ impl Sheet {
     }
 }
 
-/// What a line says, in the order in which it is looked at. What is left out is not compared.
+/// What a line says, in the order in which it is compared. Missing keys are not compared.
 #[derive(Deserialize)]
 pub struct Line {
-    /// What the battle is called.
+    /// The name of the battle.
     #[serde(default, alias = "corner")]
     pub name: String,
-    /// A recorded run of the program: its words, input, and what it printed and told.
+    /// A recorded run of the program: its arguments, input, and output.
     args: Option<Vec<String>>,
     input: Option<String>,
     stdout: Option<String>,
     stderr: Option<String>,
-    /// The battle, where it stands below a key of its own.
+    /// The battle, if it has a key of its own.
     object: Option<Sheet>,
-    /// What each pair comes to.
+    /// The results of each pair.
     updates: Option<Vec<Update>>,
     /// All lines of the battle as `run` prints them.
     lines: Option<String>,
@@ -59,7 +59,7 @@ pub struct Line {
     log: Option<Hex>,
 }
 
-/// What a pair comes to.
+/// The results of a pair.
 #[derive(Default, Deserialize)]
 #[serde(default)]
 pub struct Update {
@@ -68,19 +68,19 @@ pub struct Update {
     /// The number of the refusal, or null.
     #[serde(deserialize_with = "told")]
     pub refused: Option<Option<u8>>,
-    /// The codes of outcome and requests; null where the pair is refused.
+    /// The codes of outcome and requests; null if the pair is refused.
     pub result: Option<[u8; 3]>,
-    /// What each side has to choose from behind it.
+    /// The choices that each side is offered after it.
     pub offered: Option<[Vec<u8>; 2]>,
     /// The log bytes.
     pub log: Option<Hex>,
     /// How many numbers were drawn.
     pub draws: Option<u32>,
-    /// All bytes of the battle behind it.
+    /// All bytes of the battle after it.
     pub bytes: Option<Hex>,
 }
 
-/// A key that is there, be it null.
+/// A key that is present, possibly with the value null.
 fn told<'de, D: Deserializer<'de>>(from: D) -> Result<Option<Option<u8>>, D::Error> {
     Option::deserialize(from).map(Some)
 }
@@ -106,11 +106,11 @@ impl<'de> Deserialize<'de> for Hex {
 
 /// What is expected of a battle.
 pub struct Expected {
-    /// What is said pair by pair.
+    /// The expected results, pair by pair.
     pub updates: Option<Vec<Update>>,
-    /// All that is printed.
+    /// The expected standard output.
     pub lines: Option<String>,
-    /// What is told on standard error.
+    /// The expected standard error.
     pub told: Option<String>,
     /// All log bytes.
     pub log: Option<Vec<u8>>,
@@ -120,7 +120,7 @@ pub struct Expected {
 ///
 /// # Errors
 ///
-/// What was expected of the line, where it is no battle, or says nothing that could be checked.
+/// What was expected of the line, if it is not a battle, or says nothing that can be checked.
 pub fn read(text: &str) -> Result<(String, Sheet, Expected), String> {
     let line: Line = serde_json::from_str(text).map_err(|why| why.to_string())?;
     if line.args.as_ref().is_some_and(|args| *args != ["run"]) {

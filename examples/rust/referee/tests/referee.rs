@@ -1,4 +1,4 @@
-//! The referee on files that are right, wrong in one place, and no files of battles. The battle is the one that docs/PROGRAM.md shows.
+//! The referee on files that are right, that are wrong in one place, and that have no battles. The battle is that of docs/PROGRAM.md.
 use std::fs;
 use std::path::PathBuf;
 use std::process::Command;
@@ -22,7 +22,7 @@ fn battle() -> String {
     BATTLE.replace("MEMBER", MEMBER)
 }
 
-/// What the referee prints of a file and tells, and its status.
+/// The referee's standard output and standard error for a file, and its status.
 fn referee(name: &str, text: &[u8], words: &[&str]) -> (Option<i32>, String, String) {
     let file = PathBuf::from(env!("CARGO_TARGET_TMPDIR")).join(name);
     fs::write(&file, text).expect("the file is written");
@@ -196,7 +196,7 @@ fn a_log_file_is_compared_pair_by_pair() {
     );
 }
 
-/// A line that is no battle, or says nothing of one, and what is told of it.
+/// Lines that aren't a battle, or say nothing of one, each with its error.
 fn faults() -> Vec<(String, &'static str)> {
     let it = battle();
     let own = |text: &str, why| (text.to_string(), why);

@@ -1,11 +1,11 @@
-//! The room itself: it asks both players, hands on what each may know, and takes nobody's word for anything.
+//! The room: it asks both players for choices, sends each what it may know, and trusts neither of them.
 use crate::pipes::{Mailbox, Process, Said};
 use crate::protocol::{RUBBISH, TOO_MANY, ask_line, log_line};
 use crate::sheet::Sheet;
 use gen1::{Battle, Request, Room, RoomRefusal, Side};
 use std::time::{Duration, Instant};
 
-/// How long the room waits, and how often it refuses.
+/// The limits for a player: time, and refusals.
 #[derive(Clone, Copy)]
 pub struct Terms {
     /// How long a player may take for a choice.
@@ -14,11 +14,11 @@ pub struct Terms {
     pub refusals: u32,
 }
 
-/// A player, as the room has it.
+/// A player in the room.
 struct Player {
     side: Side,
     process: Process,
-    /// How often each code was the answer, from code 0, taken.
+    /// How often each code was sent, from code 0, which means accepted.
     answers: [u32; 7],
     /// The first pair that the room chose for it, and why.
     out: Option<(u32, &'static str)>,
@@ -28,20 +28,20 @@ struct Player {
 pub struct Host {
     room: Room,
     players: [Player; 2],
-    watcher: Process,
+    spectator: Process,
     mailbox: Mailbox,
     terms: Terms,
     until: Instant,
 }
 
 impl Host {
-    /// A room for a battle, whose first lines are sent to all.
+    /// Creates a room for a battle, and sends the first lines to all processes.
     ///
-    /// What the players say comes by the mailbox.
+    /// The lines of the players come through the mailbox.
     pub fn new(
         (sheet, battle): (Sheet, Battle),
         players: [Process; 2],
-        watcher: Process,
+        spectator: Process,
         mailbox: Mailbox,
         terms: Terms,
     ) -> Host {
@@ -62,7 +62,7 @@ impl Host {
         let mut host = Host {
             room: Room::new(battle),
             players,
-            watcher,
+            spectator,
             mailbox,
             terms,
             until: Instant::now(),
@@ -71,7 +71,7 @@ impl Host {
         host
     }
 
-    /// Plays the battle to its end; what came of each player, in lines.
+    /// Plays the battle to its end, and returns a report on each player.
     pub fn run(mut self) -> String {
         while !self.room.battle().is_over() {
             if self.choose_for_missing() {
@@ -88,9 +88,9 @@ impl Host {
             player.process.close();
         }
         let until = Instant::now() + self.terms.patience;
-        self.watcher.end(until);
+        self.spectator.end(until);
         for player in self.players {
-            // Who is out has had its time: it may still be writing, and nobody reads that.
+            // A player that is out has had its time. It may still be writing, but is no longer read.
             let soon = Instant::now() + Duration::from_secs(1);
             player.process.end(if player.out.is_some() {
                 soon.min(until)
@@ -101,7 +101,7 @@ impl Host {
         text
     }
 
-    /// A line of a player, or its end: answered, and nothing else comes of it but what the room makes of a choice.
+    /// Handles a line of a player, or its end: replies, and submits the choice to the room. A line has no other effect.
     fn hear(&mut self, side: Side, said: Said) {
         let number = self.room.number();
         let code = match said {
@@ -132,10 +132,10 @@ impl Host {
         }
     }
 
-    /// The log bytes of the last pair to all three, and to each player that has to choose what it is offered.
+    /// Sends the log bytes of the last pair to all three processes, and asks each player that has to choose.
     fn tell_all(&mut self) {
         self.until = Instant::now() + self.terms.patience;
-        self.watcher.send(self.room.log());
+        self.spectator.send(self.room.log());
         for at in 0..2 {
             let side = Side::BOTH[at];
             let mut text = log_line(self.room.log());
@@ -158,7 +158,7 @@ impl Host {
         !result.outcome.is_over() && result.request(side) != Request::Pass
     }
 
-    /// Takes the first choice for a player that is out, and says whether there was one to take.
+    /// Makes the first choice for a player that is out, and returns whether there was one to make.
     fn choose_for_missing(&mut self) -> bool {
         let number = self.room.number();
         for side in Side::BOTH {
@@ -176,7 +176,7 @@ impl Host {
         false
     }
 
-    /// The time for this pair is over: who has not chosen is out.
+    /// Ends the time for this pair: a player that has not chosen is out.
     fn time_is_up(&mut self) {
         for side in Side::BOTH {
             if self.player(side).out.is_none() && self.is_asked(side) && !self.has_chosen(side) {
@@ -185,7 +185,7 @@ impl Host {
         }
     }
 
-    /// Whether a side's choice for this pair is there. No byte is a choice less than 255, so asking so changes nothing.
+    /// Whether a side has chosen for this pair. It submits byte 255, which is never a choice, so this changes nothing.
     fn has_chosen(&mut self, side: Side) -> bool {
         self.room.submit_byte(side, self.room.number(), 255) == Err(RoomRefusal::AlreadyChosen)
     }
@@ -204,7 +204,7 @@ impl Host {
     }
 }
 
-/// What came of a player: a line for each code that it was refused by, and one if it was put out.
+/// The report on a player: a line for each code with which it was refused, and one if it was put out.
 fn report(player: &Player) -> String {
     let side = player.side.number();
     let refused = (1..)

@@ -1,10 +1,10 @@
-//! A room of two players over pipes, with a third process that watches: each gets only what it may know.
+//! A room of two players over pipes, with a third process as a spectator. Each gets only what it may know.
 mod host;
 mod pipes;
 mod player;
 mod protocol;
 mod sheet;
-mod watcher;
+mod spectator;
 
 use clap::{Args, Parser, Subcommand};
 use gen1::Side;
@@ -17,7 +17,7 @@ use std::path::PathBuf;
 use std::process::ExitCode;
 use std::time::Duration;
 
-/// Plays a battle of two processes that choose apart from each other, before a third one that watches
+/// Plays a battle of two processes that choose independently, with a third one as a spectator
 #[derive(Parser)]
 #[command(
     name = "room",
@@ -31,22 +31,22 @@ struct Words {
 
 #[derive(Subcommand)]
 enum Role {
-    /// Begins the players and the watcher, and plays the battle of FILE with them
+    /// Starts the players and the spectator, and plays the battle of FILE with them
     Host(Opening),
-    /// A player: reads what the room tells, and writes its choices
+    /// A player: reads the lines of the room, and writes its choices
     Player {
-        /// Its first choices, by their bytes; behind them it takes what is offered first
+        /// Its first choices, as bytes; after them it makes the first offered choice
         choices: Vec<u8>,
-        /// Behind them it chooses at random, by this seed
+        /// After them it chooses at random, with this seed
         #[arg(long)]
         seed: Option<u64>,
-        /// Sends rubbish and floods before each choice
+        /// Sends invalid lines and floods before each choice
         #[arg(long)]
         rude: bool,
     },
-    /// The watcher: prints the lines of the log bytes that it reads
-    Watcher {
-        /// Prints after each turn's line who is out, and how they are
+    /// The spectator: prints the lines of the log bytes that it reads
+    Spectator {
+        /// After each line of a turn, prints the members that are out, and their state
         #[arg(long)]
         board: bool,
     },
@@ -54,17 +54,17 @@ enum Role {
 
 #[derive(Args)]
 struct Opening {
-    /// A battle as the program's run takes it (docs/PROGRAM.md); its choices are not looked at
+    /// A battle as the program's run takes it (docs/PROGRAM.md); its choices are ignored
     file: PathBuf,
-    /// The command of player 1: words with white space between them, of which `room` as the first is this program
+    /// The command of player 1: words separated by white space. If the first word is `room`, it means this program
     #[arg(long, default_value = "room player --seed 1")]
     one: String,
     /// The command of player 2
     #[arg(long, default_value = "room player --seed 2")]
     two: String,
-    /// The command of the watcher
-    #[arg(long, default_value = "room watcher")]
-    watcher: String,
+    /// The command of the spectator
+    #[arg(long, default_value = "room spectator")]
+    spectator: String,
     /// How many seconds a player may take for a choice before it is out
     #[arg(long, default_value_t = 10, value_parser = clap::value_parser!(u64).range(1..=86_400))]
     patience: u64,
@@ -73,7 +73,7 @@ struct Opening {
     refusals: u32,
 }
 
-/// Plays the battle, and tells on standard error what came of each player.
+/// Plays the battle, and prints the report on each player to standard error.
 fn host(opening: &Opening) -> Result<(), (u8, String)> {
     let text = std::fs::read_to_string(&opening.file)
         .map_err(|why| (3, format!("{}: {why}", opening.file.display())))?;
@@ -85,19 +85,19 @@ fn host(opening: &Opening) -> Result<(), (u8, String)> {
     };
     let one = begin(&opening.one, Some((Side::One, &mailbox)))?;
     let two = begin(&opening.two, Some((Side::Two, &mailbox)))?;
-    let watcher = begin(&opening.watcher, None)?;
+    let spectator = begin(&opening.spectator, None)?;
     let terms = Terms {
         patience: Duration::from_secs(opening.patience),
         refusals: opening.refusals,
     };
-    let report = Host::new(battle, [one, two], watcher, mailbox, terms).run();
+    let report = Host::new(battle, [one, two], spectator, mailbox, terms).run();
     io::stderr()
         .write_all(report.as_bytes())
         .map_err(|why| (3, why.to_string()))
 }
 
 fn main() -> ExitCode {
-    // Who is not heard any more has nothing to say.
+    // A player that is no longer read has nothing to add.
     let of_pipes = |done: io::Result<()>| match done {
         Err(why) if why.kind() != io::ErrorKind::BrokenPipe => Err((3, why.to_string())),
         _ => Ok(()),
@@ -116,7 +116,7 @@ fn main() -> ExitCode {
             }
             .run(io::stdin().lock(), io::stdout().lock()),
         ),
-        Role::Watcher { board } => of_pipes(watcher::watch(
+        Role::Spectator { board } => of_pipes(spectator::print_log(
             io::stdin().lock(),
             io::stdout().lock(),
             board,
@@ -124,7 +124,7 @@ fn main() -> ExitCode {
     };
     done.map_or_else(
         |(status, why)| {
-            // Where standard error cannot be written, the status says it alone.
+            // If standard error cannot be written, only the status reports the error.
             let _ = writeln!(io::stderr(), "error: {why}");
             ExitCode::from(status)
         },

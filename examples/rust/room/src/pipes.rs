@@ -1,4 +1,4 @@
-//! Processes at the other ends of pipes.
+//! Processes that are connected by pipes.
 use crate::protocol::{LINE_MOST, choice_of};
 use gen1::Side;
 use std::collections::VecDeque;
@@ -9,7 +9,7 @@ use std::sync::{Arc, Condvar, Mutex};
 use std::thread::{self, JoinHandle};
 use std::time::{Duration, Instant};
 
-/// So many lines of a player are kept before its thread reads on. One that floods the room waits at its own full pipe.
+/// How many lines of a player are kept before its thread stops reading. A player that floods the room blocks on its own full pipe.
 const KEPT: usize = 16;
 
 /// What came from a player.
@@ -17,13 +17,13 @@ const KEPT: usize = 16;
 pub enum Said {
     /// A choice for a pair.
     Choice(u32, u8),
-    /// A line that is none.
+    /// A line that is not a choice.
     Rubbish,
     /// It has closed its end.
     Gone,
 }
 
-/// What both players have said and the room has not yet heard.
+/// The lines of both players that the room has not yet handled.
 #[derive(Clone, Default)]
 pub struct Mailbox {
     inner: Arc<(Mutex<Kept>, Condvar)>,
@@ -32,14 +32,14 @@ pub struct Mailbox {
 #[derive(Default)]
 struct Kept {
     said: [VecDeque<Said>; 2],
-    /// The side whose turn it is to be heard, so that neither waits for the other's flood.
+    /// The side whose line is handled next, so that neither waits for the other's flood.
     turn: usize,
-    /// Whom nobody hears any more.
+    /// The sides that are no longer read.
     is_deaf: [bool; 2],
 }
 
 impl Mailbox {
-    /// Keeps what a side said, once there is room for it, and answers whether the side is still heard.
+    /// Keeps a line of a side when there is room for it, and returns whether the side is still read.
     fn put(&self, side: Side, said: Said) -> bool {
         let (kept, changed) = &*self.inner;
         let at = usize::from(side.number()) - 1;
@@ -56,7 +56,7 @@ impl Mailbox {
         !kept.is_deaf[at]
     }
 
-    /// From now on a side is not heard, and its thread ends.
+    /// Stops reading a side; its thread ends.
     pub fn deafen(&self, side: Side) {
         let (kept, changed) = &*self.inner;
         let at = usize::from(side.number()) - 1;
@@ -66,7 +66,7 @@ impl Mailbox {
         changed.notify_all();
     }
 
-    /// What either player said next, in turns; `None` where neither has by a time.
+    /// The next line of either player, alternating between them; `None` if there is none by a time.
     pub fn next(&self, until: Instant) -> Option<(Side, Said)> {
         let (kept, changed) = &*self.inner;
         let kept = kept.lock().expect("no thread has panicked");
@@ -86,18 +86,18 @@ impl Mailbox {
     }
 }
 
-/// A process that the room began, and the way to it.
+/// A process that the room started, and its pipes.
 pub struct Process {
     child: Child,
     to: Option<Sender<Vec<u8>>>,
-    /// The thread that hears it. It holds the room's end of the pipe even when it has ended: who still writes waits at a full pipe,
-    /// and is not killed before it has read its last line.
+    /// The thread that reads it. It keeps the room's end of the pipe open even when it has ended. So a process that still writes blocks
+    /// on a full pipe, and is not killed by a signal before it has read its last line.
     listener: Option<JoinHandle<ChildStdout>>,
 }
 
 impl Process {
-    /// Begins the process of a command, whose words have white space between them; the word `room` at its head is this program.
-    /// A player's output goes to the mailbox, the watcher's is the room's own.
+    /// Starts the process of a command, whose words are separated by white space. The first word `room` means this program. A player's
+    /// output goes to the mailbox; the spectator writes to the room's standard output.
     pub fn begin(command: &str, player: Option<(Side, &Mailbox)>) -> io::Result<Process> {
         let mut words = command.split_whitespace();
         let program = words
@@ -131,25 +131,25 @@ impl Process {
         })
     }
 
-    /// Sends bytes, and waits for nobody: what a battle tells a process, read or not, is bounded by its turn limit.
+    /// Sends bytes without waiting for the process to read them. Their total is bounded by the battle's turn limit.
     pub fn send(&self, bytes: impl Into<Vec<u8>>) {
         if let Some(to) = &self.to {
-            // A process that is gone does not get it.
+            // A process that has ended does not get them.
             let _ = to.send(bytes.into());
         }
     }
 
-    /// Nothing more is sent: the process comes to the end of its input.
+    /// Closes the process's input.
     pub fn close(&mut self) {
         self.to = None;
     }
 
-    /// Waits for the process to end, and ends it where it has not by a time.
+    /// Waits for the process to end, and kills it if it has not ended by a time.
     pub fn end(mut self, until: Instant) {
         self.close();
         while matches!(self.child.try_wait(), Ok(None)) {
             if Instant::now() >= until {
-                // It may have ended by itself meanwhile.
+                // It may have ended by itself in the meantime.
                 let _ = self.child.kill();
                 let _ = self.child.wait();
                 break;
@@ -160,7 +160,7 @@ impl Process {
     }
 }
 
-/// Writes what is to be sent, until there is nothing more or nobody reads.
+/// Writes the bytes to send, until there are no more, or the process no longer reads.
 fn write_all(mut to: ChildStdin, lines: &mpsc::Receiver<Vec<u8>>) {
     for bytes in lines {
         if to.write_all(&bytes).is_err() {
@@ -169,7 +169,7 @@ fn write_all(mut to: ChildStdin, lines: &mpsc::Receiver<Vec<u8>>) {
     }
 }
 
-/// Reads a player's lines, of which no more is kept than a lawful one has, until it is gone or not heard any more.
+/// Reads a player's lines, cut to the length of the longest valid one, until it ends or is no longer read.
 fn listen<R: Read>(mut from: R, side: Side, mailbox: &Mailbox) -> R {
     let (mut bytes, mut line) = ([0; 4096], Vec::new());
     loop {
@@ -210,7 +210,7 @@ mod tests {
         let flooded = mailbox.clone();
         thread::spawn(move || listen(io::repeat(b'\n'), Side::One, &flooded));
         listen(&b"0 17\n1 18"[..], Side::Two, &mailbox);
-        // However much the other says, each is heard in turn. What is no line yet when the end comes is none.
+        // However much the other player sends, both are read in turn. An incomplete line at the end is dropped.
         let heard: Vec<_> = (0..4).filter_map(|_| mailbox.next(soon())).collect();
         let of_two: Vec<_> = heard
             .iter()

@@ -1,22 +1,22 @@
-//! A player: begin here for one of your own. It reads what it is told and writes its choices (protocol.rs).
+//! A player: start here for your own. It reads the lines of the room and writes its choices (protocol.rs).
 use crate::protocol::asked;
 use std::io::{self, BufRead, Write};
 
 /// How a player chooses.
 pub struct Player {
-    /// Its first choices, by their bytes.
+    /// Its first choices, as bytes.
     pub choices: Vec<u8>,
-    /// The seed of the choices behind these; without one they are what is offered first.
+    /// The seed for the choices after these; without one it makes the first offered choice.
     pub seed: Option<u64>,
-    /// Whether it sends rubbish and floods before each choice.
+    /// Whether it sends invalid lines and floods before each choice.
     pub is_rude: bool,
 }
 
-/// How many lines of rubbish a rude player sends before its first choice.
+/// How many invalid lines a rude player sends before its first choice.
 const FLOOD: usize = 500;
 
 impl Player {
-    /// Plays until the room has nothing more to say.
+    /// Plays until the end of the input.
     pub fn run(self, from: impl BufRead, mut to: impl Write) -> io::Result<()> {
         let (mut given, mut state, mut flood) = (self.choices.iter().copied(), self.seed, FLOOD);
         for line in from.lines() {
@@ -36,7 +36,7 @@ impl Player {
     }
 }
 
-/// One of what is offered, by a generator of random numbers.
+/// A random choice of those that are offered.
 fn chosen(offered: &[u8], state: &mut Option<u64>) -> u8 {
     let at = state.as_mut().map_or(0, |state| {
         *state = state
@@ -47,7 +47,7 @@ fn chosen(offered: &[u8], state: &mut Option<u64>) -> u8 {
     offered[at]
 }
 
-/// Lines that are all refused: some that are no choice, a choice for the next pair, and one that is never offered.
+/// Lines that are all refused: some that aren't a choice, a choice for the next pair, and one that is never offered.
 fn rubbish(number: u32, flood: usize) -> Vec<u8> {
     let mut lines = [
         &b"hello\n\n\0\xff\n-1 17\n0 17 17\n"[..],

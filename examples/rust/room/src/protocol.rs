@@ -1,39 +1,39 @@
-//! What goes over the pipes.
+//! The protocol of the pipes.
 //!
 //! A player reads lines:
 //!
 //! | Line | When |
 //! |---|---|
 //! | `side N` | first: which side it is, 1 or 2 |
-//! | `team JSON` | second: its own team, as docs/PROGRAM.md has members |
+//! | `team JSON` | second: its own team, as a list of members in docs/PROGRAM.md |
 //! | `log HEX` | for the battle's start and for each pair that ended: its log bytes (docs/MECHANICS.md, "Log bytes") |
-//! | `ask NUMBER BYTE ..` | a choice is due: the number of the current pair, and what is offered |
-//! | `taken NUMBER` | the player's choice for this pair is there |
-//! | `refused CODE NUMBER` | its line was refused, and nothing has changed; NUMBER is the current pair's |
+//! | `ask NUMBER BYTE ..` | a choice is due: the number of the current pair, and the offered choices |
+//! | `taken NUMBER` | the player's choice for this pair was accepted |
+//! | `refused CODE NUMBER` | its line was refused, and nothing has changed; NUMBER is that of the current pair |
 //!
-//! and writes lines `NUMBER BYTE`. The codes are those of the room (docs/MECHANICS.md, "Rooms"), 1 over, 2 another pair is current,
-//! 3 the choice is there already, 4 not offered; and 5, the line is no two numbers with one space between them; and 6, which is the
-//! last line that it gets: it was refused too often.
+//! and writes lines `NUMBER BYTE`. Codes 1 to 4 are those of the room (docs/MECHANICS.md, "Rooms"): 1 over, 2 another pair is current,
+//! 3 already chosen, 4 not offered. Code 5 means that the line is not two numbers separated by one space. Code 6 means that the player
+//! was refused too often; it is the last line that it gets.
 //!
-//! The watcher reads the battle's log bytes as they are, and nothing else.
+//! The spectator reads the battle's log bytes, and nothing else.
 
 /// The longest line of a player, without its line feed: two numbers of ten and three digits.
 pub const LINE_MOST: usize = 14;
-/// The code of a line that is no two numbers.
+/// The code of a line that is not two numbers.
 pub const RUBBISH: u8 = 5;
-/// The code behind which a player gets and may say nothing more.
+/// The code after which a player gets no more lines, and is no longer read.
 pub const TOO_MANY: u8 = 6;
 
-/// The number of a pair and the byte of a choice, if a player's line is these.
+/// The number of a pair and the byte of a choice in a player's line, if it has exactly these.
 pub fn choice_of(line: &[u8]) -> Option<(u32, u8)> {
     let (number, byte) = std::str::from_utf8(line).ok()?.split_once(' ')?;
-    // Digits alone: a sign would be read too.
+    // Digits only: `parse` would accept a sign too.
     let is_number = |text: &str| text.bytes().all(|it| it.is_ascii_digit());
     (line.len() <= LINE_MOST && is_number(number) && is_number(byte))
         .then(|| Some((number.parse().ok()?, byte.parse().ok()?)))?
 }
 
-/// The line that tells log bytes.
+/// The line for log bytes.
 pub fn log_line(log: &[u8]) -> String {
     let digits: String = log.iter().map(|byte| format!("{byte:02x}")).collect();
     format!("log {digits}\n")

@@ -1,8 +1,8 @@
-//! A battle as a file has it: the JSON that the program's `run` takes (docs/PROGRAM.md, "run"), without its choices.
+//! A battle in a file: the JSON that the program's `run` takes (docs/PROGRAM.md, "run"), without its choices.
 use gen1::{Battle, MemberSpec, Rules, Side, Team, TurnLimit};
 use serde::Deserialize;
 
-/// A battle before any test of its teams.
+/// A battle before its teams are checked.
 #[derive(Deserialize)]
 pub struct Sheet {
     seed: [u8; 10],
@@ -19,7 +19,7 @@ fn usual_limit() -> u16 {
 }
 
 impl Sheet {
-    /// The battle of a text.
+    /// The battle that a text describes.
     ///
     /// # Errors
     ///
@@ -34,7 +34,7 @@ impl Sheet {
         Ok((sheet, battle))
     }
 
-    /// A side's own team as JSON in one line.
+    /// A side's team as JSON on one line.
     pub fn team(&self, side: Side) -> String {
         let members = if side == Side::One {
             &self.one

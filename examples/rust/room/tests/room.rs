@@ -23,7 +23,7 @@ const LINES: &str = "|switch|p1a: Tauros|Tauros|353/353
 |win|p1
 ";
 
-/// A file for a test of a name.
+/// A file for the test with this name.
 fn path(name: &str) -> PathBuf {
     PathBuf::from(env!("CARGO_TARGET_TMPDIR")).join(name)
 }
@@ -41,7 +41,7 @@ fn room(name: &str, words: &[&str]) -> Output {
         .expect("the program runs")
 }
 
-/// What was printed and told, with status 0.
+/// Standard output and standard error, after status 0.
 fn told(done: &Output) -> (&str, &str) {
     let text = |bytes| std::str::from_utf8(bytes).expect("text");
     assert_eq!(done.status.code(), Some(0), "{}", text(&done.stderr));
@@ -108,14 +108,14 @@ fn who_leaves_or_asks_back_is_out() {
     );
 }
 
-/// Everything that each process gets, byte for byte: both players write down what they are told, and say nothing.
+/// Everything that each process gets, byte for byte: both players record their input, and write nothing.
 #[test]
 fn each_gets_what_it_may_know() {
-    let files = ["one", "two", "watcher"].map(path);
+    let files = ["one", "two", "spectator"].map(path);
     let keep = |at: usize| format!("dd status=none of={}", files[at].display());
     let done = room(
         "got",
-        &["--one", &keep(0), "--two", &keep(1), "--watcher", &keep(2)],
+        &["--one", &keep(0), "--two", &keep(1), "--spectator", &keep(2)],
     );
     let out = |side| format!("side {side}: out in pair 0: it left\n");
     assert_eq!(told(&done), ("", (out(1) + &out(2)).as_str()));
@@ -135,7 +135,7 @@ fn each_gets_what_it_may_know() {
 
 #[test]
 fn a_board_is_shown() {
-    let done = room("board", &["--watcher", "room watcher --board"]);
+    let done = room("board", &["--spectator", "room spectator --board"]);
     let (lines, _) = told(&done);
     assert!(
         lines.contains("|turn|2\n# turn 2: p1 Tauros 263/353, p2 Tauros 149/353\n"),

@@ -1,13 +1,13 @@
-//! The watcher: it tells the lines of a battle, of whose log bytes it is sent piece by piece.
+//! The spectator: it prints the lines of a battle from the log bytes that it is sent.
 use gen1::{Event, Line, LogReader, Side, Species, Spectator, Team, member};
 use std::io::{self, Read, Write};
 
-/// Prints the line of each event of the log bytes that come, as soon as it is whole; with a board, also how it stands.
+/// Prints the line of each event of a log, as soon as the event is complete; with a board, also the state after each turn.
 ///
 /// # Errors
 ///
-/// A read or a write that fails, and bytes that are no log.
-pub fn watch(mut from: impl Read, mut to: impl Write, with_board: bool) -> io::Result<()> {
+/// A read or a write that fails, and bytes that aren't a log.
+pub fn print_log(mut from: impl Read, mut to: impl Write, with_board: bool) -> io::Result<()> {
     let (mut reader, mut board, mut bytes) = (LogReader::new(), Board::new(), [0; 4096]);
     loop {
         let count = from.read(&mut bytes)?;
@@ -31,19 +31,19 @@ pub fn watch(mut from: impl Read, mut to: impl Write, with_board: bool) -> io::R
     }
 }
 
-/// What can be known of a battle from its log alone.
+/// What is known of a battle from its log alone.
 struct Board {
     view: Spectator,
-    /// Who is out on each side, with its maximum HP.
+    /// The member that is out on each side, with its maximum HP.
     out: [Option<(Species, u16)>; 2],
 }
 
 impl Board {
-    /// A view begins with both teams, of which a watcher is told nothing. So it begins with six members a side that stand for them:
-    /// what it shows of a member is that of the log, from the member's first switch on.
+    /// A `Spectator` needs both teams, which this process is not sent. So it starts with six placeholder members on each side; what it
+    /// shows of a member comes from the log, from the member's first switch on.
     fn new() -> Board {
-        let stand_in = member("Mew", &["Pound"]).expect("names of the tables");
-        let team = Team::new(&std::array::from_fn::<_, 6, _>(|_| stand_in.clone()))
+        let placeholder = member("Mew", &["Pound"]).expect("names of the tables");
+        let team = Team::new(&std::array::from_fn::<_, 6, _>(|_| placeholder.clone()))
             .expect("a lawful team");
         Board {
             view: Spectator::new(&team, &team),
@@ -58,7 +58,7 @@ impl Board {
         }
     }
 
-    /// The turn and who is out, in a line.
+    /// The turn and the members that are out, on one line.
     fn text(&self) -> String {
         let side = |side: Side| {
             let (species, max) = self.out[usize::from(side.number()) - 1]?;
