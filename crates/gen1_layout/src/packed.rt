@@ -121,7 +121,7 @@ impl Packed {
         self.part_mut(from, from + 36)
     }
 
-    /// The 24 bytes of the member at a place from 1 (docs/LAYOUT.md, "Member"), for writing.
+    /// The 24 bytes of the member at a place, 1 to 6 (docs/LAYOUT.md, "Member"), for writing.
     pub fn member_mut(&mut self, side: Side, place: u8) -> &mut [u8]
         requires low { 1 ≤ place }
         requires high { place ≤ 6 }
@@ -172,7 +172,7 @@ impl Packed {
         &self.0[from..from + 36]
     }
 
-    /// The 24 bytes of the member at a place from 1.
+    /// The 24 bytes of the member at a place, 1 to 6.
     pub fn member(&self, side: Side, place: u8) -> &[u8]
         requires low { 1 ≤ place }
         requires high { place ≤ 6 }
@@ -217,7 +217,7 @@ impl Packed {
     }
 }
 
-/// Splits the bytes of both sides ([`Packed::sides_mut`]) in two: the 180 bytes of a side, and the 180 bytes of its
+/// Splits the 360 bytes of both sides ([`Packed::sides_mut`]) in two: the 180 bytes of a side, and the 180 bytes of its
 /// foe.
 pub fn in_two(sides: &mut [u8], side: Side) -> (&mut [u8], &mut [u8])
     requires sides { length sides.old ≡ 360 }

@@ -45,7 +45,7 @@ IsOutcome _ = Unit {0}
 
 -- A member
 
--- The first holds only together with the second.
+-- The second holds only if the first does.
 abbrev pub OnlyWith : Bool → Bool → Type 0
 OnlyWith explained stands = stands ≡ true → explained ≡ true
 
@@ -55,7 +55,7 @@ IsStatus rules (Asleep turns marked) = IsBetween 1 7 turns × OnlyWith rules.sle
 IsStatus rules _ = Unit {0}
 
 pub record IsMemberUnder (rules : Rules) (m : Member) : Type 0 where
-  pub numbers : IsMember m  -- level, HP, stats, and one to four different moves with their PP: neither Struggle nor a move that is left out
+  pub numbers : IsMember m  -- level, HP, stats, and one to four different moves that a member may know, with their PP
   pub species : IsBetween 1 151 m.species
   pub moves : All (λ (k : KnownMove). IsBetween 1 165 k.id) m.moves
   pub status : IsStatus rules m.status

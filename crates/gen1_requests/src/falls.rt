@@ -25,7 +25,8 @@ use gen1_machine::{Event, FaultCode, Outcome, Request, Side, TurnNumber};
 /// with a win or a tie, each side with a fallen member is asked for a switch, or the turn number rises by 1 and both
 /// sides are asked for moves.
 ///
-/// If the outcome is a fault, no member faints, and nothing more is asked for. It writes at most 3 events.
+/// If the outcome is a fault, no member faints, and nothing more is asked for. It writes at most three events, and
+/// needs three free places in `events`.
 #[inline(always)] // docs/SPEED.md, "Hints on inlining"
 pub fn close<S: EventSink>(battle: &mut Packed, actor: Side, events: &mut S)
     requires space { HasRoom S.room 3 events.old }

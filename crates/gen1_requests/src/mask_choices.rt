@@ -10,8 +10,8 @@ ghost use Rattle.gen1_requests.specs.OfferedMask.{all_choices, choices_in, offer
 
 use gen1_machine::{Choice, MoveSlot, Place};
 
-/// The number of choices of a mask of [`offered_mask`](crate::offered_mask). It is 0 once the battle is over
-/// (docs/MECHANICS.md, "Offered choices").
+/// The number of choices of a mask of [`offered_mask`](crate::offered_mask), which is below 4,096 (docs/MECHANICS.md,
+/// "Offered choices"). It is 0 once the battle is over.
 #[inline(always)]
 pub fn count_of(mask: u16) -> u8
     requires twelve { mask < 4096 }
@@ -22,9 +22,11 @@ pub fn count_of(mask: u16) -> u8
     mask.count_ones() as u8
 }
 
-/// The choice at a place of a mask, counted from 0 by rising bytes (docs/MECHANICS.md, "Offered choices").
+/// The choice at a place of a mask below 4,096, counted from 0 by rising bytes (docs/MECHANICS.md, "Offered
+/// choices").
 ///
-/// It is the choice at that place of [`offered`](crate::offered).
+/// The place must be below the number of choices. The result is the choice at that place of
+/// [`offered`](crate::offered).
 #[inline(always)]
 pub fn choice_at(mask: u16, place: u8) -> Choice
     requires twelve { mask < 4096 }

@@ -23,7 +23,7 @@ use gen1_machine::{Choice, Place, Side};
 /// and requests").
 ///
 /// It sends out the first member of side 1 and then of side 2, begins turn 1, and asks both sides for moves. Nothing
-/// is drawn. `events` must be empty, and receives two `Switch` and a `Turn`.
+/// is drawn. `events` must be empty and have five free places. Two `Switch` and a `Turn` are written to it.
 pub fn start<S: EventSink>(battle: &mut Packed, events: &mut S)
     requires empty { S.tells events.old [] }
     requires room { HasRoom S.room 5 events.old }
@@ -42,7 +42,8 @@ pub fn start<S: EventSink>(battle: &mut Packed, events: &mut S)
 /// Plays the update of replacements for fallen members (docs/MECHANICS.md, "Switching in", "Falls and requests").
 ///
 /// It sends out the members that the sides chose by `Choice::Switch`, side 1's first, begins the next turn, and asks
-/// both sides for moves. Nothing is drawn. `events` must be empty, and receives one or two `Switch` and a `Turn`.
+/// both sides for moves. Nothing is drawn. `events` must be empty and have five free places. One or two `Switch` and
+/// a `Turn` are written to it.
 pub fn replace<S: EventSink>(battle: &mut Packed, one: Choice, two: Choice, events: &mut S)
     requires empty { S.tells events.old [] }
     requires room { HasRoom S.room 5 events.old }
@@ -61,8 +62,8 @@ pub fn replace<S: EventSink>(battle: &mut Packed, one: Choice, two: Choice, even
 /// Sends out the first member of side 1 and then of side 2, as the first update does, without a turn
 /// (docs/MECHANICS.md, "Switching in").
 ///
-/// It is for callers that only need two members that face each other. The battle is at turn 0. `events` must be
-/// empty, and receives two `Switch`.
+/// It is for callers that only need two members that face each other. The battle is at turn 0, and `events` is empty.
+/// Two `Switch` are written, for which it needs two free places in `events`.
 pub fn send_both_first<S: EventSink>(battle: &mut Packed, events: &mut S)
     requires space { HasRoom S.room 2 events.old }
     ensures shown { (s : State) → S.tells events.old [] → Stands battle.old s

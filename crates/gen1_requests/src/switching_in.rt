@@ -14,7 +14,8 @@ use gen1_stats::Status;
 /// Sends out the member of `side` at a place of its team, and writes `Switch` (docs/MECHANICS.md, "Switching in").
 ///
 /// All its stages are 0, no condition is on, and it has no current and no picked move. It has one penalty if it is
-/// paralysed or burned. The foe's Trapping ends. Members, last damage and header stay as they are.
+/// paralysed or burned. The foe's Trapping ends. Members, last damage and header stay as they are. It needs one free
+/// place in `events`.
 #[inline(always)] // docs/SPEED.md, "Hints on inlining"
 pub fn send_out<S: EventSink>(battle: &mut Packed, side: Side, place: Place, events: &mut S)
     requires space { HasRoom S.room 1 events.old }

@@ -25,7 +25,7 @@ const HIGHEST_STAT: u16 = 999;
 ///
 /// `by` is 1 or 2 for a rise, and -1 or -2 for a fall. The contract covers no other numbers, and no move has any.
 /// [`raise_stage`] and [`lower_stage`] say when a shift succeeds. Any further effect of a failure, such as `Fail`, is
-/// left to the caller.
+/// left to the caller. It needs one free place in `events`.
 pub fn shift_stage<S: EventSink>(
     battle: &mut Packed,
     user: Side,

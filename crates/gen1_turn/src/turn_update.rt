@@ -25,8 +25,8 @@ use gen1_rolls::Rolls;
 ///
 /// After the turn the fallen faint. Then the battle ends, or asks for switches or for the moves of the next turn.
 ///
-/// Draws come only from `random`, which is left at the place after the last draw. The index and the numbers in the
-/// bytes stay as they are. `events` must be empty, and receives at most 51 events.
+/// Draws come only from `random`, which is returned as the draws leave it. The index and the numbers in the bytes
+/// stay as they are. `events` must be empty and have 51 free places. The events of the update are written to it.
 pub fn turn<R: Rolls, S: EventSink>(
     battle: &mut Packed,
     one: Choice,
