@@ -30,7 +30,7 @@ module _ (r : Ruling) (s : Side) (move : Move) (e : Effect) (p : Progress) where
   unfolding late_effect
   sleeps is = ends_with (put_to_sleep r s move) (ap (late_effect r s move) is)
 
--- There are no other late effects.
+-- These are all the late effects.
 pub no_other : (e : Effect) → is_late_but_bide e ≡ true → ((stat : Stat) (by : ℕ) → e ≡ effects.StatUp stat by → ⊥)
     → ((stat : Stat) (by : ℕ) → e ≡ effects.StatDown stat by → ⊥) → (e ≡ effects.InflictSleep → ⊥) → ⊥
 no_other (effects.StatUp stat by) tie up down sleep = up stat by refl

@@ -63,7 +63,7 @@ bench-most i [] h = absurd (omega arith)
 bench-most zero (m ∷ members) h = omega (arith, living-most members)
 bench-most (suc i) (m ∷ members) h = omega (arith, alive-most (is_living m), bench-most i members (omega arith))
 
--- With a living member out, the bench is at most as long as with any other, and one shorter than with a fallen one
+-- With a living member out, the bench isn't longer than with any other, and one shorter than with a fallen one
 
 lives-fewer : (members : List Member) (i j : ℕ) → is_living (get_or members j nobody) ≡ true → living_but j members ≤ living_but i members
 lives-fewer members i j lives =

@@ -60,7 +60,7 @@ tie_in_speed : ((both_splash 318 318 127).events ≡ splashes One ++ splashes Tw
 unfolding computing
 tie_in_speed = (refl, refl, refl, refl)
 
--- If one side is faster or a side switches, there is no draw.
+-- If one side is faster or a side switches, nothing is drawn.
 faster_by_one : ((both_splash 318 317 128).events ≡ splashes One ++ splashes Two) × ((both_splash 317 318 127).events ≡ splashes Two ++ splashes One)
     × ((both_splash 318 317 128).drawn ∷ (both_splash 317 318 127).drawn ∷ [] ≡ 0 ∷ 0 ∷ [])
 unfolding computing

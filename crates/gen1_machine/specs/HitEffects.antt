@@ -44,7 +44,7 @@ drain s = given (λ p. max 1 (last_damage p / 2)) (drain_by s)
 unfoldable pub start_rage : Side → Phase
 start_rage s = unless (λ p. (underway s p).rage) (starts s volatiles.Rage with_rage)
 
--- The user of an explosion falls. There is no event for that.
+-- The user of an explosion falls. No event reports that.
 unfoldable pub explode : Side → Phase
 explode s = on_member s fallen ▸ on_conditions s without_seed
 

@@ -36,7 +36,7 @@ hurt_itself_by s (Some damage) =
     (given (λ p. (conditions (other s) p).substitute) (land_on_foes_substitute s damage))
     (land_on_hp s sources.Confusion damage)
 
--- There is no critical hit, no type, no factor and no hit test.
+-- The hit takes no critical draw, no types, no factor and no hit test.
 unfoldable pub hurt_itself : Side → Phase
 hurt_itself s =
     on_conditions s broken_off ▸ on_conditions s without_flinch ▸ on_conditions s without_invulnerability

@@ -36,12 +36,12 @@ unfoldable pub thaw : Side → Move → Phase
 thaw s move =
     when (λ p. same_type move.kind Fire && is_frozen (status_of (other s) p)) (cure (other s) kinds.Freeze)
 
--- A burn, a freeze or paralysis. There is no draw if the foe has a status, or has the move's type.
+-- A burn, a freeze or paralysis. Nothing is drawn if the foe has a status, or has the move's type.
 unfoldable pub may_inflict : Side → Move → ℕ → Phase → Phase
 may_inflict s move bound f =
     choose (has_status (other s)) (thaw s move) (unless (is_of (other s) move.kind) (by_chance bound f))
 
--- Poison. There is no draw if the foe has a status, or is a Poison type.
+-- Poison. Nothing is drawn if the foe has a status, or is a Poison type.
 unfoldable pub may_poison : Side → ℕ → Phase
 may_poison s bound =
     unless (λ p. has_status (other s) p || is_of (other s) Poison p)

@@ -106,7 +106,7 @@ fn start_rage<S: EventSink>(battle: &mut Packed, side: Side, events: &mut S)
     events.push(Event::Start(battle.who(side), Volatile::Rage));
 }
 
-// The user falls. There is no event for that.
+// The user falls. No event reports that.
 pub(crate) fn explode(battle: &mut Packed, side: Side)
     ensures shown { (events : List EventOf)
         → Does battle.old (Told events) battle.new (Told events) false (explode side) }

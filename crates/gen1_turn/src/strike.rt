@@ -60,7 +60,7 @@ fn hits_with_effect<R: Rolls, S: EventSink>(
     side_effect_knowing(battle, side, id, known, random, events)
 }
 
-// There is no side effect after Bide's energy, a broken substitute or a fall.
+// Bide's energy, a hit that breaks a substitute and a fall have no side effect.
 fn has_no_effect(battle: &Packed, side: Side, known: &Known) -> bool
     ensures stands { Reads battle.now result λ f.
         (known.now.letting_go || (known.now.broke || has_fallen_in (other side) f)) }

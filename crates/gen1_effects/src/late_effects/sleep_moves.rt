@@ -36,7 +36,7 @@ pub(super) fn put_to_sleep<R: Rolls, S: EventSink>(
     sleep_by_rules(battle, side, random, events)
 }
 
-// A foe that has to recharge loses its recharging. There is no other test then.
+// A foe that has to recharge loses its recharging, and takes no other test.
 fn ready_to_sleep<R: Rolls, S: EventSink>(
     battle: &mut Packed,
     side: Side,

@@ -21,7 +21,7 @@ use gen1_stats::Status;
 use gen1_status::inflict;
 use gen1_tables::{Element, MoveId};
 
-// There is no draw if the foe has a status, or is a Poison type.
+// Nothing is drawn if the foe has a status, or is a Poison type.
 pub(super) fn may_poison<R: Rolls, S: EventSink>(
     battle: &mut Packed,
     side: Side,
@@ -53,7 +53,7 @@ fn resists_poison(battle: &Packed, side: Side) -> bool
     ailing | immune
 }
 
-// A burn, a freeze or paralysis. There is no draw if the foe has a status, which a Fire move may thaw, or has the
+// A burn, a freeze or paralysis. Nothing is drawn if the foe has a status, which a Fire move may thaw, or has the
 // move's type.
 #[inline(always)] // docs/SPEED.md, "Hints on inlining"
 pub(super) fn may_inflict<R: Rolls, S: EventSink>(
