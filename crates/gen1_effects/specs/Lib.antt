@@ -1,4 +1,4 @@
--- Which effects replace damage.
+-- Which effects are late.
 pub mod LateEffects
 -- Which effects are early.
 pub mod EarlyEffects

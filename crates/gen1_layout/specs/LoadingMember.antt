@@ -32,7 +32,7 @@ pub record PassesStatus (rules : ℕ) (member : List ℕ) : Type 0 where
 abbrev pub may_be_known : ℕ → Bool
 may_be_known id = nat_le 1 id && nat_le id 164 && not (is_left_out id)
 
--- No move, or a move with its PP. Slots before a move hold other moves.
+-- No move, or a move with its PP. The slots before it hold other moves.
 abbrev pub PassesSlot : ℕ → List ℕ → Type 0
 PassesSlot slot member =
     ((slice_index member (14 + slot) ≡ 0) × (slice_index member (18 + slot) ≡ 0))
@@ -54,7 +54,7 @@ pub record PassesMember (rules : ℕ) (member : List ℕ) : Type 0 where
 
 -- The places
 
--- No member, or a member. The place before a member holds a member.
+-- No member, or a member. The place before it holds a member too.
 abbrev pub PassesPlace : ℕ → List ℕ → List ℕ → Type 0
 PassesPlace rules before member =
     All (λ byte. byte ≡ 0) member ⊎ (PassesMember rules member × (slice_index before 0 ≢ 0))

@@ -9,8 +9,8 @@ use Rattle.gen1_machine.specs.Progress.{Action, Phase, Progress}
 use Rattle.gen1_layout.specs.Parts.{Parts}
 use Rattle.gen1_layout.specs.Within.{Packs, Setting, Within}
 
--- A property of a list of events, such as that they are the ones written. What receives the events defines it
--- (gen1_events, `EventSink`).
+-- A statement about a list of events, such as that exactly these were written. The type that receives the events
+-- defines its own (gen1_events, `EventSink`).
 abbrev pub Telling : Type 1
 Telling = List Event → Type 0
 

@@ -21,7 +21,7 @@ pub record Stands (p : Parts) (s : State) : Type 0 where
   pub same : p ≡ blocks_of s
   pub valid : IsState s
 
--- What an update finds and writes to a field don't change: the terms, the seed, and the number of draws in the bytes.
+-- What no write to a field changes: the terms, the seed, and the number of draws in the bytes.
 pub record Setting : Type 0 where
   pub terms : Terms
   pub seed : List ℕ

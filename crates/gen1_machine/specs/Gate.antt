@@ -87,7 +87,8 @@ gate_of_status s = given (status_of s) (sleep_test s) ▸ frozen_test s ▸ trap
 unfoldable pub gate_of_turn : Side → Phase
 gate_of_turn s = flinch_test s ▸ recharge_test s ▸ given (λ p. (conditions s p).disabled) (disable_count s)
 
--- A member that was asleep or frozen as the turn began picked nothing. It does nothing if it has been cured since.
+-- A member that was asleep or frozen as the turn began picked nothing. It does nothing even if it has been cured
+-- since.
 unfoldable pub gate_of_move : Side → Pick → Phase
 gate_of_move s pick =
     given (λ p. (conditions s p).confused) (confusion_test s)

@@ -7,7 +7,7 @@ use Rattle.gen1_machine.specs.declared.event.Volatile.TheVariants as volatiles
 use Rattle.gen1_machine.specs.Conditions.{with_substitute_hurt, without_substitute}
 use Rattle.gen1_machine.specs.Progress.{Phase, ◌▸◌, choose, when, given, set_last_damage, lasts, ends, on_action, last_damage, conditions, member, lose_hp}
 
--- A substitute breaks if the damage is more than its HP. Equal damage leaves it at 0.
+-- A substitute breaks if the damage is more than its HP, or more than 255. Equal damage leaves it at 0.
 abbrev pub breaks : ℕ → ℕ → Bool
 breaks damage hp = nat_lt 255 damage || nat_lt hp damage
 

@@ -64,6 +64,6 @@ offered_for requests.Switch s f = switches_offered s f
 offered_for requests.Move s f =
     if is_committed (underway_in s f) then choices.Move 0 ∷ [] else moves_offered s f ++ switches_offered s f
 
--- Choices come in rising codes. Once the battle is over, none is offered.
+-- Choices come by rising bytes. Once the battle is over, none is offered.
 unfoldable pub offered : Side → Field → List Choice
 offered s f = if is_over f.outcome then [] else offered_for (request_of s f) s f

@@ -204,7 +204,7 @@ is_trapping s p = is_some (underway s p).trapping
 abbrev pub is_of : Side → Element → Progress → Bool
 is_of s t p = has_type t (active s p)
 
--- Rules that others share
+-- What many rules share
 
 -- A battle that can't go on ends with a fault.
 unfoldable pub fault : ℕ → Phase

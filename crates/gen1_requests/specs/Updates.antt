@@ -23,7 +23,7 @@ beginning s = record { setting = setting_of s; stream = Link s.seed; drawn = s.d
 abbrev pub drawing_on : Stream → ℕ → State → Progress
 drawing_on stream drawn s = record (opened s) { stream = stream; drawn = drawn }
 
--- A battle that goes on. This was asked from a side, and each side has chosen one of its offered choices.
+-- A battle that goes on. `asked` was asked for, and each side has chosen one of its offered choices.
 pub record Plays (s : State) (asked : Request) (one two : Choice) : Type 0 where
   pub goes_on : s.field.outcome ≡ Ongoing
   pub asked_for : (s.field.request_one ≡ asked) ⊎ (s.field.request_two ≡ asked)
