@@ -80,7 +80,7 @@ impl Packed {
         self.active(side)[31]
     }
 
-    /// Writes both types.
+    /// Writes both types of the member that is out.
     pub fn put_types(&mut self, side: Side, first: Element, second: Element)
         ensures stands { WritesActive side self.old self.new λ a. record a
             { first_type = first; second_type = second } }
@@ -196,7 +196,7 @@ impl Packed {
         put_word!(active, 15..17, value);
     }
 
-    /// Sends out the member at a place from 1, with these types and these current stats.
+    /// Sends out the member at a place, 1 to 6, with these types and these current stats.
     ///
     /// `stats` are its Attack, Defense, Speed and Special. All stages are in the middle, and no condition is on. A
     /// side may have no member out before, as before the first update.

@@ -137,7 +137,7 @@ impl Packed {
         }
     }
 
-    /// Sets or clears a condition that has no number. The place of its bit is k.
+    /// Sets or clears a condition that has no number. In the contract, k is the place of its bit.
     pub fn put_flag(&mut self, side: Side, which: Conditions, on: bool)
         ensures stands { (k : ℕ) → which.0 ≡ 2 ^ k → k < 17
             → (g : Setting) (f : Field) (change : ActiveConditions → ActiveConditions)
@@ -151,7 +151,8 @@ impl Packed {
         put_long!(self.active_mut(side), 17..21, now.bits());
     }
 
-    // Sets or clears a condition, whose bit is at place k, and writes its byte of the active block.
+    // Sets or clears a condition, and writes its byte of the active block. In the contract, k is the place of its
+    // bit.
     fn put_count(&mut self, side: Side, which: Conditions, on: bool, at: usize, byte: u8)
         requires first { 21 ≤ at }
         requires last { at < 29 }

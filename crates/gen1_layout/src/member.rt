@@ -96,8 +96,7 @@ impl Packed {
         self.member_out(side)[slot as usize + 18]
     }
 
-    /// The number of the species of the member at a place, 1 to 6. The number is 1 to 151, or 0 if there is no
-    /// member.
+    /// The number of the species of the member at a place, 1 to 6. The number is 1 to 151, or 0 for an empty place.
     pub fn species_at(&self, side: Side, place: u8) -> u8
         requires low { 1 ≤ place }
         requires high { place ≤ 6 }
@@ -117,8 +116,7 @@ impl Packed {
         word!(self.member(side, place), 4..6)
     }
 
-    /// The status of the member at a place, 1 to 6. A sleep has 1 to 7 turns left. A place without a member is
-    /// healthy.
+    /// The status of the member at a place, 1 to 6. A sleep has 1 to 7 turns left. An empty place is healthy.
     pub fn status_at(&self, side: Side, place: u8) -> Status
         requires low { 1 ≤ place }
         requires high { place ≤ 6 }
@@ -147,8 +145,8 @@ impl Packed {
         word!(self.member(side, place), 2..4)
     }
 
-    /// The own Attack, Defense, Speed and Special of the member at a place, 1 to 6: each 5 to 999, or 0 if there is
-    /// no member.
+    /// The own Attack, Defense, Speed and Special of the member at a place, 1 to 6: each 5 to 999, or 0 for an empty
+    /// place.
     pub fn own_stats_at(&self, side: Side, place: u8) -> [u16; 4]
         requires low { 1 ≤ place }
         requires high { place ≤ 6 }

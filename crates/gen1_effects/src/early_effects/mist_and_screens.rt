@@ -65,7 +65,7 @@ fn is_light_screen(id: MoveId) -> bool
     id.number() == LIGHT_SCREEN
 }
 
-// Sets a condition without a number, whose bit is at place k. It fails if the condition is on.
+// Sets a condition without a number, and fails if it is on. In the contract, k is the place of its bit.
 fn put_up<S: EventSink>(
     battle: &mut Packed,
     side: Side,

@@ -1,4 +1,4 @@
-//! Stages that go back to the middle, with the stats at it (docs/MECHANICS.md, "Stages").
+//! Stages that go back to the middle, with the stats there (docs/MECHANICS.md, "Stages").
 ghost use Rattle.gen1_layout.specs.Words.{Changes, changed_active};
 ghost use Rattle.gen1_machine.specs.EarlyEffects.{with_levelled_stats};
 

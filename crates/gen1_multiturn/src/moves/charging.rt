@@ -55,7 +55,8 @@ pub fn charge_knowing<R: Rolls, S: EventSink>(
     charge_by(battle, side, pick, id, events)
 }
 
-/// Makes the move that a pick uses the current move of `side` (docs/MECHANICS.md, "Charging"). Nothing else changes.
+/// Sets the current move of `side` to the move that a pick uses (docs/MECHANICS.md, "Charging"). Nothing else
+/// changes.
 pub fn make_current(battle: &mut Packed, side: Side, pick: Pick)
     ensures shown { (g : Frame) (p : Progress) (events : List Event)
         → IsUsedMove (length (member_in side p.field).moves)
