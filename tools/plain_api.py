@@ -1,4 +1,4 @@
-"""The public items of a crate, a line each, out of its rustdoc pages.
+"""The public items of a crate, a line each, from its rustdoc pages.
 
 A trait's methods are the trait's: of its impl the header and the types that it names are listed. What a type has by being another
 one, by an alias or as what it derefs to, is listed with that other one or not at all.
@@ -9,9 +9,9 @@ import re
 DECLARED = re.compile(r'<pre class="rust item-decl"><code>(.*?)</code></pre>', re.S)
 HEADER = re.compile(r'<h[34] class="code-header">(.*?)</h[34]>', re.S)
 SECTION = re.compile(r'<h2 id="([a-z-]+)')
-# For each section of a page that is read, how the lines of it begin that are listed.
+# The sections of a page that are read, each with the beginning of its lines.
 SECTIONS = {"implementations": ("impl", "pub "), "trait-implementations": ("impl", "type ")}
-# A trait whose impls rustc writes for itself.
+# Traits whose impls rustc writes itself.
 INTERNAL = " StructuralPartialEq for "
 HANDED_ON = re.compile(r"<code>(pub use .*?)</code>", re.S)
 
@@ -24,7 +24,7 @@ def text_of(markup):
 
 
 def lines_of(kind, page):
-    """The declaration on a page, and the impls and methods that are the item's own."""
+    """The declaration on a page, and the item's own impls and methods."""
     yield from map(text_of, DECLARED.findall(page)[:1])
     if kind == "type":
         return
@@ -38,7 +38,7 @@ def lines_of(kind, page):
 
 
 def api_of(folder):
-    """A line for each declaration, impl and method of the pages in a folder and those below it, and for what is handed on."""
+    """A line for each declaration, impl, method and re-export of the pages below a folder."""
     lines = [text_of(found) for found in HANDED_ON.findall((folder / "index.html").read_text())]
     for page in sorted(folder.rglob("*.html")):
         kind, _, name = page.stem.partition(".")

@@ -1,4 +1,4 @@
-"""What goes with a workspace that can be published."""
+"""The further files of a workspace that can be published."""
 import hashlib
 import re
 import shutil
@@ -8,9 +8,9 @@ from functools import partial
 from plain_workspace import OWN, ROOT
 
 DOCUMENTS = ("GLOSSARY.md", "LAYOUT.md", "MECHANICS.md", "PLAIN.md", "PROGRAM.md", "SPEED.md", "TABLES.md", "TEAM_TEXT.md")
-# The inputs that docs/PROGRAM.md leads to.
+# The inputs that docs/PROGRAM.md links to.
 INPUTS = ("body_slam.json", "full_teams.json")
-# A block or span of code, in which nothing is a link, or a link: its words and where it leads.
+# A block or span of code, or a link: its text and its target.
 LINK = re.compile(r"^(```|~~~).*?^\1 *$|`[^`\n]*`|\[([^\]\n]*)\]\(([^)\s]+)\)", re.M | re.S)
 
 
@@ -19,7 +19,7 @@ def sum_of(path):
 
 
 def said(*words):
-    """What a command prints in one line; None where it cannot be run."""
+    """The one line that a command prints; None where it cannot be run."""
     try:
         return subprocess.run(words, cwd=ROOT, capture_output=True, text=True, check=True).stdout.strip()
     except (OSError, subprocess.CalledProcessError):
@@ -27,21 +27,21 @@ def said(*words):
 
 
 def within(document, found):
-    """A link of a document as it stands, or its words alone where it leads to nothing."""
+    """A link of a document, or only its text where the target does not exist."""
     path = (found[3] or "").partition("#")[0]
     is_lost = path and not re.match("[a-z]+:", path) and not (document.parent / path).exists()
     return found[2] if is_lost else found[0]
 
 
 def keep_links_within(documents):
-    """Turns each link that leads to nothing, where the documents now stand, into its words; what they may lead to is there by then."""
+    """Turns each link to a missing file into its text. Called when all files of the release are in place."""
     for document in documents:
         document.write_text(LINK.sub(partial(within, document), document.read_text()))
 
 
 def proved():
     """The kit that proves the sources, their commit, and the SHA-256 of each of their files."""
-    lines = [f"kit {said('rt', 'version') or 'not at hand when this was made'}"]
+    lines = [f"kit {said('rt', 'version') or 'not installed when this was made'}"]
     lines.append(f"commit {said('git', 'rev-parse', 'HEAD') or 'not known'}")
     if said("git", "status", "--porcelain", "crates"):
         lines.append("changed since that commit")
@@ -53,7 +53,7 @@ def proved():
 
 
 def write_release(out, library):
-    """Adds to a workspace what a user wants beside it. `library` is the proved one for C, or None."""
+    """Adds documents, header, sums and the proved library to a workspace. `library` is its path, or None."""
     for path in ("CHANGELOG.md", "LICENSE", "SECURITY.md", "VERSION"):
         shutil.copy(ROOT / path, out)
     for folder in ("docs", "examples", "include"):

@@ -11,7 +11,7 @@ ATTRIBUTES = {"inline", "repr", "test", "cfg", "unsafe", "default", "error", "mu
 MACROS = {"assert", "assert_eq", "assert_ne", "debug_assert", "format_in", "macro_rules", "matches", "unreachable", "write"}
 PRELUDE = ("Vec", "String")
 
-# What stands for a path of the kit's std: the same in core, something of the adapter, or nothing (a trait for proofs alone).
+# What replaces a path of the kit's std: the same in core, an item of the adapter, or nothing (a trait only for proofs).
 SAME_IN_CORE = ("array", "cell", "cmp", "convert", "error", "fmt", "hash", "iter", "mem", "num", "ops", "slice", "str")
 IN_ADAPTER = {
     "std::alloc::AllocError": "gen1_adapter::alloc::AllocError",
@@ -29,7 +29,7 @@ PROOFS_ALONE = {"std::marker::Model", "thiserror::Error"}
 
 
 class Source:
-    """A source on its way: its tokens, and what the crate knows of itself."""
+    """A source during translation: its tokens and its crate."""
 
     def __init__(self, path, text, crate):
         self.path, self.crate = path, crate
@@ -38,7 +38,7 @@ class Source:
         self.refresh()
 
     def refresh(self):
-        """Lists the tokens that are code anew, after some were dropped."""
+        """Lists the tokens that are code again, after some were dropped."""
         for place, token in enumerate(self.tokens):
             token.place = place
         self.code = [token for token in self.tokens if token.kind not in ("space", "comment", "off")]
@@ -48,25 +48,25 @@ class Source:
         raise Unknown(f"{self.path}:{token.line}: {what}")
 
     def drop(self, first, last):
-        """Drops the code from one place to another, and what stands between."""
+        """Drops the tokens from one place to another."""
         for token in self.tokens[self.code[first].place : self.code[last].place + 1]:
             token.drop()
 
     def drop_word(self, first, last):
-        """Drops some code and the blank behind it."""
+        """Drops some code and the blank after it."""
         self.drop(first, last)
         after = self.tokens[self.code[last].place + 1]
         if after.kind == "space":
             after.drop()
 
     def put(self, first, last, text):
-        """Puts a text of one line in the place of some code."""
+        """Replaces some code by a text of one line."""
         self.drop(first, last)
         self.code[first].text = text + self.code[first].text
         self.code[first].kind = "made"
 
     def is_at(self, place, words):
-        """Whether the code at a place begins with these words, parted by blanks."""
+        """Whether the code at a place begins with these words, separated by blanks."""
         words = words.split()
         return [token.text for token in self.code[place : place + len(words)]] == words
 
@@ -95,7 +95,7 @@ class Source:
 
 
 def begin_of_item(source, place):
-    """The place where an item begins whose keyword stands at a place: its visibility and attributes belong to it."""
+    """Where the item with this keyword begins, with its visibility and attributes."""
     code = source.code
     while place > 0:
         if code[place - 1].text in ("pub", "const", "unsafe"):
@@ -113,7 +113,7 @@ def begin_of_item(source, place):
 
 
 def is_law(source, name):
-    """Whether the function whose name stands at a place does nothing but state its contract."""
+    """Whether the function with its name at this place has only a contract."""
     opening = source.next_at(name, "(")
     body = source.ends[opening] + 1
     has_clause = body < len(source.code) and any(
@@ -124,7 +124,7 @@ def is_law(source, name):
 
 
 def laws_of(source):
-    """The names of the laws that a source holds: functions of no type, with a contract and no body."""
+    """The names of the laws of a source: functions of no type, with a contract and no body."""
     depth, found = 0, []
     for place, token in enumerate(source.code):
         if token.text == "fn" and depth == 0 and is_law(source, place + 1):
@@ -134,7 +134,7 @@ def laws_of(source):
 
 
 def take_laws(source):
-    """Laws are not code."""
+    """Drops laws."""
     for name in laws_of(source):
         place = source.find(f"fn {name}")[0]
         opening = source.next_at(place, "{")
@@ -143,7 +143,7 @@ def take_laws(source):
 
 
 def take_citations(source):
-    """A law that is called says what holds, and does nothing."""
+    """Drops calls of laws, which do nothing."""
     laws = {name for crate in source.crate.depends | {"crate"} for name in source.crate.laws_by(crate)}
     for place in source.find("( ) ;"):
         if source.code[place - 1].text in laws and source.code[place - 2].text in (";", "{", "}", ""):
@@ -152,7 +152,7 @@ def take_citations(source):
 
 
 def take_empty_modules(source):
-    """A module that held nothing but laws is declared no more."""
+    """Drops the declaration of a module that had only laws."""
     for place in reversed(source.find("mod")):
         if source.is_at(place + 2, ";") and source.code[place + 1].text in source.crate.law_names:
             source.drop_with_docs(begin_of_item(source, place), place + 2)
@@ -160,7 +160,7 @@ def take_empty_modules(source):
 
 
 def take_attributes(source):
-    """Marks for the prover are off; `Drop` and `Error` are derived in other ways."""
+    """Drops marks for the prover; derives `Drop` and `Error` in other ways."""
     for place in source.find("#"):
         if source.code[place].kind == "off":
             continue
@@ -199,7 +199,7 @@ impl core::fmt::Display for {name} {{
 
 
 def error_impls(source, place):
-    """What thiserror's derive writes for the enum at a place; its text only where the additions have none of their own."""
+    """What thiserror's derive writes for the enum at a place; its `Display` only where the additions have none."""
     place += source.is_at(place, "pub")
     if not source.is_at(place, "enum"):
         source.fail(source.code[place], "an error that is no enum")
@@ -212,7 +212,7 @@ def error_impls(source, place):
 
 
 def error_arm(source, at):
-    """How the variant at a place is shown, and the place of the next."""
+    """The arm of `Display` for the variant at a place, and the place of the next."""
     if not source.is_at(at, "# [ error (") or source.code[at + 4].kind != "string":
         source.fail(source.code[at], "a variant of an error with no text of its own")
     text, pattern = source.code[at + 4].text, source.code[at + 7].text
@@ -232,7 +232,7 @@ def error_arm(source, at):
 
 
 def take_models(source):
-    """How a contract sees a type is no code."""
+    """Drops how a contract sees a type."""
     for place in source.find("Model for"):
         opening = source.next_at(place, "{")
         if source.ends[opening] != opening + 1:
@@ -245,7 +245,7 @@ def take_models(source):
 
 
 def take_clones(source):
-    """A clone of the kit's answers an error where memory is wanting; Rust's has an answer always."""
+    """A clone of the kit may return an error, out of memory; Rust's always succeeds."""
     for place in source.find("impl Clone for"):
         opening = source.next_at(place, "{")
         method = source.next_at(opening, "fn")
@@ -285,7 +285,7 @@ def take_proved(source):
 
 
 def take_labels(source):
-    """A label that only a proof names is off."""
+    """Drops a label that only a proof names."""
     used = {source.code[place + 1].text for word in ("break", "continue") for place in source.find(word)}
     for place, token in enumerate(source.code):
         if token.kind == "label" and source.is_at(place + 1, ":") and token.text not in used:
@@ -295,7 +295,7 @@ def take_labels(source):
 
 
 def take_drop_bounds(source):
-    """In the kit a bound says that a value may be let go; in Rust every value may."""
+    """Drops the bound that a value may be dropped; in Rust every value may."""
     for place in source.find("Drop"):
         before, after = source.code[place - 1].text, source.code[place + 1].text
         if before == "+":
@@ -310,7 +310,7 @@ def take_drop_bounds(source):
 
 
 def take_runtime(source):
-    """Tests of the kit are passed what may end the process and what has memory; the adapter has both."""
+    """Tests of the kit take arguments that may end the process and that allocate; the adapter has both."""
     for place in source.find("( rt : HostRuntime )"):
         source.drop(place + 1, place + 3)
         body = source.next_at(place, "{")
@@ -352,7 +352,7 @@ def leaves_of(source, begin, end):
 
 
 def in_plain(source, token, path):
-    """What stands for a path that may be the kit's; None for nothing."""
+    """What replaces a path that may be the kit's; None for nothing."""
     if path in PROOFS_ALONE or path.split("::")[-1] in source.crate.laws_by(path.split("::")[0]):
         return None
     if path.startswith("bitflags::"):
@@ -363,11 +363,11 @@ def in_plain(source, token, path):
         return IN_ADAPTER[path]
     if path.split("::")[1] in SAME_IN_CORE:
         return "core" + path[3:]
-    source.fail(token, f"{path}, of which it is not known what stands for it in plain Rust")
+    source.fail(token, f"{path}: nothing is known that replaces it in plain Rust")
 
 
 def take_uses(source):
-    """Paths of the kit's become those of core or of the adapter; names that no code has go."""
+    """Replaces paths of the kit by those of core or of the adapter; drops names that no code has."""
     for place in reversed(source.find("use")):
         end = source.next_at(place, ";")
         leaves = parts_of(source, place + 1, end - 1)
@@ -387,11 +387,11 @@ def take_uses(source):
 def check_root(source, token):
     known = {"crate", "self", "super", "std", "core", "thiserror", "bitflags"} | source.crate.depends
     if token.text not in known | source.crate.modules and not token.text[0].isupper():
-        source.fail(token, f"a use of {token.text}, which is no module and none of the crates in crates.txt")
+        source.fail(token, f"a use of {token.text}, which is not a module and not a crate of crates.txt")
 
 
 def take_paths(source):
-    """Paths of the kit's std in code."""
+    """Replaces paths of the kit's std in code."""
     for place in source.find("std ::"):
         end = place
         while source.is_at(end + 1, "::") and source.code[end + 2].kind == "word":
@@ -405,7 +405,7 @@ def take_paths(source):
 
 
 def take_prelude(source):
-    """Names that each source of the kit has, and no_std has not."""
+    """Imports names that the kit has in each source and no_std has not."""
     used = {token.text for token in source.code}
     names = [name for name in PRELUDE if name in used]
     if names:
@@ -418,7 +418,7 @@ def take_prelude(source):
 
 
 def check_macros(source):
-    """A macro that is not known may mean something else in the kit."""
+    """Refuses unknown macros, which may mean something else in the kit."""
     own = source.crate.macros
     for place in source.find("!"):
         word = source.code[place - 1]
@@ -436,19 +436,19 @@ def check_macros(source):
 
 
 def c_parameter(source, name, kind):
-    """A parameter as C passes it, and as the function takes it."""
+    """A parameter as C passes it, and the argument for the function."""
     slice_of = re.fullmatch(r"&(mut )?\[([A-Za-z_0-9]+)\]", kind)
     if slice_of:
         pointer = "*mut" if slice_of[1] else "*const"
-        lent = "slice_mut" if slice_of[1] else "slice"
-        return f"{name}: {pointer} {slice_of[2]}, {name}_len: usize", f"unsafe {{ {lent}({name}, {name}_len) }}"
+        borrowed = "slice_mut" if slice_of[1] else "slice"
+        return f"{name}: {pointer} {slice_of[2]}, {name}_len: usize", f"unsafe {{ {borrowed}({name}, {name}_len) }}"
     if not re.fullmatch(r"&(mut )?(\[[A-Za-z_0-9]+; ?[0-9]+\]|[A-Z]\w*|usize)|[ui](8|16|32|64)|usize|bool", kind):
         raise Unknown(f"{source.path}: an argument for C of an unknown kind, {name}: {kind}")
     return f"{name}: {kind}", name
 
 
 def take_exports(source):
-    """A function for C takes a slice as a pointer and a length: the function stays as it is, and a second one calls it."""
+    """A function for C takes a slice as a pointer and a length: a second function does so and calls the unchanged one."""
     shims = []
     for place in source.find('extern "C" fn'):
         name, opening = source.code[place + 3].text, place + 4

@@ -20,7 +20,7 @@ CLOSING = {"(": ")", "[": "]", "{": "}"}
 
 
 class Unknown(Exception):
-    """A form that is not known, at a place of a source."""
+    """An unknown form, with its place in a source."""
 
 
 class Token:
@@ -32,12 +32,12 @@ class Token:
         self.was_clause = kind == "off" and not text.startswith("ghost")
 
     def drop(self):
-        """Leaves the line feeds alone, so that all that follows keeps its line."""
+        """Keeps only the line feeds, so that what follows stays on its line."""
         self.kind, self.text = "off", "\n" * self.text.count("\n")
 
 
 def end_of_braces(text, at, fail):
-    """The place behind the braces that open at a place of a clause."""
+    """The place after the braces that open at a place of a clause."""
     depth = 0
     for found in TEXT_OR_BRACE.finditer(text, at):
         depth += {"{": 1, "}": -1}.get(found[0], 0)
@@ -47,7 +47,7 @@ def end_of_braces(text, at, fail):
 
 
 def end_of_ghost(text, at, fail):
-    """The place behind a ghost item."""
+    """The place after a ghost item."""
     use = GHOST_USE.match(text, at)
     if use:
         return use.end()
@@ -65,7 +65,7 @@ def end_of_ghost(text, at, fail):
 
 
 def is_off(text, at, word, before, fail):
-    """The place behind a clause or a ghost item that begins with a word; None where it is a word like others."""
+    """The place after a clause or a ghost item that begins with a word; None where it is an ordinary word."""
     if word in ("requires", "ensures") and before not in (".", "::", "fn", "let"):
         clause = CLAUSE.match(text, at)
         if not clause:
@@ -106,7 +106,7 @@ def tokens_of(text, path):
 
 
 def partners(tokens, path):
-    """For each opening bracket of a list of tokens the place of its closing one."""
+    """The place of the closing bracket for each opening one."""
     found, open_ones = {}, []
     for place, token in enumerate(tokens):
         if token.kind != "mark":

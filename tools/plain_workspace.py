@@ -23,7 +23,7 @@ def listed():
 
 
 class Crate:
-    """A library of crates/, with what its sources have to know of each other."""
+    """A library of crates/, with what the translation of its sources needs."""
 
     def __init__(self, name, depends, is_for_c):
         self.name, self.depends, self.is_for_c = name, depends, is_for_c
@@ -42,7 +42,7 @@ class Crate:
                 self.law_names.add(path.stem)
 
     def laws_by(self, root):
-        """The names of laws that a path may end in which begins with a crate or a module."""
+        """The names of laws at the end of a path that begins with a crate or a module."""
         return self.others[root].law_names if root in self.others else self.law_names
 
     def description(self):
@@ -51,7 +51,7 @@ class Crate:
         return " ".join(page.replace("//!", " ").split()).partition(". ")[0].rstrip(".")
 
     def write(self, out):
-        """Writes the crate, and answers the crates that its sources name."""
+        """Writes the crate, and returns the crates that its sources name."""
         whole = ""
         for path, text in self.texts.items():
             source = Source(path.relative_to(ROOT), text, self)
@@ -130,7 +130,7 @@ panic_handler = []
 
 
 def write_workspace(out, with_tests=True):
-    """Writes the whole workspace to a folder, and answers the names of the crates that were made."""
+    """Writes the whole workspace to a folder, and returns the names of its crates."""
     names, crates = [], {}
     for name, depends, is_for_c in listed():
         if name.startswith("gen1_") or with_tests and is_of_tests(name, depends):
@@ -147,14 +147,14 @@ def write_workspace(out, with_tests=True):
 
 
 def own():
-    """The crates that are plain Rust already: for each its folder here, and the one that it has in the workspace."""
+    """The crates that are plain Rust already: for each its folder here and in the workspace."""
     for where, below in ((OWN, ""), (EXAMPLES, "examples/")):
         for folder in sorted(path.parent for path in where.glob("*/Cargo.toml")):
             yield folder, below + folder.name
 
 
 def is_of_tests(name, depends):
-    """Whether a crate holds tests of the engine's libraries alone, without readers and writers of its own."""
+    """Whether a crate only tests the engine's libraries, without readers and writers of its own."""
     is_tests = name.endswith("_tests") or name.startswith("test_")
     needs = {other for other in depends if not other.startswith("gen1_")} - NOT_HERE - set(PUBLISHED)
     texts = (path.read_text() for path in (ROOT / "crates" / name / "src").rglob("*.rt"))
@@ -162,7 +162,7 @@ def is_of_tests(name, depends):
 
 
 def write_root(out, names):
-    """The manifest of the workspace, and how it finds crates where there is no network."""
+    """The manifest of the workspace."""
     members = [f"crates/{name}" for name in names] + [to for _, to in own()]
     libraries = {name: f"crates/{name}" for name in names} | {"gen1_adapter": "adapter", "gen1": "gen1"}
     text = (OWN / "Cargo.toml").read_text()

@@ -1,4 +1,4 @@
-"""Archives that come out the same, to the byte, whenever and by whomever they are made."""
+"""Archives whose bytes do not depend on who makes them, and when."""
 
 import datetime
 import gzip
@@ -11,7 +11,7 @@ from repository import ROOT
 
 
 def epoch():
-    """The time that archives carry: SOURCE_DATE_EPOCH, or the day of the version in CHANGELOG.md."""
+    """The time in archives: SOURCE_DATE_EPOCH, or the day of the version in CHANGELOG.md."""
     if given := os.environ.get("SOURCE_DATE_EPOCH"):
         return int(given)
     day = re.search(r"(?m)^## [\d.]+, (\d{4}-\d\d-\d\d)$", (ROOT / "CHANGELOG.md").read_text())
@@ -19,7 +19,7 @@ def epoch():
 
 
 def told_nothing_of_its_maker(entry):
-    """An entry of an archive without what depends on who made it, and when."""
+    """An entry of an archive without owner, and with the fixed time."""
     entry.uid = entry.gid = 0
     entry.uname = entry.gname = ""
     entry.mtime = epoch()
@@ -39,7 +39,7 @@ def write_packed(entries, to):
 
 
 def pack(folder, to):
-    """Writes a folder, with its name, as a .tar.gz."""
+    """Writes a folder as a .tar.gz, with its name."""
     entries = []
     with tarfile.open(fileobj=io.BytesIO(), mode="w", format=tarfile.GNU_FORMAT) as maker:
         for path in [folder, *folder.rglob("*")]:
@@ -54,7 +54,7 @@ def pack(folder, to):
 
 
 def repack(path):
-    """Writes a .tar.gz that another tool made anew, in its place."""
+    """Writes a .tar.gz of another tool again, with these entries."""
     with tarfile.open(path) as archive:
         entries = [(entry, archive.extractfile(entry).read() if entry.isreg() else None) for entry in archive]
     write_packed(entries, path)

@@ -1,4 +1,4 @@
-"""What tools/release --check tries of a release: that it comes out the same twice, and that each part is of use where it is unpacked."""
+"""The checks of tools/release --check: two runs give the same bytes, and each part works where it is unpacked."""
 
 import ctypes
 import hashlib
@@ -18,7 +18,7 @@ from repository import ROOT, version
 REGISTRY = Path("/usr/share/cargo/registry")
 STORED = ROOT / "crates" / "battle_tool" / "stdin"
 CONFIG = '[source.crates-io]\nreplace-with = "debian"\n[source.debian]\ndirectory = "/usr/share/cargo/registry"\n'
-# What a page holds of a battle where it holds none.
+# The place of a battle in a page that has none.
 PLACEHOLDER = '<script id="battle" type="application/json">null</script>'
 
 
@@ -40,7 +40,7 @@ def due(got, wanted):
 
 
 class Trial:
-    """A release that is tried, beside another that was made of the same sources."""
+    """A release to check, and another of the same sources."""
 
     def __init__(self, first, second, left_out, room):
         self.first, self.out, self.left_out, self.room = first, second, left_out, room
@@ -48,7 +48,7 @@ class Trial:
         self.made = None
 
     def tell(self, name, check, *given):
-        """Runs a check, which answers what is wrong, and counts it."""
+        """Runs a check, which returns what is wrong, and counts it."""
         try:
             fault = check(*given)
         except Missing as why:
@@ -58,10 +58,10 @@ class Trial:
         except (Unbuilt, OSError, KeyError) as why:
             fault = why or "it failed"
         self.counts["failed" if fault else "passed"] += 1
-        print(f"{name}: {f'FAILED: {fault}' if fault else 'as it should be'}", flush=True)
+        print(f"{name}: {f'FAILED: {fault}' if fault else 'passed'}", flush=True)
 
     def unpacked(self, name):
-        """An empty folder with what an archive of the release holds: the one folder in it."""
+        """Unpacks an archive of the release into an empty folder; returns the one folder in it."""
         into = self.room / f"unpacked_{name}"
         shutil.rmtree(into, ignore_errors=True)
         into.mkdir()
@@ -71,7 +71,7 @@ class Trial:
         return folder
 
     def sums(self):
-        """SHA256SUMS names each file and no other, with its sum."""
+        """SHA256SUMS has exactly the files of the release, with their sums."""
         lines = (self.out / "SHA256SUMS").read_text()
         found = sorted(path for path in self.out.iterdir() if path.name[0] != "." and path.name != "SHA256SUMS")
         return due(lines, "".join(f"{hashlib.sha256(path.read_bytes()).hexdigest()}  {path.name}\n" for path in found))
@@ -80,7 +80,7 @@ class Trial:
         return None if (self.first / name).read_bytes() == (self.out / name).read_bytes() else "it came out otherwise the second time"
 
     def rust(self):
-        """The workspace's own sums, and its program, built with the crates of Debian's packages, on the README's example."""
+        """The workspace's own sums; its program, built with Debian's crates, on the README's example."""
         folder = self.unpacked(f"gen1-{version()}-rust.tar.gz")
         ran("sha256sum", "-c", "--quiet", "SHA256SUMS", cwd=folder)
         if not REGISTRY.is_dir():
@@ -94,12 +94,12 @@ class Trial:
         return due(got, wanted) or due(ran(self.made, "--version", cwd=folder), f"gen1 {version()}\n")
 
     def links(self):
-        """Each link of the documents leads to something that is there, in the release and in the folder of the Rust sources."""
+        """Each link of the documents has a target, in the release and in the folder of the Rust sources."""
         folders = [self.out, *(self.unpacked(path.name) for path in self.out.glob("gen1-*-rust.tar.gz"))]
         return next((fault for folder in folders for fault in lost_links(folder.resolve())), None)
 
     def c(self):
-        """A program by pkg-config over the shared and over the static library, from where the folder was unpacked."""
+        """A program by pkg-config with the shared and the static library, from the unpacked folder."""
         folder = next(self.unpacked(path.name) for path in self.out.glob("gen1-*-c-*.tar.gz"))
         env, source = {"PKG_CONFIG_PATH": str(folder / "lib" / "pkgconfig")}, ROOT / "examples" / "c" / "play.c"
         numbers = [int(number) for number in version().split(".")]
@@ -121,7 +121,7 @@ class Trial:
         return plays(folder / "build" / "shared", "/nowhere") or plays(folder / "build" / "static", "/nowhere")
 
     def python(self, pattern):
-        """A wheel or source archive, installed by pip with no network into an environment of its own, on the stored run."""
+        """A wheel or source archive, installed by pip without a network, plays the stored run."""
         [archive], place = self.out.glob(pattern), self.room / f"python_{pattern[-1]}"
         shutil.rmtree(place, ignore_errors=True)
         modules = "import ensurepip, venv, setuptools, wheel"
@@ -143,7 +143,7 @@ class Trial:
         ran(ROOT / "tools" / "differences", self.made, cwd=self.room)
 
     def page(self):
-        """The page holds no battle, and `gen1 replay` of the program that was made puts one into it."""
+        """The page has no battle, and `gen1 replay` of the built program puts one into it."""
         page = self.out / f"gen1-{version()}.html"
         if page.read_text().count(PLACEHOLDER) != 1 or page.stat().st_size >= 400_000:
             return "it has no place for a battle, or is too long"
@@ -153,7 +153,7 @@ class Trial:
         return None if PLACEHOLDER not in text and '"Tauros"' in text else "no battle was put into it"
 
     def proved(self):
-        """PROVED.txt speaks of this version and commit, and of the library that the C archive holds."""
+        """PROVED.txt names this version and commit, and the library of the C archive."""
         text = (self.out / "PROVED.txt").read_text()
         library = next((self.unpacked(path.name) / "lib" / "libgen1_c.a" for path in self.out.glob("gen1-*-c-*.tar.gz")), None)
         wanted = [f"gen1 {version()}", "commit     ", "toolchain  "]
@@ -161,13 +161,13 @@ class Trial:
         return next((f"it has no {words!r}" for words in wanted if words not in text), None)
 
     def security(self):
-        """SECURITY.md says of each call of the header what it takes from outside."""
+        """SECURITY.md names each call of the header."""
         text = (self.out / "SECURITY.md").read_text()
         missing = [name for name in calls() if f"`{name}`" not in text]
         return f"it says nothing of {', '.join(missing)}" if missing else None
 
     def all(self):
-        """Runs every check; the status."""
+        """Runs every check; returns the status."""
         for path in sorted(self.out.iterdir()):
             if path.name[0] != ".":
                 self.tell(f"{path.name}, twice the same", self.same, path.name)

@@ -1,5 +1,6 @@
-"""What tools/plain_gate tries of the examples of examples/rust, as built by cargo: battles by fixed seeds, recorded battles between processes
-and in files, and files that were made wrong in one place."""
+"""The checks of tools/plain_gate for examples/rust, built by cargo: battles by fixed seeds, recorded battles between processes and in files,
+and files that were made wrong in one place.
+"""
 
 import copy
 import json
@@ -14,10 +15,10 @@ ROOT = Path(__file__).resolve().parent.parent
 PROGRAMS = ("bot", "referee", "room")
 RECORDED = ("battles", "first_path", "limit", "rules")
 TRACES = ("traces", "corners")
-# How many recorded battles are played in a room, and how many are made wrong for the referee.
+# How many recorded battles are played in a room, and how many wrong files the referee gets.
 ROOMS, WRONG = 60, 60
-# A player for the room that writes down all that it gets, and chooses as recorded. A rude one sends rubbish before each choice: seven lines
-# that are none, the first time 3,000 more, a choice for the next pair, and one that is never offered.
+# A player for the room that stores all that it receives, and chooses as recorded. A rude one sends rubbish before each choice: seven lines
+# that are not a choice, the first time 3,000 more, a choice for the next pair, and one that is never offered.
 PLAYER = '''
 import sys
 kept, is_rude, choices = open(sys.argv[1], "wb", 0), sys.argv[2] == "rude", iter(sys.argv[3:])
@@ -35,8 +36,8 @@ for line in iter(sys.stdin.buffer.readline, b""):
     sys.stdout.buffer.write(b"%d %s\\n" % (number, next(choices).encode()))
     sys.stdout.flush()
 '''
-# A watcher that writes down all that it gets.
-WATCHER = '''
+# A spectator that stores all that it receives.
+SPECTATOR = '''
 import sys
 with open(sys.argv[1], "wb", 0) as kept:
     for bytes in iter(lambda: sys.stdin.buffer.read1(), b""):
@@ -45,14 +46,14 @@ with open(sys.argv[1], "wb", 0) as kept:
 
 
 class Examples:
-    """A run: the folder with the programs, the recorded cases, a folder to work in, and where to say what is wrong."""
+    """A run: the folder of the programs, the recorded cases, a working folder, and a function that prints a line."""
 
     def __init__(self, programs, cases, work, say):
         self.programs, self.cases, self.work, self.say = Path(programs), Path(cases), Path(work), say
         self.passed = self.failed = 0
 
     def tell(self, what, found, wanted):
-        """Counts a check, and says what is wrong with it."""
+        """Counts a check, and prints what is wrong with it."""
         if found == wanted:
             self.passed += 1
             return
@@ -64,7 +65,7 @@ class Examples:
         return done.returncode, done.stdout.decode(), done.stderr.decode()
 
     def bot(self):
-        """It wins at least 95 battles of 100, and the same words give the same battles."""
+        """It wins at least 95 battles of 100, and the same arguments give the same battles."""
         status, told, _ = self.run("bot", "--battles", 100, "--seed", 1)
         won, lost, tied = map(int, re.search(r"won (\d+), lost (\d+), tied (\d+)\n", told).groups())
         self.tell("bot: status and battles", (status, won + lost + tied), (0, 100))
@@ -75,7 +76,7 @@ class Examples:
     # The referee.
 
     def referee(self):
-        """Every recorded battle is as its file says, and files that were made wrong are not, at that pair."""
+        """The referee accepts every recorded battle, and finds the pair of each file that was made wrong."""
         for name in (*RECORDED, *TRACES):
             file = self.cases / f"{name}.jsonl"
             lines = file.read_text().splitlines()
@@ -111,10 +112,10 @@ class Examples:
     # The room.
 
     def room(self):
-        """Recorded battles between processes, byte for byte what each gets; every other one has rude players."""
+        """Recorded battles between processes: each receives the right bytes. Every second battle has rude players."""
         rows = [json.loads(line) for name in TRACES for line in (self.cases / f"{name}.jsonl").read_text().splitlines()]
         whole = [row for row in rows if is_whole(row)]
-        for name, text in (("player.py", PLAYER), ("watcher.py", WATCHER)):
+        for name, text in (("player.py", PLAYER), ("spectator.py", SPECTATOR)):
             (self.work / name).write_text(text)
         chosen = whole[:: max(1, len(whole) // ROOMS)][:ROOMS]
         with ThreadPoolExecutor(4) as pool:
@@ -122,21 +123,21 @@ class Examples:
                 self.compare(row, number, *got)
 
     def played(self, row, number):
-        """A battle in a room: what it ended with, and what each process got."""
-        files = [self.work / f"{number}.{who}" for who in ("json", "one", "two", "watcher")]
+        """Plays a battle in a room; returns how it ended and what each process received."""
+        files = [self.work / f"{number}.{who}" for who in ("json", "one", "two", "spectator")]
         files[0].write_text(json.dumps(row["object"]))
         mode = "rude" if number % 2 else "quiet"
         choices = [[str(it["pair"][side]) for it, asked in asked_of(row, side)] for side in (0, 1)]
         player = f"{sys.executable} {self.work / 'player.py'}"
         words = [f"--{who}={player} {file} {mode} {' '.join(own)}" for who, file, own in zip(("one", "two"), files[1:], choices)]
-        words += [f"--watcher={sys.executable} {self.work / 'watcher.py'} {files[3]}", "--patience=120", "--refusals=100000"]
+        words += [f"--spectator={sys.executable} {self.work / 'spectator.py'} {files[3]}", "--patience=120", "--refusals=100000"]
         ended = self.run("room", "host", files[0], *words)
         return ended, [file.read_bytes() for file in files[1:]]
 
     def compare(self, row, number, ended, got):
-        """Each player gets its side, its team, each log, what it is offered, and the answers to its own lines; the watcher the log."""
+        """Compares what the players and the spectator received: side, team, logs, offers and replies; and the logs."""
         logs = [it["log"] for it in row["updates"]]
-        self.tell(f"room {number}: the watcher", got[2].hex(), "".join(logs))
+        self.tell(f"room {number}: the spectator", got[2].hex(), "".join(logs))
         refused = ""
         for side in (0, 1):
             wanted, asked = transcript(row, side, number % 2)
@@ -158,13 +159,13 @@ def asked_of(row, side):
 
 
 def is_whole(row):
-    """Whether a recorded battle was played to its end, and no pair of it was refused."""
+    """Whether a recorded battle was played to its end without a refused pair."""
     updates = row["updates"]
     return len(updates) < 60 and all(it["refused"] is None for it in updates) and updates[-1]["result"][0] in (1, 2, 3)
 
 
 def transcript(row, side, is_rude):
-    """All lines that a player has to get but that of its team, by what is recorded; and how often it is asked."""
+    """All lines that a player must receive, except that of its team; and how often it is asked."""
     text, asked, updates = f"side {side + 1}\n", 0, row["updates"]
     for number, it in enumerate(updates):
         text += f"log {it['log']}\n"
@@ -194,7 +195,7 @@ def changed(key, value, dice):
 
 
 def tried(programs, cases, work, say):
-    """How many checks of all examples passed and failed."""
+    """Runs all checks; returns how many passed and failed."""
     work = Path(work)
     work.mkdir(parents=True, exist_ok=True)
     run = Examples(programs, cases, work, say)
