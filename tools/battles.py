@@ -1,4 +1,4 @@
-"""The recorded battles: where they are, and what their files hold (tests/battles/README.md)."""
+"""Reads the recorded battles (tests/battles/README.md)."""
 
 import json
 import lzma
@@ -7,23 +7,23 @@ from pathlib import Path
 from repository import ROOT
 
 FOLDER = ROOT / "tests" / "battles"
-# The files of cases, and those of battles with their updates.
+# The files of cases, and the files of battles with their updates.
 CASES = ("first_path", "errors", "print", "calc", "battles", "rules", "limit", "room")
 TRACES = ("traces", "corners")
 
 
 class Unreadable(Exception):
-    """A recorded file that is not there or not what it has to be: its text says which, in which line, and why."""
+    """A recorded file is missing or wrong: which, in which line, and why."""
 
 
 def recorded(name, folder=FOLDER):
-    """The path of a recorded file, as `calc.jsonl`: packed where the folder has it so, else plain."""
+    """The path of a recorded file such as `calc.jsonl`: the packed one where it exists, else the plain one."""
     packed = Path(folder) / f"{name}.xz"
     return packed if packed.is_file() else Path(folder) / name
 
 
 def lines(path):
-    """The lines of a recorded file, packed or plain, without their ends."""
+    """The lines of a recorded file, packed or plain, without line feeds."""
     opened = lzma.open if Path(path).suffix == ".xz" else open
     try:
         with opened(path, "rt", encoding="utf-8", newline="\n") as file:
@@ -33,21 +33,21 @@ def lines(path):
 
 
 def objects(path, *keys):
-    """The object in each line of a file of JSON, which has these keys at least."""
+    """The objects of a file of JSON lines, which must have these keys."""
     found = []
     for number, line in enumerate(lines(path), 1):
         try:
             it = json.loads(line)
         except json.JSONDecodeError as fault:
-            raise Unreadable(f"{path}:{number}: no JSON: {fault}") from fault
+            raise Unreadable(f"{path}:{number}: not JSON: {fault}") from fault
         if not isinstance(it, dict) or not all(key in it for key in keys):
-            raise Unreadable(f"{path}:{number}: no object with {', '.join(keys)}")
+            raise Unreadable(f"{path}:{number}: not an object with {', '.join(keys)}")
         found.append(it)
     return found
 
 
 def cases(path):
-    """The cases of a program that a file holds."""
+    """The cases of a file."""
     return objects(path, "name", "args", "stdout")
 
 

@@ -1,24 +1,23 @@
 #!/usr/bin/env python3
-"""Puts the examples of crates/uses into the documents that show them, so that what a document shows is proved and run.
+"""Copies the examples of crates/uses into the documents that show them, so that what a document shows is proved and run.
 
     tools/calling.py           writes the documents
-    tools/calling.py --check   writes nothing; fails where a document is not what it would write
+    tools/calling.py --check   writes nothing; fails where a document differs
 
-A part of a file of crates/uses/src stands between two lines, which are not part of it:
+A part of a file of crates/uses/src is between two lines, which don't belong to it:
 
     // calling: gen1_hits
     // end
 
-The word is the name of the part. Of parts with one name the text is that of all, in the order of the files' names and of their
-lines, with an empty line between two; each loses the indentation of its first line. A document shows a part in the fenced block
-under a line of its own, and keeps all else as it is:
+The word is the name of the part. The text of a name is that of all its parts, in the order of the files' names and of their lines, with
+an empty line between two; each loses the indentation of its first line. A document shows a part in the fenced block under this line:
 
     <!-- calling: gen1_hits -->
     ```rust
     ```
 
-The documents are README.md and crates/*/CALLING.md. Each part is to be shown by one of them, and the part that has the name of a
-crate by the CALLING.md of this crate.
+The documents are README.md and crates/*/CALLING.md. Each part must be shown by one of them, and a part with the name of a crate by the
+CALLING.md of that crate.
 """
 
 import argparse
@@ -73,7 +72,7 @@ def documents():
 
 
 def written(document, texts):
-    """What a document is to be, and the names of the parts that it shows."""
+    """The text of a document with its parts, and the names of these parts."""
     names = []
 
     def block(found):
@@ -87,7 +86,7 @@ def written(document, texts):
 
 
 def unshown(shown, texts):
-    """The parts that are shown nowhere, or not where they belong."""
+    """The parts that are not shown, or not where they belong."""
     for name in texts:
         own = ROOT / "crates" / name / "CALLING.md"
         if own.parent.is_dir() and name not in shown.get(own, []):

@@ -1,10 +1,10 @@
 #!/usr/bin/env python3
 """Writes the species, moves and types of include/gen1.h from docs/TABLES.md, and the details of events from docs/MECHANICS.md.
 
-    tools/header.py           writes the enums between their two marks, and says whether the header changed
-    tools/header.py --check   writes nothing; fails if the header differs
+    tools/header.py           writes the enums between their two marks, and prints whether the header changed
+    tools/header.py --check   writes nothing; fails where the header differs
 
-The lines outside the two marks are written by hand, and stay as they are.
+It changes only the lines between the marks.
 """
 
 import argparse
@@ -20,7 +20,7 @@ HEADER = ROOT / "include" / "gen1.h"
 BEGIN = '/* tools/header.py writes the lines from here to "end of the tables", from docs/TABLES.md and docs/MECHANICS.md. */\n'
 END = "/* end of the tables */\n"
 WIDTH = 128
-# Details of events: what stands above them, their kind, and the heading of their names in docs/MECHANICS.md, "Events".
+# Details of events: the comment above them, their kind, and the heading of their names in docs/MECHANICS.md, "Events".
 DETAILS = (
     ("Why a member could not act: `detail` of GEN1_CANT.", "REASON", "Reason of Cant"),
     ("What dealt damage: `detail` of GEN1_DAMAGE.", "SOURCE", "Source of Damage"),

@@ -2,11 +2,11 @@
 """Draws the crates of crates.txt in their layers, between the two marks of docs/ARCHITECTURE.md.
 
     tools/layers.py           writes the drawing
-    tools/layers.py --check   writes nothing; fails where the drawing is not what it would write
+    tools/layers.py --check   writes nothing; fails where the drawing differs
 
-Which layer a crate belongs to, and what the layer holds, is said here. A crate may name crates of its own layer and of those
-below; one that names a crate above, or that is in no layer, is a fault. A crate is drawn with the crates that it stands on,
-without those that it reaches through another one.
+This file says which layer a crate belongs to, and what the layer contains. A crate may depend on crates of its own layer and of those
+below; one that depends on a crate above, or that is in no layer, is an error. A crate is drawn with the crates that it depends on, without
+those that it reaches through another one.
 """
 
 import argparse
@@ -21,9 +21,9 @@ BEGIN = "<!-- layers -->\n```\n"
 END = "```\n<!-- end -->\n"
 WIDTH = 90
 
-# From the top down: the title, what the layer holds, its crates.
+# From the top down: the title, the contents, and the crates of a layer.
 LAYERS = (
-    ("Tests and examples", "nothing of the product stands on these", (
+    ("Tests and examples", "no crate of the product depends on these", (
         "uses", "test_battles", "test_machine", "test_layout", "test_operations", "test_generators",
         "test_effects", "test_multiturn", "test_turn", "test_engine", "test_views", "test_commands", "test_numbers", "test_devices")),
     ("Programs and C", "what opens files, prints, or is called from another language", (
@@ -32,17 +32,17 @@ LAYERS = (
         "gen1_room", "gen1_engine", "gen1_turn")),
     ("Operations", "one phase of the machine each, over the 384 bytes", (
         "gen1_requests", "gen1_multiturn", "gen1_effects", "gen1_action", "gen1_status", "gen1_odds", "gen1_hits")),
-    ("Representations", "a state as 384 bytes; events as bytes, as lines, as a watcher's view", (
+    ("Representations", "a state as 384 bytes; events as bytes, as lines, as a spectator's view", (
         "gen1_layout", "gen1_spectator", "gen1_printer", "gen1_events")),
     ("Machine", "what a battle is: definitions and laws; its code is types and devices", (
         "gen1_machine",)),
-    ("Numbers", "teams, also out of text, and stats; species, moves and types; draws", (
+    ("Numbers", "teams, also from text, and stats; species, moves and types; draws", (
         "gen1_text", "gen1_stats", "gen1_tables", "gen1_rolls")),
 )
 
 
 def faults(known):
-    """What is wrong with the layers, as the crates stand."""
+    """What is wrong with the layers."""
     height = {name: at for at, (_, _, names) in enumerate(reversed(LAYERS)) for name in names}
     for name in sorted(height.keys() - known.keys()):
         yield f"tools/layers.py has {name} in a layer, and crates.txt does not name it"
@@ -55,12 +55,12 @@ def faults(known):
 
 
 def nearest(name, known):
-    """The crates that a crate names, but for those that it reaches through another of them."""
+    """The crates that a crate depends on, without those that it reaches through another of them."""
     return [it for it in known[name] if not any(it in below([other], known)[:-1] for other in known[name] if other != it)]
 
 
 def rows(names, known):
-    """The crates of a layer as lines, each with what it stands on."""
+    """The crates of a layer as lines, each with its dependencies."""
     wide = max(map(len, names))
     for name in names:
         used = " ".join(nearest(name, known))
@@ -68,7 +68,7 @@ def rows(names, known):
 
 
 def box(title, holds, names, known):
-    """A layer as lines; of the highest, which nothing stands on, the names alone."""
+    """A layer as lines; only the names of the highest, on which nothing depends."""
     yield f"+-- {title}: {holds}"
     if (title, holds, names) == LAYERS[0]:
         yield from textwrap.wrap(", ".join(names), WIDTH, initial_indent="|  ", subsequent_indent="|  ")

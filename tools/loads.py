@@ -1,13 +1,13 @@
 #!/usr/bin/env python3
-"""Holds layout_tool against recorded byte strings.
+"""Compares layout_tool with recorded byte strings.
 
     tools/loads.py PROGRAM [FILE]
 
-PROGRAM reads each byte string of FILE as a battle, and has to print the number of the fault that was recorded, or 0 and the
-bytes in the form of version 3 (docs/LAYOUT.md, "Loading"). FILE may be packed; without it, loads.txt of tests/battles is
-taken. Each failure is shown. The last line is 'N passed, M failed'.
+PROGRAM reads each byte string of FILE as a battle, and must print the recorded number of the fault, or 0 and the bytes in the form of
+version 3 (docs/LAYOUT.md, "Loading"). FILE may be packed; the default is loads.txt of tests/battles. Each failure is printed. The last line is
+'N passed, M failed'.
 
-Exit status: 0 where all are as recorded, 1 where one is not, 2 where the program or the file is not there or cannot be read.
+Exit status: 0 where all are as recorded, 1 where one is not, 2 where the program or the file is missing or cannot be read.
 """
 
 import argparse
@@ -29,7 +29,7 @@ def told(fault, given):
 def main():
     parser = argparse.ArgumentParser(description=__doc__, formatter_class=argparse.RawDescriptionHelpFormatter)
     parser.add_argument("program", type=program)
-    parser.add_argument("file", nargs="?", type=Path, default=recorded("loads.txt"), help="(default: of tests/battles)")
+    parser.add_argument("file", nargs="?", type=Path, default=recorded("loads.txt"), help="byte strings (default: those of tests/battles)")
     given = parser.parse_args()
     try:
         strings = loads(given.file)

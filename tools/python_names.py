@@ -2,11 +2,10 @@
 """Writes the enums of python/gen1 from docs/TABLES.md, docs/LAYOUT.md, docs/MECHANICS.md and include/gen1.h.
 
     tools/python_names.py           writes python/gen1/src/gen1/names.py and rows.py
-    tools/python_names.py --check   writes nothing; fails where one of them is not what it would write
+    tools/python_names.py --check   writes nothing; fails where one of them differs
 
-Species, moves and types are the rows of TABLES; the conditions the bits of LAYOUT; the kinds of statuses, stats, reasons,
-sources and volatiles the numbers of MECHANICS, "Events"; all codes the enums of the header, with the comment behind each as
-its text.
+Species, moves and types are the rows of TABLES; the conditions are the bits of LAYOUT; the kinds of statuses, stats, reasons, sources and
+volatiles are the numbers of MECHANICS, "Events". All codes are enums of the header, with the comment after each as its text.
 """
 
 import argparse
@@ -50,7 +49,7 @@ class Named(IntEnum):
         return format(int(self) if spec and spec[-1] in "bcdeEfFgGnoxX%" else self.label, spec)
 '''
 
-# Of the header: the class, what it is, the first and the last name, and what its names begin with.
+# Enums of the header: the class, its docstring, the first and the last name, and the prefix of the names.
 CODES = (
     ("Outcome", "How a battle stands, of `Result.outcome`.", "ONGOING", "FAULT_TWO", ""),
     ("Request", "What a side is asked for the next update, of `Result.requests`.", "ASKED_NOTHING", "ASKED_SWITCH", "ASKED_"),
@@ -64,7 +63,7 @@ CODES = (
     ("TextFault", "What was expected in a text of a team, of `BadText.code`.", "TEXT_SPECIES", "TEXT_TEAM", "TEXT_"),
     ("DamageFault", "Why there are no damages, of `NoDamage.code`.", "DAMAGE_SIDE", "DAMAGE_DIVISOR", "DAMAGE_"),
 )
-# Of MECHANICS, "Events": the class, what it is, and the heading of its names.
+# Enums of MECHANICS, "Events": the class, its docstring, and the heading of the names.
 KINDS = (
     ("Stat", "A stat with stages.", "Stat"),
     ("Reason", "Why a member could not act, of `CantEvent`.", "Reason of Cant"),
@@ -90,7 +89,7 @@ def enum_class(name, doc, rows):
 
 
 def header_enums(text):
-    """Each enum of the header, as rows of a number, a name without GEN1_, and the comment behind it."""
+    """Each enum of the header, as rows of a number, a name without GEN1_, and the comment after it."""
     for body in re.findall(r"\benum \{(.*?)\};", text, re.S):
         rows, number = [], -1
         for name, given, comment in re.findall(r"GEN1_(\w+)(?: = (\d+))?,?[ \t]*(?:/\* (.*?) \*/)?", body, re.S):
@@ -113,7 +112,7 @@ def code_classes(text):
 
 
 def flags(layout):
-    """The class of the condition bits, which are added up."""
+    """The class of the condition bits, which can be combined."""
     cells = [cell for row in table(layout, "Condition bits") if row[0].isdigit() for cell in row if cell]
     bits = sorted((int(bit), name) for bit, name in zip(cells[::2], cells[1::2]))
     lines = ["    NONE = 0", *(f"    {constant(name)} = {1 << bit}" for bit, name in bits)]
@@ -136,7 +135,7 @@ def words(name):
 
 
 def kind_rows(text, heading):
-    """The numbers and names of the column with this heading in the tables of "Events", with what is printed."""
+    """The numbers, names and printed texts of the column with this heading in the tables of "Events"."""
     section = re.search(r"^## Events\n(.*?)(?=^## )", text, re.M | re.S)[1]
     for block in re.findall(r"(?:^\|.*\n)+", section, re.M):
         rows = [[cell.strip() for cell in re.split(r"(?<!\\)\|", line.strip("|"))] for line in block.splitlines()]

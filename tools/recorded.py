@@ -1,24 +1,27 @@
 #!/usr/bin/env python3
 """Writes tests of whole recorded battles, which play them update by update (docs/PROOFS.md, "Recorded battles").
 
-usage: recorded.py [--check] [TRACES]
+    tools/recorded.py [--check] [TRACES]
 
-TRACES has a recorded battle in each line, and may be packed; without it, it is traces.jsonl of tests/battles. Each battle
-of BATTLES becomes a module of crates/test_turn/src/recorded: its teams, and for each update the pair of choices, the log
-and all 384 bytes that were recorded. crates/test_turn/src/recorded.rt plays them. Run it at the top of the repository, then
-`rt fmt` in crates/test_turn. With --check it writes nothing, and fails where a file differs in more than its layout.
+TRACES has a recorded battle in each line, and may be packed; the default is traces.jsonl of tests/battles. Each battle of BATTLES becomes a
+module of crates/test_turn/src/recorded: its teams, and for each update the pair of choices, the recorded log and all 384 bytes.
+crates/test_turn/src/recorded.rt plays them. Run `rt fmt` in crates/test_turn after it. --check writes nothing, and fails where a file
+differs in more than its layout.
+
+Exit status: 0, 1 where a file differs, 2 where TRACES cannot be read or the arguments are wrong.
 """
-import os
+import argparse
 import re
 import sys
 
 sys.dont_write_bytecode = True
 from battles import Unreadable, recorded, traces
+from repository import ROOT
 
 # The number of the line, from 0, by the name of the module.
 BATTLES = {"raging": 17, "outnumbered": 28, "digging": 50}
 
-FOLDER = os.path.join("crates", "test_turn", "src", "recorded")
+FOLDER = ROOT / "crates" / "test_turn" / "src" / "recorded"
 
 SIDES = ("one", "two")
 PLACES = ("first", "second", "third", "fourth", "fifth", "sixth")
@@ -121,22 +124,22 @@ def laid_out(text):
 
 
 def main():
-    words = [word for word in sys.argv[1:] if word != "--check"]
-    check = "--check" in sys.argv[1:]
+    parser = argparse.ArgumentParser(description=__doc__, formatter_class=argparse.RawDescriptionHelpFormatter)
+    parser.add_argument("traces", nargs="?", default=recorded("traces.jsonl"), help="recorded battles (default: of tests/battles)")
+    parser.add_argument("--check", action="store_true", help="write nothing; fail where a file differs")
+    given = parser.parse_args()
     try:
-        battles = traces(words[0] if words else recorded("traces.jsonl"))
+        battles = traces(given.traces)
     except Unreadable as fault:
-        sys.exit(str(fault))
+        parser.error(str(fault))
+    if len(battles) <= max(BATTLES.values()):
+        parser.error(f"{given.traces} has only {len(battles)} battles")
     for name, line in BATTLES.items():
-        text = module(battles[line])
-        path = os.path.join(FOLDER, name + ".rt")
-        if not check:
-            with open(path, "w", encoding="utf-8") as file:
-                file.write(text)
-            continue
-        with open(path, encoding="utf-8") as file:
-            if laid_out(file.read()) != laid_out(text):
-                sys.exit("%s is not what was recorded; run tools/recorded.py" % path)
+        text, file = module(battles[line]), FOLDER / f"{name}.rt"
+        if not given.check:
+            file.write_text(text, encoding="utf-8")
+        elif laid_out(file.read_text(encoding="utf-8")) != laid_out(text):
+            sys.exit(f"{file.relative_to(ROOT)} differs from the recorded battle; run tools/recorded.py")
 
 
 main()

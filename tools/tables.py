@@ -2,10 +2,9 @@
 """Writes the lists of crates/gen1_tables from the tables of docs/TABLES.md.
 
     tools/tables.py           writes the lists into src/ and specs/, and names each file that changed
-    tools/tables.py --check   writes nothing; names each file that differs, and fails if one does
+    tools/tables.py --check   writes nothing; names each file that differs, and fails where one does
 
-A list stands between its first line and its last one in a file. All other lines of the file are
-written by hand, and stay as they are.
+A list is between its first line and its last one in a file. All other lines of the file stay as they are.
 """
 
 import argparse
@@ -45,19 +44,19 @@ def element_names(document):
 
 
 def species_rows(document):
-    """Of each species both types as numbers, and base HP, Attack, Defense, Speed, Special."""
+    """The types of each species as numbers, and its base HP, Attack, Defense, Speed and Special."""
     elements = element_names(document)
     return [(elements.index(one), elements.index(two), *map(int, stats)) for one, two, *stats in (row[1:] for row in numbered(table(document, "Species")))]
 
 
 def move_rows(document):
-    """Of each move its type as a number, power, accuracy in percent, and PP."""
+    """The type of each move as a number, and its power, accuracy in percent, and PP."""
     elements = element_names(document)
     return [(elements.index(kind), *map(int, more)) for kind, *more, _ in (row[1:] for row in numbered(table(document, "Moves")))]
 
 
 def row_places(elements, types):
-    """For each type of a move the places of its rows against each type, with the number of all rows where there is none."""
+    """For each type of a move the places of its rows against each type; the number of all rows where there is none."""
     places = {(attacker, defender): place for place, (attacker, defender, _) in enumerate(types)}
     for attacker in elements:
         row = [places.get((attacker, defender), len(types)) for defender in elements]

@@ -1,14 +1,13 @@
 #!/usr/bin/env python3
-"""Holds trace_tool against recorded battles, update by update.
+"""Compares trace_tool with recorded battles, update by update.
 
     tools/traces.py PROGRAM [FILE ..]
 
-PROGRAM plays each battle of each FILE, and every update is compared: refusal, result, the choices that are then offered,
-draws, log and all 384 bytes. A FILE may be packed (tests/battles/README.md says what it holds); without one, traces.jsonl and
-corners.jsonl of tests/battles are taken. Of each battle that differs the first difference is shown. The last line is 'N
-passed, M failed', of updates.
+PROGRAM plays each battle of each FILE, and every update is compared: refusal, result, the choices that are then offered, draws, log and all
+384 bytes. A FILE may be packed (tests/battles/README.md describes it); the default is traces.jsonl and corners.jsonl of tests/battles. The
+first difference of each battle is printed. The last line is 'N passed, M failed', of updates.
 
-Exit status: 0 where all are as recorded, 1 where one is not, 2 where the program or a file is not there or cannot be read.
+Exit status: 0 where all are as recorded, 1 where one is not, 2 where the program or a file is missing or cannot be read.
 """
 
 import argparse
@@ -22,7 +21,7 @@ sys.dont_write_bytecode = True
 from battles import TRACES, Unreadable, recorded, traces
 from repository import program
 
-# The words of a line that the program prints for an update.
+# The words of the line that the program prints for an update.
 WORDS = ("refusal", "result", "offered to side 1", "offered to side 2", "draws", "log", "bytes")
 
 
@@ -39,7 +38,7 @@ def told(update):
 
 
 def difference(got, want):
-    """What differs first between an update as it was played and as it was recorded; nothing where they are the same."""
+    """The first difference between an update as played and as recorded; empty where there is none."""
     for name, one, other in zip_longest(WORDS, got, want, fillvalue="nothing"):
         if one == other:
             continue

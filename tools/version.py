@@ -1,14 +1,13 @@
 #!/usr/bin/env python3
-"""Puts the version, which VERSION has and no other file, where it has to be spelled out.
+"""Writes the version of the file VERSION into the files that spell it out.
 
-    tools/version.py           writes it into the files of PLACES, and says which changed
-    tools/version.py --check   writes nothing; fails where one of them has another
+    tools/version.py           writes it into the files of PLACES, and prints which changed
+    tools/version.py --check   writes nothing; fails where a file has another version
 
-Everything else that has a version takes it as it is made: the plain workspace, the Python package, the shared library's name, the files
-for pkg-config and CMake (tools/plain, tools/python_wheel, tools/install). CHANGELOG.md is written by hand: its first version has to
-be this one, with its day, which CITATION.cff gets too. Either way the tool fails where VERSION is not three numbers, where a place is
-not there, or where CHANGELOG.md begins otherwise. After a new version gen1_c is to be proved again, since the contract of gen1_version
-names the number.
+Everything else takes the version when it is built: the plain workspace, the Python package, the shared library's name, the files for
+pkg-config and CMake (tools/plain, tools/python_wheel, tools/install). The first version of CHANGELOG.md must be this one, with its day, which
+CITATION.cff gets too. The tool fails where VERSION is not three numbers, where a place is missing, or where CHANGELOG.md begins with
+another version. After a new version gen1_c must be proved again, since the contract of gen1_version names the number.
 """
 
 import argparse
@@ -18,7 +17,7 @@ import sys
 sys.dont_write_bytecode = True
 from repository import ROOT, version
 
-# Files, each with what stands before and behind the version, and its form there: of its text and its three numbers.
+# Files, each with the text before and after the version, and its form there, made from its text and its three numbers.
 PLACES = (
     ("include/gen1.h", r'#define GEN1_VERSION "', r'"\n', lambda text, a, b, c: text),
     ("include/gen1.h", r"#define GEN1_VERSION_NUMBER ", r"\n", lambda text, a, b, c: f"0x{a:02x}{b:02x}{c:02x}"),

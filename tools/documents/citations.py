@@ -12,10 +12,10 @@ from typing import NamedTuple
 
 from repository import ROOT
 
-# The documents whose sections files carry, in the order of the map.
+# The documents whose sections files implement, in the order of tools/map.
 DOCUMENTS = ("docs/MECHANICS.md", "docs/TABLES.md", "docs/LAYOUT.md", "docs/TEAM_TEXT.md", "docs/PROGRAM.md",
              "include/gen1.h")
-# Titles, and what explains words or tells in short what the others rule.
+# Titles, and sections that explain words or summarize others.
 CARRIED_BY_NONE = ("The rules of battle", "What is modelled", "Words", "A battle in ten sentences", "Tables", "Teams as text")
 HEADINGS = {".md": r"(?m)^(#+) (.*)$", ".h": r"(?m)^/\* (--)-- (.*) ---- \*/$"}
 CITED = re.compile(rf'({"|".join(map(re.escape, DOCUMENTS))})((?:(?:,| and| to|, and)? ?"[^"]+")+)')
@@ -34,7 +34,7 @@ class Section(NamedTuple):
 
 @cache
 def sections(document):
-    """The sections of a document that files may carry, in their order, each with its depth, 2 or 3."""
+    """The sections of a document that files may implement, in their order, each with its depth, 2 or 3."""
     path = ROOT / document
     found = re.findall(HEADINGS[path.suffix], path.read_text())
     return {Section(document, name): max(len(marks), 2) for marks, name in found if name not in CARRIED_BY_NONE}
@@ -48,7 +48,7 @@ def cited(comment):
         for link, name in re.findall(r'( to)? ?"([^"]+)"', names):
             section = Section(document, name)
             if section not in order and name not in CARRIED_BY_NONE:
-                sys.exit(f'a comment cites {document}, "{name}", which is no section of it')
+                sys.exit(f'a comment cites {document}, "{name}", which is not a section of it')
             if link and last:
                 found += order[order.index(last) + 1:order.index(section)]
             found.append(section)
@@ -57,7 +57,7 @@ def cited(comment):
 
 
 class Source:
-    """A file with the sections that each of its lines belongs to, by the comments."""
+    """A file, with the sections that its lines belong to by their comments."""
 
     def __init__(self, file):
         self.file = file
@@ -65,7 +65,7 @@ class Source:
         self.head = self.sections_of(self.comment_at(0)) or self.head_around()
 
     def head_around(self):
-        """What the head of the module cites whose folder the file stands in."""
+        """The sections that the head of the module cites whose folder contains the file."""
         around = self.file.parent.with_suffix(".rt")
         return Source(around).head if around.is_file() else []
 
@@ -81,7 +81,7 @@ class Source:
         return lines
 
     def comment_above(self, at):
-        """The comment right above a line, over attributes."""
+        """The comment above a line and its attributes."""
         while at and re.match(r"\s*#\[", self.lines[at - 1]):
             at -= 1
         end = at
@@ -107,7 +107,7 @@ class Source:
         return self.sections_of(self.comment_above(at)) or self.type_around(at)
 
     def callers_of(self, at):
-        """The sections that the functions of the file cite which call this one, or whose helpers do."""
+        """The sections of the functions in the file that call this one, directly or through helpers."""
         places, bodies = self.bodies()
         named = FUNCTION.match(self.lines[at]) or CONSTANT.match(self.lines[at])
         left, seen, found = [named[1]] if named else [], set(), []
@@ -150,7 +150,7 @@ class Source:
         return self.head
 
     def place_of(self, text):
-        """The line on which a text begins that stands once in the file."""
+        """The line on which a text begins that is once in the file."""
         return "\n".join(self.lines).split(text)[0].count("\n")
 
     def item_around(self, at):

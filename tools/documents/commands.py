@@ -33,7 +33,7 @@ def parts():
 
 
 def fault_of(document, block, known):
-    """What is wrong with a block, or None; a block of no commands is passed over by the caller."""
+    """What is wrong with a block of commands, or None."""
     if not block.is_commands:
         return f"commands in a fence of `{block.language}`: write ```sh"
     if document == START:

@@ -23,7 +23,7 @@ DOCUMENTS = ("*.md", "docs/*.md", "crates/*/CALLING.md", "*/README.md", "*/*/REA
 FENCE = re.compile(r"^(```|~~~).*?^\1 *$", re.M | re.S)
 CODE = re.compile(r"`[^`\n]*`")
 LINK = re.compile(r"\[[^\]\n]*\]\(([^)\s]+)\)")
-# The end of a line within a comment of any of the languages, and a document with headings of it in quotes.
+# The end of a line within a comment of any language, and a document with headings of it in quotes.
 BREAK = re.compile(r"\n\s*(?:\*|//[/!]?|--|#)? ?")
 CITED = re.compile(r'(?<![\w/-])((?:[\w-]+/)*[A-Z_]+\.md)((?:,(?: and| to)? "[^"{]+"(?: (?:and|to) "[^"{]+")*)+)')
 HEADING = re.compile(r"(?m)^#{1,6} +(.*?) *$")
@@ -36,9 +36,9 @@ PATH = re.compile(r"(?<![\w/.*-])\.?[\w-]+(?:/[\w.*-]+)+/?")
 FILE = re.compile(r"(?<![\w/.*-])\w[\w.-]*\.(?:rt|antt|py|rs|c|h|edit)(?![\w/.(*-])")
 NAME = re.compile(r"(?<![\w/.-])(?:gen1|GEN1)_\w+(?![\w/*.])")
 WRITTEN = re.compile(r"<!-- file: (?:\S*/)?(\S+?) -->")
-# What stands for any name, and what a build leaves.
+# Names that represent any name, and what a build leaves.
 OPEN = re.compile(r"(?:^|/)[A-Z]{4,}(?:[./]|$)|/out(?:/|$)|^web/dist")
-# Names that a document makes up, to show how one is added.
+# Names that a document invents, to show how one is added.
 MADE_UP = ("gen1_turn_number",)
 
 
@@ -55,7 +55,7 @@ def sources():
 
 
 def blank(found):
-    """As many lines, with nothing in them."""
+    """The same number of lines, all blank."""
     return re.sub(r"[^\n]", " ", found[0])
 
 
@@ -65,13 +65,13 @@ def headings(document):
 
 
 def plain(heading):
-    """A heading's words, without marks."""
+    """A heading without marks."""
     return re.sub(r"[`*]", "", heading)
 
 
 @cache
 def anchors(document):
-    """The anchors of a document's headings, as the usual renderers make them; of equal ones the later have a number."""
+    """The anchors of a document's headings, as the usual renderers make them; repeated ones get a number."""
     seen, found = {}, set()
     for heading in headings(document):
         anchor = re.sub(r"[^\w\- ]", "", plain(heading).lower()).replace(" ", "-")
@@ -86,16 +86,16 @@ def fault_of_link(document, target, root):
     path, _, anchor = unquote(target).partition("#")
     file = (document.parent / path).resolve() if path else document
     if not file.exists():
-        return f"{target} leads to nothing"
+        return f"{target} does not exist"
     if not file.is_relative_to(root):
-        return f"{target} leads out of {root.name}"
+        return f"{target} is outside of {root.name}"
     if anchor and (file.suffix != ".md" or anchor not in anchors(file)):
-        return f"{target} leads to no heading"
+        return f"{target} is not a heading"
     return None
 
 
 def links(document, text, root=ROOT):
-    """Each link of a text without its blocks of code, by its place, with its fault."""
+    """The place and the fault of each link of a text without its blocks of code."""
     for found in LINK.finditer(CODE.sub(blank, text)):
         if not WEB.match(found[1]):
             yield found.start(), fault_of_link(document, found[1], root)
@@ -116,7 +116,7 @@ def document_named(document, linked, name):
 
 
 def quoted(document, text):
-    """Each heading in quotes behind a document's name, by its place, with its fault."""
+    """The place and the fault of each heading in quotes after a document's name."""
     for found in QUOTED.finditer(text):
         file = document_named(document, found[1], found[2])
         for heading in re.findall(r'"([^"]+)"', found[3]) if file else ():
@@ -125,7 +125,7 @@ def quoted(document, text):
 
 
 def cited(text):
-    """Each heading that the comments of a source cite, with its fault. Where it stands is not kept: the lines were joined."""
+    """The fault of each heading that the comments of a source cite. The place is lost, since the lines are joined."""
     for path, headings_in in CITED.findall(BREAK.sub(" ", text)):
         file = ROOT / path
         for heading in re.findall(r'"([^"]+)"', headings_in):
@@ -133,7 +133,7 @@ def cited(text):
             yield None if there else f'{path} has no heading "{heading}"'
 
 
-# Folders that a build leaves, or that are git's.
+# Folders of builds and of git.
 LEFT = ("out", ".git", "__pycache__", "target")
 
 
@@ -149,14 +149,14 @@ def names_of_files():
 
 @cache
 def names_of_the_engine():
-    """Crates, words of the header and of plain/, and names of files without what follows their dot."""
+    """Crates, words of the header and of plain/, and names of files without their extensions."""
     manifests = [*ROOT.glob("plain/*/Cargo.toml"), *ROOT.glob("python/gen1/src/gen1/*.py"), ROOT / "include" / "gen1.h"]
     words = {word for file in manifests for word in NAME.findall(file.read_text())}
     return words | {path.name for path in (ROOT / "crates").iterdir()} | {name.partition(".")[0] for name in names_of_files()}
 
 
 def is_there(path, beside):
-    """Whether a path from the top, or from a folder, leads to something; true of what begins with no folder of the repository."""
+    """Whether a path from the top, or from a folder, exists; true where its first part is not a folder of the repository."""
     first = path.split("/")[0]
     if OPEN.search(path) or first in LEFT or not (ROOT / first).is_dir():
         return True
@@ -164,14 +164,14 @@ def is_there(path, beside):
 
 
 def options(words):
-    """The options of a command that begins with a tool of the repository, each with whether the tool's own text names it."""
+    """The options of a command that begins with a tool, each with whether the tool's text names it."""
     tool = ROOT / words.split(" ")[0]
     for option in re.findall(r"(?<= )--[a-z][\w-]*", words) if tool.is_file() else ():
         yield option, bool(re.search(rf"{option}(?![\w-])", tool.read_text(errors="replace")))
 
 
 def named(document, text, written):
-    """Each name in a document's code, by its place, with its fault; `written` are files that its reader writes."""
+    """The place and the fault of each name in a document's code; `written` are files that its reader writes."""
     for span in CODE.finditer(text):
         for found in PATH.finditer(span[0]):
             yield span.start(), None if is_there(found[0], document.parent) else f"there is no {found[0]}"
@@ -186,7 +186,7 @@ def named(document, text, written):
 
 
 def references():
-    """Each reference of the repository: where it stands, and its fault or None."""
+    """Each reference of the repository: its place, and its fault or None."""
     for document in documents():
         whole = document.read_text()
         text, written = FENCE.sub(blank, whole), WRITTEN.findall(whole)

@@ -1,4 +1,4 @@
-"""The table of docs/ARCHITECTURE.md that leads from twelve rules to their definition, code and test, held against the rules."""
+"""Checks the table of docs/ARCHITECTURE.md from twelve rules to their definition, code and test."""
 
 import re
 
