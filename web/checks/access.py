@@ -15,7 +15,7 @@ PLACES = {
     "message": ("#replay?b=zzzz", ""),
 }
 
-# The texts that are seen and whose contrast to what is behind them is too low (WCAG 2.1, AA).
+# The visible texts with too little contrast to their background (WCAG 2.1, AA).
 CONTRAST = """
 const parsed = (color) => (color.match(/[\\d.]+/g) ?? []).map(Number);
 const light = (rgb) => rgb.slice(0, 3).map((it) => it / 255).map((it) => (it <= .03928 ? it / 12.92 : ((it + .055) / 1.055) ** 2.4))
@@ -63,7 +63,7 @@ def all_has_a_name(browser):
         lacking = [role for role, text in nodes if role in NAMED and not text.strip() and role != "group"]
         assert not lacking, (name, lacking)
         assert browser.run("const ids = [...document.querySelectorAll('[id]')].map((it) => it.id); return ids.length === new Set(ids).size")
-        # Items stand in lists, and rows in tables: a role of its own would take that from a list.
+        # Items are in lists, and rows in tables; an explicit role would override that of a list.
         assert browser.run("return [...document.querySelectorAll('li')].every((it) => it.parentElement.matches('ol:not([role]), ul:not([role])'))"), name
         assert browser.run("return [...document.querySelectorAll('[aria-controls], [aria-labelledby]')].every((it) =>"
                            "document.getElementById(it.getAttribute('aria-controls') ?? it.getAttribute('aria-labelledby')))"), name

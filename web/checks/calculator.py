@@ -98,7 +98,7 @@ def half_a_name_is_no_fault_yet(browser):
     browser.type(field, "Body Sl")
     assert not browser.text("#calc-fault") and browser.run(stale)
     browser.wait("return document.getElementById('calc-fault').textContent")
-    assert browser.text("#calc-fault") == 'Side 1: there is no move "Body Sl". The numbers below are of what stood here before.'
+    assert browser.text("#calc-fault") == 'Side 1: there is no move "Body Sl". The numbers below are for the previous input.'
     assert browser.run("return document.getElementById('calc-fault').getAttribute('role')") == "status"
     assert browser.run(f"const it = document.querySelector('{field}'); return it === document.activeElement && it.getAttribute('aria-invalid')") == "true"
     browser.find(field).send_keys("am")

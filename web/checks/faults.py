@@ -23,7 +23,7 @@ def said(browser, name, content, word):
 def damaged_logs_are_refused(browser):
     browser.open()
     for case in [it for it in cases("print") if it["stderr"]][:8]:
-        said(browser, "battle.log", bytes.fromhex(case["hex"]), "no log of a battle")
+        said(browser, "battle.log", bytes.fromhex(case["hex"]), "not the log of a battle")
     said(browser, "battle.log", bytes.fromhex("1a0163"), "at byte 2")
     goes_on(browser)
 
@@ -33,12 +33,12 @@ def files_that_are_no_battles_are_refused(browser):
     asked = json.loads(battle(5, 10)["input"])
     said(browser, "long.json", b" " * 10_000_000, "10,000,000 bytes")
     said(browser, "empty.json", b"", "empty")
-    said(browser, "cut.json", json.dumps(asked)[:200], "no JSON")
+    said(browser, "cut.json", json.dumps(asked)[:200], "not JSON")
     said(browser, "team.json", json.dumps({**asked, "one": []}), "side 1: the team has no member")
     said(browser, "name.json", json.dumps({**asked, "two": [{**asked["two"][0], "species": "Missingno."}]}), "two[0].species")
     said(browser, "seed.json", json.dumps({**asked, "seed": [1, 2]}), "seed has 2 items, not 10")
-    said(browser, "limit.json", json.dumps({**asked, "limit": 0}), "limit is 0, which is no whole number from 1 to 9999")
-    said(browser, "page.html", "<!doctype html><p>nothing", "holds no battle")
+    said(browser, "limit.json", json.dumps({**asked, "limit": 0}), "limit is 0, which is not a whole number from 1 to 9999")
+    said(browser, "page.html", "<!doctype html><p>nothing", "does not hold a battle")
     goes_on(browser)
 
 
@@ -46,7 +46,7 @@ def what_was_shown_stays(browser):
     browser.open()
     browser.click("#replay-example")
     shown = browser.text("#replay-stage")
-    said(browser, "damaged.log", b"\xff", "no log of a battle")
+    said(browser, "damaged.log", b"\xff", "not the log of a battle")
     assert browser.text("#replay-stage") == shown
 
 
@@ -77,7 +77,7 @@ def a_wrong_turn_limit_is_named(browser):
     for value in ("70000", "-60000", "2.5", "0", "10000", ""):
         browser.fill("#play-limit", value)
         browser.click("#play-start")
-        assert browser.notice() == f"The turn limit is {value or 'missing'}: it is to be a whole number from 1 to 9999.", (value, browser.notice())
+        assert browser.notice() == f"The turn limit is {value or 'missing'}: it must be a whole number from 1 to 9999.", (value, browser.notice())
         assert browser.run("return document.activeElement.id") == "play-limit" and not browser.run("return document.getElementById('play-setup').hidden")
     for value in ("1", "9999"):
         browser.open("#play")

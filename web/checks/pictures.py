@@ -8,7 +8,7 @@ PLACES = ("replay", "play", "calculator")
 
 
 def take(browser, folder):
-    """Writes PART_WIDTH_SCHEME.webp for each, and answers the status 0."""
+    """Writes PART_WIDTH_SCHEME.webp for each, and returns the status 0."""
     folder.mkdir(parents=True, exist_ok=True)
     for width, size in SIZES.items():
         for scheme in ("light", "dark"):

@@ -100,19 +100,19 @@ def an_address_is_a_position(browser):
     case = battle(20, 40)
     shown(browser, case["input"])
     browser.fill("#replay-slider", "7")
-    browser.fill("#replay-see", "watcher")
-    browser.wait("return location.hash.includes('u=7') && location.hash.includes('see=watcher')")
+    browser.fill("#replay-see", "spectator")
+    browser.wait("return location.hash.includes('u=7') && location.hash.includes('see=spectator')")
     address, text = browser.run("return location.hash"), browser.text("#replay-stage")
     browser.open(address)
     assert browser.text("#replay-stage") == text and "update 7 of" in text
 
 
-def a_watcher_sees_less(browser):
+def a_spectator_sees_less(browser):
     case = battle(20, 40)
     shown(browser, case["input"])
     hidden = "return ['.moves', '.stats'].map((it) => document.querySelectorAll('#replay-stage ' + it).length)"
     assert all(browser.run(hidden)) and " PP" in browser.text("#replay-side-1")
-    browser.fill("#replay-see", "watcher")
+    browser.fill("#replay-see", "spectator")
     assert not any(browser.run(hidden)) and " PP" not in browser.text("#replay-stage")
 
 
@@ -121,12 +121,12 @@ def a_battle_after_a_log_shows_all(browser):
     shown(browser, case["input"])
     log = browser.saved("#replay-share [data-share=log]", "battle.log")
     see = "return document.getElementById('replay-see').value"
-    for wanted in ("all", "watcher"):
+    for wanted in ("all", "spectator"):
         shown(browser, case["input"])
         browser.fill("#replay-see", wanted)
         browser.file("log.log", log)
         browser.wait("return document.getElementById('replay-see').options[0].disabled")
-        assert browser.run(see) == "watcher"
+        assert browser.run(see) == "spectator"
         browser.run("document.getElementById('replay-open').open = true")
         browser.click("#replay-example")
         assert browser.run(see) == wanted
@@ -206,7 +206,7 @@ def a_text_is_dropped_on_a_field(browser):
 
 CHECKS = [
     a_recorded_battle_is_replayed_by_clicks, the_longest_recorded_battle_is_whole_at_its_end, a_refused_pair_is_said_and_the_rest_is_shown,
-    a_recorded_log_is_replayed, a_dropped_file_is_shown, keys_go_through_a_battle, an_address_is_a_position, a_watcher_sees_less,
+    a_recorded_log_is_replayed, a_dropped_file_is_shown, keys_go_through_a_battle, an_address_is_a_position, a_spectator_sees_less,
     a_battle_after_a_log_shows_all, a_text_is_dropped_on_a_field,
     a_saved_page_holds_its_battle, a_page_is_filled_by_others, what_is_saved_is_what_was_opened, a_log_as_long_as_may_be_is_shown,
     a_page_with_a_long_log_opens_again,

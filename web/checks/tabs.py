@@ -4,7 +4,7 @@ import json
 from checks.cases import address_of
 from checks.replay import battle, shown
 
-# A worker that answers when it is told to.
+# A worker that returns a choice on demand.
 LATE = """
 window.held = [];
 window.Worker = class { postMessage(asked) { if (asked.id) window.held.push(() => this.onmessage({data: {id: asked.id, choice: 17}})); } terminate() {} };
@@ -14,12 +14,12 @@ HASH = "return location.hash"
 
 
 def rest(browser):
-    """Waits as long as an address takes to change, and longer."""
+    """Waits longer than an address takes to change."""
     browser.run("return new Promise((done) => setTimeout(done, 400))")
 
 
 def copied(browser, part):
-    """The link that the button of a part copies, as what stands behind its #."""
+    """The part after the # of the link that a part's button copies."""
     browser.run("window.copied = ''")
     browser.click(f"#{part}-share [data-share=link]")
     return browser.wait("return window.copied").partition("#")[2]

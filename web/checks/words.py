@@ -1,4 +1,4 @@
-"""Sentences: the lines of each kind of event, as a person reads them, by hand."""
+"""Sentences for the lines of each kind of event, compared with written ones."""
 from checks.cases import names
 from checks.replay import shown
 

@@ -1,8 +1,8 @@
-// The address behind the #: the part of the page, and what stands there, as a link holds it.
+// The address after the #: the part of the page, and its values.
 
 /**
  * @typedef {{ tab: string, values: URLSearchParams }} Address
- * @typedef {Record<string, string | number>} Values what stands in a part; empty ones are left out of an address
+ * @typedef {Record<string, string | number>} Values the values of a part; empty ones are omitted from an address
  */
 
 /** @returns {Address} */
@@ -15,7 +15,7 @@ let due = 0;
 let shown = "";
 
 /**
- * Names the part that is shown: the address is that part's alone.
+ * Sets the part that is shown, which is the one that the address is of.
  * @param {string} tab
  */
 export function giveAddress(tab) {
@@ -31,15 +31,15 @@ function hash(tab, values) {
 }
 
 /**
- * Puts a part of the page and what stands there into the address, without a step in the history. For a part that is not shown it
- * does nothing.
+ * Puts a part of the page and its values into the address, without a new entry in the history. Does nothing for a part that is not
+ * shown.
  * @param {string} tab
  * @param {Values} values
  */
 export function setAddress(tab, values) {
   if (tab !== shown) return;
   const wanted = hash(tab, values);
-  // Browsers take only so many changes a second.
+  // Browsers limit the number of changes per second.
   window.clearTimeout(due);
   due = window.setTimeout(() => {
     try {
@@ -51,7 +51,7 @@ export function setAddress(tab, values) {
 }
 
 /**
- * The page's address with a part and what stands there.
+ * The page's address with a part and its values.
  * @param {string} tab
  * @param {Values} values
  */

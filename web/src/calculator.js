@@ -1,4 +1,4 @@
-// The calculator: the moves of two members upon each other, with the engine's damage numbers and the bytes that decide the rest.
+// The calculator: the moves of two members against each other, with the engine's damage numbers and chances.
 import { blame, find, guarded, make, Problem } from "./dom.js";
 import { setAddress } from "./address.js";
 import { joined } from "./engine.js";
@@ -12,14 +12,14 @@ import { hitWords, shares, span } from "./words.js";
  * @typedef {import("./engine.js").Calculated} Calculated
  */
 
-const HEADS = ["Move", "Damage", "Of its HP", "Hits to fall", "Critical damage", "Critical: hits to fall", "Bytes that hit", "Bytes that are critical", "All numbers"];
+const HEADS = ["Move", "Damage", "Of its HP", "Hits to faint", "Critical damage", "Critical: hits to faint", "Bytes that hit", "Bytes that are critical", "All numbers"];
 const STATS = ["Attack", "Defense", "Speed", "Special"];
 
-/** How many milliseconds after the last key stroke a fault is said. */
+/** How many milliseconds after the last keystroke an error is shown. */
 const PAUSE = 700;
 
 /**
- * How many hits of so much damage take so many HP.
+ * How many hits with this damage it takes for a member with these HP to faint.
  * @param {number} damage
  * @param {number} hp
  */
@@ -65,7 +65,7 @@ export class Calculator {
   }
 
   /**
-   * What an address says.
+   * Shows the members in an address.
    * @param {URLSearchParams} values
    */
   route(values) {
@@ -73,7 +73,7 @@ export class Calculator {
     const code = values.get("c") ?? "";
     if (code && code !== this.code) {
       const bytes = decoded(code);
-      if (bytes.length !== 69) throw new Problem("The address is damaged: it holds no two members.");
+      if (bytes.length !== 69) throw new Problem("The address is damaged: it does not have two members.");
       this.forms.forEach((form, at) => form.setBytes(bytes.subarray(34 * at, 34 * at + 34)));
       this.extra.value = this.engine.tables.moves[bytes[68] - 1]?.name ?? "";
     }
@@ -88,8 +88,8 @@ export class Calculator {
   }
 
   /**
-   * Shows the numbers, or what is missing for them: a name that is half typed is no fault yet.
-   * @param {number} [pause] the milliseconds before a fault is said
+   * Shows the numbers, or what is missing for them. An error waits, since a name may be only partly typed.
+   * @param {number} [pause] the milliseconds before an error is shown
    */
   calculate(pause = 0) {
     if (!this.isShown) return;
@@ -106,27 +106,27 @@ export class Calculator {
       if (!(error instanceof Problem)) throw error;
       const { message, field } = error;
       this.numbers.setAttribute("data-stale", "");
-      const say = () => this.say(`${message} The numbers below are of what stood here before.`, field);
+      const say = () => this.say(`${message} The numbers below are for the previous input.`, field);
       if (pause) this.timer = window.setTimeout(say, pause);
       else say();
     }
   }
 
-  /** What the fields ask for, as bytes. */
+  /** The input of the fields, as bytes. */
   asked() {
     const extra = this.extra.value.trim() ? moveCalled(this.engine.tables, this.extra, 1) : 0;
     const asked = joined(...this.forms.map((form) => form.bytes()), [extra]);
     if (this.forms.every((form) => !form.hp.value)) return asked;
-    // The engine knows the most HP of a member: with all of its HP none is refused.
+    // The engine computes the maximum HP of a member, so it is first called with full HP, which is never refused.
     const { sides } = this.engine.calculate(joined(...this.forms.map((form) => form.bytes().fill(0, 32)), [0]));
     this.forms.forEach((form, at) => form.testHp(sides[at].max));
     return asked;
   }
 
   /**
-   * Says what is wrong, quietly.
-   * @param {string} text empty where nothing is
-   * @param {HTMLElement} [field] the one at fault
+   * Shows what is wrong, without an alert.
+   * @param {string} text empty if nothing is wrong
+   * @param {HTMLElement} [field] the wrong field
    */
   say(text, field) {
     find("calc-fault", HTMLElement).textContent = text;

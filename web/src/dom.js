@@ -1,11 +1,11 @@
-// Elements, messages and files: what every part of the page needs of the browser.
+// Elements, messages and files, for every part of the page.
 
 /**
- * Makes an element with attributes, listeners (where a value is a function) and children.
+ * Creates an element with attributes, listeners (values that are functions) and children.
  * @template {keyof HTMLElementTagNameMap} K
  * @param {K} name
  * @param {Record<string, string | number | boolean | undefined | ((event: any) => void)>} [attributes]
- * @param {...(Node | string | number | null)} children those that are null are left out
+ * @param {...(Node | string | number | null)} children null is omitted
  * @returns {HTMLElementTagNameMap[K]}
  */
 export function make(name, attributes = {}, ...children) {
@@ -32,11 +32,11 @@ export function find(id, kind) {
   return found;
 }
 
-/** Something that a person can mend, said in a sentence. */
+/** An error that a person can fix, with a sentence about it. */
 export class Problem extends Error {
   /**
    * @param {string} message
-   * @param {{ field?: HTMLElement, side?: number }} [at] the field to mend, or the side whose team is at fault, where one is known
+   * @param {{ field?: HTMLElement, side?: number }} [at] the wrong field, or the side whose team is wrong, if known
    */
   constructor(message, at = {}) {
     super(message);
@@ -46,7 +46,7 @@ export class Problem extends Error {
 }
 
 /**
- * Does something whose problems are those of a field.
+ * Does something, and attributes its problems to a field.
  * @template T
  * @param {HTMLElement} field
  * @param {() => T} work
@@ -62,7 +62,7 @@ export function inField(field, work) {
 }
 
 /**
- * Marks the field at fault, and no other any more.
+ * Marks the wrong field, and unmarks all others.
  * @param {HTMLElement | undefined} field
  * @param {string} message the id of the element that says what is wrong
  */
@@ -76,7 +76,7 @@ export function blame(field, message) {
 }
 
 /**
- * Shows what went wrong, read out at once; an empty text takes the last away.
+ * Shows what went wrong, as an alert; an empty text removes the last one.
  * @param {string} text
  */
 export function notice(text) {
@@ -87,7 +87,7 @@ export function notice(text) {
 let fading = 0;
 
 /**
- * Says that something was done, quietly and for a while.
+ * Shows for a while that something was done, without an alert.
  * @param {string} text
  */
 export function done(text) {
@@ -107,7 +107,7 @@ function show(error) {
 }
 
 /**
- * Does something, and shows what went wrong with it as a message: the page goes on.
+ * Does something, and shows any error as a message; the page goes on.
  * @param {() => void | Promise<void>} work
  */
 export async function guarded(work) {
@@ -122,7 +122,7 @@ export async function guarded(work) {
 }
 
 /**
- * Whether an element can have the focus where it stands.
+ * Whether an element can have the focus.
  * @param {Element | null} element
  */
 function isReached(element) {
@@ -131,7 +131,7 @@ function isReached(element) {
 }
 
 /**
- * Does something that may take away or hide what has the focus, which then goes to a heading.
+ * Does something that may remove or hide the focused element, and then moves the focus to a heading.
  * @param {HTMLElement} heading
  * @param {() => void} work
  */
@@ -142,7 +142,7 @@ export function keepingFocus(heading, work) {
 }
 
 /**
- * Hands a file to the person.
+ * Saves a file for the person.
  * @param {string} name
  * @param {BlobPart} content
  * @param {string} type
@@ -157,15 +157,15 @@ export function save(name, content, type) {
 }
 
 /**
- * Copies a text, or shows it where that is not allowed.
+ * Copies a text, or shows it if copying is not allowed.
  * @param {string} text
- * @param {string} said what is said when it is copied
+ * @param {string} said the message when it is copied
  */
 export async function copy(text, said) {
   try {
     await navigator.clipboard.writeText(text);
   } catch {
-    throw new Problem(`The browser lets nothing be copied. Copy it from here: ${text}`);
+    throw new Problem(`The browser does not allow copying. Copy it from here: ${text}`);
   }
   done(said);
 }

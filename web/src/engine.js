@@ -1,5 +1,5 @@
-// The engine: the module of WebAssembly of plain/page, and what it answers. A battle is 384 bytes; nothing is kept in the module
-// but what a watcher knows.
+// The engine: the WebAssembly module of plain/page, and the objects that it returns. A battle is 384 bytes. The module keeps nothing
+// between calls except what a spectator knows.
 import { Problem } from "./dom.js";
 
 /**
@@ -55,7 +55,7 @@ export function teamBytes(members) {
 }
 
 /**
- * Bytes behind each other.
+ * Concatenated bytes.
  * @param {...ArrayLike<number>} parts
  */
 export function joined(...parts) {
@@ -74,7 +74,7 @@ function sentence(fault) {
   return `The ${fault.side ? "team" : "battle"} is refused: ${where ? `${where}: ` : ""}${fault.fault}.`;
 }
 
-/** The library behind the page. */
+/** The calls of the module. */
 export class Engine {
   /** @param {any} calls the exports of the module */
   constructor(calls) {
@@ -91,7 +91,7 @@ export class Engine {
   }
 
   /**
-   * Writes what a call reads.
+   * Writes the input of a call.
    * @param {ArrayLike<number>} bytes
    * @param {string} what they are, as a message names them
    */
@@ -113,7 +113,7 @@ export class Engine {
   }
 
   /**
-   * Says why teams are refused.
+   * Throws the reason why teams are refused.
    * @param {number} length of the answer
    * @returns {never}
    */
@@ -123,7 +123,7 @@ export class Engine {
   }
 
   /**
-   * The battle of two teams before its first update.
+   * Creates a battle of two teams, before its first update.
    * @param {Terms} terms
    */
   begin(terms) {
@@ -134,7 +134,7 @@ export class Engine {
   }
 
   /**
-   * The battle after a pair of choices, and what that told; or the number of the refusal.
+   * The battle after a pair of choices, and the log; or the number of the refusal.
    * @param {Uint8Array} battle
    * @param {number} one
    * @param {number} two
@@ -160,15 +160,15 @@ export class Engine {
     for (let at = 0; at < log.length; ) {
       const told = this.json(this.calls.page_events(at, log.length));
       for (const [tag, side, place, length, line] of told.events) events.push({ tag, side, place, length, line });
-      if (told.fault) throw new Problem(`This is no log of a battle: ${told.fault.text} at byte ${told.next}.`);
-      if (told.next <= at) throw new Error(`the module reads no event at byte ${at}`);
+      if (told.fault) throw new Problem(`This is not the log of a battle: ${told.fault.text} at byte ${told.next}.`);
+      if (told.next <= at) throw new Error(`the module cannot read an event at byte ${at}`);
       at = told.next;
     }
     return events;
   }
 
   /**
-   * How a battle stands.
+   * The state of a battle.
    * @param {Uint8Array} battle
    * @returns {State}
    */
@@ -178,7 +178,7 @@ export class Engine {
   }
 
   /**
-   * What the moves of a side's member that is out would do.
+   * The odds of the moves of a side's member that is out.
    * @param {Uint8Array} battle
    * @param {number} side
    * @returns {Odds[]}
@@ -189,7 +189,7 @@ export class Engine {
   }
 
   /**
-   * The members of a text of a team builder.
+   * The members in a team builder's text.
    * @param {string} text
    * @param {string} whose text it is, as a message names it
    * @returns {Member[]}
@@ -203,7 +203,7 @@ export class Engine {
   }
 
   /**
-   * Begins to watch a battle.
+   * Starts a spectator of a battle.
    * @param {Member[]} one
    * @param {Member[]} two
    */
@@ -214,7 +214,7 @@ export class Engine {
   }
 
   /**
-   * What a watcher knows after some more log.
+   * What the spectator knows after more log bytes.
    * @param {Uint8Array} log
    * @returns {View}
    */
@@ -224,7 +224,7 @@ export class Engine {
   }
 
   /**
-   * Two members as they are made to stand.
+   * The odds of the moves of two members in a given state.
    * @param {Uint8Array} asked
    * @returns {{ sides: Calculated[] }}
    */

@@ -1,4 +1,4 @@
-// Battles out of files, and as files: the input of battle_tool (docs/PROGRAM.md), log bytes, and pages that hold one of these.
+// Battles from files, and as files: the input of battle_tool (docs/PROGRAM.md), log bytes, and pages that hold one of these.
 import { Problem } from "./dom.js";
 import { joined, memberBytes } from "./engine.js";
 
@@ -6,19 +6,19 @@ import { joined, memberBytes } from "./engine.js";
  * @typedef {import("./engine.js").Member} Member
  * @typedef {import("./engine.js").Terms} Terms
  * @typedef {Terms & { choices: number[][] }} Input
- * @typedef {{ input: Input } | { log: Uint8Array }} Recorded what a battle is shown from
+ * @typedef {{ input: Input } | { log: Uint8Array }} Recorded the source of a battle
  */
 
 /** @param {unknown} value @param {string} what @param {number} most @param {number} [least] @returns {number} */
 function whole(value, what, most, least = 0) {
   if (typeof value !== "number" || !Number.isInteger(value) || value < least || value > most)
-    throw new Problem(`${what} is ${JSON.stringify(value) ?? "missing"}, which is no whole number from ${least} to ${most}.`);
+    throw new Problem(`${what} is ${JSON.stringify(value) ?? "missing"}, which is not a whole number from ${least} to ${most}.`);
   return value;
 }
 
 /** @param {unknown} value @param {string} what @param {number} [length] @returns {unknown[]} */
 function list(value, what, length) {
-  if (!Array.isArray(value)) throw new Problem(`${what} is ${value === undefined ? "missing" : "no list"}.`);
+  if (!Array.isArray(value)) throw new Problem(`${what} is ${value === undefined ? "missing" : "not a list"}.`);
   if (length !== undefined && value.length !== length) throw new Problem(`${what} has ${value.length} items, not ${length}.`);
   return value;
 }
@@ -31,11 +31,11 @@ function numbers(value, what, length, most) {
 /** @param {unknown} value @param {string[]} names @param {string} what a name is to be of */
 function numbered(value, names, what) {
   const found = typeof value === "string" ? names.indexOf(value) + 1 : 0;
-  if (!found) throw new Problem(`${what} is ${JSON.stringify(value) ?? "missing"}, which is no name of docs/TABLES.md.`);
+  if (!found) throw new Problem(`${what} is ${JSON.stringify(value) ?? "missing"}, which is not a name in docs/TABLES.md.`);
   return found;
 }
 
-/** Blanks, and the three bytes that some editors begin a text with. */
+/** White space, and the byte order mark with which some editors begin a text. */
 const BLANKS = [9, 10, 13, 32, 0xef, 0xbb, 0xbf];
 
 /** Reads and writes inputs, with the names of some tables. */
@@ -50,7 +50,7 @@ export class Inputs {
   }
 
   /**
-   * A person's file.
+   * Reads a person's file.
    * @param {File} file
    */
   async readFile(file) {
@@ -59,7 +59,7 @@ export class Inputs {
   }
 
   /**
-   * A file's battle.
+   * The battle in a file.
    * @param {Uint8Array} bytes
    * @returns {Recorded}
    */
@@ -71,13 +71,13 @@ export class Inputs {
   }
 
   /**
-   * The battle that a saved page holds.
+   * The battle in a saved page.
    * @param {string} text
    * @returns {Recorded}
    */
   held(text) {
     const found = new DOMParser().parseFromString(text, "text/html").getElementById("battle");
-    if (!found?.textContent || found.textContent === "null") throw new Problem("This page holds no battle.");
+    if (!found?.textContent || found.textContent === "null") throw new Problem("This page does not hold a battle.");
     return this.parse(found.textContent);
   }
 
@@ -91,16 +91,16 @@ export class Inputs {
     try {
       value = JSON.parse(text.replace(/^\ufeff/, ""));
     } catch (error) {
-      throw new Problem(`The battle is no JSON: ${error instanceof Error ? error.message : error}.`);
+      throw new Problem(`The battle is not JSON: ${error instanceof Error ? error.message : error}.`);
     }
-    if (typeof value !== "object" || value === null) throw new Problem("The battle is no JSON object.");
+    if (typeof value !== "object" || value === null) throw new Problem("The battle is not a JSON object.");
     if (typeof value.log === "string" && value.choices === undefined) return this.log(ofDigits(value.log));
     return { input: this.input(value) };
   }
 
   /** @param {Uint8Array} log @returns {Recorded} */
   log(log) {
-    if (!this.engine.events(log).length) throw new Problem("The log has no event.");
+    if (!this.engine.events(log).length) throw new Problem("The log has no events.");
     return { log };
   }
 
@@ -133,7 +133,7 @@ export class Inputs {
   }
 
   /**
-   * A recorded battle as the JSON that is read again.
+   * A recorded battle as JSON, in a form that can be read again.
    * @param {Recorded} recorded
    */
   text(recorded) {
@@ -154,7 +154,7 @@ export function digits(bytes) {
 
 /** @param {string} text hexadecimal digits */
 function ofDigits(text) {
-  if (text.length % 2 || /[^0-9a-f]/i.test(text)) throw new Problem("The log is not of hexadecimal digits.");
+  if (text.length % 2 || /[^0-9a-f]/i.test(text)) throw new Problem("The log does not consist of hexadecimal digits.");
   return Uint8Array.from({ length: text.length / 2 }, (_, place) => parseInt(text.slice(2 * place, 2 * place + 2), 16));
 }
 
@@ -173,15 +173,15 @@ export function decoded(text) {
   try {
     return Uint8Array.from(atob(text.replaceAll("-", "+").replaceAll("_", "/")), (letter) => letter.charCodeAt(0));
   } catch {
-    throw new Problem("The address is damaged: what it holds cannot be read.");
+    throw new Problem("The address is damaged: it cannot be read.");
   }
 }
 
-/** The longest text of a battle that goes into an address: a longer one would make each step slow. */
+/** The maximum length of a battle in an address; a longer one would make each step slow. */
 const ADDRESS = 60_000;
 
 /**
- * Whether a battle's text goes into an address.
+ * Whether a battle's text is short enough for an address.
  * @param {string} code
  */
 export function isShort(code) {
@@ -189,7 +189,7 @@ export function isShort(code) {
 }
 
 /**
- * A battle as an address holds it: i and an input (seed, rules, limit, both teams, pairs), or l and a log.
+ * A battle in the form for an address: i and an input (seed, rules, limit, both teams, pairs), or l and a log.
  * @param {Recorded} recorded
  */
 export function toAddress(recorded) {
@@ -211,7 +211,7 @@ export function ofAddress(text, inputs) {
     return members;
   });
   const pairs = bytes.subarray(at);
-  if (text[0] !== "i" || pairs.length % 2) throw new Problem("The address is damaged: it holds no battle.");
+  if (text[0] !== "i" || pairs.length % 2) throw new Problem("The address is damaged: it does not hold a battle.");
   const choices = Array.from({ length: pairs.length / 2 }, (_, place) => [pairs[2 * place], pairs[2 * place + 1]]);
   const [rules, low, high] = bytes.subarray(10, 13);
   return { input: { seed: [...bytes.subarray(0, 10)], rules, limit: low + 256 * high, one: teams[0], two: teams[1], choices } };

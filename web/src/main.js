@@ -1,4 +1,4 @@
-// The page: its three parts, the address, keys, themes, and files that are dropped on it.
+// The page: its three parts, the address, keys, themes, and dropped files.
 import { address, giveAddress, setAddress } from "./address.js";
 import { Calculator } from "./calculator.js";
 import { find, guarded, notice } from "./dom.js";
@@ -23,14 +23,14 @@ function showTab(name) {
 }
 
 /**
- * What a person chose when the page was open before.
+ * A setting that a person chose when the page was open before.
  * @param {string} name
  */
 function kept(name) {
   try {
     return localStorage.getItem(name);
   } catch {
-    // Nothing may be kept.
+    // Storage may be forbidden.
     return null;
   }
 }
@@ -40,7 +40,7 @@ function keep(name, value) {
   try {
     localStorage.setItem(name, value);
   } catch {
-    // It holds as long as the page is open.
+    // The setting lasts until the page is closed.
   }
 }
 
@@ -68,14 +68,14 @@ function listenKeys(press, changed) {
     changed();
   });
   document.addEventListener("keydown", (event) => {
-    // A shortcut of one character may be a word of who speaks to the machine: it can be switched off.
+    // Single-key shortcuts can be switched off, because speech input may trigger them.
     if (event.key.length === 1 && !keys.checked) return;
     if (!takesKeys(event.target, event.key)) press(event);
   });
 }
 
 /**
- * Tabs by click, and by arrow keys among them.
+ * Switches tabs by click and by arrow keys.
  * @param {(tab: string) => void} open
  */
 function listenTabs(open) {
@@ -95,7 +95,7 @@ function listenTabs(open) {
 }
 
 /**
- * Whether an element takes keys for itself.
+ * Whether an element handles a key itself.
  * @param {EventTarget | null} target
  * @param {string} key
  */
@@ -107,7 +107,7 @@ function takesKeys(target, key) {
 
 /** @param {Replay} replay @param {(tab: string) => void} open */
 function listenDrops(replay, open) {
-  // What is no file is dropped where the browser lets it: a text on a field.
+  // Dropping anything but a file, such as text on a field, is left to the browser.
   const hasFile = (/** @type {DragEvent} */ event) => Boolean(event.dataTransfer?.types.includes("Files"));
   document.addEventListener("dragover", (event) => hasFile(event) && event.preventDefault());
   document.addEventListener("drop", (event) => {
@@ -165,5 +165,5 @@ listenTheme();
 find("notice-close", HTMLButtonElement).addEventListener("click", () => notice(""));
 begin().catch((error) => {
   console.error(error);
-  notice(`The engine could not begin: ${error instanceof Error ? error.message : error}`);
+  notice(`The engine could not start: ${error instanceof Error ? error.message : error}`);
 });

@@ -1,4 +1,4 @@
-// The form of a member of the calculator: from a text or by search, and how it stands.
+// The form for a member in the calculator: from a text or by search, and its state.
 import { guarded, inField, make, Problem } from "./dom.js";
 import { joined, memberBytes } from "./engine.js";
 import { memberOf } from "./inputs.js";
@@ -7,7 +7,7 @@ const DVS = ["Attack", "Defense", "Speed", "Special"];
 const EXP = ["HP", ...DVS];
 const STAGES = [...DVS, "Accuracy", "Evasion"];
 /**
- * The statuses, as their byte (docs/LAYOUT.md, "Member").
+ * The statuses, by their bytes (docs/LAYOUT.md, "Member").
  * @type {[number, string][]}
  */
 const STATUSES = [[0, "none"], [1, "asleep"], [8, "poisoned"], [16, "burned"], [32, "frozen"], [64, "paralysed"]];
@@ -80,19 +80,19 @@ export class MemberForm {
   }
 
   /**
-   * A whole number of a field.
+   * The whole number in a field.
    * @param {HTMLInputElement} field
    * @param {string} what
    */
   whole(field, what) {
     const value = field.value.trim() === "" ? NaN : Number(field.value);
     if (!Number.isInteger(value) || value < Number(field.min) || value > Number(field.max))
-      throw new Problem(`Side ${this.side}: ${what} is to be a whole number from ${field.min} to ${field.max}.`, { field });
+      throw new Problem(`Side ${this.side}: ${what} must be a whole number from ${field.min} to ${field.max}.`, { field });
     return value;
   }
 
   /**
-   * Tests the HP against what the member has at most.
+   * Checks the HP against the member's maximum.
    * @param {number} most
    */
   testHp(most) {
@@ -126,7 +126,7 @@ export class MemberForm {
 }
 
 /**
- * Whether two names are one: only letters and digits count.
+ * Whether two names are equal in their letters and digits.
  * @param {string} one
  * @param {string} two
  */

@@ -1,4 +1,4 @@
-// Play: two at one screen, or against the computer. What can be pressed is what the engine offers.
+// Play: two persons at one screen, or against the computer. The buttons are the choices that the engine offers.
 import { find, guarded, inField, keepingFocus, make, Problem } from "./dom.js";
 import { link, setAddress } from "./address.js";
 import { joined } from "./engine.js";
@@ -23,7 +23,7 @@ const PLAYERS = ["person", "random", "greedy", "playouts"];
 function seedOf(field) {
   const numbers = field.value.trim().split(/[\s,]+/).map(Number);
   if (numbers.length !== 10 || numbers.some((it) => !Number.isInteger(it) || it < 0 || it > 255))
-    throw new Problem("The seed is to be ten whole numbers from 0 to 255, with spaces between them.", { field });
+    throw new Problem("The seed must be ten whole numbers from 0 to 255, with spaces between them.", { field });
   return numbers;
 }
 
@@ -31,7 +31,7 @@ function seedOf(field) {
 function limitOf(field) {
   const limit = field.value.trim() === "" ? NaN : Number(field.value);
   if (!Number.isInteger(limit) || limit < 1 || limit > 9999)
-    throw new Problem(`The turn limit is ${field.value || "missing"}: it is to be a whole number from 1 to 9999.`, { field });
+    throw new Problem(`The turn limit is ${field.value || "missing"}: it must be a whole number from 1 to 9999.`, { field });
   return limit;
 }
 
@@ -149,7 +149,7 @@ export class Play {
   /** @param {Uint8Array} battle @param {number[]} pair @returns {Step} */
   stepOf(battle, pair) {
     const update = this.engine.update(battle, pair[0], pair[1]);
-    if (update.refused) throw new Problem(`The choices ${pair.join(" and ")} are refused: the battle goes no further.`);
+    if (update.refused) throw new Problem(`The choices ${pair.join(" and ")} are refused: the battle cannot continue.`);
     return { battle: update.battle, log: update.log, events: this.engine.events(update.log), pair };
   }
 
@@ -158,7 +158,7 @@ export class Play {
   }
 
   /**
-   * What an address says.
+   * Shows the battle in an address.
    * @param {URLSearchParams} values
    */
   route(values) {
@@ -172,7 +172,7 @@ export class Play {
   }
 
   /**
-   * Whether a person has to press something.
+   * Whether a person has to choose.
    * @param {State} state
    * @param {number} at the side from 0
    */
@@ -212,14 +212,14 @@ export class Play {
     const pair = await this.choices(battle).finally(() => {
       if (asked === this.asked) this.wait("");
     });
-    // A choice that comes after the battle was left or taken back is late.
+    // A choice that comes after the battle was left, or an update undone, is dropped.
     if (asked !== this.asked) return;
     this.steps.push(this.stepOf(battle, pair));
     this.next();
   }
 
   /**
-   * The choices of both sides: those that a person made, and the computer's.
+   * The choices of both sides, from persons and from the computer.
    * @param {Uint8Array} battle
    */
   async choices(battle) {
@@ -316,7 +316,7 @@ export class Play {
   }
 
   /**
-   * The keys of a side's choices: digits where one person plays.
+   * The keys for a side's choices: digits if only one person plays.
    * @param {number} at
    */
   keysOf(at) {
@@ -331,12 +331,12 @@ export class Play {
       const member = side.members[choice - 0x21];
       return [make("strong", {}, `Switch to ${tables.species[member.species - 1].name}`), make("span", { class: "quiet" }, `${member.hp}/${member.max} HP ${member.status}`)];
     }
-    if (choice === 0x10) return [make("strong", {}, side.going ? `Go on with ${tables.moves[side.going - 1].name}` : "Do what is left to do")];
+    if (choice === 0x10) return [make("strong", {}, side.going ? `Continue ${tables.moves[side.going - 1].name}` : "Use the only possible action")];
     const [id, pp] = side.members[side.active - 1].moves[choice - 0x11];
     const found = odds.find((it) => it.slot === choice - 0x10);
     const foe = state.sides[1 - at];
     const hp = foe.active ? foe.members[foe.active - 1].hp : 0;
-    const damage = found?.damage ? `damage ${damageText(found.damage, hp)}` : "no damage by the formula";
+    const damage = found?.damage ? `damage ${damageText(found.damage, hp)}` : "no usual damage";
     const hit = found ? hitWords(found, tables.moves[id - 1], (bytes) => `hits with ${bytes} of 256 bytes`) : "";
     const critical = found?.bound === null || found?.bound === undefined ? "" : `; critical with ${found.bound} of 256`;
     return [make("strong", {}, tables.moves[id - 1].name), badge(tables, tables.moves[id - 1].type),
@@ -356,11 +356,11 @@ export class Play {
   }
 
   /**
-   * A key that no element has taken.
+   * Handles a key that no element has handled.
    * @param {KeyboardEvent} event
    */
   key(event) {
-    // A key that is held does not play on.
+    // Repeats of a key that is held down are ignored.
     if (!this.terms || event.repeat || event.ctrlKey || event.metaKey || event.altKey) return;
     const state = this.engine.state(this.battle);
     if (event.key === "Backspace") return this.undo();

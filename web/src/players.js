@@ -1,4 +1,4 @@
-// The computer's choices, in a worker, so that the page stays quick.
+// The computer's choices, in a worker, so that the page stays responsive.
 import { find } from "./dom.js";
 
 /** @typedef {{ battle: Uint8Array, side: number, player: string, seed: number }} Asked */
@@ -41,7 +41,7 @@ export class Players {
   }
 
   /**
-   * Does without the worker from now on, and answers what it was asked.
+   * Stops using the worker, and computes the choices that it was asked for.
    * @param {string} why
    */
   giveUp(why) {
@@ -54,7 +54,7 @@ export class Players {
   }
 
   /**
-   * The choice by the page's own engine.
+   * The choice from the page's own engine.
    * @param {Asked} asked
    */
   async own({ battle, side, player, seed }) {
@@ -62,7 +62,7 @@ export class Players {
   }
 
   /**
-   * The choice of a player, as its byte.
+   * The byte of a player's choice.
    * @param {Uint8Array} battle
    * @param {number} side
    * @param {string} player

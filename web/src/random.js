@@ -1,7 +1,7 @@
-// Seeds and teams that are drawn. A battle draws its own numbers, from its seed.
+// Random seeds and teams. A battle draws its own numbers, from its seed.
 
 /**
- * A whole number from 0 up to a bound.
+ * A random whole number from 0, below a bound.
  * @param {number} bound
  */
 export function below(bound) {
@@ -14,7 +14,7 @@ export function randomSeed() {
 }
 
 /**
- * A team as the text of a team builder: members with four moves that a team may have.
+ * A random team as a team builder's text: members with four moves that a team may have.
  * @param {import("./engine.js").Tables} tables
  * @param {number} count
  */

@@ -1,4 +1,4 @@
-// A battle that is watched: what stands after each update, from an input or from log bytes.
+// A recorded battle: its state after each update, from an input or from log bytes.
 import { Problem } from "./dom.js";
 
 /**
@@ -7,8 +7,8 @@ import { Problem } from "./dom.js";
  * @typedef {import("./engine.js").Member} Member
  * @typedef {import("./inputs.js").Recorded} Recorded
  * @typedef {{ log: Uint8Array, events: GameEvent[], battle: Uint8Array | null, view: import("./engine.js").View }} Frame after an
- *   update; the first stands before all of them
- * @typedef {{ species: string, level: number, max: number, since: number }} Known a member as a switch tells of it,
+ *   update; the first is before all of them
+ * @typedef {{ species: string, level: number, max: number, since: number }} Known a member as a switch shows it,
  *   and the frame that first did
  */
 
@@ -18,7 +18,7 @@ const FAINT = 0x19;
 const ENDS = [TURN, 0x1a, 0x1b, 0x1c];
 
 /**
- * The events of each update of a log: one ends with a turn, an outcome, or with those that fainted.
+ * The events of each update of a log: an update ends with a turn, an outcome, or faints.
  * @param {GameEvent[]} events
  */
 function updatesOf(events) {
@@ -37,7 +37,7 @@ function updatesOf(events) {
 }
 
 /**
- * What a switch in a frame tells.
+ * What a switch in a frame shows of a member.
  * @param {string} line
  * @param {number} since
  * @returns {Known}
@@ -58,7 +58,7 @@ export class Recording {
     this.frames = [];
     /** What ended the recording before its end. */
     this.fault = "";
-    /** @type {Map<string, Known>} the members that a switch tells of, by "side place" */
+    /** @type {Map<string, Known>} the members that a switch has shown, by "side place" */
     this.told = new Map();
     if ("log" in recorded) this.follow(recorded.log);
     else this.play(recorded.input);
@@ -77,7 +77,7 @@ export class Recording {
       const update = this.engine.update(battle, one, two);
       if (update.refused) {
         const why = ["", "the battle is over", "side 1's choice is not offered", "side 2's choice is not offered"][update.refused];
-        this.fault = `Pair ${number} of the choices (${one}, ${two}) is refused: ${why}. The battle is shown up to there.`;
+        this.fault = `Pair ${number} of the choices (${one}, ${two}) is refused: ${why}. The battle is shown up to that pair.`;
         return;
       }
       battle = update.battle;
@@ -88,7 +88,7 @@ export class Recording {
   /** @param {Uint8Array} log */
   follow(log) {
     const updates = updatesOf(this.engine.events(log));
-    // Who is in the teams is not told: members that stand for those who come out.
+    // A log doesn't have the teams, so placeholders are used until a member comes out.
     const some = Array.from({ length: 6 }, () => ({ species: 1, level: 100, dvs: [0, 0, 0, 0], exp: [0, 0, 0, 0, 0], moves: [[1, 0]] }));
     this.engine.watchBegin(some, some);
     this.frames.push({ log: new Uint8Array(), events: [], battle: null, view: this.engine.watch(new Uint8Array()) });
@@ -98,7 +98,7 @@ export class Recording {
       this.add(log.slice(at, at + length), events, null);
       at += length;
     }
-    if (!this.told.size) throw new Problem("The log begins in the middle of a battle: nobody is sent out in it.");
+    if (!this.told.size) throw new Problem("The log begins in the middle of a battle: no member is sent out in it.");
   }
 
   /** @param {Uint8Array} log @param {GameEvent[]} events @param {Uint8Array | null} battle */
@@ -111,7 +111,7 @@ export class Recording {
   }
 
   /**
-   * The turn that has begun after an update.
+   * The turn after an update.
    * @param {number} update
    */
   turn(update) {
@@ -119,7 +119,7 @@ export class Recording {
   }
 
   /**
-   * The first update after which a turn has begun, or the last.
+   * The first update after which a turn has begun, or the last update.
    * @param {number} turn
    */
   updateOf(turn) {

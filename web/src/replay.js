@@ -1,4 +1,4 @@
-// Replay: a battle that is watched, forward and back by update and by turn.
+// Replay: a recorded battle, forward and back by update and by turn.
 import { find, guarded, inField, keepingFocus, make, Problem } from "./dom.js";
 import { link, setAddress } from "./address.js";
 import { isShort, ofAddress, toAddress } from "./inputs.js";
@@ -28,7 +28,7 @@ export class Replay {
     this.timer = 0;
     this.code = "";
     this.isHeld = false;
-    /** What a person wants to see; of a log there is only what a watcher knows. */
+    /** What a person wants to see; for a log there is only what a spectator knows. */
     this.wanted = "all";
     this.see = find("replay-see", HTMLSelectElement);
     this.raw = find("replay-raw", HTMLSelectElement);
@@ -69,7 +69,7 @@ export class Replay {
   }
 
   /**
-   * A file of a person.
+   * Opens a person's file.
    * @param {File} file
    */
   async open(file) {
@@ -77,7 +77,7 @@ export class Replay {
   }
 
   /**
-   * Shows a battle. Where it cannot be shown, what was there stays.
+   * Shows a battle. If it cannot be shown, the previous one stays.
    * @param {import("./inputs.js").Recorded} recorded
    * @param {{ at: number, code?: string, isHeld?: boolean }} how the update that is shown first, the battle's text in an address,
    *   and whether the page's file holds the battle
@@ -89,7 +89,7 @@ export class Replay {
     this.pause();
     const isLog = "log" in recorded;
     this.see.options[0].disabled = isLog;
-    this.see.value = isLog ? "watcher" : this.wanted;
+    this.see.value = isLog ? "spectator" : this.wanted;
     keepingFocus(find("replay-now", HTMLElement), () => {
       find("replay-stage", HTMLElement).hidden = false;
       find("replay-open", HTMLDetailsElement).open = false;
@@ -102,13 +102,13 @@ export class Replay {
   }
 
   /**
-   * What an address says.
+   * Shows the battle in an address.
    * @param {URLSearchParams} values
    * @param {string} held the JSON that the page holds
    */
   route(values, held) {
     const code = values.get("b") ?? "";
-    this.wanted = values.get("see") === "watcher" ? "watcher" : "all";
+    this.wanted = values.get("see") === "spectator" ? "spectator" : "all";
     if (!this.see.options[0].disabled) this.see.value = this.wanted;
     this.raw.value = values.get("lines") === "raw" ? "raw" : "words";
     const at = Number(values.get("u") ?? 1);
@@ -160,7 +160,7 @@ export class Replay {
     const { tables } = this.engine;
     if (battle && this.see.value === "all") return whole(tables, this.engine.state(battle).sides[side - 1]);
     if ("input" in recorded && frames[0].battle) {
-      // Both teams are told as the battle begins.
+      // A spectator knows both teams from the beginning.
       const members = this.engine.state(frames[0].battle).sides[side - 1].members;
       return watched(tables, view.sides[side - 1], members.map((it) => ({ species: tables.species[it.species - 1].name, level: it.level, max: it.max })));
     }
@@ -184,7 +184,7 @@ export class Replay {
     for (const id of ["first", "turn-back", "back"]) find(`replay-${id}`, HTMLButtonElement).setAttribute("aria-disabled", String(this.at === 0));
     for (const id of ["last", "turn-forward", "forward"]) find(`replay-${id}`, HTMLButtonElement).setAttribute("aria-disabled", String(this.at === last));
     const items = lineItems(frame.events, this.raw.value === "raw");
-    find("replay-lines", HTMLElement).replaceChildren(...(items.length ? items : [make("li", { class: "quiet" }, "Nobody has been sent out.")]));
+    find("replay-lines", HTMLElement).replaceChildren(...(items.length ? items : [make("li", { class: "quiet" }, "No member has been sent out.")]));
     this.drawWhole();
     this.toAddress();
   }
@@ -200,7 +200,7 @@ export class Replay {
   /** What stands here, as an address holds it. */
   values() {
     return {
-      b: this.isHeld || !isShort(this.code) ? "" : this.code, u: this.at, see: this.wanted === "watcher" ? "watcher" : "",
+      b: this.isHeld || !isShort(this.code) ? "" : this.code, u: this.at, see: this.wanted === "spectator" ? "spectator" : "",
       lines: this.raw.value === "raw" ? "raw" : "",
     };
   }
@@ -210,7 +210,7 @@ export class Replay {
   }
 
   /**
-   * A key that no element has taken.
+   * Handles a key that no element has handled.
    * @param {KeyboardEvent} event
    */
   key(event) {
@@ -222,7 +222,7 @@ export class Replay {
       End: () => this.go(Infinity),
       " ": () => this.playOrPause(),
     };
-    // With these a key is the browser's: a step back in the history, say.
+    // With these modifiers a key belongs to the browser, for example to go back in the history.
     if (event.altKey || event.ctrlKey || event.metaKey) return;
     if (!this.recording || !keys[event.key]) return;
     event.preventDefault();

@@ -1,8 +1,8 @@
-// Handing a battle on: as a page that holds it, as a link, as an input and as log bytes.
+// Sharing a battle: as a page that holds it, as a link, as an input and as log bytes.
 import { copy, guarded, Problem, save } from "./dom.js";
 import { isShort, toAddress } from "./inputs.js";
 
-// The page as it was loaded, taken before anything of it changes.
+// The source of the page, copied before anything in it changes.
 const SOURCE = `<!doctype html>\n${document.documentElement.outerHTML}`;
 
 /** The JSON of the battle that the page was saved with; empty where there is none. */
@@ -12,7 +12,7 @@ export function heldBattle() {
 }
 
 /**
- * The page with a battle in it. The first element with the id is the one in the head (web/README.md).
+ * The page with a battle. The first element with the id is the one in the head (web/README.md).
  * @param {string} battle JSON
  */
 export function pageWith(battle) {
@@ -22,11 +22,11 @@ export function pageWith(battle) {
 
 /**
  * @typedef {{ recorded: import("./inputs.js").Recorded, log: Uint8Array, inputs: import("./inputs.js").Inputs, link: string }} Shown a
- *   battle, and the address of where it stands
+ *   battle, and the address of the position
  */
 
 /**
- * The buttons that hand on what is shown.
+ * The buttons that share the battle that is shown.
  * @param {HTMLElement} place
  * @param {() => Shown} shown
  */

@@ -1,4 +1,4 @@
-// A side as it is looked at: who is out, with an HP bar, status, stages and conditions, and the members behind.
+// Showing a side: the member that is out, with an HP bar, status, stages and conditions, and all members of the team.
 import { make } from "./dom.js";
 import { STATUS_WORDS } from "./words.js";
 
@@ -33,7 +33,7 @@ const CONDITIONS = {
 };
 
 /**
- * What is shown of a side of which all is known.
+ * What is shown of a side if everything is known.
  * @param {Tables} tables
  * @param {import("./engine.js").SideState} side
  * @returns {Shown}
@@ -49,10 +49,10 @@ export function whole(tables, side) {
 }
 
 /**
- * What is shown of a side to a watcher.
+ * What is shown of a side to a spectator.
  * @param {Tables} tables
  * @param {import("./engine.js").SideView} view
- * @param {({ species: string, level: number, max: number } | null)[]} known the members that the watcher knows of, by place
+ * @param {({ species: string, level: number, max: number } | null)[]} known the members that the spectator knows of, by place
  * @returns {Shown}
  */
 export function watched(tables, view, known) {
@@ -126,7 +126,7 @@ function stats(shown) {
 /** @param {Tables} tables @param {Shown} shown */
 function out(tables, shown) {
   const member = shown.members[shown.active - 1];
-  if (!member) return make("div", { class: "out" }, make("p", {}, "Nobody is out yet."));
+  if (!member) return make("div", { class: "out" }, make("p", {}, "No member is out yet."));
   const types = [...new Set(shown.types)].map((type) => badge(tables, type));
   return make("div", { class: "out" },
     make("p", { class: "head" }, make("strong", {}, member.species), ` level ${member.level} `, ...types, " ", status(member)),
@@ -134,7 +134,7 @@ function out(tables, shown) {
 }
 
 /**
- * What a phone has no room for at first.
+ * The details, which are folded at first for small screens.
  * @param {number} number
  * @param {Tables} tables
  * @param {Shown} shown
@@ -163,7 +163,7 @@ function behind(tables, member, place, isOut) {
  * @param {Shown} shown
  */
 export function showSide(place, number, tables, shown) {
-  // What is open stays open, and a summary that has the focus keeps it: by the place of its member, as others come and go.
+  // Open details stay open, and a focused summary stays focused, by the place of its member, as other members come and go.
   const before = new Map([...place.querySelectorAll("details")].map((it) => [it.dataset.of, it.open]));
   const focused = place.contains(document.activeElement) ? document.activeElement?.closest("details")?.dataset.of : undefined;
   if (!before.size) before.set("side", window.matchMedia("(min-width: 44.01rem)").matches);

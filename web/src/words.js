@@ -111,7 +111,7 @@ export function sideOf(line) {
 }
 
 /**
- * A range, or the one number that it is.
+ * A range, or one number if both ends are equal.
  * @param {string | number} least
  * @param {string | number} most
  */
@@ -120,7 +120,7 @@ export function span(least, most) {
 }
 
 /**
- * The least and the most damage as shares of HP, in whole percent that are reached: rounded down.
+ * The least and the most damage as percentages of HP, rounded down.
  * @param {number[]} damage the 39 numbers, of which the first is the least
  * @param {number} hp
  */
@@ -130,7 +130,7 @@ export function shares(damage, hp) {
 }
 
 /**
- * What decides whether a move hits, by the bytes of the hit test.
+ * The chance of a hit in words, from the bytes of the hit test.
  * @param {import("./engine.js").Odds} odds
  * @param {import("./engine.js").Move} move
  * @param {(bytes: number) => string} chance how a number of bytes is said
@@ -139,5 +139,5 @@ export function hitWords(odds, move, chance) {
   if (!odds.hit) return "no hit test";
   const [bytes, isDrawn] = odds.hit;
   if (!isDrawn) return bytes ? "hits without a draw" : "misses without a draw";
-  return `${chance(bytes)}${move.effect === "OneHitKnockOut" ? ", and none where the user is slower" : ""}`;
+  return `${chance(bytes)}${move.effect === "OneHitKnockOut" ? ", or 0 if the user is slower" : ""}`;
 }

@@ -1,4 +1,4 @@
-// The worker: an engine of its own, which answers with the computer's choices, or with why it cannot.
+// The worker: a second engine, which returns the computer's choices, or an error.
 import { Engine } from "./engine.js";
 
 /** @type {Promise<Engine> | null} */
@@ -18,6 +18,6 @@ async function answer({ id, battle, side, player, seed }) {
 self.onmessage = ({ data }) => {
   if (!data.module) return void answer(data);
   engine = Engine.of(data.module);
-  // Whoever asks for a choice is told.
+  // The error is sent to the page when it asks for a choice.
   engine.catch(() => {});
 };
