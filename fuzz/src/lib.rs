@@ -1,5 +1,5 @@
-//! What a fuzzer calls with strings of bytes: loading, the log reader, and teams out of text. A string is no crash and breaks none
-//! of the rules that callers are promised.
+//! The targets of the fuzzer: loading, the log reader, and teams from text. No string may crash them, or break a rule that callers
+//! are promised.
 use gen1::text::{TextFault, members_in_packed, members_in_text, team_in_packed, team_in_text};
 use gen1::{Battle, Choice, Event, EventList, Line, LogReader, Side, Team, events_of};
 
@@ -7,7 +7,7 @@ use gen1::{Battle, Choice, Event, EventList, Line, LogReader, Side, Team, events
 ///
 /// # Safety
 ///
-/// There are `size` bytes at `data`.
+/// `data` points to `size` bytes.
 #[unsafe(no_mangle)]
 pub unsafe extern "C" fn LLVMFuzzerTestOneInput(data: *const u8, size: usize) -> i32 {
     let bytes = if size == 0 {
@@ -24,7 +24,7 @@ pub unsafe extern "C" fn LLVMFuzzerTestOneInput(data: *const u8, size: usize) ->
     0
 }
 
-/// A string that loads is a battle's own bytes again, and goes on by the choices that it offers.
+/// A string that loads is the bytes of the loaded battle, which accepts the choices that it offers.
 fn load(bytes: &[u8]) {
     let Ok(mut battle) = Battle::load(bytes) else {
         return;
@@ -54,7 +54,7 @@ fn load(bytes: &[u8]) {
     }
 }
 
-/// A choice that is not offered is refused, and nothing has changed.
+/// A choice that is not offered is refused, and nothing changes.
 fn refuses_others(battle: &mut Battle, offered: &[Choice], other: Choice) {
     let before = battle.clone();
     for byte in [
@@ -68,7 +68,7 @@ fn refuses_others(battle: &mut Battle, offered: &[Choice], other: Choice) {
     }
 }
 
-/// Events of any string are written as the bytes that they were read from, and however the string is cut, they are the same.
+/// The events of any string are written as the bytes that they were read from, and are the same however the string is cut.
 fn log(bytes: &[u8]) {
     let mut written = Vec::new();
     let mut events = EventList::new();
@@ -87,7 +87,7 @@ fn log(bytes: &[u8]) {
     assert_eq!(fed(&[&bytes[..cut], &bytes[cut..]]), fed(&[bytes]));
 }
 
-/// The events of pieces of a log, up to the first fault.
+/// The events of pieces of a log, up to the first error.
 fn fed(pieces: &[&[u8]]) -> Vec<Event> {
     let (mut reader, mut events) = (LogReader::new(), Vec::new());
     for piece in pieces {
@@ -107,7 +107,7 @@ fn fed(pieces: &[&[u8]]) -> Vec<Event> {
     events
 }
 
-/// A text is a team exactly where its members make one, and a fault names one of its lines.
+/// A text is a team exactly if its members are one, and an error names one of its lines.
 fn team(bytes: &[u8]) {
     let members = members_in_text(bytes);
     let made = members

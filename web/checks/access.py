@@ -1,9 +1,9 @@
-"""What everyone needs: names for a screen reader, contrast, keys alone, a phone's width, a quick start, and no network."""
+"""Accessibility: names for a screen reader, contrast, use by keys alone, a phone's width, a quick start, and no network."""
 from selenium.webdriver.common.keys import Keys
 
 from checks.browser import SIZES
 
-# Roles that a person acts upon or that hold a value: each has a name.
+# Roles of elements that a person uses or that have a value; each needs a name.
 NAMED = {"button", "checkbox", "combobox", "group", "image", "link", "log", "meter", "region", "slider", "spinbutton", "tab", "tablist", "tabpanel", "textbox"}
 PLACES = {
     "replay": ("#replay", "document.getElementById('replay-example').click(); for (let i = 0; i < 8; i++) document.getElementById('replay-forward').click();"

@@ -1,4 +1,4 @@
-"""A headless Chromium with the page in it, by Debian's chromedriver."""
+"""A headless Chromium with the page, through Debian's chromedriver."""
 import json
 import time
 from pathlib import Path
@@ -8,12 +8,12 @@ from selenium.webdriver.common.action_chains import ActionChains
 from selenium.webdriver.chrome.service import Service
 from selenium.webdriver.common.by import By
 
-# As a colour scheme says it to the page; the width and height of a desk's screen and of a phone's.
+# The color schemes; the width and height of a desktop's and of a phone's screen.
 SIZES = {"wide": (1280, 960), "narrow": (360, 740)}
 
 
 class Browser:
-    """The page, as a person has it before them."""
+    """The page in a browser, as a person uses it."""
 
     def __init__(self, page, folder, program=None):
         self.page, self.folder, self.program = Path(page).resolve().as_uri(), folder, program
@@ -30,7 +30,7 @@ class Browser:
         self.driver.quit()
 
     def open(self, address="", page=None):
-        """Opens the page anew at an address, and waits until it is ready."""
+        """Reloads the page at an address, and waits until it is ready."""
         self.gather()
         self.driver.get("about:blank")
         self.driver.get((page or self.page) + address)
@@ -40,7 +40,7 @@ class Browser:
         return self.driver.execute_script(script, *words)
 
     def wait(self, script, seconds=15):
-        """Waits until a script answers something true, and answers it."""
+        """Waits until a script returns a true value, and returns it."""
         end = time.monotonic() + seconds
         while time.monotonic() < end:
             answer = self.run(script)
@@ -59,7 +59,7 @@ class Browser:
         return self.run("return document.querySelector(arguments[0]).textContent", selector)
 
     def fill(self, selector, value):
-        """Writes into a field as one that types there does."""
+        """Writes to a field, with the events of typing."""
         self.run(
             "const it = document.querySelector(arguments[0]); it.value = arguments[1];"
             "it.dispatchEvent(new Event('input', {bubbles: true})); it.dispatchEvent(new Event('change', {bubbles: true}));",
@@ -67,14 +67,14 @@ class Browser:
         )
 
     def fill_all(self, values):
-        """Writes into many fields, each by its selector."""
+        """Writes to many fields, each by its selector."""
         self.run(
             "for (const [selector, value] of Object.entries(arguments[0])) {"
             "  const it = document.querySelector(selector); it.value = value; it.dispatchEvent(new Event('input', {bubbles: true})); }", values,
         )
 
     def file(self, name, content):
-        """Opens a file with some content by the page's own field."""
+        """Opens a file with this content through the page's file field."""
         path = self.folder / name
         path.write_bytes(content if isinstance(content, bytes) else content.encode())
         self.find("#replay-file").send_keys(str(path))
@@ -98,11 +98,11 @@ class Browser:
         return self.run("return [...document.querySelectorAll(arguments[0])].map((it) => it.textContent)", selector)
 
     def notice(self):
-        """The message that is shown; empty where there is none."""
+        """The message that is shown; empty if there is none."""
         return self.run("const it = document.getElementById('notice'); return it.hidden ? '' : document.getElementById('notice-text').textContent")
 
     def saved(self, selector, name):
-        """The bytes of the file that a button hands out."""
+        """The bytes of the file that a button saves."""
         path = self.folder / name
         path.unlink(missing_ok=True)
         self.click(selector)
@@ -121,13 +121,13 @@ class Browser:
         self.driver.execute_cdp_cmd("Emulation.setEmulatedMedia", {"features": [{"name": "prefers-color-scheme", "value": scheme}]})
 
     def tree(self):
-        """The nodes of the accessibility tree that are not left out, as (role, name)."""
+        """The nodes of the accessibility tree that are not ignored, as (role, name)."""
         nodes = self.driver.execute_cdp_cmd("Accessibility.getFullAXTree", {})["nodes"]
         value = lambda node, key: node.get(key, {}).get("value", "")
         return [(value(node, "role"), value(node, "name")) for node in nodes if not node.get("ignored")]
 
     def gather(self):
-        """Keeps what was said on the console and requested so far."""
+        """Keeps the console messages and requests so far."""
         self.said += [entry for entry in self.driver.get_log("browser") if entry["level"] in ("SEVERE", "WARNING")]
         for entry in self.driver.get_log("performance"):
             message = json.loads(entry["message"])["message"]

@@ -107,7 +107,7 @@ def half_a_name_is_no_fault_yet(browser):
 
 
 def too_many_hp_are_those_of_a_side(browser):
-    """Tauros has 353 HP, and Alakazam 313: base 55, DV 15 and all experience (docs/MECHANICS.md, "Stats")."""
+    """Tauros has 353 HP, and Alakazam 313: base 55, DV 15 and maximum experience (docs/MECHANICS.md, "Stats")."""
     browser.open("#calculator")
     for side, name, most in ((1, "Tauros", 353), (2, "Alakazam", 313)):
         browser.fill(f"#calc-member-{side} [name=hp]", str(most + 1))
@@ -126,7 +126,7 @@ def a_text_at_fault_is_that_of_a_side(browser):
 
 
 def a_hit_has_the_same_share_everywhere(browser):
-    """Body Slam takes 95 to 112 of Tauros' 353 HP (docs/MECHANICS.md, "Damage formula"): 26.9 to 31.7 in a hundred."""
+    """Body Slam does 95 to 112 damage to Tauros' 353 HP (docs/MECHANICS.md, "Damage formula"): 26.9 to 31.7 percent."""
     browser.open("#calculator")
     for side in (1, 2):
         type_member(browser, side, {"species": "Tauros", "level": 100, "dvs": [15] * 4, "exp": [65535] * 5, "moves": [["Body Slam", 3]]})

@@ -1,4 +1,4 @@
-"""Recorded cases as the page takes them: what they ask for, and what has to come out (tests/battles)."""
+"""Recorded cases in the page's form: inputs, and expected results (tests/battles)."""
 import base64
 import json
 import re
@@ -42,7 +42,7 @@ def member_bytes(member):
 
 
 def address_of(asked, pairs):
-    """An input with its first pairs as an address holds it."""
+    """An input with its first pairs, in the form for an address."""
     limit = asked.get("limit", 1000)
     code = bytes(asked["seed"]) + bytes([asked.get("rules", 0), limit & 255, limit >> 8])
     for side in ("one", "two"):

@@ -1,4 +1,4 @@
-"""Messages: seen where a person is, quiet where nothing is wrong, and with the side and the field that they are about."""
+"""Messages: they are visible, are not alerts if nothing is wrong, and name the side and the field that they are about."""
 from checks.browser import SIZES
 from checks.tabs import COPIES
 

@@ -8,11 +8,11 @@ OFFERED = "return [...document.querySelectorAll('#play-choices-%d [data-choice]'
 
 
 def play_on(browser, asked, press):
-    """Plays a battle of two persons from its start, and gathers its lines; `press(side, place, choice)` presses a choice."""
+    """Plays a battle of two persons from its start, and collects its lines; `press(side, place, choice)` presses a choice."""
     browser.open(f"#play?b={address_of(asked, 1)}&p1=person&p2=person")
     found = browser.lines("#play-lines")
     for pair in asked["choices"][1:]:
-        # A choice may be pressed for a side where something else than Pass is offered.
+        # A side has buttons if anything but Pass is offered.
         for side, choice in zip((1, 2), pair):
             if choice:
                 offered = browser.run(OFFERED % side)
@@ -106,7 +106,7 @@ def a_battle_that_was_played_is_watched(browser):
     assert browser.lines("#replay-whole-lines") == lines_of(case)
 
 
-# Workers that fail, each in its own way.
+# Workers that fail, each in a different way.
 FAILING = {
     "an error": "postMessage() { setTimeout(() => this.onerror(new ErrorEvent('error', {message: 'broken', cancelable: true}))); }",
     "a message that cannot be read": "postMessage() { setTimeout(() => this.onmessageerror(new MessageEvent('messageerror'))); }",
@@ -120,7 +120,7 @@ def a_worker_that_fails_is_done_without(browser):
         browser.open("#play")
         browser.run(f"window.Worker = class {{ {how} terminate() {{ window.ended = true; }} }}")
         browser.fill("#play-who-2", "greedy")
-        # No seed brings these two down in two turns.
+        # With no seed does either of these two faint within two turns.
         for side in (1, 2):
             browser.fill(f"#play-team-{side}", "Chansey\n- Strength\n- Pound")
         browser.click("#play-start")
@@ -142,7 +142,7 @@ def a_worker_says_why_it_cannot(browser):
 
 
 def two_tauros(browser):
-    """Begins a battle of two persons."""
+    """Starts a battle of two persons."""
     browser.open("#play")
     for side in (1, 2):
         browser.fill(f"#play-who-{side}", "person")
@@ -195,7 +195,7 @@ def open_details_stay_with_their_member(browser):
     browser.press(" ")
     browser.wait("return document.querySelector('#play-side-1 .members > li:nth-child(2) details').open")
     assert browser.run(names) == ["Starmie"]
-    # Chansey comes out, and Tauros stands where Starmie's details were.
+    # Chansey comes out, and Tauros takes the place of Starmie's details.
     browser.run("for (const it of ['1 [data-choice=\"35\"]', '2 [data-choice=\"17\"]']) document.querySelector('#play-choices-' + it).click()")
     assert "Chansey" in browser.text("#play-side-1 .head") and browser.run(names) == ["Starmie"]
     assert browser.run("return document.activeElement.textContent") == "Moves of Starmie"

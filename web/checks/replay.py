@@ -1,4 +1,4 @@
-"""Replay: recorded battles watched to their ends, by every way in, and handed on."""
+"""Replay: recorded battles, opened in every way, replayed to their ends, and shared."""
 import base64
 import json
 import subprocess
@@ -10,12 +10,12 @@ from checks.cases import cases, lines_of
 
 
 def battle(least, most):
-    """A recorded battle without a fault, of so many pairs."""
+    """A recorded battle without a refusal, with this many pairs."""
     return next(case for case in cases("battles") if not case["stderr"] and least <= len(json.loads(case["input"])["choices"]) <= most)
 
 
 def steps(browser):
-    """Goes forward to the end, and gathers the lines of each update."""
+    """Goes forward to the end, and collects the lines of each update."""
     return browser.run("""
         const found = [];
         const forward = document.getElementById('replay-forward');
@@ -138,13 +138,13 @@ def a_saved_page_holds_its_battle(browser):
     page = browser.saved("#replay-share [data-share=page]", "battle.html")
     browser.open(page=(browser.folder / "battle.html").as_uri())
     assert steps(browser) == lines_of(case)
-    # The page that a page saved is a page like any other, and is read as a file too.
+    # A saved page can be saved again, and opened as a file.
     shown(browser, page, "saved.html")
     assert steps(browser) == lines_of(case)
 
 
 def fill_page(browser, text):
-    """Puts a battle's JSON into the page, as a file of its own, and answers where that is."""
+    """Writes a copy of the page with a battle's JSON, and returns its address."""
     source = Path(browser.page.removeprefix("file://")).read_text()
     place = '<script id="battle" type="application/json">null</script>'
     assert source.count(place) == 1

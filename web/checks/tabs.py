@@ -1,4 +1,4 @@
-"""The address is that of the part that is shown, and a link that of the part whose button is pressed."""
+"""The address is that of the part that is shown, and a link is that of the part whose button is pressed."""
 import json
 
 from checks.cases import address_of
@@ -26,7 +26,7 @@ def copied(browser, part):
 
 
 def late_choice(browser):
-    """Begins a battle against the computer, and presses a choice that the computer's does not follow yet."""
+    """Starts a battle against the computer, and presses a choice while the computer's choice is delayed."""
     browser.run(LATE)
     browser.fill("#play-who-2", "random")
     for side in (1, 2):
