@@ -159,12 +159,12 @@ SideEffects GoingOn Charging FixedDamage Counter HitEffects ManyHits Action'''.s
 COMBINATORS = '''stay unless_stopped choose given stop draw draw_until on_field note told on_active on_conditions on_member
 set_last_damage starts lasts ends on_action set_missed'''.split()
 
-FREE_HEAD = '''-- What no phase of an action touches: turn number, places, members that are not out, and the length of a party. A fact of
--- these alone is free, and every phase of an action keeps it. Below its head this file is written by tools/walk.py.
+FREE_HEAD = '''-- What no phase of an action touches: turn number, places, members that aren't out, and the length of a party. A fact about
+-- these alone is free, and every phase of an action keeps it. tools/walk.py writes this file.
 %s
 use Rattle.gen1_machine.proofs.Keeps.{choose-keeps, keeps_rules, stay-keeps, then-keeps, Keeps, KeepsRuling, Spares, SparesAction}
 
--- a change of a member that is out, but not of who is out
+-- A change of the member that is out. The same member stays out.
 pub record LeavesPlace (change : Active → Active) : Type 0 where
   pub left : (a : Active) → (change a).place ≡ a.place
 
@@ -327,8 +327,8 @@ must_recharge side_effect start_rage hit_effect hit_once hit_again other_hits hi
 lead_up carry_out action_parts act let_energy_go store_energy bide_on bide_goes_on set_letting_go spend_pp keep_accuracy begin
 resume'''.split()
 
-SOUND_HEAD = '''-- Phases of an action keep a valid field: those that touch nothing which the current move explains. Below its head this file
--- is written by tools/walk.py; the lemmas that it takes over as they are stand in tools/sound_lemmas.txt.
+SOUND_HEAD = '''-- The phases of an action that touch nothing that the current move explains keep a valid field. tools/walk.py writes this
+-- file, with the lemmas of tools/sound_lemmas.txt.
 %s
 use Rattle.std.proofs.lemmas.Bool.{false≢true, ltb-true}
 use Rattle.gen1_machine.proofs.Keeps.{choose-keeps, draw-keeps, ends-keeps, given-keeps, keeps_rules, note-keeps, on_action-keeps, on_active-keeps, on_conditions-keeps, on_field-keeps, set_last_damage-keeps, set_missed-keeps, starts-keeps, stay-keeps, stop-keeps, then-keeps, told-keeps, Keeps, KeepsRuling, Spares, SparesAction}
@@ -381,13 +381,13 @@ def sound():
 # thrashing of the side that acts, or it settles what is known of the action
 ASKED = {'hurts': 'Hurts P', 'faults': 'Faults P', 'broken': 'Breaks P %s', 'own': 'Own P %s', 'acts': 'Acts P'}
 
-STEADY_HEAD = '''-- What a phase leaves: rage, thrashing and the accuracy that is kept for them, the health of who falls, and the outcome. What
--- it asks of a fact beside is a premise of its lemma. Below its head this file is written by tools/walk.py; the lemmas that it
--- takes over as they are stand in tools/steady_lemmas.txt.
+STEADY_HEAD = '''-- What phases leave as it is: rage, thrashing and their kept accuracy, the health of a member that falls, and the outcome.
+-- A further need of a phase is a premise of its lemma. tools/walk.py writes this file, with the lemmas of
+-- tools/steady_lemmas.txt.
 %s
 use Rattle.gen1_machine.proofs.Keeps.{choose-keeps, given-keeps, keeps_rules, on_action-keeps, on_active-keeps, on_conditions-keeps, on_field-keeps, on_member-keeps, stay-keeps, stop-keeps, then-keeps, told-keeps, Keeps, KeepsRuling, Spares, SparesAction}
 
--- changes that leave rage, thrashing and the accuracy kept for them
+-- Changes that leave rage, thrashing and their kept accuracy as they are
 
 pub record LeavesKept (change : Active → Active) : Type 0 where
   pub kept : (a : Active) → (change a).kept_accuracy ≡ a.kept_accuracy
@@ -397,7 +397,7 @@ pub record LeavesKept (change : Active → Active) : Type 0 where
 pub record Leaves (change : ActiveConditions → ActiveConditions) : Type 0 where
   pub left : (c : ActiveConditions) → keeps_accuracy (change c).underway ≡ keeps_accuracy c.underway
 
--- a change that leaves a fallen member healthy
+-- A change after which a fallen member has no status.
 pub record Softens (change : Member → Member) : Type 0 where
   pub healthy : (m : Member) → (m.hp ≡ 0 → m.status ≡ Healthy) → (change m).hp ≡ 0 → (change m).status ≡ Healthy
 
@@ -426,7 +426,7 @@ softens-pp used = record { healthy = λ m h. h }
 
 ruleset leaves_rules = (%RULES, softens-status, softens-fallen, softens-sleep, softens-pp)
 
--- facts that outlive all this
+-- Facts that all these changes keep
 
 pub record Steady (P : Field → Action → Stream → Type 0) : Type 0 where
   pub member : (s : Side) (change : Member → Member) → Softens change → Spares P (changed_member s change)
@@ -435,7 +435,7 @@ pub record Steady (P : Field → Action → Stream → Type 0) : Type 0 where
   pub damage : (n : ℕ) → Spares P (with_last_damage n)
   pub action : (change : Action → Action) → LeavesAction change → SparesAction P change
 
--- and what else a fact may outlive
+-- What else may keep a fact
 
 pub record Hurts (P : Field → Action → Stream → Type 0) : Type 0 where
   pub hurt : (s : Side) (change : Member → Member) → Spares P (changed_member s change)

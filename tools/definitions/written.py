@@ -10,7 +10,7 @@ from definitions.modules import ROOT, Library
 from definitions.recorded import Battle
 
 PER_MODULE = 5
-COMPUTING = """-- Where a lemma unfolds `computing`, all definitions of a battle compute. Made by tools/evaluate.py.
+COMPUTING = """-- A lemma that unfolds `computing` computes all definitions of a battle. Made by tools/evaluate.py.
 use Rattle.std.proofs.Common.{Bool, true}
 use Rattle.std.specs.Fmt.{digits}
 %s
@@ -19,7 +19,7 @@ unfoldable pub computing : Bool
 unfolding digits %s
 computing = true
 """
-HEAD = """-- Recorded battles: what the definitions make of each update is what was recorded. Made by tools/evaluate.py.
+HEAD = """-- Recorded battles: the definitions give each update as it was recorded. Made by tools/evaluate.py.
 use Rattle.std.proofs.Common.{List, [], refl, ◌∷◌, ◌≡◌}
 %s
 

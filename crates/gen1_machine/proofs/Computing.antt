@@ -1,4 +1,4 @@
--- Where a lemma unfolds `computing`, all definitions of a battle compute. Made by tools/evaluate.py.
+-- A lemma that unfolds `computing` computes all definitions of a battle. Made by tools/evaluate.py.
 use Rattle.std.proofs.Common.{Bool, true}
 use Rattle.std.specs.Fmt.{digits}
 use Rattle.gen1_tables.specs.Types.{type_rows}

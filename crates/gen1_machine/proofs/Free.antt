@@ -1,5 +1,5 @@
--- What no phase of an action touches: turn number, places, members that are not out, and the length of a party. A fact of
--- these alone is free, and every phase of an action keeps it. Below its head this file is written by tools/walk.py.
+-- What no phase of an action touches: turn number, places, members that aren't out, and the length of a party. A fact about
+-- these alone is free, and every phase of an action keeps it. tools/walk.py writes this file.
 use Rattle.gen1_machine.specs.Action.{act, action_parts, begin, carry_out, damage_of, gate_or_held, keep_accuracy, lead_up, prelude, resume, see_if_going_on, set_going_on, spend_pp, strike, use_move, usual_damage}
 use Rattle.gen1_machine.specs.Charging.{begin_charge, charge, end_charge, make_current}
 use Rattle.gen1_machine.specs.Conditions.{ActiveConditions, Storing}
@@ -46,7 +46,7 @@ use Rattle.gen1_tables.specs.declared.effect.Effect.TheVariants as effects
 use Rattle.gen1_machine.specs.declared.terms.Outcome.TheVariants as outcomes
 use Rattle.gen1_machine.proofs.Keeps.{choose-keeps, keeps_rules, stay-keeps, then-keeps, Keeps, KeepsRuling, Spares, SparesAction}
 
--- a change of a member that is out, but not of who is out
+-- A change of the member that is out. The same member stays out.
 pub record LeavesPlace (change : Active → Active) : Type 0 where
   pub left : (a : Active) → (change a).place ≡ a.place
 

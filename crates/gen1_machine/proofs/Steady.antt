@@ -1,6 +1,6 @@
--- What a phase leaves: rage, thrashing and the accuracy that is kept for them, the health of who falls, and the outcome. What
--- it asks of a fact beside is a premise of its lemma. Below its head this file is written by tools/walk.py; the lemmas that it
--- takes over as they are stand in tools/steady_lemmas.txt.
+-- What phases leave as it is: rage, thrashing and their kept accuracy, the health of a member that falls, and the outcome.
+-- A further need of a phase is a premise of its lemma. tools/walk.py writes this file, with the lemmas of
+-- tools/steady_lemmas.txt.
 use Rattle.gen1_machine.specs.Action.{act, action_parts, begin, carry_out, damage_of, gate_or_held, keep_accuracy, lead_up, prelude, resume, see_if_going_on, set_going_on, spend_pp, strike, use_move, usual_damage}
 use Rattle.gen1_machine.specs.Charging.{begin_charge, charge, end_charge, make_current}
 use Rattle.gen1_machine.specs.Conditions.{after_haze, broken_off, with_bad_poison, with_bide, with_bide_storing, with_charging, with_confusion, with_confusion_one_less, with_disable_one_less, with_disabled, with_flinch, with_focus_energy, with_invulnerability, with_light_screen, with_mist, with_recharge, with_reflect, with_seed, with_substitute, with_substitute_hurt, with_trapping, with_trapping_one_less, with_worse_poison, without_bide, without_charging, without_confusion, without_disable, without_flinch, without_invulnerability, without_recharge, without_seed, without_substitute, without_trapping, ActiveConditions, Storing}
@@ -48,7 +48,7 @@ use Rattle.gen1_tables.specs.declared.effect.Effect.TheVariants as effects
 use Rattle.gen1_machine.specs.declared.terms.Outcome.TheVariants as outcomes
 use Rattle.gen1_machine.proofs.Keeps.{choose-keeps, given-keeps, keeps_rules, on_action-keeps, on_active-keeps, on_conditions-keeps, on_field-keeps, on_member-keeps, stay-keeps, stop-keeps, then-keeps, told-keeps, Keeps, KeepsRuling, Spares, SparesAction}
 
--- changes that leave rage, thrashing and the accuracy kept for them
+-- Changes that leave rage, thrashing and their kept accuracy as they are
 
 pub record LeavesKept (change : Active → Active) : Type 0 where
   pub kept : (a : Active) → (change a).kept_accuracy ≡ a.kept_accuracy
@@ -58,7 +58,7 @@ pub record LeavesKept (change : Active → Active) : Type 0 where
 pub record Leaves (change : ActiveConditions → ActiveConditions) : Type 0 where
   pub left : (c : ActiveConditions) → keeps_accuracy (change c).underway ≡ keeps_accuracy c.underway
 
--- a change that leaves a fallen member healthy
+-- A change after which a fallen member has no status.
 pub record Softens (change : Member → Member) : Type 0 where
   pub healthy : (m : Member) → (m.hp ≡ 0 → m.status ≡ Healthy) → (change m).hp ≡ 0 → (change m).status ≡ Healthy
 
@@ -251,7 +251,7 @@ softens-pp used = record { healthy = λ m h. h }
 
 ruleset leaves_rules = (with_types_of-leaves, with_current_move-leaves, with_picked_move-leaves, at_new_stage-leaves, with_levelled_stats-leaves, recomputed_at-leaves, with_penalty_of-leaves, with_bide-leaves, with_bide_storing-leaves, without_bide-leaves, with_trapping-leaves, with_trapping_one_less-leaves, without_trapping-leaves, with_charging-leaves, without_charging-leaves, with_invulnerability-leaves, without_invulnerability-leaves, with_recharge-leaves, without_recharge-leaves, with_flinch-leaves, without_flinch-leaves, with_confusion-leaves, with_confusion_one_less-leaves, without_confusion-leaves, with_mist-leaves, with_focus_energy-leaves, with_light_screen-leaves, with_reflect-leaves, with_substitute-leaves, with_substitute_hurt-leaves, without_substitute-leaves, with_seed-leaves, without_seed-leaves, with_bad_poison-leaves, with_worse_poison-leaves, with_disabled-leaves, with_disable_one_less-leaves, without_disable-leaves, after_haze-leaves, softens-status, softens-fallen, softens-sleep, softens-pp)
 
--- facts that outlive all this
+-- Facts that all these changes keep
 
 pub record Steady (P : Field → Action → Stream → Type 0) : Type 0 where
   pub member : (s : Side) (change : Member → Member) → Softens change → Spares P (changed_member s change)
@@ -260,7 +260,7 @@ pub record Steady (P : Field → Action → Stream → Type 0) : Type 0 where
   pub damage : (n : ℕ) → Spares P (with_last_damage n)
   pub action : (change : Action → Action) → LeavesAction change → SparesAction P change
 
--- and what else a fact may outlive
+-- What else may keep a fact
 
 pub record Hurts (P : Field → Action → Stream → Type 0) : Type 0 where
   pub hurt : (s : Side) (change : Member → Member) → Spares P (changed_member s change)

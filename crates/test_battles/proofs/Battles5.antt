@@ -1,4 +1,4 @@
--- Recorded battles: what the definitions make of each update is what was recorded. Made by tools/evaluate.py.
+-- Recorded battles: the definitions give each update as it was recorded. Made by tools/evaluate.py.
 use Rattle.std.proofs.Common.{List, [], refl, ◌∷◌, ◌≡◌}
 use Rattle.gen1_machine.specs.declared.choice.Choice.{Choice}
 use Rattle.gen1_machine.specs.declared.choice.Choice.TheVariants as choices
