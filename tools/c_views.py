@@ -5,12 +5,18 @@ import ctypes
 import re
 import sys
 from ctypes import Structure, byref, c_uint8, c_uint32
+from importlib.util import module_from_spec, spec_from_file_location
 
 sys.dont_write_bytecode = True
-from c_structs import StateStruct
 from repository import ROOT
 from tables import element_names, numbered, table
 
+# The structs of the Python package, from a module that loads no library.
+_spec = spec_from_file_location("gen1_structs", ROOT / "python" / "gen1" / "src" / "gen1" / "_structs.py")
+_structs = module_from_spec(_spec)
+_spec.loader.exec_module(_structs)
+
+StateStruct, PlayoutsStruct = _structs.StateStruct, _structs.PlayoutsStruct
 ROOM, KEPT = 128, b"\x07" * 128
 
 

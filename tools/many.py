@@ -6,7 +6,7 @@ from ctypes import POINTER, Structure, byref, c_size_t, c_uint8, c_uint16, c_uin
 
 import gen1
 from battles import TRACES, cases, loads, recorded, traces
-from c_structs import PlayoutsStruct
+from c_views import PlayoutsStruct
 
 KEPT = 7  # fills arrays and structs that a call must not change
 

@@ -1,10 +1,14 @@
-"""Mutants of definitions: one branch, constant, comparison or order changed at a time, found by the syntax of the clauses."""
+"""Mutants of definitions: one branch, constant, comparison or order changed at a time, found by the syntax of the clauses; and which
+worked example or recorded update refuses each."""
 
 from collections import Counter
+from functools import cache
 
 from definitions import reading
 from definitions.branches import Branches
 from definitions.compiling import spine
+from definitions.coverage import updates_of
+from definitions.machine import FAULTS, Machine
 from definitions.modules import Constructor, Definition, Word
 from definitions.terms import Apply, Elim, Lambda, Name, Number, Record, all_parts
 
@@ -218,3 +222,65 @@ def mutants_of(definitions):
         if alike[key] > 1:
             mutant.name += f" ({seen[key]} of {alike[key]})"
     return found
+
+
+class Trial:
+    """A machine whose definitions are changed, one at a time, and an unchanged one.
+
+    A mutant is tried only on what enters the branch that it changes: a worked example by both sides of its equations, a recorded update
+    from the state before it. It is refused where a side of an equation has another value, or where the report of the update is not the
+    recorded one. A change after which there is no value refuses nothing.
+    """
+
+    def __init__(self, coverage):
+        self.coverage, self.machine, self.as_is = coverage, Machine(), Machine()
+        self.mutants = mutants_of(coverage.definitions)
+        self.sides = [lemma.sides(self.machine.compiler) for lemma in coverage.lemmas]
+        self.updates = cache(self.updates_played)
+
+    def updates_played(self, number):
+        """The updates of a battle by the unchanged machine."""
+        return list(updates_of(self.as_is, self.coverage.battles[number]))
+
+    def refusal(self, mutant):
+        """What refuses a mutant; None where nothing does."""
+        compiler = self.machine.compiler
+        name, remembered = compiler.reference(mutant.definition), len(compiler.memories)
+        before = compiler.space[name]
+        compiler.make(mutant.definition, mutant.clauses())
+        compiler.forget()
+        try:
+            return self.refused_by(mutant)
+        finally:
+            compiler.space[name] = before
+            del compiler.memories[remembered:]
+            compiler.forget()
+
+    def refused_by(self, mutant):
+        """The first worked example, or else the first recorded update, that refuses the mutant whose clauses are in place."""
+        branches = self.coverage.around(mutant)
+        for at in sorted({at for branch in branches for at in self.coverage.by_lemma[branch]}):
+            if self.lemma_fails(at):
+                return self.coverage.lemmas[at].name
+        unreported = (mutant.definition.module.path, mutant.definition.name) in self.coverage.unreported
+        for number, at in sorted({each for branch in branches for each in self.coverage.by_update[branch]}):
+            if self.differs(self.updates(number)[at], unreported):
+                return f"{self.coverage.battles[number].name}, update {at}"
+        return None
+
+    def lemma_fails(self, at):
+        """Whether an equation of a worked example does not hold."""
+        try:
+            return any(left() != right() for left, right in self.sides[at])
+        except FAULTS:
+            return False
+
+    def differs(self, update, unreported):
+        """Whether the report of an update differs from the recorded one."""
+        try:
+            stepped = self.machine.step(update.state, *update.choices)
+            if unreported and stepped == update.stepped:
+                return False
+            return self.machine.reported(update.state, update.view, stepped)[0] != update.wanted
+        except FAULTS:
+            return False

@@ -1,1 +1,0 @@
-"""The definitions of the abstract machine (crates/*/specs), read and computed in Python, apart from the prover."""

@@ -1,1 +1,0 @@
-"""What the tools read of documents and of the comments that cite them."""
