@@ -1,7 +1,7 @@
 """The branches of definitions, and which of them a computation enters.
 
-A branch is a clause of a definition, a case of an `elim`, a side of an `if`, or what the test of a choice between two courses
-comes to (`choose`, and what is made of it: `when`, `unless`, `only` and their like, found by what they are).
+A branch is a clause of a definition, a case of an `elim`, a side of an `if`, or a result of the test of a choice between two courses. Such
+choices are `choose` and what is defined by it (`when`, `unless`, `only` and others); they are found by their definitions.
 """
 
 from definitions.compiling import spine
@@ -9,7 +9,7 @@ from definitions.terms import Apply, Elim, Lambda, Name
 
 
 class Branch:
-    """A branch: the definition in which it is, where it stands in its module's text, and what it is."""
+    """A branch: its definition, its place in the module's text, and its kind."""
 
     def __init__(self, definition, start, end, what):
         self.definition, self.start, self.end, self.what = definition, start, end, what
@@ -18,7 +18,7 @@ class Branch:
         return " ".join(self.definition.module.text[self.start:self.end].split())
 
     def is_place_of(self, definition, start, end):
-        """Whether it is a branch of a definition, other than an outcome of a test, around a part of the text."""
+        """Whether it is a branch of a definition around a part of the text, other than a result of a test."""
         own = (self.definition.module.path, self.definition.name) == (definition.module.path, definition.name)
         return own and ":" not in self.what and self.start <= start and end <= self.end
 
@@ -33,11 +33,11 @@ class Branches:
         self.all, self.numbers, self.entered, self.tests = [], {}, set(), {}
 
     def attach(self, compiler):
-        """Counts in the functions of a compiler, which must not have made any yet."""
+        """Counts in the functions of a compiler, which must not have made a function yet."""
         compiler.space.update(enter=self.entered.add, noted=self.noted, noting=self.noting)
 
     def number(self, branch):
-        """The number of a branch, a new one where it was not met yet."""
+        """The number of a branch, a new one at its first use."""
         key = branch.key()
         if key not in self.numbers:
             self.numbers[key] = len(self.all)
@@ -57,7 +57,7 @@ class Branches:
         return self.number(Branch(definition, body.start, body.end, what))
 
     def choice(self, inside, chooser, test):
-        """The number of the side where a test holds, the other's being the next; none where the test is only passed on."""
+        """The number of the side where a test holds, the other side having the next; None where the test is only passed on."""
         if self.test_of(inside) and not any(isinstance(part, Apply) for part in (test, body_of(test))):
             return None
         first = self.number(Branch(inside, test.start, test.end, f"{chooser.name}: holds"))
@@ -65,7 +65,7 @@ class Branches:
         return first
 
     def again(self, computed):
-        """A constant that enters, each time it is named, what it entered as it was computed."""
+        """A constant that enters at each use the branches of its computation."""
         own = set()
 
         def named():
@@ -81,16 +81,16 @@ class Branches:
         return named
 
     def noted(self, number, holds):
-        """What a test came to, noted."""
+        """Notes the result of a test."""
         self.entered.add(number if holds else number + 1)
         return holds
 
     def noting(self, number, test):
-        """A test that notes what it comes to."""
+        """A test that notes its result."""
         return lambda value: self.noted(number, test(value))
 
     def test_of(self, definition):
-        """The place of a definition's test, and whether it is a function; none where the definition makes no choice."""
+        """The place of a definition's test, and whether it is a function; None where the definition makes no choice."""
         key = (definition.module.path, definition.name)
         if key not in self.tests:
             self.tests[key] = None
@@ -98,7 +98,7 @@ class Branches:
         return self.tests[key]
 
     def found_test(self, definition):
-        """The test of `choose`, whose body asks it of its argument, or of a definition that hands its own to such a one."""
+        """The test of `choose`, which applies it to its argument, or of a definition that passes its own on to such a one."""
         clauses = definition.clauses()
         if len(clauses) != 1 or not all(isinstance(pattern, Name) for pattern in clauses[0][0]):
             return None
@@ -116,7 +116,7 @@ class Branches:
         return self.passed_on(places, arguments[test[0]], test[1]) if test and test[0] < len(arguments) else None
 
     def passed_on(self, places, test, is_function):
-        """Where a definition hands its own argument on as a test."""
+        """Where a definition passes its own argument on as a test."""
         if isinstance(test, Name) and test.word in places and not test.fields:
             return places[test.word], is_function
         inner = body_of(test)
@@ -126,5 +126,5 @@ class Branches:
 
 
 def body_of(term):
-    """What a function gives, where it takes no notice of its argument."""
+    """The body of a function that ignores its argument."""
     return term.body if isinstance(term, Lambda) and term.parameters == ["_"] else term

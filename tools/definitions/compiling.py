@@ -1,8 +1,8 @@
 """Makes a Python function of each definition, clause by clause, so that whole battles can be computed.
 
-A definition is a function of as many arguments as its type has, type names such as `Phase` opened. Functions that are passed
-about take one argument at a time. Arguments are computed before a call, cases and the second side of `&&`, `||` and `if` only
-where they are reached: all definitions end, so the order changes no value.
+A definition is a function of as many arguments as its type has; type names such as `Phase` are replaced by their definitions. Functions
+that are passed as values take one argument at a time. Arguments are computed before a call; cases and the second side of `&&`, `||` and `if`
+only where they are reached. All definitions end, so this order changes no value.
 """
 
 from collections import namedtuple
@@ -33,7 +33,7 @@ class Made(Term):
 
 
 class Scope:
-    """Where a term stands: its definition, and the Python of each name that is bound around it."""
+    """The surroundings of a term: its definition, and the Python of each name that is bound there."""
 
     def __init__(self, definition, names):
         self.definition, self.module, self.names = definition, definition.module, names
@@ -50,7 +50,7 @@ def fields_of(text, fields):
 
 
 def spine(term):
-    """A function and all its arguments, those of the function itself in front."""
+    """A function and all its arguments, in order."""
     arguments = []
     while isinstance(term, Apply):
         arguments = [*term.arguments, *arguments]
@@ -59,7 +59,7 @@ def spine(term):
 
 
 class Records:
-    """The classes of records, one for each set of fields, and the changes that are made of them."""
+    """The classes of records, one for each set of fields, and the methods that change fields."""
 
     def __init__(self, space):
         self.space, self.classes, self.changes = space, {}, set()
@@ -93,7 +93,7 @@ class Records:
 
 
 class Compiler:
-    """The definitions of a library, each made into Python where it is first named."""
+    """The definitions of a library, each translated to Python at its first use."""
 
     def __init__(self, library, branches=None):
         self.library, self.branches = library, branches
@@ -105,7 +105,7 @@ class Compiler:
     # ---- names
 
     def reference(self, definition):
-        """The Python name of a definition, which is made if it is not yet."""
+        """The Python name of a definition, which is translated if it isn't yet."""
         key = (definition.module.path, definition.name)
         if key not in self.names:
             plain = "".join(letter if letter.isalnum() and letter.isascii() else "_" for letter in definition.name)
@@ -126,7 +126,7 @@ class Compiler:
         return self.arities[key]
 
     def arguments(self, module, kind):
-        """The types of the arguments of a type, each with its module; a name of a function type is opened."""
+        """The types of the arguments of a type, each with its module; a name of a function type is replaced by its definition."""
         if isinstance(kind, Arrow):
             return [(module, kind.left), *self.arguments(module, kind.right)]
         if isinstance(kind, Name):
@@ -146,7 +146,7 @@ class Compiler:
         return isinstance(found, Kind) and found.name != "Event"
 
     def remembers(self, definition):
-        """Whether what a definition gives is kept for each of its arguments."""
+        """Whether the values of a definition are cached."""
         kinds = self.arguments(definition.module, definition.type())
         return bool(kinds) and self.branches is None and all(self.is_plain(*kind) for kind in kinds)
 
@@ -163,7 +163,7 @@ class Compiler:
             self.make(self.waiting.pop())
 
     def make(self, definition, clauses=None):
-        """The Python function of a definition; other clauses may stand for its own."""
+        """The Python function of a definition; other clauses may replace its own."""
         name, source = self.names[definition.module.path, definition.name], self.source(definition, clauses)
         exec(compile(source, f"{definition.module.path}.{definition.name}", "exec"), self.space)
         if self.arity(definition) == 0:
@@ -178,7 +178,7 @@ class Compiler:
         return computed if self.branches is None else self.branches.again(computed)
 
     def forget(self):
-        """Empties what was remembered."""
+        """Empties the caches."""
         for memory in self.memories:
             memory.cache_clear()
 
@@ -208,7 +208,7 @@ class Compiler:
         return lines + self.statements(body, extra, scope.with_names(names), indent)
 
     def match(self, scope, pattern, text, conditions, names):
-        """What has to hold of a value for a pattern, and what the pattern's names are then."""
+        """The conditions on a value for a pattern, and the Python of the pattern's names."""
         head, inner = spine(pattern)
         if isinstance(head, Tuple):
             for at, item in enumerate(head.items):
@@ -252,7 +252,7 @@ class Compiler:
     # ---- terms
 
     def statements(self, term, extra, scope, indent):
-        """The statements that give a term's value, applied to more arguments."""
+        """The statements that return a term's value, applied to more arguments."""
         head, arguments = spine(term)
         arguments = [*arguments, *extra]
         if isinstance(head, Elim):
@@ -320,7 +320,7 @@ class Compiler:
         return f"(lambda {name}: {inside})"
 
     def bound(self, function, arguments, scope):
-        """The body of a function, what is left of its arguments, and the scope in which its parameters are the arguments."""
+        """The body of a function, the remaining arguments, and the scope in which its parameters are the arguments."""
         name, *others = function.parameters
         inside = scope.with_names({name: self.python(arguments[0], scope)})
         body = Lambda(others, function.body) if others else function.body
@@ -389,7 +389,7 @@ class Compiler:
         return text + "".join(f"({self.python(each, scope)})" for each in arguments)
 
     def missing(self, count, given, complete):
-        """A function of the arguments that are missing: `complete` makes the whole of the Python of all."""
+        """A function of the missing arguments; `complete` makes the call from the Python of all."""
         names = [self.variable() for _ in range(count - len(given))]
         text = complete([*given, *names])
         for name in reversed(names):
@@ -397,7 +397,7 @@ class Compiler:
         return text
 
     def whole(self, definition, arguments, scope):
-        """A definition applied to arguments; to too few, it is a function of the others."""
+        """A definition applied to arguments; with too few it is a function of the others."""
         name, count = self.reference(definition), self.arity(definition)
         given = [self.python(each, scope) for each in arguments[:count]]
         if self.branches is not None and (test := self.branches.test_of(definition)) and test[0] < len(given):
@@ -409,7 +409,7 @@ class Compiler:
         return self.called(f"{name}({', '.join(given)})", arguments[count:], scope)
 
     def tested(self, definition, test, arguments, given, scope):
-        """The test of a choice, which notes what it came to."""
+        """The test of a choice, which notes its result."""
         at, is_function = test
         number = self.branches.choice(scope.definition, definition, arguments[at])
         if number is None:

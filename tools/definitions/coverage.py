@@ -13,26 +13,26 @@ shared = None
 
 
 def forked(jobs):
-    """So many processes, which share all that there is."""
+    """A pool of processes, which share all objects that exist."""
     gc.collect()
     gc.freeze()
     return multiprocessing.get_context("fork").Pool(jobs)
 
 
 def entered_by(number):
-    """The number of a battle, and what each of its updates enters."""
+    """The number of a battle, and the branches that each of its updates enters."""
     return number, shared.entered_by_battle(number)
 
 
 class Update:
-    """A recorded update: the state and the view before it, its choices, what came of it, and what was recorded."""
+    """A recorded update: the state and the view before it, its choices, the computed step, and the recorded report."""
 
     def __init__(self, state, view, choices, stepped, wanted):
         self.state, self.view, self.choices, self.stepped, self.wanted = state, view, choices, stepped, wanted
 
 
 def updates_of(machine, battle):
-    """The updates of a trace, each as it is played."""
+    """Plays a recorded battle, and yields each update."""
     state = machine.begin(battle)
     view = machine.first_seen(state)
     for update in battle.line["updates"]:
@@ -44,7 +44,7 @@ def updates_of(machine, battle):
 
 
 class Coverage:
-    """What enters each branch of the step's definitions: worked examples by their number, updates by battle and number."""
+    """What enters each branch of the step's definitions: worked examples by number, updates by battle and number."""
 
     def __init__(self, battles):
         self.branches = Branches()
@@ -89,7 +89,7 @@ class Coverage:
         return found
 
     def count_battles(self, jobs):
-        """Plays all battles in so many processes, and notes what their updates enter."""
+        """Plays all battles in several processes, and notes which branches their updates enter."""
         global shared
         shared = self
         with forked(jobs) as pool:
@@ -100,7 +100,7 @@ class Coverage:
                     self.by_update[branch].append((number, at))
 
     def own_branches(self):
-        """The numbers of the branches of the step's definitions, module by module as they stand."""
+        """The numbers of the branches of the step's definitions, by module and place."""
         own = {(each.module.path, each.name) for each in self.definitions}
         numbers = [number for number, branch in enumerate(self.branches.all) if branch.key()[:2] in own]
         return sorted(numbers, key=lambda number: (self.branches.all[number].key()[0], self.branches.all[number].start, number))
@@ -119,7 +119,7 @@ class Coverage:
         return lemmas + updates
 
     def around(self, mutant):
-        """The innermost branches in which the edits of a mutant stand."""
+        """The innermost branches around the edits of a mutant."""
         found = set()
         for start, end, _ in mutant.edits:
             found.add(min((branch.end - branch.start, number) for number, branch in enumerate(self.branches.all)

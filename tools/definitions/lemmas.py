@@ -1,4 +1,4 @@
-"""Worked examples: the lemmas that say what something computes to, `left ≡ right`, several joined by `×`."""
+"""Worked examples: lemmas `left ≡ right` that the checker proves by computing, several joined by `×`."""
 
 from definitions import reading
 from definitions.compiling import Scope
@@ -24,7 +24,7 @@ class Lemma:
 
 
 def equations_of(kind):
-    """The equations that a type joins, or none where it says anything else."""
+    """The equations that a type joins; none where it is another statement."""
     if isinstance(kind, Apply) and kind.infix and kind.function.word == "◌×◌":
         left, right = map(equations_of, kind.arguments)
         return left + right if left and right else []
@@ -34,7 +34,7 @@ def equations_of(kind):
 
 
 def is_by_computing(definition):
-    """Whether a proof says nothing but `refl`."""
+    """Whether a proof is only `refl`."""
     if len(definition.declared.clauses) != 1:
         return False
     at, text = definition.declared.clauses[0]
@@ -52,7 +52,7 @@ def lemmas_of(module):
 
 
 def worked_modules(library):
-    """The modules that compute with the definitions and were written by hand."""
+    """The modules of proofs that compute with the definitions and that no tool generated."""
     for path in library.paths("proofs"):
         text = library.file_text(path)
         if f"\nunfolding {COMPUTED}\n" in text and "Made by tools/" not in text.partition("\n")[0]:
@@ -65,7 +65,7 @@ def worked_lemmas(library):
 
 
 def fault_of(sides):
-    """What the first equation that does not hold has on its sides; none where all hold."""
+    """Both sides of the first equation that does not hold; None where all hold."""
     for left, right in sides:
         try:
             made, wanted = left(), right()

@@ -1,4 +1,4 @@
-"""The abstract machine in Python: battles begun and played by the definitions, and compared with what was recorded."""
+"""The abstract machine in Python: begins and plays battles by the definitions, and compares them with the recordings."""
 
 import re
 import sys
@@ -8,7 +8,7 @@ from definitions.modules import Library
 
 RECURSION = 100_000
 NO_CHOICE = ("Choice.Move", 255)
-# What comes where a definition gives no value.
+# What is raised where a definition has no value.
 FAULTS = (Unmatched, IndexError, TypeError, AttributeError, RecursionError, OverflowError)
 REFUSED = re.compile(r"error: pair (\d+) refused (\d+)\n")
 
@@ -22,7 +22,7 @@ class Machine:
         self.compiler = Compiler(self.library, branches)
         if branches is not None:
             branches.attach(self.compiler)
-        # The module that says what is compared of a battle names all that plays one.
+        # The module that defines the report of a battle names all definitions that play one.
         self.reports = self.library.where("reports_of", "proofs")
         self.crates = self.library.below(self.reports.path.split(".")[1])
         self.step, self.report = self.function("step", 3), self.function("report", 3)
@@ -33,7 +33,7 @@ class Machine:
         self.numbers = {what: self.numbered(f"{what}_names") for what in ("species", "move")}
 
     def definition(self, name):
-        """A definition of the machine by its name: what the reports name, or else the one that a crate below them declares."""
+        """A definition of the machine by its name: the one that the reports name, or else that of a crate below them."""
         found, _ = self.reports.look_up(name)
         return found or self.library.where(name, "specs", self.crates).own(name)
 
@@ -67,11 +67,11 @@ class Machine:
         return self.first_state(terms, one, two, tuple(battle.given["seed"]))
 
     def first_seen(self, state):
-        """What a watcher knows before the first update."""
+        """What a spectator knows before the first update."""
         return self.first_view(state.field.one.members, state.field.two.members)
 
     def choice(self, byte):
-        """The choice that a byte stands for; for a byte that stands for none, a slot that nobody has, which is never offered."""
+        """The choice of a byte; for a byte that is not a choice, a slot that no member has, which is never offered."""
         found = self.choice_at(byte)
         return found[1] if found[0] == "Some" else NO_CHOICE
 
@@ -87,7 +87,7 @@ def events_of(answer):
 
 
 def refusal_number(answer):
-    """How a pair is refused, as the program tells it; 0 where it is not."""
+    """The number of the refusal of a pair, as the program prints it; 0 where it is accepted."""
     if answer[0] == "Answer.Accepted":
         return 0
     why = answer[1]
@@ -95,7 +95,7 @@ def refusal_number(answer):
 
 
 def recorded_parts(update):
-    """What was recorded of an update, part by part, in the order of `report`."""
+    """The recorded parts of an update, in the order of `report`."""
     after = bytes.fromhex(update["bytes"])
     one, two = (bytes([len(codes), *codes]) for codes in update["offered"])
     return [
@@ -111,12 +111,12 @@ def recorded_parts(update):
 
 
 def recorded_report(update):
-    """What `report` has to give for a recorded update."""
+    """What `report` must return for a recorded update."""
     return tuple(b"".join(part for _, part in recorded_parts(update)))
 
 
 def difference(update, made):
-    """The first part of a report that is not as recorded, in words."""
+    """The first part of a report that differs from the recorded one, in words."""
     at = 0
     for name, part in recorded_parts(update):
         if made[at:at + len(part)] != tuple(part):
@@ -126,7 +126,7 @@ def difference(update, made):
 
 
 def play_trace(machine, battle):
-    """What the first update of a trace that the definitions make otherwise differs in; none where all are as recorded."""
+    """The first difference of a battle with its updates; None where all are as recorded."""
     state = machine.begin(battle)
     view = machine.first_seen(state)
     for number, update in enumerate(battle.line["updates"]):
@@ -139,7 +139,7 @@ def play_trace(machine, battle):
 
 
 def play_run(machine, battle):
-    """Where what the program wrote differs from the lines of the definitions; none where all is as written."""
+    """The first difference between the recorded output and the lines of the definitions; None where there is none."""
     state, left = machine.begin(battle), battle.line["stdout"].encode()
     refused = REFUSED.fullmatch(battle.line["stderr"])
     for number, pair in enumerate(battle.pairs):
@@ -158,7 +158,7 @@ def play_run(machine, battle):
 
 
 def play(machine, battle):
-    """What a recorded battle differs in as the definitions play it; none where it is as recorded."""
+    """The first difference between a recorded battle and the one that the definitions play; None where there is none."""
     try:
         return (play_trace if battle.traced else play_run)(machine, battle)
     except FAULTS as fault:

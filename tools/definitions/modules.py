@@ -1,4 +1,4 @@
-"""The modules of the repository's crates: which names each has in scope, and what they stand for."""
+"""The modules of the repository's crates: the names that each has in scope, and their meaning."""
 
 import re
 from pathlib import Path
@@ -12,7 +12,7 @@ VARIANT = re.compile(r"^    (\w+)(?:\((.*?)\)| \{(.*?)\})?(?: = \w+)?,", re.M)
 DATA = re.compile(r"^(?:pub )?data (\w+)[^\n]* where\n((?:  .*\n?)*)", re.M)
 CONSTRUCTOR = re.compile(r"^  (\S+) : (.*)$", re.M)
 
-# The constructors of the kit's own types, with how much each holds.
+# The constructors of the kit's own types, each with the number of its arguments.
 STANDARD = {
     "true": ("Bool", []), "false": ("Bool", []), "None": ("Option", []), "Some": ("Option", ["A"]),
     "Ok": ("Result", ["A"]), "Err": ("Result", ["E"]), "pos": ("ℤ", ["ℕ"]), "negsuc": ("ℤ", ["ℕ"]),
@@ -20,13 +20,13 @@ STANDARD = {
 
 
 class Constructor:
-    """A constructor: its name, the types of what it holds, and all of its type in their order, with what they hold."""
+    """A constructor: its name, the types of its arguments, and all constructors of its type in their order."""
 
     def __init__(self, name, holding, siblings):
         self.name, self.holds, self.holding, self.siblings = name, len(holding), holding, siblings
 
     def next(self):
-        """The constructor behind it that holds the same, the first being behind the last; none where no other does."""
+        """The next constructor with the same argument types, the first following the last; None where no other has them."""
         alike = [name for name, holding in self.siblings if holding == self.holding]
         own = self.name.rpartition(".")[2]
         following = alike[(alike.index(own) + 1) % len(alike)]
@@ -34,7 +34,7 @@ class Constructor:
 
 
 class Definition:
-    """A definition: its module, its name, and what was declared."""
+    """A definition: its module, its name, and its declaration."""
 
     def __init__(self, module, declared):
         self.module, self.declared, self.name = module, declared, declared.name
@@ -67,12 +67,12 @@ class Word:
 
 
 def constructors_of(type_name, holding):
-    """The constructors of a type, by name, from (name, the types of what it holds)."""
+    """The constructors of a type, by name, from (name, argument types)."""
     return {name: Constructor(f"{type_name}.{name}", held, holding) for name, held in holding}
 
 
 def standard_constructor(name):
-    """A constructor of the kit's own types; it goes by its name alone."""
+    """A constructor of the kit's own types; only its name counts."""
     kind, holding = STANDARD[name]
     return Constructor(name, holding, [(other, held) for other, (its, held) in STANDARD.items() if its == kind])
 
@@ -98,7 +98,7 @@ def declared_as_data(text):
 
 
 def held_by(kind):
-    """The types of what a constructor of this type holds, as texts."""
+    """The argument types of a constructor of this type, as texts."""
     held, term = [], reading.type_of(kind)
     while isinstance(term, Arrow):
         held.append(kind[term.left.start:term.left.end])
@@ -123,7 +123,7 @@ class Module:
         return self.definitions.get(name) or self.constructors.get(name) or self.kinds.get(name)
 
     def bring_in(self):
-        """What its `use` lines name."""
+        """The names in its `use` lines."""
         for path, names, alias in self.uses:
             if alias:
                 self.aliases[alias] = path
@@ -132,7 +132,7 @@ class Module:
                 self.names[other or original] = (path, original)
 
     def look_up(self, name, fields=()):
-        """What a name stands for, and the fields behind it that are left; none where nothing is known of it."""
+        """The meaning of a name, and the remaining fields after it; None where the name is unknown."""
         if name in self.aliases and fields:
             return self.library.inside(self.aliases[name], fields[0]), fields[1:]
         if found := self.own(name):
@@ -143,7 +143,7 @@ class Module:
 
 
 class Library:
-    """All modules, each read when it is first asked for. Their texts stand below `root`."""
+    """All modules below `root`, each read at its first use."""
 
     def __init__(self, root=ROOT):
         self.root, self.modules, self.code = Path(root), {}, {}
@@ -158,7 +158,7 @@ class Library:
         return self.modules[path]
 
     def inside(self, path, name):
-        """What a module has under a name."""
+        """The meaning of a name in a module."""
         parts = path.split(".")
         if parts[1] in ("std", "core"):
             return standard_constructor(name) if name in STANDARD else Word(name)
@@ -172,7 +172,7 @@ class Library:
         return module.own(name) or module.look_up(name)[0]
 
     def paths(self, folder):
-        """The paths of all modules in the folders of this name, `specs` or `proofs`; what tells of one function's body is left out."""
+        """The paths of all modules in the folders of this name, `specs` or `proofs`, without those about the body of one function."""
         for crate in sorted(self.root.glob("crates/*")):
             deep = folder == "specs"
             for file in sorted((crate / folder).rglob("*.antt") if deep else (crate / folder).glob("*.antt")):
@@ -193,7 +193,7 @@ class Library:
         return self.root.joinpath("crates", crate, *inner).with_suffix(".antt").read_text(encoding="utf-8")
 
     def listed(self):
-        """The crates of crates.txt in their order, each with what its own files name."""
+        """The crates of crates.txt in their order, each with the crates that it names."""
         listed = {}
         for line in (self.root / "crates.txt").read_text(encoding="utf-8").splitlines():
             if ":" in line and not line.startswith("#"):
@@ -202,7 +202,7 @@ class Library:
         return listed
 
     def below(self, crate):
-        """A crate and all that it stands on, of the repository."""
+        """A crate and the crates of the repository that it depends on."""
         listed, found, left = self.listed(), [], [crate]
         while left:
             name = left.pop()

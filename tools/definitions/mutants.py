@@ -13,10 +13,10 @@ from definitions.modules import Constructor, Definition, Word
 from definitions.terms import Apply, Elim, Lambda, Name, Number, Record, all_parts
 
 PRELUDE = "Rattle.std.specs.Prelude"
-# What a word or an operator becomes; `==` becomes `≤`.
+# The replacement of a word or an operator; `==` becomes `≤`.
 OTHER_WORDS = {"nat_lt": "nat_le", "nat_le": "nat_lt", "min": "max", "max": "min"}
 OTHER_OPERATORS = {"◌+◌": "-", "◌-◌": "+", "◌*◌": "+", "◌&&◌": "||", "◌||◌": "&&"}
-# A list of more items than this is a table, made of docs/TABLES.md, and no rule.
+# A list of more items than this is a table of docs/TABLES.md, and not a rule.
 TABLE = 20
 
 
@@ -45,7 +45,7 @@ class Mutant:
 
 
 class Finder:
-    """The mutants of a definition, in the order in which they stand."""
+    """The mutants of a definition, in the order of their places."""
 
     def __init__(self, definition, branches):
         self.definition, self.module, self.branches = definition, definition.module, branches
@@ -96,17 +96,17 @@ class Finder:
                     self.bring_in(part.word, other)
 
     def standard(self, word):
-        """A word of the kit's library, which is brought into scope."""
+        """A word of the kit's library, which is imported."""
         self.module.names.setdefault(word, (PRELUDE, word))
         return word
 
     def bring_in(self, word, other):
-        """A constructor's sibling, which may not be named by the module."""
+        """A constructor of the same type, which the module may not import."""
         if word in self.module.names and self.module.own(other) is None:
             self.module.names.setdefault(other, (self.module.names[word][0], other))
 
     def elim(self, part):
-        """The bodies of two cases, which bind nothing."""
+        """The bodies of two cases that bind no name."""
         if len(part.cases) == 2 and all(isinstance(pattern, Name) for pattern, _ in part.cases):
             self.swap("branch", part.cases[0][1], part.cases[1][1])
 
@@ -118,7 +118,7 @@ class Finder:
             self.found.append(Mutant(self.definition, family, edits, said))
 
     def fields(self, part):
-        """A changed field that is left as it was."""
+        """A changed field is left unchanged."""
         for name, value in part.fields:
             self.add("branch", value, f"({self.of(part.base)}).{name}", f"`{name}` is left as it was")
 
@@ -152,7 +152,7 @@ class Finder:
             self.add(family, part, text, f"in `{self.plain(part)}`, `{operator.strip('◌')}` becomes `{other}`")
 
     def sequence(self, part, first, second):
-        """Two phases in the other order, and each left out."""
+        """Two phases in the other order, and each of them left out."""
         follows = isinstance(second, Apply) and second.infix and second.function.word == "◌▸◌"
         self.swap("order", first, second.arguments[0] if follows else second)
         self.add("branch", part, f"({self.of(second)})", f"`{self.plain(first)}` is left out")
@@ -160,7 +160,7 @@ class Finder:
             self.add("branch", part, f"({self.of(first)})", f"`{self.plain(second)}` is left out")
 
     def call(self, part, found, arguments):
-        """A choice the other way round, and what is said of the foe said of oneself."""
+        """A choice with its test negated, and `other s` replaced by `s`."""
         test = self.branches.test_of(found)
         if test and test[0] < len(arguments) and not self.branches.test_of(self.definition):
             self.standard("not")
@@ -171,7 +171,7 @@ class Finder:
             self.add("constant", part, f"({self.of(arguments[0])})")
 
     def clauses(self, clauses):
-        """A clause left out where a later one takes all, or the bodies of two neighbours exchanged."""
+        """A clause left out where a later one matches everything, or the bodies of two neighbors exchanged."""
         if len(clauses) < 2:
             return
         bound = [bound_by(self.module, patterns) for patterns, _ in clauses]
@@ -186,7 +186,7 @@ class Finder:
 
 
 def is_zero(term):
-    """Whether a term is the number 0: to be 0 and to be 0 at most are the same."""
+    """Whether a term is the number 0, for which `==` and `≤` are the same."""
     return isinstance(term, Number) and term.value == 0
 
 
@@ -205,13 +205,13 @@ def bound_by(module, patterns):
 
 
 def takes_anything(module, patterns):
-    """Whether patterns are names alone."""
+    """Whether patterns are only names."""
     return all(isinstance(pattern, Name) and not isinstance(module.look_up(pattern.word, pattern.fields)[0], (Constructor, Word))
                for pattern in patterns)
 
 
 def mutants_of(definitions):
-    """All mutants of definitions, in their order; those of one definition that are said alike are told apart by a number."""
+    """All mutants of definitions, in their order; those of one definition with the same words get a number."""
     branches = Branches()
     found = [mutant for definition in definitions for mutant in Finder(definition, branches).all()]
     alike = Counter((mutant.definition.module.path, mutant.name) for mutant in found)

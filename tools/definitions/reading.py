@@ -22,7 +22,7 @@ USE = re.compile(r"(?:pub )?use ([^\s{]+?)(?:\.\{(.*)\}| as (\S+))?$", re.S)
 
 
 class Unreadable(Exception):
-    """A text that is not antt as this reader knows it."""
+    """A text is not antt as this module reads it."""
 
 
 class Declaration:
@@ -63,7 +63,7 @@ def outline(text):
 
 
 def words_of(text, offset):
-    """The words of a text, each with where it begins and ends."""
+    """The words of a text, each with its beginning and end."""
     return [(found[0], offset + found.start(), offset + found.end())
             for found in WORDS.finditer(text) if not found[0].startswith("--")]
 
@@ -93,7 +93,7 @@ class Reader:
         return term
 
     def term(self, strength=-2):
-        """A term whose operators bind at least so strongly."""
+        """A term whose operators bind at least this strongly."""
         start = self.here()
         left = self.operand()
         while (operator := self.peek()) in FIXITIES:
@@ -132,7 +132,7 @@ class Reader:
         return self.placed(Apply(function, arguments), start) if arguments else function
 
     def skip_braces(self):
-        """What an implicit argument is given as."""
+        """An explicit value of an implicit argument."""
         depth = 0
         while True:
             depth += {"{": 1, "}": -1}.get(self.take(), 0)
@@ -229,7 +229,7 @@ class Reader:
         return ahead > 0 and self.peek(ahead) == ":"
 
     def binding(self):
-        """`(x y : A) → B` or `(x : A) × B`: A on the left as often as names stand there."""
+        """`(x y : A) → B` or `(x : A) × B`: A on the left once for each name."""
         names = []
         while self.peek() != ":":
             names.append(self.take())
@@ -280,7 +280,7 @@ def whole(text, offset=0):
 
 
 def type_of(text, offset=0):
-    """A type, the implicit arguments in front of it left out."""
+    """A type without its leading implicit arguments."""
     reader = Reader(text, offset)
     while reader.peek() == "{":
         reader.skip_braces()
@@ -302,7 +302,7 @@ def clause_of(text, offset, name):
 
 
 def infix_patterns(patterns, name):
-    """The patterns behind the name; those of an operator that is written between them, and what follows in `(f ▸ g) p`."""
+    """The patterns after the name; those of an operator between them, and the further ones in `(f ▸ g) p`."""
     first, *others = patterns
     if isinstance(first, Name) and first.word == name:
         return others

@@ -1,8 +1,8 @@
-"""Recorded battles: the files that hold them, and the battle that each line asks for.
+"""Recorded battles: the files that hold them, and the battle of each line.
 
-A line is a JSON object of one of two kinds. A trace has `object`, what a battle begins with, and `updates`: after each pair of
-choices the refusal, the result, the offered choices, the draws, the log and all 384 bytes. A run of the program has `input`,
-the same object as a text, and the `stdout`, `stderr` and `status` that came of it.
+A line is a JSON object of one of two kinds. A trace has `object`, what a battle begins with, and `updates`: after each pair of choices the
+refusal, the result, the offered choices, the draws, the log and all 384 bytes. A run of the program has `input`, the same object as a text,
+and its `stdout`, `stderr` and `status`.
 """
 
 import json
@@ -41,7 +41,7 @@ def files_in(places):
 
 
 def is_battle(line):
-    """Whether a line is a battle that begins: a trace, or a run of the program that read a whole battle."""
+    """Whether a line is a battle: a trace, or a run of the program that read a whole battle."""
     return "updates" in line or line.get("args") == ["run"] and (
         line["status"] == 0 or re.fullmatch(r"error: pair \d+ refused \d+\n", line["stderr"]) is not None)
 

@@ -1,4 +1,4 @@
-"""The terms of antt: what reading.py makes of a text, each with the place where it stands."""
+"""The terms of antt, as reading.py reads them from a text, each with its place."""
 
 from dataclasses import dataclass, field
 
@@ -13,7 +13,7 @@ class Term:
 
 @dataclass
 class Name(Term):
-    """A name, its fields behind it: `p.field.one` is `p` with `field` and `one`. An operator is named with its places."""
+    """A name with its fields: `p.field.one` is `p` with `field` and `one`. The name of an operator contains its places."""
 
     word: str
     fields: list
@@ -31,7 +31,7 @@ class Text(Term):
 
 @dataclass
 class Apply(Term):
-    """A function and its arguments; an operator or `if` has a Name in front, and says that it was written between them."""
+    """A function and its arguments; for an operator or `if` the function is a Name, with a mark that it was infix."""
 
     function: Term
     arguments: list
@@ -82,14 +82,14 @@ class Project(Term):
 
 @dataclass
 class Arrow(Term):
-    """A function type; what it binds is left out."""
+    """A function type, without the names that it binds."""
 
     left: Term | None
     right: Term
 
 
 def parts(term):
-    """The terms right inside a term."""
+    """The immediate subterms of a term."""
     match term:
         case Apply():
             return [term.function, *term.arguments]

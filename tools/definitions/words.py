@@ -1,6 +1,6 @@
 """The words of the kit's library that definitions use, in Python: numbers are `int`, lists and pairs `tuple`.
 
-A constructor's value is a tuple of its name and what it holds; `true` and `false` are Python's.
+A constructor's value is a tuple of its name and its arguments; `true` and `false` are Python's.
 """
 
 NONE = ("None",)
@@ -11,7 +11,7 @@ def some(value):
 
 
 def minus(a, b):
-    """A difference of natural numbers, 0 at least."""
+    """A difference of natural numbers, at least 0."""
     return a - b if a > b else 0
 
 
@@ -21,7 +21,7 @@ def quotient(a, b):
 
 
 def remainder(a, b):
-    """The rest of a division by 0 is the number."""
+    """The remainder of a division by 0 is the number."""
     return a % b if b else a
 
 
@@ -30,7 +30,7 @@ def item_or(items, place, otherwise):
 
 
 def with_item(items, place, item):
-    """A list with an item replaced; a place behind its end changes nothing."""
+    """A list with an item replaced; a place past its end changes nothing."""
     return items[:place] + (item,) + items[place + 1:] if place < len(items) else items
 
 
@@ -46,7 +46,7 @@ def unwrapped(option, otherwise):
     return option[1] if option[0] == "Some" else otherwise
 
 
-# Each word: how many arguments it takes, and what it is in Python, with {0}, {1} .. for them.
+# Each word: the number of its arguments, and its Python, with {0}, {1} .. for them.
 WORDS = {
     "zero": (0, "0"),
     "[]": (0, "()"),

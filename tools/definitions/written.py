@@ -1,4 +1,4 @@
-"""Writes what the prover computes with: lemmas of recorded battles, and the list of all definitions that they unfold."""
+"""Writes lemmas of recorded battles for the prover to compute, and the list of all definitions that they unfold."""
 
 import re
 import sys
@@ -42,7 +42,7 @@ class Written:
         return {text: number for number, text in enumerate(texts, 1)}
 
     def head(self):
-        """What a module of such lemmas uses."""
+        """The imports of a module of such lemmas."""
         choice, state = (self.reports.names[kind][0] for kind in ("Choice", "State"))
         rules, team = (self.library.where(name, "specs", self.crates).path for name in ("rules_of", "team_of"))
         computing = self.library.where("computing", "proofs").path
@@ -82,7 +82,7 @@ def choice(byte):
 
 
 def report(update):
-    """What an update came to, as one number to base 256 behind a leading 1."""
+    """The result of an update, as one number to base 256 after a leading 1."""
     return "0x" + (b"\1" + b"".join(part for _, part in recorded_parts(update))).hex()
 
 
@@ -93,7 +93,7 @@ def chosen(lines, wanted):
 
 
 def write_battles(traces, wanted):
-    """Lemmas of the recorded battles, in modules of a few."""
+    """Writes lemmas of the recorded battles, a few in each module."""
     lines, written = objects(Path(traces)), Written()
     numbers = sorted(set(chosen(lines, wanted)))
     folder = ROOT.joinpath(*["crates", *written.reports.path.split(".")[1:-1]])
@@ -127,7 +127,7 @@ def named_in(file):
 
 
 def write_computing(check):
-    """The one definition whose line opens all others."""
+    """Writes the definition that unfolds all others."""
     library = Library()
     reports = library.where("reports_of", "proofs").path.split(".")[1]
     below = library.below(reports)
