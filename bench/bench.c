@@ -2,30 +2,31 @@
  * Plays battles of recorded full teams with seeded random choices, and times the updates.
  *
  *     bench/run                   in the repository, after `rt lib` in crates/gen1_c: builds this file and runs it; where
- *                                 valgrind is at hand, it counts instructions too
- *     bench/run BATTLES SEED      so many battles (10,000), from another seed (1)
+ *                                 valgrind is installed, it counts instructions too
+ *     bench/run BATTLES SEED      another number of battles (10,000), another seed (1)
  *     bench/run --json ..         the same numbers as one line of JSON
  *
- * By hand: cc -O2 -pthread -Iinclude bench/bench.c crates/gen1_c/out/libgen1_c.a -o bench_program, then
+ * Without bench/run: cc -O2 -pthread -Iinclude bench/bench.c crates/gen1_c/out/libgen1_c.a -o bench_program, then
  *
  *     bench_program BATTLES SEED            the table
  *     bench_program BATTLES SEED more       its further rows: playouts, many battles in turn, threads
  *     bench_program BATTLES SEED json       all rows as the members of a JSON object, without its braces
  *
- * and for callgrind modes that print what is counted, as many updates as were played:
+ * and for callgrind modes that print the number of updates:
  *
  *     bench_program BATTLES SEED quiet      each battle once, without log: --toggle-collect=gen1_update, or gen1_choices,
- *     bench_program BATTLES SEED log        which is called for both sides; or with log
+ *                                           which is called for both sides
+ *     bench_program BATTLES SEED log        the same with log
  *     bench_program BATTLES SEED listed     and once more by choices drawn as they go: --toggle-collect=replay_choosing
  *     bench_program BATTLES SEED masked     the same by masks: --toggle-collect=replay_masked, or gen1_offered
  *     bench_program BATTLES SEED playout    and once in calls of gen1_playout: --toggle-collect=gen1_playout
  *     bench_program BATTLES SEED trusted    and once by the call that does not test choices again, where there is one
  *     bench_program BATTLES SEED masked_trusted    and by masks and that call: --toggle-collect=replay_masked_trusted
  *
- * UNTESTED is the name of that call, if the header has it: an update by choices that the caller took from what is offered.
+ * UNTESTED is the name of that call, if the header has it: an update by choices that the caller took from the offered ones.
  *
- * The battles are the same for the same seed, on every machine. First they are played and their choices kept; what is timed
- * is the same updates again: calls of gen1_update, and a copy of 384 bytes for each battle.
+ * The same seed gives the same battles on every machine. First they are played and their choices stored. Then the same updates are
+ * timed: calls of gen1_update, and a copy of 384 bytes for each battle.
  */
 #define _POSIX_C_SOURCE 199309L
 #include <pthread.h>
@@ -39,7 +40,7 @@
 
 enum { ROUNDS = 7, BATCH = 1024, MOST_THREADS = 4, TEAM_COUNT = sizeof TEAMS / sizeof TEAMS[0] };
 
-/* A battle as it begins, and where its pairs of choices begin and end. */
+/* The start of a battle, and where its pairs of choices begin and end. */
 typedef struct {
     gen1_battle start;
     size_t first, end;
@@ -54,7 +55,7 @@ static size_t pair_count, pair_room;
 
 static uint64_t state;
 
-/* The next number of a xorshift, from 0 and below `bound`: each as likely as the others, but for parts in 2^50. */
+/* The next number of a xorshift, from 0 to below `bound`; all are equally likely, up to parts in 2^50. */
 static uint32_t below(uint32_t bound)
 {
     state ^= state << 13;
@@ -100,8 +101,7 @@ static bool is_going_on(const gen1_battle *battle)
     return GEN1_OUTCOME(gen1_result(battle)) == GEN1_ONGOING;
 }
 
-/* The draws that lead from the link numbers before an update to those after it: fewer than 2,304, as many as there are
-   states. */
+/* The number of draws between the link numbers before an update and those after it: fewer than the 2,304 states. */
 static unsigned draws_between(const gen1_battle *before, const gen1_battle *after)
 {
     uint8_t ring[10];
@@ -133,7 +133,7 @@ static void keep_pair(uint8_t one, uint8_t two)
 /* Where the log of an update goes. */
 static uint8_t log_bytes[GEN1_LOG_ROOM];
 
-/* Plays a new battle to its end, with log or without, and keeps its start and its choices. Answers the draws that it took. */
+/* Plays a new battle to its end, with or without log, and stores its start and its choices. Returns the number of draws. */
 static uint64_t play(game *game, bool with_log)
 {
     gen1_battle battle = new_battle(), before;
@@ -153,7 +153,7 @@ static uint64_t play(game *game, bool with_log)
     return draws;
 }
 
-/* Plays all battles by the kept choices, with log or without. Answers the bytes of log. */
+/* Plays all battles by the stored choices, with or without log. Returns the bytes of log. */
 static uint64_t replay(bool with_log)
 {
     size_t room = with_log ? GEN1_LOG_ROOM : 0, length;
@@ -169,7 +169,7 @@ static uint64_t replay(bool with_log)
     return bytes;
 }
 
-/* Plays all battles by choices that are drawn as they go, as a random player does, without keeping anything. */
+/* Plays all battles by choices drawn on the way, as a random player does, and stores nothing. */
 __attribute__((noinline)) static uint64_t replay_choosing(void)
 {
     uint64_t updates = 0;
@@ -186,14 +186,14 @@ __attribute__((noinline)) static uint64_t replay_choosing(void)
     return updates;
 }
 
-/* The library asks for a processor that counts digits in one instruction. */
+/* The library needs a processor that counts set bits in one instruction. */
 #ifdef __x86_64__
 #define COUNTING __attribute__((target("popcnt")))
 #else
 #define COUNTING
 #endif
 
-/* A choice drawn from a mask of what is offered: that at the same place as in the list. */
+/* A choice drawn from a mask of the offered ones: the one at the same place in the list. */
 COUNTING static uint8_t chosen_of_mask(const gen1_battle *battle, uint8_t side)
 {
     uint32_t mask = gen1_offered(battle, side);
@@ -255,11 +255,11 @@ static uint64_t updates_of_playouts(void)
     return updates;
 }
 
-/* The battles of a batch, side by side in memory, and which pairs each has to come. */
+/* The battles of a batch, adjacent in memory, and the pairs that each still has to play. */
 static _Alignas(GEN1_ALIGNMENT) gen1_battle batch[BATCH];
 static struct { size_t next, end; } to_come[BATCH];
 
-/* Plays all battles by the kept choices, BATCH at a time: an update of each in turn. The memory of all is more than what the
+/* Plays all battles by the stored choices, BATCH at a time: an update of each in turn. The memory of all is more than what the
    processor holds next to it. */
 static void replay_in_turn(void)
 {
@@ -299,7 +299,7 @@ static void *replay_share(void *given)
     return NULL;
 }
 
-/* The same on so many threads, each with battles of its own. */
+/* The same on several threads, each with battles of its own. */
 static void replay_on_threads(size_t count)
 {
     pthread_t threads[MOST_THREADS];
@@ -314,7 +314,7 @@ static void replay_on_threads(size_t count)
 }
 
 #ifdef UNTESTED
-/* Plays all battles by the kept choices, all of which are offered, without testing that again. */
+/* Plays all battles by the stored choices, which are all offered, without testing that again. */
 static void replay_trusted(void)
 {
     size_t length;
@@ -380,7 +380,7 @@ static bool is_there(way way)
 #endif
 }
 
-/* Plays all battles in a way, and answers how many updates that took. */
+/* Plays all battles in one of these ways, and returns the number of updates. */
 static uint64_t played(way way)
 {
     switch (way) {
@@ -401,7 +401,7 @@ static uint64_t played(way way)
     return way == PLAYOUTS ? 0 : pair_count;
 }
 
-/* The least time of an update over some rounds: what else the machine does only adds to it. */
+/* The least time of an update over some rounds; other work of the machine only adds to it. */
 static double least_time(way way)
 {
     double least = 1e9, known = way == PLAYOUTS ? (double)updates_of_playouts() : 0;
@@ -441,7 +441,7 @@ static void print_json(uint64_t draws)
     printf("}\n");
 }
 
-/* What callgrind is to count, beside the first play of the battles; prints the updates. */
+/* What callgrind counts, after the first play of the battles; prints the number of updates. */
 static void print_counted(const char *mode)
 {
     uint64_t updates = pair_count;

@@ -3,11 +3,13 @@
 
     bench/teams.py FILE > bench/teams.h
 
-FILE has recorded cases of `battle_tool run`, and may be packed; bench/teams.h is made of tests/battles/battles.jsonl.xz. A
-team is taken where it has six members with four moves each, and once where several battles have it. The numbers of species
-and moves are those of docs/TABLES.md.
+FILE has recorded cases of `battle_tool run`, and may be packed; bench/teams.h is made from tests/battles/battles.jsonl.xz. A team is taken
+where it has six members with four moves each, and only once. The numbers of species and moves are those of docs/TABLES.md.
+
+Exit status: 0, or 2 where FILE cannot be read or the arguments are wrong.
 """
 
+import argparse
 import json
 import re
 import sys
@@ -52,13 +54,14 @@ def member_text(member, species, moves):
 
 
 def main():
-    if len(sys.argv) != 2:
-        sys.exit(__doc__)
+    parser = argparse.ArgumentParser(description=__doc__, formatter_class=argparse.RawDescriptionHelpFormatter)
+    parser.add_argument("file", metavar="FILE")
+    file = parser.parse_args().file
     species, moves = numbers("Species"), numbers("Moves")
     try:
-        teams = full_teams(sys.argv[1])
+        teams = full_teams(file)
     except Unreadable as fault:
-        sys.exit(str(fault))
+        parser.error(str(fault))
     print("/* The full teams of recorded battles. Made by bench/teams.py. */")
     print("static const gen1_team TEAMS[] = {")
     for team in teams:

@@ -67,7 +67,7 @@ def species_word(member):
 
 
 def member_names(given):
-    """The name of each member's function, by side: its species, and behind it its side and place where another has that species."""
+    """The name of each member's function, by side: its species, followed by its side and place where another has that species."""
     words = [species_word(member) for side in SIDES for member in given[side]]
     return {
         side: [

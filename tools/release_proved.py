@@ -1,4 +1,4 @@
-"""PROVED.txt of a release: what was proved, by which toolchain, and what of it was seen on the machine that made the release."""
+"""PROVED.txt of a release: what was proved, by which toolchain, and which verdicts the machine of the release has seen."""
 
 import hashlib
 import re
@@ -19,18 +19,18 @@ sources    SHA-256 {sources} of the sorted list of sums of crates/*/{{src,specs,
 toolchain  {kit}
 C library  {library}
 
-What is said of each crate: docs/PROVED.md of that commit. What is trusted stands there too, and the kit is a part of it. What cargo, a C
-compiler or a browser makes of the sources with their contracts off (the Rust sources, the page, and the C library where it says so
-above) is compared with the proved library, and proved by nobody.
+docs/PROVED.md of that commit says what is proved of each crate, and what is trusted; the kit is part of that. What cargo, a C compiler or
+a browser makes of the sources without their contracts (the Rust sources, the page, and the C library where it says so above) is compared
+with the proved library, and is not proved.
 
 """
 SEEN = """The verdicts below are those of {logs}, as rt printed them: how many functions were proved, how many modules of statements
-and proofs the logic checked, and what rt took on trust: `incremental=trusted` is for work that earlier checks had kept, which the gate's
-own verdicts (`rt ci`) do not take. A log is taken as it is; run `.ci/run` to have the proof yourself.
+and proofs the logic checked, and what rt took on trust. `incremental=trusted` means results of earlier checks, which the gate's own
+verdicts (`rt ci`) do not use. A log is not checked; run `.ci/run` to repeat the proof.
 
 """
-UNSEEN = """No proof was run for this list, and no log of one was named: it has no verdicts. What stands below is counted in the
-sources of that commit. Run `.ci/run` there, with the kit, to have the proof.
+UNSEEN = """No proof was run for this list, and no log of one was named, so it has no verdicts. The numbers below are counted in the
+sources of that commit. Run `.ci/run` there, with the kit, to repeat the proof.
 
 """
 BEHIND = """
@@ -39,7 +39,7 @@ functions: those of src, with tests and laws; clauses: `requires` and `ensures`,
 
 
 def said(*words):
-    """What a command prints in one line; None where it cannot be run."""
+    """The one line that a command prints; None where it cannot be run."""
     try:
         return subprocess.run(words, cwd=ROOT, capture_output=True, text=True, check=True).stdout.strip().partition("\n")[0]
     except (OSError, subprocess.CalledProcessError):
@@ -47,7 +47,7 @@ def said(*words):
 
 
 def sum_of_sources():
-    """One sum for all that a proof reads."""
+    """One sum of all files that a proof reads."""
     whole = hashlib.sha256()
     for path in sorted(path for folder in ("src", "specs", "proofs") for path in ROOT.glob(f"crates/*/{folder}/**/*") if path.is_file()):
         whole.update(f"{hashlib.sha256(path.read_bytes()).hexdigest()}  {path.relative_to(ROOT)}\n".encode())
@@ -61,13 +61,13 @@ def commit():
 
 
 def counts(name):
-    """How many functions and clauses of contracts the sources of a crate have."""
+    """The numbers of functions and of clauses of contracts in the sources of a crate."""
     texts = [path.read_text() for path in sorted((ROOT / "crates" / name / "src").rglob("*.rt"))]
     return sum(len(FUNCTION.findall(text)) for text in texts), sum(len(CLAUSE.findall(text)) for text in texts)
 
 
 def verdicts(logs):
-    """The last verdict on each crate that these logs have, be it good or not: its word, functions, modules, and the rest of the line."""
+    """The last verdict on each crate in these logs, good or not: its word, functions, modules, and the rest of the line."""
     found = {}
     for log in logs:
         for name, modules, logic, words in VERDICT.findall(log.read_text(errors="replace")):
@@ -93,11 +93,11 @@ def rows(logs):
         yield f"[{number}] {note}"
 
 
-# Where the C library of a release comes from.
+# The origins of the C library of a release.
 LIBRARIES = {
     "proved": "proved: crates/gen1_c/out/libgen1_c.a, which tools/library leaves, byte for byte",
     "given": "given by whoever made the release, who knows where it is from",
-    "plain": "plain: built by cargo, and proved by nobody",
+    "plain": "plain: built by cargo, not proved",
 }
 
 

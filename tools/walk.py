@@ -1,16 +1,18 @@
 #!/usr/bin/env python3
 """Writes a walk over the phases of the battle machine (docs/LAWS.md, "Walks").
 
-For each phase of the specifications that a walk names it writes one lemma, which says that the phase keeps a fact if its
-parts do. The lemma is proved by `search` over the rules for the combinators, the rules for the changes, and the lemmas of
-the phases that its clauses name.
+For each phase of the specifications that a walk names it writes one lemma: the phase keeps a fact if its parts do. The lemma
+is proved by `search` over the rules for the combinators, the rules for the changes, and the lemmas of the phases that its
+clauses name.
 
     tools/walk.py free      writes crates/gen1_machine/proofs/Free.antt
     tools/walk.py sound     writes crates/gen1_machine/proofs/SoundWalk.antt, with the lemmas of tools/sound_lemmas.txt
     tools/walk.py steady    writes crates/gen1_machine/proofs/Steady.antt, with the lemmas of tools/steady_lemmas.txt
-    tools/walk.py --check   writes nothing; names each of the three that is not what would be written, and fails if one is not
+    tools/walk.py --check   writes nothing; names each of the three files that differs, and fails where one does
 
-Once written, a file is tidied (`rt tidy`), which drops imports and lays out lines; the check looks past both.
+Run `rt tidy` in crates/gen1_machine after it, which drops imports and lays out lines; the check ignores both.
+
+Exit status: 0, 1 where --check found a difference, 2 where the arguments are wrong.
 """
 import os
 import re
@@ -26,7 +28,7 @@ def lines_of(name):
 
 
 def imports_of(name):
-    """Each imported word of a specification, with the module that it comes from; and its aliases of modules."""
+    """Each imported word of a specification with its module; and the aliases of modules."""
     words, aliases = {}, {}
     for line in lines_of(name):
         found = re.match(r'use ([\w.+]+)\.\{(.*)\}$', line)
@@ -265,7 +267,7 @@ FREE_TAIL = '''  pub ruling-free : (terms : Terms) → KeepsRuling P (ruling_of 
 
 
 def written_imports(text, places, aliases, extra):
-    """The `use` lines for the words of a text, by where they come from."""
+    """The `use` lines for the words of a text."""
     places = dict(places, **extra)
     by_module = {}
     code = '\n'.join(line.split('--')[0] for line in text.split('\n'))
@@ -285,7 +287,7 @@ def written_imports(text, places, aliases, extra):
 
 
 def vocabulary(places, aliases):
-    """Where each word of a walk comes from."""
+    """The module of each word of a walk."""
     words = {}
     names = FILES + ['Conditions', 'State', 'CurrentStats', 'Picks', 'Moves', 'Valid', 'SwitchingIn', 'Turn']
     for name in names:
@@ -377,8 +379,8 @@ def sound():
     return written('SoundWalk', body, written_imports(body, words, aliases, {}))
 
 
-# what a phase asks of a fact beside, by what it may do: it hurts, it faults, it breaks off what goes on, it touches rage or
-# thrashing of the side that acts, or it settles what is known of the action
+# What a phase needs of a fact besides, by what it may do: it hurts, it faults, it breaks off a move that goes on, it changes
+# rage or thrashing of the side that acts, or it changes what is known of the action.
 ASKED = {'hurts': 'Hurts P', 'faults': 'Faults P', 'broken': 'Breaks P %s', 'own': 'Own P %s', 'acts': 'Acts P'}
 
 STEADY_HEAD = '''-- What phases leave as it is: rage, thrashing and their kept accuracy, the health of a member that falls, and the outcome.
@@ -477,7 +479,7 @@ STEADY_TAIL = '''  pub ruling-steady : (terms : Terms) → Hurts P → KeepsRuli
   ruling-steady terms hurts = record { sleeps = λ user. sleeps_under-steady terms.rules.sleep_clause user hurts; freezes = λ user. freezes_under-steady terms.rules.freeze_clause user hurts }
 '''
 
-# changes of a member that is out, with their arguments, and changes of conditions
+# Changes of a member that is out, with their arguments, and changes of conditions.
 LEFT_ACTIVES = ['with_types_of (foe : Active)', 'with_current_move (used : UsedMove)', 'with_picked_move (used : UsedMove)', 'at_new_stage (stat : Stat) (n : ℕ)',
                 'with_levelled_stats']
 LEFT_CONDITIONS = ['with_bide (turns : ℕ)', 'with_bide_storing (damage : ℕ)', 'without_bide', 'with_trapping (turns : ℕ)', 'with_trapping_one_less',
@@ -540,7 +542,7 @@ def steady():
 
 
 def imported(text):
-    """Each import of a text: a module with one of its words, or with the alias that it goes by."""
+    """Each import of a text: a module with one of its words, or with its alias."""
     found = set()
     for line in re.findall(r'^use (.*)$', text, re.M):
         module, _, words = line.partition('.{')
@@ -549,11 +551,11 @@ def imported(text):
 
 
 def is_made_so(file, text):
-    """Whether a file is this text, but for imports that it does without and for its layout."""
+    """Whether a file is this text, apart from unused imports and layout."""
     with open(file, encoding='utf-8') as it:
-        stands = it.read()
-    lemmas = [[line.split() for line in of.split('\n') if line.strip() and not line.startswith('use ')] for of in (stands, text)]
-    return lemmas[0] == lemmas[1] and imported(stands) <= imported(text)
+        there = it.read()
+    lemmas = [[line.split() for line in of.split('\n') if line.strip() and not line.startswith('use ')] for of in (there, text)]
+    return lemmas[0] == lemmas[1] and imported(there) <= imported(text)
 
 
 WALKS = {'free': free, 'sound': sound, 'steady': steady}
@@ -564,7 +566,7 @@ def main():
     if words == ['--check']:
         differing = [name for name, make in WALKS.items() if not is_made_so(*make())]
         if differing:
-            sys.exit('not what tools/walk.py writes: %s; run it, and then rt tidy in crates/gen1_machine' % ', '.join(differing))
+            sys.exit('not what tools/walk.py writes: %s; run it, and then `rt tidy` in crates/gen1_machine' % ', '.join(differing))
     elif len(words) == 1 and words[0] in WALKS:
         file, text = WALKS[words[0]]()
         with open(file, 'w', encoding='utf-8') as it:

@@ -229,7 +229,7 @@ class Trial:
 
     A mutant is tried only on what enters the branch that it changes: a worked example by both sides of its equations, a recorded update
     from the state before it. It is refused where a side of an equation has another value, or where the report of the update is not the
-    recorded one. A change after which there is no value refuses nothing.
+    recorded one. A change that leaves a side without a value refuses nothing.
     """
 
     def __init__(self, coverage):
