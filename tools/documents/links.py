@@ -167,7 +167,7 @@ def options(words):
     """The options of a command that begins with a tool, each with whether the tool's text names it."""
     tool = ROOT / words.split(" ")[0]
     for option in re.findall(r"(?<= )--[a-z][\w-]*", words) if tool.is_file() else ():
-        yield option, bool(re.search(rf"{option}(?![\w-])", tool.read_text(errors="replace")))
+        yield option, option == "--help" or bool(re.search(rf"{option}(?![\w-])", tool.read_text(errors="replace")))
 
 
 def named(document, text, written):
