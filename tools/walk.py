@@ -498,13 +498,19 @@ def leaving(change, record, proof):
     return ['pub %s-leaves : %s' % (word, kind), 'unfolding %s' % word, '%s-leaves%s = record { %s }' % (word, ' ' + names if names else '', proof), '']
 
 
-def steady():
-    by_hand, asked = {}, {}
+def stored_lemmas():
+    """The lemmas of steady_lemmas.txt by phase, and what each needs of a fact."""
+    lemmas, asked = {}, {}
     with open(os.path.join(os.path.dirname(os.path.abspath(__file__)), 'steady_lemmas.txt'), encoding='utf-8') as file:
         for block in file.read().strip('\n').split('\n\n'):
             word = re.match(r'  pub (%s)-steady :' % WORD, block).group(1)
-            by_hand[word] = block.split('\n')
+            lemmas[word] = block.split('\n')
             asked[word] = {name for name, kind in ASKED.items() if kind.split(' %')[0] in block.split('\n')[0]}
+    return lemmas, asked
+
+
+def steady():
+    stored, asked = stored_lemmas()
     known, result, places, aliases, order = set(), [], {}, {}, list(ASKED)
     for name in FILES:
         words, named = imports_of(name)
@@ -515,8 +521,8 @@ def steady():
                 continue
             known.add(word)
             places[word] = 'Rattle.gen1_machine.specs.' + name
-            if word in by_hand:
-                result += by_hand[word]
+            if word in stored:
+                result += stored[word]
                 continue
             used = {w for _, body in clauses for w in re.findall(WORD, body) if w in known and w != word}
             asked[word] = set().union(*[asked[w] for w in used]) if used else set()

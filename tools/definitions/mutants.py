@@ -10,7 +10,7 @@ from definitions.compiling import spine
 from definitions.coverage import updates_of
 from definitions.machine import FAULTS, Machine
 from definitions.modules import Constructor, Definition, Word
-from definitions.terms import Apply, Elim, Lambda, Name, Number, Record, all_parts
+from definitions.terms import Apply, Elim, Name, Number, Record, all_parts
 
 PRELUDE = "Rattle.std.specs.Prelude"
 # The replacement of a word or an operator; `==` becomes `≤`.

@@ -14,7 +14,6 @@ tells its reader to write (a comment `file: NAME`) are passed over.
 import os
 import re
 from functools import cache
-from pathlib import Path
 from urllib.parse import unquote
 
 from repository import ROOT
