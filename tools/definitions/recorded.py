@@ -47,9 +47,13 @@ def is_battle(line):
 
 
 def battles_in(places):
-    """All recorded battles of some files and folders; other lines are passed over."""
+    """All recorded battles of some files and folders; other lines are passed over. LookupError where there is none."""
+    found = False
     for file in files_in(places):
         short = file.name.removesuffix(".xz").removesuffix(".jsonl")
         for number, line in enumerate(objects(file)):
             if is_battle(line):
+                found = True
                 yield Battle(short, number, line)
+    if not found:
+        raise LookupError(f"no recorded battle in {', '.join(map(str, places))}")

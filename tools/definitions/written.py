@@ -87,7 +87,10 @@ def report(update):
 
 
 def chosen(lines, wanted):
+    """The numbers of lines that a text such as 0-9,12,40- names; ValueError where it is wrong."""
     for part in wanted.split(","):
+        if not re.fullmatch(r"\d+|\d*-\d*", part):
+            raise ValueError(f"{wanted}: lines are numbers and ranges such as 0-9,12,40-")
         low, dash, high = part.partition("-")
         yield from range(int(low or 0), (int(high) + 1 if high else len(lines)) if dash else int(low) + 1)
 
@@ -96,6 +99,8 @@ def write_battles(traces, wanted):
     """Writes lemmas of the recorded battles, a few in each module."""
     lines, written = objects(Path(traces)), Written()
     numbers = sorted(set(chosen(lines, wanted)))
+    if numbers[-1:] and numbers[-1] >= len(lines):
+        raise LookupError(f"{traces} has only {len(lines)} lines")
     folder = ROOT.joinpath(*["crates", *written.reports.path.split(".")[1:-1]])
     lib = folder / "Lib.antt"
     kept = [line for line in lib.read_text(encoding="utf-8").splitlines() if not re.match(r"mod Battles\d+$", line)]
