@@ -10,6 +10,7 @@ from repository import ROOT, crates, edits, indented
 
 DOCUMENT = ROOT / "docs" / "TESTING.md"
 BEGIN, END = "<!-- numbers: tools/docs numbers --write -->\n", "<!-- end of the numbers -->\n"
+LEMMA = re.compile(r"(?m)^battle_\d+ : ")
 ROW = re.compile(r"(?m)^\| (.*) \| ([\d,]+) \|$")
 
 
@@ -22,13 +23,15 @@ def counted():
     yield "recorded byte strings to load", len(loads(recorded("loads.txt")))
     coverage = Coverage([])
     same = indented(ROOT / "tools" / "definitions" / "same_meaning.txt")
+    yield "recorded battles that are lemmas", sum(
+        len(LEMMA.findall(file.read_text())) for file in (ROOT / "crates" / "test_battles" / "proofs").glob("Battles*.antt"))
     yield "worked examples", len(coverage.lemmas)
     yield "definitions that the step uses", len(coverage.definitions)
     yield "branches of these definitions", len(coverage.own_branches())
     yield "mutants of these definitions", len(mutants_of(coverage.definitions))
     yield "mutants that mean the same, each with its reason", len(same)
     yield "wrong bodies that every gate tries", sum(len(edits(name)) for name in crates())
-    yield "named wrong bodies among them", len(named())
+    yield "named wrong bodies, tried by some of these", len(named())
     yield "planted wrong bodies", sum(len(edits(name, "planted")) for name in crates())
     yield "tests in the crates", sum(
         file.read_text().count("#[test]") for file in (ROOT / "crates").glob("*/src/**/*.rt"))
