@@ -201,7 +201,7 @@ def a_text_is_dropped_on_a_field(browser):
     assert browser.run(cancelled, False) == [False, False] and not browser.notice()
     assert browser.run(cancelled, True) == [True, True]
     browser.wait("return !document.getElementById('notice').hidden")
-    assert "no JSON" in browser.notice()
+    assert "not JSON" in browser.notice()
 
 
 CHECKS = [

@@ -28,7 +28,7 @@ function numbers(value, what, length, most) {
   return list(value, what, length).map((item, place) => whole(item, `${what}[${place}]`, most));
 }
 
-/** @param {unknown} value @param {string[]} names @param {string} what a name is to be of */
+/** @param {unknown} value @param {string[]} names @param {string} what the value is, as a message names it */
 function numbered(value, names, what) {
   const found = typeof value === "string" ? names.indexOf(value) + 1 : 0;
   if (!found) throw new Problem(`${what} is ${JSON.stringify(value) ?? "missing"}, which is not a name in docs/TABLES.md.`);
