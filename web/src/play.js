@@ -336,7 +336,7 @@ export class Play {
     const found = odds.find((it) => it.slot === choice - 0x10);
     const foe = state.sides[1 - at];
     const hp = foe.active ? foe.members[foe.active - 1].hp : 0;
-    const damage = found?.damage ? `damage ${damageText(found.damage, hp)}` : "no usual damage";
+    const damage = found?.damage ? `damage ${damageText(found.damage, hp)}` : "no damage by the formula";
     const hit = found ? hitWords(found, tables.moves[id - 1], (bytes) => `hits with ${bytes} of 256 bytes`) : "";
     const critical = found?.bound === null || found?.bound === undefined ? "" : `; critical with ${found.bound} of 256`;
     return [make("strong", {}, tables.moves[id - 1].name), badge(tables, tables.moves[id - 1].type),
