@@ -1,0 +1,40 @@
+//! Added to the sources (docs/PLAIN.md, "What is added"): conditions as names and bits.
+use crate::generated::layout::Conditions;
+use core::fmt;
+use crate::adapter::bitflags::Flags;
+
+impl Conditions {
+    /// The 17 bits (docs/LAYOUT.md, "Condition bits").
+    #[must_use]
+    pub fn bits(self) -> u32 {
+        Flags::bits(&self)
+    }
+
+    /// Whether no condition is on.
+    #[must_use]
+    pub fn is_empty(self) -> bool {
+        self.bits() == 0
+    }
+
+    /// The names of the conditions that are on, such as `FOCUS_ENERGY`, in the order of their bits.
+    pub fn names(self) -> impl Iterator<Item = &'static str> {
+        let all = Conditions::flags().iter();
+        all.filter(move |flag| self.has(*flag.value()))
+            .map(|flag| flag.name())
+    }
+}
+
+/// The names, separated by spaces; empty if no condition is on.
+impl fmt::Display for Conditions {
+    fn fmt(&self, f: &mut fmt::Formatter<'_>) -> fmt::Result {
+        for (place, name) in self.names().enumerate() {
+            f.write_str(if place == 0 { "" } else { " " })?;
+            f.write_str(name)?;
+        }
+        Ok(())
+    }
+}
+
+crate::additions::ordered_by_key! {
+    [] Conditions, |it| it.bits();
+}

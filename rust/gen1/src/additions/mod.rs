@@ -1,0 +1,14 @@
+//! What Rust's users expect of the engine's types beside the generated sources: text, order, hash and serde's data. It converts,
+//! and has no rule of battle (docs/PLAIN.md, "What is added").
+
+mod engine;
+mod events;
+mod layout;
+mod machine;
+mod room;
+mod stats;
+mod tables;
+
+pub use machine::UnknownText;
+pub use tables::UnknownName;
+pub(crate) use tables::ordered_by_key;

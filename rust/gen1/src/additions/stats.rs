@@ -1,0 +1,31 @@
+//! Added to the sources (docs/PLAIN.md, "What is added"): serde for members.
+#[cfg(feature = "serde")]
+mod serde_impls {
+    use crate::generated::stats::MemberSpec;
+    use arrayvec::ArrayVec;
+    use crate::generated::tables::{MoveId, Species};
+    use serde::{Deserialize, Deserializer, Serialize, Serializer};
+
+    /// The object of docs/PROGRAM.md, "Input". Each key is required; other keys are ignored, as in the program.
+    #[derive(Serialize, Deserialize)]
+    #[serde(remote = "MemberSpec")]
+    struct MemberObject {
+        species: Species,
+        level: u8,
+        dvs: [u8; 4],
+        exp: [u16; 5],
+        moves: ArrayVec<(MoveId, u8), 4>,
+    }
+
+    impl Serialize for MemberSpec {
+        fn serialize<S: Serializer>(&self, serializer: S) -> Result<S::Ok, S::Error> {
+            MemberObject::serialize(self, serializer)
+        }
+    }
+
+    impl<'de> Deserialize<'de> for MemberSpec {
+        fn deserialize<D: Deserializer<'de>>(deserializer: D) -> Result<Self, D::Error> {
+            MemberObject::deserialize(deserializer)
+        }
+    }
+}

@@ -1,0 +1,134 @@
+//! The damage of a move and its odds, in the current state of a battle.
+use crate::{Battle, MoveId, Side};
+use core::fmt;
+use crate::generated::layout::Packed;
+use crate::generated::odds::Damages;
+
+/// Why there are no damage numbers.
+#[derive(Clone, Copy, Debug, PartialEq, Eq)]
+#[non_exhaustive]
+pub enum DamageRefusal {
+    /// The move doesn't use the usual damage formula: it has no power, a fixed damage, or rules of its own.
+    NoUsualDamage(MoveId),
+    /// No member is out yet: the battle has had no update.
+    NobodyOut,
+    /// The damage would be divided by 0.
+    DividedByZero,
+}
+
+impl fmt::Display for DamageRefusal {
+    fn fmt(&self, f: &mut fmt::Formatter<'_>) -> fmt::Result {
+        match self {
+            DamageRefusal::NoUsualDamage(id) => write!(f, "{id} does not have the usual damage"),
+            DamageRefusal::NobodyOut => f.write_str("no member is out before the first update"),
+            DamageRefusal::DividedByZero => f.write_str("the damage would be divided by 0"),
+        }
+    }
+}
+
+impl core::error::Error for DamageRefusal {}
+
+/// The odds of a move: its damage, and its chances of a critical hit and of a hit.
+///
+/// Chances are exact. They are given as how many of the 256 numbers that may be drawn have that result.
+#[derive(Clone, Debug, PartialEq, Eq)]
+#[non_exhaustive]
+pub struct Odds {
+    /// The damage of a hit that is not critical, at each factor from 217 to 255, which are equally likely; or why there is none.
+    pub usual: Result<[u16; 39], DamageRefusal>,
+    /// The damage of a critical hit, in the same form.
+    pub critical: Result<[u16; 39], DamageRefusal>,
+    /// How many of 256 draws make the hit critical, from 0 to 255; 0 for a move without the usual damage.
+    pub critical_draws: u16,
+    /// How many of 256 draws pass the hit test, from 0 to 256. It has no meaning for a move that takes no hit test.
+    pub hit_draws: u16,
+    /// Whether the move takes the hit test when it is used. Moves that fail, or that affect only their user, take none.
+    pub takes_hit_test: bool,
+}
+
+impl Battle {
+    /// The damage of a side's move at each factor from 217 to 255, in the current state of both members that are out
+    /// (docs/MECHANICS.md, "Damage numbers" to "Factors"). The member need not know the move.
+    ///
+    /// ```
+    /// use gen1::{Battle, Choice, Side, Team, member};
+    ///
+    /// # fn main() -> Result<(), Box<dyn std::error::Error>> {
+    /// let team = Team::new(&[member("Tauros", &["Strength"])?])?;
+    /// let mut battle = Battle::new(&team, &team, [0; 10]);
+    /// battle.update(Choice::Pass, Choice::Pass)?;
+    /// let damages = battle.damage(Side::One, "Body Slam".parse()?, false)?;
+    /// assert_eq!((damages[0], damages[38]), (95, 112));
+    /// # Ok(())
+    /// # }
+    /// ```
+    ///
+    /// # Errors
+    ///
+    /// The first variant of [`DamageRefusal`] that applies, in their order.
+    pub fn damage(
+        &self,
+        side: Side,
+        id: MoveId,
+        critical: bool,
+    ) -> Result<[u16; 39], DamageRefusal> {
+        if !crate::generated::hits::has_usual_damage(id) {
+            return Err(DamageRefusal::NoUsualDamage(id));
+        }
+        let packed = self.out()?;
+        let numbers = crate::generated::hits::numbers(&packed, side, id, critical);
+        crate::generated::hits::damage_list(&numbers).ok_or(DamageRefusal::DividedByZero)
+    }
+
+    /// The odds of a side's move, in the current state of both members that are out (docs/MECHANICS.md, "Critical hits", "Hit test").
+    ///
+    /// The member need not know the move. The accuracy is that of a new use; the one that Thrash and Rage keep is ignored.
+    ///
+    /// ```
+    /// use gen1::{Battle, Choice, Side, Team, member};
+    ///
+    /// # fn main() -> Result<(), Box<dyn std::error::Error>> {
+    /// let team = Team::new(&[member("Persian", &["Slash"])?])?;
+    /// let mut battle = Battle::new(&team, &team, [0; 10]);
+    /// battle.update(Choice::Pass, Choice::Pass)?;
+    /// let odds = battle.odds(Side::One, "Strength".parse()?)?;
+    /// assert_eq!((odds.critical_draws, odds.hit_draws), (57, 255));
+    /// assert_eq!(odds.usual, battle.damage(Side::One, "Strength".parse()?, false));
+    /// # Ok(())
+    /// # }
+    /// ```
+    ///
+    /// # Errors
+    ///
+    /// [`DamageRefusal::NobodyOut`] only. If a move has no damage, [`Odds::usual`] and [`Odds::critical`] say why.
+    pub fn odds(&self, side: Side, id: MoveId) -> Result<Odds, DamageRefusal> {
+        let packed = self.out()?;
+        let odds = crate::generated::odds::odds_of(&packed, side, id);
+        let damages = |of: Damages| match of.code {
+            0 => Ok(of.numbers),
+            3 => Err(DamageRefusal::NoUsualDamage(id)),
+            _ => Err(DamageRefusal::DividedByZero),
+        };
+        Ok(Odds {
+            usual: damages(odds.usual),
+            critical: damages(odds.critical),
+            critical_draws: odds.critical_draws,
+            hit_draws: odds.hit_draws,
+            takes_hit_test: crate::generated::odds::takes_hit_test(id),
+        })
+    }
+
+    /// The battle in the form that functions on its bytes take.
+    pub(crate) fn packed(&self) -> Packed {
+        Packed::read(self.bytes()).expect("only choices that are offered have updated the battle")
+    }
+
+    /// As [`Battle::packed`], but an error before members are out.
+    fn out(&self) -> Result<Packed, DamageRefusal> {
+        let packed = self.packed();
+        if packed.turn() == 0 {
+            return Err(DamageRefusal::NobodyOut);
+        }
+        Ok(packed)
+    }
+}

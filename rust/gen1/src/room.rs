@@ -1,0 +1,93 @@
+//! Two players who choose independently.
+use crate::{Battle, Choice, Choices, Reply, Side};
+use crate::generated::room::plain::{self, PlainRoom};
+
+/// A battle of two players who submit their choices independently, and do not see each other's (docs/MECHANICS.md, "Rooms").
+///
+/// Pairs of choices are numbered from 0, which is the first pair after the start of the battle. A pair ends, and the battle is
+/// updated, as soon as both choices are submitted. A side that is asked for nothing passes automatically.
+///
+/// ```
+/// use gen1::{Battle, Room, RoomRefusal, Side, Submitted, Team, member};
+///
+/// # fn main() -> Result<(), Box<dyn std::error::Error>> {
+/// let team = Team::new(&[member("Tauros", &["Strength"])?])?;
+/// let mut room = Room::new(Battle::new(&team, &team, [1, 36, 255, 7, 31, 100, 179, 254, 127, 10]));
+/// let strength = room.choices(Side::One)[0];
+/// assert_eq!(room.submit(Side::One, 0, strength), Ok(Submitted::Waiting));
+/// assert_eq!(room.submit(Side::One, 0, strength), Err(RoomRefusal::AlreadyChosen));
+/// assert_eq!(room.submit(Side::Two, 1, strength), Err(RoomRefusal::Stale(0)));
+/// assert!(matches!(room.submit(Side::Two, 0, strength), Ok(Submitted::Advanced(_))));
+/// assert_eq!(room.number(), 1);
+/// # Ok(())
+/// # }
+/// ```
+///
+/// A clone is independent, as a battle's is, so that a room can be kept while a copy is tried.
+#[derive(Clone, Debug, PartialEq, Eq)]
+pub struct Room {
+    inner: PlainRoom,
+}
+
+impl Room {
+    /// Creates a room for a battle. A battle that has not begun is started at once.
+    #[must_use]
+    pub fn new(battle: Battle) -> Self {
+        let mut inner = PlainRoom {
+            battle: battle.packed(),
+            number: 0,
+            log_length: 0,
+            one: 0,
+            two: 0,
+            log: [0; 512],
+        };
+        plain::begin(&mut inner);
+        Room { inner }
+    }
+
+    /// The number of the current pair: how many have ended since the room was created.
+    #[must_use]
+    pub fn number(&self) -> u32 {
+        self.inner.number
+    }
+
+    /// A copy of the battle. It includes both teams and the numbers still to be drawn, so it must not be shown to the players.
+    #[must_use]
+    pub fn battle(&self) -> Battle {
+        Battle::load(self.inner.battle.as_bytes()).expect("a room keeps a battle")
+    }
+
+    /// The choices that a side may submit for the current pair, in the order of their bytes.
+    #[must_use]
+    pub fn choices(&self, side: Side) -> Choices {
+        crate::generated::requests::offered(&self.inner.battle, side)
+    }
+
+    /// The log bytes of the last pair that ended. Before the first, they are those of the battle's start, or empty if the battle had
+    /// already begun. Both players may see them.
+    #[must_use]
+    pub fn log(&self) -> &[u8] {
+        &self.inner.log[..usize::from(self.inner.log_length)]
+    }
+
+    /// Submits a side's choice for the pair with the given number. Once both choices are submitted the battle is updated, and
+    /// [`Room::log`] is the log of that update.
+    ///
+    /// # Errors
+    ///
+    /// The first that applies: the battle is over; the number is not that of the current pair; the side has already chosen; the
+    /// choice is not one of [`Room::choices`]. The room is unchanged.
+    pub fn submit(&mut self, side: Side, number: u32, choice: Choice) -> Reply {
+        self.submit_byte(side, number, choice.byte())
+    }
+
+    /// As [`Room::submit`], with the choice as a byte, as players send it (docs/MECHANICS.md, "Offered choices"). A byte that is not
+    /// a choice is refused as not offered.
+    ///
+    /// # Errors
+    ///
+    /// As for [`Room::submit`].
+    pub fn submit_byte(&mut self, side: Side, number: u32, byte: u8) -> Reply {
+        plain::submit(&mut self.inner, side, number, byte)
+    }
+}
