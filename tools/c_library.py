@@ -48,6 +48,13 @@ def ran(*words, cwd=ROOT, env=None):
     return done.stdout
 
 
+def plain_build(profile):
+    """Builds the C library of the plain sources with nothing of std, and returns the folder that it is in."""
+    target = ROOT / "target" / "c"
+    ran("cargo", "build", "-q", "--profile", profile, "-p", "gen1-ffi", *PLAIN_FEATURES, "--target-dir", target)
+    return target / profile
+
+
 def plain_library(folder):
     """Builds the library of the sources as plain Rust in a folder (docs/PLAIN.md), and returns its path.
 
@@ -58,9 +65,7 @@ def plain_library(folder):
     subprocess.run([ROOT / "tools" / "setup", "plain"], stdout=sys.stderr)
     if not shutil.which("cargo"):
         raise Missing("there is no cargo, which `tools/setup plain` installs")
-    ran(ROOT / "tools" / "plain", folder / "workspace", "--debian")
-    ran("cargo", "build", "-q", "--release", "-p", "gen1_c", *PLAIN_FEATURES, cwd=folder / "workspace")
-    built, objects = folder / "workspace" / "target" / "release" / "libgen1_c.a", folder / "objects"
+    built, objects = plain_build("release") / "libgen1_c.a", folder / "objects"
     shutil.rmtree(objects, ignore_errors=True)
     objects.mkdir()
     own = [name for name in ran("ar", "t", built).split() if name.startswith("gen1_c.")]

@@ -6,8 +6,25 @@ import io
 import os
 import re
 import tarfile
+from functools import partial
 
 from repository import ROOT
+
+# A block or span of code, in which nothing is a link, or a link: its words and its target.
+LINK = re.compile(r"^(```|~~~).*?^\1 *$|`[^`\n]*`|\[([^\]\n]*)\]\(([^)\s]+)\)", re.M | re.S)
+
+
+def within(document, found):
+    """A link of a document as it is, or its words alone if its target is missing."""
+    path = (found[3] or "").partition("#")[0]
+    is_lost = path and not re.match("[a-z]+:", path) and not (document.parent / path).exists()
+    return found[2] if is_lost else found[0]
+
+
+def keep_links_within(documents):
+    """Turns each link whose target is missing next to the documents into its words."""
+    for document in documents:
+        document.write_text(LINK.sub(partial(within, document), document.read_text()))
 
 
 def epoch():

@@ -3,7 +3,6 @@
 import ctypes
 import hashlib
 import os
-import re
 import shutil
 import subprocess
 import sys
@@ -13,11 +12,10 @@ from pathlib import Path
 from c_install import LINES, plays
 from c_library import Missing, Unbuilt, calls
 from documents.links import lost_links
+from published import fault_of
 from repository import ROOT, version
 
-REGISTRY = Path("/usr/share/cargo/registry")
 STORED = ROOT / "crates" / "battle_tool" / "stdin"
-CONFIG = '[source.crates-io]\nreplace-with = "debian"\n[source.debian]\ndirectory = "/usr/share/cargo/registry"\n'
 # The place of a battle in a page that has none.
 PLACEHOLDER = '<script id="battle" type="application/json">null</script>'
 
@@ -39,13 +37,18 @@ def due(got, wanted):
     return None if got == wanted else f"{str(got)[:300]!r}, and not {str(wanted)[:300]!r}"
 
 
+def program():
+    """The program gen1, built by cargo."""
+    ran("cargo", "build", "-q", "--release", "-p", "gen1-cli", cwd=ROOT)
+    return ROOT / "target" / "release" / "gen1"
+
+
 class Trial:
     """A release to check, and another of the same sources."""
 
     def __init__(self, first, second, left_out, room):
         self.first, self.out, self.left_out, self.room = first, second, left_out, room
         self.counts = {"passed": 0, "failed": 0, "skipped": 0}
-        self.made = None
 
     def tell(self, name, check, *given):
         """Runs a check, which returns what is wrong, and counts it."""
@@ -80,23 +83,15 @@ class Trial:
         return None if (self.first / name).read_bytes() == (self.out / name).read_bytes() else "it came out otherwise the second time"
 
     def rust(self):
-        """The workspace's own sums; its program, built with Debian's crates, on the README's example."""
-        folder = self.unpacked(f"gen1-{version()}-rust.tar.gz")
-        ran("sha256sum", "-c", "--quiet", "SHA256SUMS", cwd=folder)
-        if not REGISTRY.is_dir():
-            raise Missing("there are no crates of Debian's, which tools/setup plain installs")
-        (folder / ".cargo").mkdir()
-        (folder / ".cargo" / "config.toml").write_text(CONFIG)
-        wanted = re.search(r"prints\n\n```\n(.*?)```", (folder / "README.md").read_text(), re.S)[1]
-        given = (folder / "examples" / "tauros.json").read_text()
-        got = ran("cargo", "run", "-q", "--release", "--offline", "--", "run", cwd=folder, given=given)
-        self.made = folder / "target" / "release" / "gen1"
-        return due(got, wanted) or due(ran(self.made, "--version", cwd=folder), f"gen1 {version()}\n")
+        """The crate, used by a new project."""
+        room = self.room / "published"
+        shutil.rmtree(room, ignore_errors=True)
+        room.mkdir()
+        return fault_of(self.out / f"gen1-{version()}.crate", room)
 
     def links(self):
-        """Each link of the documents has a target, in the release and in the folder of the Rust sources."""
-        folders = [self.out, *(self.unpacked(path.name) for path in self.out.glob("gen1-*-rust.tar.gz"))]
-        return next((fault for folder in folders for fault in lost_links(folder.resolve())), None)
+        """Each link of the documents has a target."""
+        return next(iter(lost_links(self.out.resolve())), None)
 
     def c(self):
         """A program by pkg-config with the shared and the static library, from the unpacked folder."""
@@ -137,19 +132,15 @@ class Trial:
         return due(told, f"{version()}\n") or due(ran(python, "-m", "gen1", "run", STORED, cwd=place), LINES.read_text())
 
     def differences(self):
-        """The program of the Rust sources plays the battles of docs/DIFFERENCES.md."""
-        if not self.made:
-            raise Missing("the program of the Rust sources was not made")
-        ran(ROOT / "tools" / "differences", self.made, cwd=self.room)
+        """The program of the plain sources plays the battles of docs/DIFFERENCES.md."""
+        ran(ROOT / "tools" / "differences", program(), cwd=self.room)
 
     def page(self):
         """The page has no battle, and `gen1 replay` of the built program puts one into it."""
         page = self.out / f"gen1-{version()}.html"
         if page.read_text().count(PLACEHOLDER) != 1 or page.stat().st_size >= 400_000:
             return "it has no place for a battle, or is too long"
-        if not self.made:
-            raise Missing("the program of the Rust sources was not made")
-        text = ran(self.made, "replay", "--page", page, STORED, cwd=self.room)
+        text = ran(program(), "replay", "--page", page, STORED, cwd=self.room)
         return None if PLACEHOLDER not in text and '"Tauros"' in text else "no battle was put into it"
 
     def proved(self):

@@ -3,9 +3,9 @@ use crate::json::Out;
 use crate::odds::{known, write_move};
 use crate::teams::{Fault, MEMBER, member_of, write_fault};
 use gen1::{Battle, Choice, MoveId, Side, Stat, Status, Team};
-use gen1_layout::{Conditions, Packed};
-use gen1_machine::now;
-use gen1_status::take_penalty;
+use gen1::generated::layout::{Conditions, Packed};
+use gen1::generated::machine::now;
+use gen1::generated::status::take_penalty;
 
 /// The state of a member: 24 bytes of the member, six stages from 0 to 12, the status (docs/LAYOUT.md, "Member"), conditions, and
 /// the HP in two bytes, where 0 is the maximum.

@@ -54,7 +54,7 @@ fn write_move(out: &mut Out<'_>, it: MoveId) {
     out.field("power", it.power());
     out.field("accuracy", it.accuracy_byte());
     out.field("pp", it.pp());
-    out.field("usual", u8::from(gen1_hits::has_usual_damage(it)));
+    out.field("usual", u8::from(gen1::generated::hits::has_usual_damage(it)));
     out.field("known", u8::from(may_be_known(it)));
     out.raw(",");
     out.key("effect");

@@ -241,7 +241,7 @@ fn moves_with_a_hit_test_miss_and_no_others() {
         if effect == Effect::LeftOut || effect.explodes() {
             continue;
         }
-        let expected = gen1_odds::takes_hit_test(id) && effect != Effect::NeverMisses;
+        let expected = gen1::generated::odds::takes_hit_test(id) && effect != Effect::NeverMisses;
         assert_eq!(
             seeds.iter().any(|seed| misses(id.number(), *seed)),
             expected,

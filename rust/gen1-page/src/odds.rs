@@ -3,9 +3,9 @@
 use crate::battles::BATTLE;
 use crate::json::Out;
 use gen1::{MoveId, Side};
-use gen1_hits::{has_usual_damage, settled_hit};
-use gen1_layout::Packed;
-use gen1_odds::{Damages, Odds, odds_of, takes_hit_test};
+use gen1::generated::hits::{has_usual_damage, settled_hit};
+use gen1::generated::layout::Packed;
+use gen1::generated::odds::{Damages, Odds, odds_of, takes_hit_test};
 
 /// How many of 256 draws let a move hit, and whether a draw decides it; `None` if the move takes no hit test.
 pub fn hitting_bytes(packed: &Packed, side: Side, id: MoveId) -> Option<(u16, bool)> {

@@ -2,8 +2,8 @@
 use crate::battles::{BATTLE, battle_of};
 use crate::json::Out;
 use gen1::{Battle, Kind, Outcome, Request, Side, Stat, Status};
-use gen1_layout::{Conditions, Packed};
-use gen1_machine::UsedMove;
+use gen1::generated::layout::{Conditions, Packed};
+use gen1::generated::machine::UsedMove;
 
 pub const STATS: [Stat; 6] = [
     Stat::Attack,
