@@ -1164,7 +1164,7 @@ mod side_effects {
             ("Psychic", Stat::Special, 157),
         ];
 
-        // Mist does not help.
+        // Mist doesn't prevent it.
         #[test]
         fn stages() -> Result<(), Fail> { let rt = gen1_tests::testing::HostRuntime;
             let one = StageCount::new(1).ok_or("no such count")?;
@@ -1457,7 +1457,7 @@ mod side_effects {
             does_nothing(&rt, &mut tauros()?, "Body Slam", 0, 0)
         }
 
-        // A Fire move thaws, and its burn does the same for a foe of type Fire.
+        // A Fire move that can burn thaws a frozen foe, even one of type Fire.
         #[test]
         fn the_thaw() -> Result<(), Fail> { let rt = gen1_tests::testing::HostRuntime;
             for link in BOTH {

@@ -239,7 +239,7 @@ mod tests {
             Ok(())
         }
 
-        // Disable hits below 140. The foe has its one move in slot 1, which 136 draws after 138 and 137; 135 makes the count 8
+        // Disable hits below 140. The foe has its one move in slot 1, which 136 names after 138 and 137. 135 makes the count 8
         // (docs/MECHANICS.md, "Side effects").
         #[test]
         fn a_slot_that_is_drawn() -> Result<(), Fail> { let rt = gen1_tests::testing::HostRuntime;

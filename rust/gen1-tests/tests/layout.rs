@@ -22,7 +22,7 @@ mod comparing {
 
 #[cfg(test)]
 mod fields {
-    //! A battle at turn 0 by docs/LAYOUT.md, and each reader and writer once.
+    //! A battle at turn 0 (docs/LAYOUT.md), and each read and write function once.
 
     use crate::comparing::assert_same;
     use arrayvec::ArrayVec;
@@ -123,7 +123,7 @@ mod fields {
         Ok(())
     }
 
-    // Readers and writers of the header (docs/LAYOUT.md, "Header").
+    // Reads and writes of the header (docs/LAYOUT.md, "Header").
     #[test]
     fn the_header() -> Result<(), Fail> { let rt = gen1_tests::testing::HostRuntime;
         let mut packed = begun()?;
@@ -148,7 +148,7 @@ mod fields {
         Ok(())
     }
 
-    // Readers and writers of a member (docs/LAYOUT.md, "Member").
+    // Reads and writes of a member (docs/LAYOUT.md, "Member").
     #[test]
     fn a_member() -> Result<(), Fail> { let rt = gen1_tests::testing::HostRuntime;
         let mut packed = begun()?;
@@ -191,7 +191,7 @@ mod fields {
         Ok(())
     }
 
-    // Readers and writers of an active block (docs/LAYOUT.md, "Active block").
+    // Reads and writes of an active block (docs/LAYOUT.md, "Active block").
     #[test]
     fn an_active_block() -> Result<(), Fail> { let rt = gen1_tests::testing::HostRuntime;
         let mut packed = begun()?;

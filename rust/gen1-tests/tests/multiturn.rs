@@ -122,7 +122,7 @@ mod counter {
 
     #[test]
     fn a_counter_that_hits() -> Result<(), Fail> { let rt = gen1_tests::testing::HostRuntime;
-        // The draw 0 is critical; 8 is 64 once rotated, and is not. The second draw is below 255.
+        // The draw 0 is critical. 8 is 64 after rotation, and isn't critical. The second draw is below 255.
         for (byte, critical) in [(0, true), (8, false)] {
             let mut battle = picked(&FIRST, Slot(1))?;
             let before = bytes_of(&battle);

@@ -958,14 +958,14 @@ mod status {
             Status::Asleep { turns, marked }
         }
 
-        // What the choice of a slot from 0 to 4 comes to.
+        // What the choice of a slot from 0 to 4 becomes.
         fn picks(rt: &impl Abort, battle: &Packed, side: Side, slot: u8, picked: Pick) -> Result<(), Fail> {
             let slot = MoveSlot::new(slot).ok_or("no such slot")?;
             assert_same(rt, pick(battle, side, Choice::Move(slot)), picked);
             Ok(())
         }
 
-        // What choices come to (docs/MECHANICS.md, "Picks").
+        // What choices become (docs/MECHANICS.md, "Picks").
         #[test]
         fn picks_of_who_is_free_or_held() -> Result<(), Fail> { let rt = gen1_tests::testing::HostRuntime;
             let mut battle = two_tauros()?;

@@ -3,7 +3,7 @@
 //! effects", "Late effects", "Side effects").
 //!
 //! - `early_effects`: effects before any damage
-//! - `late_effects`: effects at the place of the damage
+//! - `late_effects`: effects after the damage step
 //! - `side_effects`: effects in addition to damage
 //! - `targets`: what a move finds at a member
 
@@ -300,7 +300,7 @@ mod early_effects {
             id.number() == LIGHT_SCREEN
         }
 
-        // Sets a condition without a number, whose bit is at place k. It fails if the condition is on.
+        // Sets a condition without a number, and fails if it is on. In the contract, k is the place of its bit.
         fn put_up<S: EventSink>(
             battle: &mut Packed,
             side: Side,
@@ -476,7 +476,7 @@ mod early_effects {
     }
 
     mod stage_reset {
-        //! Stages that go back to the middle, with the stats at it (docs/MECHANICS.md, "Stages").
+        //! Stages that go back to the middle, with the stats there (docs/MECHANICS.md, "Stages").
 
         use crate::generated::layout::Packed;
         use crate::generated::machine::Side;
@@ -504,7 +504,7 @@ mod early_effects {
 }
 
 mod late_effects {
-    //! Moves that act at the place of the damage: they raise and lower stages, and put the foe to sleep
+    //! Moves that act after the damage step: they raise and lower stages, and put the foe to sleep
     //! (docs/MECHANICS.md, "Late effects"). Bide, which lasts, isn't one of these.
 
     use crate::generated::action::Known;
@@ -541,7 +541,7 @@ mod late_effects {
             sleep_by_rules(battle, side, random, events)
         }
 
-        // A foe that has to recharge loses its recharging. There is no other test then.
+        // A foe that has to recharge loses its recharging, and takes no other test.
         fn ready_to_sleep<R: Rolls, S: EventSink>(
             battle: &mut Packed,
             side: Side,
@@ -948,7 +948,7 @@ mod side_effects {
         use crate::generated::status::inflict;
         use crate::generated::tables::{Element, MoveId};
 
-        // There is no draw if the foe has a status, or is a Poison type.
+        // Nothing is drawn if the foe has a status, or is a Poison type.
         pub(super) fn may_poison<R: Rolls, S: EventSink>(
             battle: &mut Packed,
             side: Side,
@@ -972,7 +972,7 @@ mod side_effects {
             ailing | immune
         }
 
-        // A burn, a freeze or paralysis. There is no draw if the foe has a status, which a Fire move may thaw, or has the
+        // A burn, a freeze or paralysis. Nothing is drawn if the foe has a status, which a Fire move may thaw, or has the
         // move's type.
         #[inline(always)] // docs/SPEED.md, "Hints on inlining"
         pub(super) fn may_inflict<R: Rolls, S: EventSink>(

@@ -204,7 +204,7 @@ mod hit_effects {
         events.push(Event::Start(battle.who(side), Volatile::Rage));
     }
 
-    // The user falls. There is no event for that.
+    // The user falls. No event reports that.
     pub(crate) fn explode(battle: &mut Packed, side: Side) {
         battle.put_fallen(side);
         battle.put_flag(side, Conditions::SEEDED, false);
@@ -564,7 +564,8 @@ mod moves {
             charge_by(battle, side, pick, id, events)
         }
 
-        /// Makes the move that a pick uses the current move of `side` (docs/MECHANICS.md, "Charging"). Nothing else changes.
+        /// Sets the current move of `side` to the move that a pick uses (docs/MECHANICS.md, "Charging"). Nothing else
+        /// changes.
         pub fn make_current(battle: &mut Packed, side: Side, pick: Pick) {
             let used = used_by(battle, side, pick);
             battle.put_current_move(side, used);

@@ -70,7 +70,7 @@ mod odds {
     use crate::generated::machine::Side;
     use crate::generated::tables::MoveId;
 
-    // Why there are no damages, with the numbers of `gen1_damage` of gen1_c.
+    // The reasons for having no damages, with the numbers of `gen1_damage` of gen1_c.
     const UNUSUAL: u8 = 3;
 
     const DIVISOR: u8 = 5;

@@ -151,9 +151,12 @@ mod falls {
     ///
     /// `actor` is the side that acted, was skipped, or was sent out last in a turn. It is side 1 if there was no turn.
     ///
-    /// The fallen members that are out faint, the foe of `actor` first. Then the battle ends with a win or a tie, or each
-    /// side with a fallen member is asked for a switch, or the turn number rises by 1 and both sides are asked for moves.
-    /// If the outcome is a fault, no member faints, and nothing more is asked for. It writes at most 3 events.
+    /// The fallen members that are out faint, the foe of `actor` first. Then one of three things happens. The battle ends
+    /// with a win or a tie, each side with a fallen member is asked for a switch, or the turn number rises by 1 and both
+    /// sides are asked for moves.
+    ///
+    /// If the outcome is a fault, no member faints, and nothing more is asked for. It writes at most three events, and
+    /// needs three free places in `events`.
     #[inline(always)] // docs/SPEED.md, "Hints on inlining"
     pub fn close<S: EventSink>(battle: &mut Packed, actor: Side, events: &mut S) {
         match fault_in(battle.outcome()) {
@@ -309,16 +312,18 @@ mod mask_choices {
 
     use crate::generated::machine::{Choice, MoveSlot, Place};
 
-    /// The number of choices of a mask of [`offered_mask`](crate::offered_mask). It is 0 once the battle is over
-    /// (docs/MECHANICS.md, "Offered choices").
+    /// The number of choices of a mask of [`offered_mask`](crate::offered_mask), which is below 4,096 (docs/MECHANICS.md,
+    /// "Offered choices"). It is 0 once the battle is over.
     #[inline(always)]
     pub fn count_of(mask: u16) -> u8 {
         mask.count_ones() as u8
     }
 
-    /// The choice at a place of a mask, counted from 0 by rising bytes (docs/MECHANICS.md, "Offered choices").
+    /// The choice at a place of a mask below 4,096, counted from 0 by rising bytes (docs/MECHANICS.md, "Offered
+    /// choices").
     ///
-    /// It is the choice at that place of [`offered`](crate::offered).
+    /// The place must be below the number of choices. The result is the choice at that place of
+    /// [`offered`](crate::offered).
     #[inline(always)]
     pub fn choice_at(mask: u16, place: u8) -> Choice {
         let mut rest = mask;
@@ -360,7 +365,7 @@ mod masks {
 
     /// What a side may choose, as a number of twelve binary digits (docs/MECHANICS.md, "Offered choices").
     ///
-    /// Each digit says whether a choice is offered. By rising bytes and from the lowest digit, Pass is digit 0, Move with
+    /// Each digit says whether a choice is offered, by rising bytes and from the lowest digit. Pass is digit 0. Move with
     /// slots 0 to 4 is digits 1 to 5, and Switch to places 1 to 6 is digits 6 to 11. The number is 0 once the battle is
     /// over.
     #[inline(always)] // docs/SPEED.md, "Hints on inlining"
@@ -458,7 +463,7 @@ mod masks {
         if usable == 0 { 2 } else { 2 * usable }
     }
 
-    // Whether no slot can be chosen, by the byte of its status.
+    // Whether no slot can be chosen, by the byte of the member's status.
     #[inline(always)]
     fn picks_none(battle: &Packed, side: Side, status: u8) -> bool {
         if status & SLEEPS_OR_FREEZES != 0 {
@@ -510,7 +515,7 @@ mod offered_choices {
         }
     }
 
-    // While the battle goes on.
+    // The choices while the battle goes on.
     fn offered_now(battle: &Packed, side: Side) -> Choices {
         match battle.request(side) {
             Request::Pass => only(Choice::Pass),
@@ -540,7 +545,7 @@ mod offered_choices {
         choices
     }
 
-    // The moves alone.
+    // The moves, without the switches.
     fn moves_offered(battle: &Packed, side: Side) -> Choices {
         if has_no_slot(battle, side) {
             return only(move_in_slot(0));
@@ -552,7 +557,7 @@ mod offered_choices {
         choices
     }
 
-    // The moves of slots that have PP and are not disabled.
+    // The moves of slots that have PP and aren't disabled.
     fn usable_moves(battle: &Packed, side: Side) -> Choices {
         let mut choices = Choices::new();
         for slot in 1..5_u8 {
@@ -645,7 +650,7 @@ mod start_and_replace {
     /// and requests").
     ///
     /// It sends out the first member of side 1 and then of side 2, begins turn 1, and asks both sides for moves. Nothing
-    /// is drawn. `events` must be empty, and receives two `Switch` and a `Turn`.
+    /// is drawn. `events` must be empty and have five free places. Two `Switch` and a `Turn` are written to it.
     pub fn start<S: EventSink>(battle: &mut Packed, events: &mut S) {
         send_both_first(battle, events);
         close(battle, Side::One, events);
@@ -654,7 +659,8 @@ mod start_and_replace {
     /// Plays the update of replacements for fallen members (docs/MECHANICS.md, "Switching in", "Falls and requests").
     ///
     /// It sends out the members that the sides chose by `Choice::Switch`, side 1's first, begins the next turn, and asks
-    /// both sides for moves. Nothing is drawn. `events` must be empty, and receives one or two `Switch` and a `Turn`.
+    /// both sides for moves. Nothing is drawn. `events` must be empty and have five free places. One or two `Switch` and
+    /// a `Turn` are written to it.
     pub fn replace<S: EventSink>(battle: &mut Packed, one: Choice, two: Choice, events: &mut S) {
         send_both_chosen(battle, one, two, events);
         close(battle, Side::One, events);
@@ -663,8 +669,8 @@ mod start_and_replace {
     /// Sends out the first member of side 1 and then of side 2, as the first update does, without a turn
     /// (docs/MECHANICS.md, "Switching in").
     ///
-    /// It is for callers that only need two members that face each other. The battle is at turn 0. `events` must be
-    /// empty, and receives two `Switch`.
+    /// It is for callers that only need two members that face each other. The battle is at turn 0, and `events` is empty.
+    /// Two `Switch` are written, for which it needs two free places in `events`.
     pub fn send_both_first<S: EventSink>(battle: &mut Packed, events: &mut S) {
         if let Some(first) = Place::new(1) {
             send_first(battle, Side::One, first, events);
@@ -699,7 +705,8 @@ mod switching_in {
     /// Sends out the member of `side` at a place of its team, and writes `Switch` (docs/MECHANICS.md, "Switching in").
     ///
     /// All its stages are 0, no condition is on, and it has no current and no picked move. It has one penalty if it is
-    /// paralysed or burned. The foe's Trapping ends. Members, last damage and header stay as they are.
+    /// paralysed or burned. The foe's Trapping ends. Members, last damage and header stay as they are. It needs one free
+    /// place in `events`.
     #[inline(always)] // docs/SPEED.md, "Hints on inlining"
     pub fn send_out<S: EventSink>(battle: &mut Packed, side: Side, place: Place, events: &mut S) {
         tell_coming_out(battle, side, place, events);

@@ -243,7 +243,7 @@ mod refusal {
     /// from 1.
     #[derive(Debug, Clone, Copy, PartialEq, Eq)]
     pub enum TeamRefusal {
-        /// There are no members.
+        /// The list of members is empty.
         Empty,
         /// There are more than six members.
         TooMany,

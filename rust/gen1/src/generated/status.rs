@@ -2,7 +2,7 @@
 //! What keeps a member from acting, and the effect of statuses and stages on it, over the bytes of a battle
 //! (docs/MECHANICS.md, "Penalties", "Stage shift", "Picks" to "Hit on itself", "Residual damage").
 //!
-//! - `picks`: what a side's choice comes to
+//! - `picks`: what a side's choice becomes
 //! - `gate_tests`: what keeps a member from acting
 //! - `gate_answer`: the result of the gate
 //! - `hit_on_itself`: the hit of a confused member on itself
@@ -475,8 +475,10 @@ mod infliction {
         inflict_status(battle, target, status_of_kind(kind, count), kind, events);
     }
 
-    /// The same as [`inflict`], with the status itself. `kind` must be its kind. A marked sleep is allowed only under the
-    /// sleep clause (docs/MECHANICS.md, "Rules (sleep clause, freeze clause)").
+    /// The same as [`inflict`], with the status itself (docs/MECHANICS.md, "Penalties").
+    ///
+    /// `kind` must be its kind. A marked sleep is allowed only under the sleep clause (docs/MECHANICS.md, "Rules (sleep
+    /// clause, freeze clause)").
     #[inline(always)] // docs/SPEED.md, "Hints on inlining"
     pub fn inflict_status<S: EventSink>(
         battle: &mut Packed,
@@ -537,12 +539,12 @@ mod penalties {
 }
 
 mod picks {
-    //! What a side's choice comes to as the turn begins (docs/MECHANICS.md, "Picks").
+    //! What a side's choice becomes as the turn begins (docs/MECHANICS.md, "Picks").
 
     use crate::generated::layout::{Conditions, Packed};
     use crate::generated::machine::{Choice, Pick, Side, UsedMove};
 
-    /// What a choice of a move comes to (docs/MECHANICS.md, "Picks").
+    /// What a choice of a move becomes (docs/MECHANICS.md, "Picks").
     ///
     /// Slots 1 to 4 are picked as they are. The meaning of slot 0 depends on the conditions and the status. A choice that
     /// isn't a move has no pick, and returns the same as slot 0.
@@ -717,7 +719,7 @@ mod stage_shift {
     ///
     /// `by` is 1 or 2 for a rise, and -1 or -2 for a fall. The contract covers no other numbers, and no move has any.
     /// [`raise_stage`] and [`lower_stage`] say when a shift succeeds. Any further effect of a failure, such as `Fail`, is
-    /// left to the caller.
+    /// left to the caller. It needs one free place in `events`.
     pub fn shift_stage<S: EventSink>(
         battle: &mut Packed,
         user: Side,

@@ -299,7 +299,7 @@ mod action_steps {
 }
 
 mod by_side {
-    //! A generator by two types, one for the action of each side (docs/MECHANICS.md, "Order of a turn").
+    //! A generator as two types, one for the action of each side (docs/MECHANICS.md, "Order of a turn").
 
     use crate::generated::rolls::Rolls;
 
@@ -452,7 +452,7 @@ mod strike {
         side_effect_knowing(battle, side, id, known, random, events)
     }
 
-    // There is no side effect after Bide's energy, a broken substitute or a fall.
+    // Bide's energy, a hit that breaks a substitute and a fall have no side effect.
     fn has_no_effect(battle: &Packed, side: Side, known: &Known) -> bool {
         known.letting_go || (known.broke || battle.hp(side.other()) == 0)
     }
@@ -502,7 +502,7 @@ mod taken_move {
         }
     }
 
-    // The number of a move, by where it comes from. 0 is no move.
+    // The number of a move, by where it comes from, or 0 for none.
     pub(crate) fn number_of(battle: &Packed, side: Side, used: UsedMove) -> u8 {
         match used {
             UsedMove::Nothing => 0,
@@ -850,8 +850,8 @@ mod turn_update {
     ///
     /// After the turn the fallen faint. Then the battle ends, or asks for switches or for the moves of the next turn.
     ///
-    /// Draws come only from `random`, which is left at the place after the last draw. The index and the numbers in the
-    /// bytes stay as they are. `events` must be empty, and receives at most 51 events.
+    /// Draws come only from `random`, which is returned as the draws leave it. The index and the numbers in the bytes
+    /// stay as they are. `events` must be empty and have 51 free places. The events of the update are written to it.
     pub fn turn<R: Rolls, S: EventSink>(
         battle: &mut Packed,
         one: Choice,
