@@ -1,7 +1,7 @@
 /*
  * Plays fuzzed battles with two builds of the C library, and compares everything that they return and write.
  *
- *     cc -O2 -I include plain/compare/compare.c -ldl -o compare
+ *     cc -O2 -I include tests/c/compare.c -ldl -o compare
  *     ./compare FIRST.so SECOND.so BATTLES STRINGS SEED
  *
  * For each battle it compares the return value of gen1_new and, after each update, the return value, log, 384 bytes, result, choices,

@@ -1,4 +1,4 @@
-// The engine: the WebAssembly module of plain/page, and the objects that it returns. A battle is 384 bytes. The module keeps nothing
+// The engine: the WebAssembly module of rust/gen1-page, and the objects that it returns. A battle is 384 bytes. The module keeps nothing
 // between calls except what a spectator knows.
 import { Problem } from "./dom.js";
 

@@ -100,7 +100,7 @@ export class MemberForm {
       throw new Problem(`Side ${this.side}: ${this.hp.value} HP are above the maximum of ${this.species.value}, which is ${most}.`, { field: this.hp });
   }
 
-  /** The member, and how it stands: 34 bytes (plain/page, "calculator"). */
+  /** The member, and how it stands: 34 bytes (rust/gen1-page, "calculator"). */
   bytes() {
     const { tables } = this.engine;
     const species = tables.species.findIndex((it) => same(it.name, this.species.value)) + 1;
