@@ -1,10 +1,15 @@
 //! A measurement of speed.
-use crate::commands::put;
+use crate::commands::text_of;
 use crate::fault::Fault;
+use crate::files::put;
 use crate::random::Random;
 use clap::Args;
-use gen1::{Battle, EventList, Side};
+use gen1::{Battle, Choice, EventList, Side};
+use std::hint::black_box;
 use std::time::{Duration, Instant};
+
+/// How many battles are drawn; each row plays them in turn.
+const BATTLES: usize = 256;
 
 /// The arguments of `bench`.
 #[derive(Args)]
@@ -17,38 +22,105 @@ pub struct Measure {
     seed: u64,
 }
 
-/// Plays random battles of full teams, and prints how many there were and how long an update takes.
-pub fn bench(measure: &Measure) -> Result<(), Fault> {
-    let mut random = Random::new(measure.seed);
-    let teams: Vec<_> = (0..64).map(|_| random.team(6)).collect();
-    let (begun, limit) = (Instant::now(), Duration::from_secs(measure.seconds));
-    let (mut battles, mut updates) = (0_u64, 0_u64);
-    let mut events = EventList::new();
-    while begun.elapsed() < limit {
-        let (one, two) = (random.below(64), random.below(64));
-        updates += played(
-            Battle::new(&teams[one], &teams[two], random.seed()),
-            &mut random,
-            &mut events,
-        );
-        battles += 1;
-    }
-    let seconds = begun.elapsed().as_secs_f64();
-    put(&format!(
-        "{battles} battles, {updates} updates in {seconds:.2} s: {:.0} updates a second, {:.0} ns an update, its choices included\n",
-        updates as f64 / seconds,
-        seconds * 1e9 / updates as f64,
-    ))
+/// A battle before its first update, and the choices of a random game of it.
+struct Game {
+    start: Battle,
+    pairs: Vec<(Choice, Choice)>,
 }
 
-/// Plays a battle with random choices, and returns the number of updates.
-fn played(mut battle: Battle, random: &mut Random, events: &mut EventList) -> u64 {
-    let mut updates = 0;
+/// Plays random battles of full teams in four ways, and prints how long an update takes in each.
+pub fn bench(measure: &Measure) -> Result<(), Fault> {
+    let mut random = Random::new(measure.seed);
+    let games: Vec<_> = (0..BATTLES).map(|_| game(&mut random)).collect();
+    let limit = Duration::from_secs(measure.seconds) / 4;
+    let row = |name: &str, includes: &str, play: &mut dyn FnMut(&Game) -> usize| {
+        let seconds = time_of_update(&games, limit, play);
+        let (time, rate) = (seconds * 1e9, 1.0 / seconds);
+        put(format!(
+            "{name:<7}{time:>7.0} ns an update{rate:>12.0} a second  {includes}\n"
+        ))
+    };
+    let mut events = EventList::new();
+    put(format!("gen1 {}, nothing of it proved\n", crate::version()))?;
+    row(
+        "engine",
+        "no events; choices recorded before",
+        &mut recorded,
+    )?;
+    let includes = "no events; choices drawn from masks, not tested again";
+    row("masks", includes, &mut |game| masked(game, &mut random))?;
+    let includes = "events in a list; choices drawn from lists";
+    row("lists", includes, &mut |game| {
+        listed(game, &mut random, &mut events, |_| ())
+    })?;
+    let lines = |events: &EventList| drop(black_box(text_of(events)));
+    let includes = "as lists, and each event as a line of text";
+    row("lines", includes, &mut |game| {
+        listed(game, &mut random, &mut events, lines)
+    })
+}
+
+/// Plays games in turn until the time is over, and returns the seconds that an update took.
+fn time_of_update(games: &[Game], limit: Duration, play: &mut dyn FnMut(&Game) -> usize) -> f64 {
+    let (begin, mut updates) = (Instant::now(), 0);
+    for game in games.iter().cycle() {
+        updates += play(game);
+        if begin.elapsed() >= limit {
+            break;
+        }
+    }
+    begin.elapsed().as_secs_f64() / updates as f64
+}
+
+fn game(random: &mut Random) -> Game {
+    let start = Battle::new(&random.team(6), &random.team(6), random.seed());
+    let (mut battle, mut pairs) = (start.clone(), Vec::new());
+    while let Some((one, two)) = drawn(&battle, random) {
+        battle.update_offered(one, two);
+        pairs.push((one, two));
+    }
+    Game { start, pairs }
+}
+
+/// A choice for each side; `None` once the battle is over.
+fn drawn(battle: &Battle, random: &mut Random) -> Option<(Choice, Choice)> {
+    let [one, two] = Side::BOTH.map(|side| random.choice(battle.offered_mask(side)));
+    Some((one?, two?))
+}
+
+/// Plays the recorded choices of a game. Like the two functions below, it returns the number of updates.
+fn recorded(game: &Game) -> usize {
+    let mut battle = game.start.clone();
+    for (one, two) in &game.pairs {
+        // Choices of the same battle are accepted again.
+        let _ = battle.update_silent(*one, *two);
+    }
+    black_box(battle);
+    game.pairs.len()
+}
+
+fn masked(game: &Game, random: &mut Random) -> usize {
+    let (mut battle, mut updates) = (game.start.clone(), 0);
+    while let Some((one, two)) = drawn(&battle, random) {
+        battle.update_offered(one, two);
+        updates += 1;
+    }
+    updates
+}
+
+fn listed(
+    game: &Game,
+    random: &mut Random,
+    events: &mut EventList,
+    then: impl Fn(&EventList),
+) -> usize {
+    let (mut battle, mut updates) = (game.start.clone(), 0);
     let mut choose = |battle: &Battle, side| random.pick(&battle.choices(side)).copied();
     while let (Some(one), Some(two)) = (choose(&battle, Side::One), choose(&battle, Side::Two)) {
         if battle.update_events(one, two, events).is_err() {
             break;
         }
+        then(events);
         updates += 1;
     }
     updates

@@ -1,127 +1,95 @@
 //! The commands that read an input and print a result (docs/PROGRAM.md).
 use crate::fault::Fault;
-use crate::input::{
-    Sheet, at, list_of, member_of, move_name_of, pair_of, submission_of, truth_of, value_of,
-};
-use crate::misfit::Misfit;
+use crate::files::put;
+use crate::input::{battle_and, battle_and_choices, key, team};
 use crate::screen;
 use gen1::{
-    Battle, Choice, DamageRefusal, Event, EventList, Line, LogBuf, MoveId, Room, RoomRefusal, Side,
-    Submitted, Team, events_of, write_log,
+    Battle, Choice, DamageRefusal, Event, EventList, Line, LogBuf, LogReader, MemberSpec, MoveId,
+    Room, RoomRefusal, Side, Submitted, Team, write_log,
 };
-use serde_json::Value;
-use std::io::Write;
-
-/// Writes a text to standard output at once.
-pub fn put(text: &str) -> Result<(), Fault> {
-    put_bytes(text.as_bytes())
-}
-
-fn put_bytes(bytes: &[u8]) -> Result<(), Fault> {
-    let mut out = std::io::stdout().lock();
-    out.write_all(bytes)
-        .and_then(|()| out.flush())
-        .map_err(|_| Fault::Write)
-}
 
 /// The lines of events, each with a line feed.
 pub fn text_of<'a>(events: impl IntoIterator<Item = &'a Event>) -> String {
-    events
-        .into_iter()
-        .map(|event| format!("{}\n", Line::of(event)))
-        .collect()
+    let mut text = String::new();
+    for event in events {
+        text += &Line::of(event);
+        text.push('\n');
+    }
+    text
 }
 
-/// The battle and the list under a key that a value asks for.
-fn sheet_of<T>(
-    input: &[u8],
-    key: &'static str,
-    read: impl Fn(&Value) -> Result<T, Misfit>,
-) -> Result<(Battle, Vec<T>), Fault> {
-    let value = value_of(input)?;
-    let sheet = Sheet::of(&value).map_err(Fault::Value)?;
-    let items = at(&value, key, |list| list_of(list, &read)).map_err(Fault::Value)?;
-    Ok((sheet.battle()?, items))
+/// Plays the choices of an input, passes the events of each update to `then`, and returns the battle after them.
+fn played(input: &[u8], then: impl Fn(&EventList) -> Result<(), Fault>) -> Result<Battle, Fault> {
+    let (mut battle, pairs) = battle_and_choices(input)?;
+    let mut events = EventList::new();
+    for (number, [one, two]) in pairs.into_iter().enumerate() {
+        battle
+            .update_events_by_bytes(one, two, &mut events)
+            .map_err(|why| Fault::pair(number, why))?;
+        then(&events)?;
+    }
+    Ok(battle)
 }
 
 /// `run`
 pub fn run(input: &[u8]) -> Result<(), Fault> {
-    let (mut battle, pairs) = sheet_of(input, "choices", pair_of)?;
-    let mut events = EventList::new();
-    for (number, pair) in pairs.into_iter().enumerate() {
-        battle
-            .update_events_by_bytes(pair.0, pair.1, &mut events)
-            .map_err(|why| Fault::Pair(number, why))?;
-        put(&text_of(&events))?;
-    }
-    Ok(())
+    played(input, |events| put(text_of(events))).map(drop)
 }
 
 /// `log`
 pub fn log(input: &[u8]) -> Result<(), Fault> {
-    let (mut battle, pairs) = sheet_of(input, "choices", pair_of)?;
-    let mut events = EventList::new();
-    let mut log = LogBuf::new();
-    for (number, pair) in pairs.into_iter().enumerate() {
-        battle
-            .update_events_by_bytes(pair.0, pair.1, &mut events)
-            .map_err(|why| Fault::Pair(number, why))?;
-        write_log(&events, &mut log);
-        put_bytes(&log)?;
-    }
-    Ok(())
+    let written = |events: &EventList| {
+        let mut log = LogBuf::new();
+        write_log(events, &mut log);
+        put(log.as_slice())
+    };
+    played(input, written).map(drop)
 }
 
 /// `state`
 pub fn state(input: &[u8], bytes: bool) -> Result<(), Fault> {
-    let (mut battle, pairs) = sheet_of(input, "choices", pair_of)?;
-    let mut events = EventList::new();
-    for (number, pair) in pairs.into_iter().enumerate() {
-        battle
-            .update_events_by_bytes(pair.0, pair.1, &mut events)
-            .map_err(|why| Fault::Pair(number, why))?;
-    }
+    let battle = played(input, |_| Ok(()))?;
     if bytes {
-        let digits: String = battle
-            .bytes()
-            .iter()
-            .map(|byte| format!("{byte:02x}"))
-            .collect();
-        return put(&format!("{digits}\n"));
+        put(hex(battle.bytes()) + "\n")
+    } else {
+        put(screen::whole(&battle))
     }
-    put(&screen::whole(&battle))
 }
 
-/// The lines of a log that the engine wrote.
-fn lines_of(log: &[u8]) -> Result<String, Fault> {
-    let events = events_of(log)
-        .collect::<Result<Vec<_>, _>>()
-        .map_err(Fault::Log)?;
-    Ok(text_of(&events))
+/// Bytes as hexadecimal digits.
+pub fn hex(bytes: &[u8]) -> String {
+    bytes.iter().map(|byte| format!("{byte:02x}")).collect()
+}
+
+/// The events of a log.
+pub fn events_of(log: &[u8]) -> Result<Vec<Event>, Fault> {
+    let (mut reader, mut events, mut begin) = (LogReader::new(), Vec::new(), 0);
+    loop {
+        let fault = |why| Fault::log(events.len() + 1, begin, why);
+        let taken = reader.feed(&log[begin..]).map_err(fault)?;
+        let Some(event) = reader.next() else {
+            reader.finish().map_err(fault)?;
+            return Ok(events);
+        };
+        events.push(event);
+        begin += taken;
+    }
 }
 
 /// `print`
 pub fn print(input: &[u8]) -> Result<(), Fault> {
-    put(&lines_of(input)?)
+    put(text_of(&events_of(input)?))
 }
 
 /// `calc`
 pub fn calc(input: &[u8]) -> Result<(), Fault> {
-    let value = value_of(input)?;
-    let asked = |value: &Value| {
-        let one = at(value, "attacker", member_of)?;
-        let two = at(value, "defender", member_of)?;
-        let id = at(value, "move", move_name_of)?;
-        Ok((one, two, id, at(value, "critical", truth_of)?))
-    };
-    let (one, two, id, critical) = asked(&value).map_err(Fault::Value)?;
-    let one = Team::new(&[one]).map_err(|why| Fault::Team(1, why))?;
-    let two = Team::new(&[two]).map_err(|why| Fault::Team(2, why))?;
-    let numbers = damages(&one, &two, id, critical).map_err(|_| Fault::Calc)?;
-    put(&format!(
-        "{}\n",
-        numbers.map(|number| number.to_string()).join(" ")
-    ))
+    let value = serde_json::from_slice(input)?;
+    let one: MemberSpec = key(&value, "attacker")?;
+    let two: MemberSpec = key(&value, "defender")?;
+    let (id, critical) = (key(&value, "move")?, key(&value, "critical")?);
+    let (one, two) = (team(1, &[one])?, team(2, &[two])?);
+    let numbers = damages(&one, &two, id, critical).map_err(|_| Fault::calc())?;
+    put(numbers.map(|number| number.to_string()).join(" ") + "\n")
 }
 
 /// The damage of a move between two members that have just been sent out.
@@ -135,17 +103,21 @@ fn damages(one: &Team, two: &Team, id: MoveId, critical: bool) -> Result<[u16; 3
 
 /// `room`
 pub fn room(input: &[u8]) -> Result<(), Fault> {
-    let (battle, submissions) = sheet_of(input, "submissions", submission_of)?;
+    let (battle, submissions) = battle_and(input, |value| key::<Vec<_>>(value, "submissions"))?;
     let mut room = Room::new(battle);
-    put(&lines_of(room.log())?)?;
+    print(room.log())?;
     for (side, number, byte) in submissions {
-        let answer = match room.submit_byte(side, number, byte) {
-            Ok(Submitted::Waiting) => "|room|waiting\n".into(),
-            Ok(Submitted::Advanced(_)) => format!("|room|advanced\n{}", lines_of(room.log())?),
-            Err(RoomRefusal::Stale(current)) => format!("|room|refused|2|{current}\n"),
-            Err(why) => format!("|room|refused|{}\n", why.number()),
-        };
-        put(&answer)?;
+        match room.submit_byte(side, number, byte) {
+            Ok(Submitted::Waiting) => put("|room|waiting\n")?,
+            Ok(Submitted::Advanced(_)) => {
+                put(format!(
+                    "|room|advanced\n{}",
+                    text_of(&events_of(room.log())?)
+                ))?;
+            }
+            Err(RoomRefusal::Stale(current)) => put(format!("|room|refused|2|{current}\n"))?,
+            Err(why) => put(format!("|room|refused|{}\n", why.number()))?,
+        }
     }
     Ok(())
 }

@@ -1,108 +1,129 @@
 //! Errors of the program (docs/PROGRAM.md, "Faults and statuses", "Explanations").
-use crate::misfit::Misfit;
+use crate::input::Misfit;
 use gen1::{LogFault, Refusal, TeamRefusal};
-use std::fmt;
-use std::io::Write;
-use std::path::Path;
+use std::io::{Error, ErrorKind, Write};
 use std::process::ExitCode;
 
-/// An error of the program.
+/// An error of the program: the exit status, the line that is printed and its explanation.
 #[derive(Debug)]
-pub enum Fault {
-    /// The input is not JSON: at this line and column is a byte that JSON does not allow there, or the end of the input.
-    Text { line: usize, column: usize },
-    /// A value of the input is not what is expected there.
-    Value(Misfit),
-    /// The input is longer than the limit.
-    TooLong,
-    /// The team of a side, 1 or 2, is refused.
-    Team(u8, TeamRefusal),
-    /// The pair with this number, from 0, is refused.
-    Pair(usize, Refusal),
-    /// The bytes are not a log.
-    Log(LogFault),
-    /// The move has no damage numbers.
-    Calc,
-    /// The page does not have exactly one place for a battle.
-    Page,
-    /// A read failed.
-    Read,
-    /// A write failed.
-    Write,
-    /// An error in the file with this name, for a command with several files.
-    Of(String, Box<Fault>),
-}
-
-impl fmt::Display for Fault {
-    fn fmt(&self, f: &mut fmt::Formatter<'_>) -> fmt::Result {
-        match self {
-            Fault::Text { .. } | Fault::Value(_) => f.write_str("json"),
-            Fault::TooLong => f.write_str("too long"),
-            Fault::Team(side, why) => write!(
-                f,
-                "team {side} place {} refusal {}",
-                why.place(),
-                why.number()
-            ),
-            Fault::Pair(number, why) => write!(f, "pair {number} refused {}", why.number()),
-            Fault::Log(why) => write!(f, "log {}", why.number()),
-            Fault::Calc => f.write_str("calc"),
-            Fault::Page => f.write_str("page"),
-            Fault::Read => f.write_str("read"),
-            Fault::Write => f.write_str("write"),
-            Fault::Of(_, fault) => fault.fmt(f),
-        }
-    }
+pub struct Fault {
+    status: u8,
+    /// If it is empty, nothing is printed.
+    line: String,
+    explanation: String,
 }
 
 impl Fault {
-    /// The same error with the name of the file that it is in, or without one for standard input or output.
-    pub fn of(self, file: Option<&Path>) -> Fault {
-        match file {
-            Some(path) => Fault::Of(path.display().to_string(), Box::new(self)),
-            None => self,
+    fn new(status: u8, line: impl Into<String>, explanation: impl Into<String>) -> Fault {
+        let (line, explanation) = (line.into(), explanation.into());
+        Fault {
+            status,
+            line,
+            explanation,
+        }
+    }
+
+    /// An input with this name is longer than the limit.
+    pub fn too_long(name: &str) -> Fault {
+        Fault::new(
+            1,
+            "too long",
+            format!("{name}: expected at most 1048576 bytes"),
+        )
+    }
+
+    /// The team of a side, 1 or 2, is refused.
+    pub fn team(side: u8, why: TeamRefusal) -> Fault {
+        let (place, number) = (why.place(), why.number());
+        let comma = if place == 0 { ":" } else { "," };
+        let line = format!("team {side} place {place} refusal {number}");
+        Fault::new(1, line, format!("team {side}{comma} {why}"))
+    }
+
+    /// The pair with this number, from 0, is refused.
+    pub fn pair(pair: usize, why: Refusal) -> Fault {
+        let line = format!("pair {pair} refused {}", why.number());
+        Fault::new(1, line, format!("at .choices[{pair}]: {why}"))
+    }
+
+    /// The bytes are not a log: the event with this number, from 1, begins at this byte, from 0.
+    pub fn log(event: usize, byte: usize, why: LogFault) -> Fault {
+        let line = format!("log {}", why.number());
+        Fault::new(1, line, format!("at byte {byte}, event {event}: {why}"))
+    }
+
+    /// The move has no damage numbers.
+    pub fn calc() -> Fault {
+        Fault::new(1, "calc", "at .move: expected a move with the usual damage")
+    }
+
+    /// The page does not have exactly one place for a battle.
+    pub fn page() -> Fault {
+        Fault::new(
+            1,
+            "page",
+            "expected a page with one place for a battle, as web/build makes it",
+        )
+    }
+
+    /// The file to write is one of those that are read.
+    pub fn out() -> Fault {
+        Fault::new(
+            2,
+            "--out is a file that is read too",
+            "it would be lost: give --out another name",
+        )
+    }
+
+    /// A read of the input with this name failed.
+    pub fn read(name: &str, why: &Error) -> Fault {
+        Fault::new(3, "read", format!("{name}: {why}"))
+    }
+
+    /// A write failed. A reader that wants no more, as `head` does, is not an error to report.
+    pub fn write(name: &str, why: &Error) -> Fault {
+        let line = if why.kind() == ErrorKind::BrokenPipe {
+            ""
+        } else {
+            "write"
+        };
+        Fault::new(3, line, format!("{name}: {why}"))
+    }
+
+    /// The same error with the name of the file that it is in.
+    pub fn within(self, name: &str) -> Fault {
+        Fault {
+            explanation: format!("{name}: {}", self.explanation),
+            ..self
         }
     }
 
     /// Prints the error to standard error, followed by its explanation if `explains` is true, and returns the exit status.
-    pub fn tell(&self, explains: bool) -> ExitCode {
-        let explanation = if explains {
-            format!("{}\n", self.explanation())
-        } else {
-            String::new()
+    pub fn report(&self, explains: bool) -> ExitCode {
+        let text = match (self.line.as_str(), explains) {
+            ("", _) => String::new(),
+            (line, true) => format!("error: {line}\n{}\n", self.explanation),
+            (line, false) => format!("error: {line}\n"),
         };
         // If standard error cannot be written, only the status reports the error.
-        let _ = write!(std::io::stderr(), "error: {self}\n{explanation}");
-        ExitCode::from(self.status())
+        let _ = std::io::stderr().write_all(text.as_bytes());
+        ExitCode::from(self.status)
     }
+}
 
-    fn status(&self) -> u8 {
-        match self {
-            Fault::Read | Fault::Write => 3,
-            Fault::Of(_, fault) => fault.status(),
-            _ => 1,
-        }
+/// A value of the input is not what is expected there.
+impl From<Misfit> for Fault {
+    fn from(misfit: Misfit) -> Fault {
+        Fault::new(1, "json", misfit.to_string())
     }
+}
 
-    /// What is wrong: where it is and what was expected there, or why it was refused.
-    fn explanation(&self) -> String {
-        match self {
-            Fault::Text { line, column } => {
-                format!("at line {line} column {column}: expected JSON")
-            }
-            Fault::Value(misfit) => misfit.to_string(),
-            Fault::TooLong => "expected at most 1048576 bytes".into(),
-            Fault::Team(side, why) if why.place() == 0 => format!("team {side}: {why}"),
-            Fault::Team(side, why) => format!("team {side}, {why}"),
-            Fault::Pair(number, why) => format!("at .choices[{number}]: {why}"),
-            Fault::Log(why) => why.to_string(),
-            Fault::Calc => "at .move: expected a move with the usual damage".into(),
-            Fault::Page => {
-                "expected a page with one place for a battle, as web/build makes it".into()
-            }
-            Fault::Read => "the input could not be opened or read".into(),
-            Fault::Write => "the output could not be written".into(),
-            Fault::Of(name, fault) => format!("{name}: {}", fault.explanation()),
-        }
+/// The input is not JSON.
+impl From<serde_json::Error> for Fault {
+    fn from(why: serde_json::Error) -> Fault {
+        let place = format!("at line {} column {}", why.line(), why.column());
+        let text = why.to_string();
+        let text = text.strip_suffix(&place).unwrap_or(&text).trim_end();
+        Fault::new(1, "json", format!("{place}: {text}"))
     }
 }

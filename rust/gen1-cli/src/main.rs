@@ -1,12 +1,13 @@
 //! First-generation link battles at the command line (docs/PROGRAM.md).
-#![forbid(unsafe_code)]
+#![deny(unsafe_code)]
 
 mod bench;
+mod closed;
 mod commands;
 mod fault;
+mod files;
+mod help;
 mod input;
-mod misfit;
-mod no_json;
 mod play;
 mod random;
 mod replay;
@@ -14,15 +15,21 @@ mod screen;
 
 use clap::{Args, Parser, Subcommand};
 use fault::Fault;
+use std::io::IsTerminal;
 use std::path::PathBuf;
 use std::process::ExitCode;
 
-const STATUSES: &str = "Status: 0 all was printed, 1 the input is refused, 2 the command line is refused, 3 a read or a write \
-                        failed. Standard error says why.";
+/// Which build of the engine this is.
+const BUILD: &str = "plain build; docs/PLAIN.md";
 
-/// Runs link battles of the first generation
+/// The version and the build.
+fn version() -> &'static str {
+    format!("{} ({BUILD})", env!("CARGO_PKG_VERSION")).leak()
+}
+
+/// Plays link battles of the first generation
 #[derive(Parser)]
-#[command(name = "gen1", version, after_help = STATUSES)]
+#[command(name = "gen1", version = version(), after_help = help::PROGRAM)]
 struct Words {
     #[command(subcommand)]
     command: Command,
@@ -30,32 +37,41 @@ struct Words {
 
 #[derive(Subcommand)]
 enum Command {
-    /// Runs a battle and prints its lines: {"seed":[..],"one":[..],"two":[..],"choices":[[byte,byte],..]}
+    /// Plays the choices of an input, and prints a line for each event of the battle
+    #[command(after_help = help::RUN)]
     Run(Input),
-    /// Writes the log bytes of a battle: the object of run
+    /// Plays the choices of an input, and writes the events as bytes, the log, which print reads
+    #[command(after_help = help::RUN)]
     Log(Input),
-    /// Prints the lines of a log's bytes
+    /// Reads a log, and prints a line for each event
+    #[command(after_help = help::PRINT)]
     Print(Input),
-    /// Prints the damage of a move at each factor: {"attacker":member,"defender":member,"move":name,"critical":bool}
+    /// Prints the 39 possible damages of a move between two members
+    #[command(after_help = help::CALC)]
     Calc(Input),
-    /// Runs a room of two players: the object of run, with "submissions":[[side,number,byte],..]
+    /// Plays a battle of two players who submit their choices separately, and prints each reply
+    #[command(after_help = help::ROOM)]
     Room(Input),
-    /// Plays the choices of run's object, and shows the state of the battle after them
+    /// Plays the choices of an input, and prints the state of the battle after them
+    #[command(after_help = help::RUN)]
     State(Look),
-    /// Plays against the computer
+    /// Plays against the computer, in the terminal
+    #[command(after_help = help::PLAY)]
     Play(play::Game),
-    /// Prints a page that replays a battle in a browser
+    /// Makes a page that replays a battle in a browser
+    #[command(after_help = help::REPLAY)]
     Replay(replay::Replay),
-    /// Plays random battles, and prints the speed
+    /// Plays random battles, and prints how long an update takes
+    #[command(after_help = help::BENCH)]
     Bench(bench::Measure),
 }
 
 #[derive(Args)]
 struct Input {
-    /// After the line of an error, says where it is and what was expected
+    /// After the line of an error, says where it is and what was expected; the default in a terminal
     #[arg(long)]
     explain: bool,
-    /// The input; without FILE, standard input
+    /// The input; without FILE, or with -, standard input
     file: Option<PathBuf>,
 }
 
@@ -63,18 +79,18 @@ struct Input {
 struct Look {
     #[command(flatten)]
     input: Input,
-    /// Prints the 384 bytes as hexadecimal digits
+    /// Prints the 384 bytes of the battle as hexadecimal digits
     #[arg(long)]
     bytes: bool,
 }
 
 impl Input {
     fn read(&self) -> Result<Vec<u8>, Fault> {
-        input::read(self.file.as_deref())
+        files::read(self.file.as_deref())
     }
 }
 
-fn answer(command: &Command) -> Result<(), Fault> {
+fn done(command: &Command) -> Result<(), Fault> {
     match command {
         Command::Run(input) => commands::run(&input.read()?),
         Command::Log(input) => commands::log(&input.read()?),
@@ -104,9 +120,16 @@ impl Command {
 }
 
 fn main() -> ExitCode {
-    let command = Words::parse().command;
-    match answer(&command) {
+    let (result, explains) = match Words::try_parse() {
+        Ok(words) => (done(&words.command), words.command.explains()),
+        Err(refused) if refused.use_stderr() => refused.exit(),
+        Err(help) => {
+            let printed = help.print().map_err(|why| files::unwritten(&why));
+            (files::is_open().and(printed), false)
+        }
+    };
+    match result {
         Ok(()) => ExitCode::SUCCESS,
-        Err(fault) => fault.tell(command.explains()),
+        Err(fault) => fault.report(explains || std::io::stderr().is_terminal()),
     }
 }

@@ -1,18 +1,18 @@
 //! A game of a person against the computer, in the terminal.
-use crate::commands::{put, text_of};
+use crate::commands::text_of;
 use crate::fault::Fault;
-use crate::input::{Sheet, read, value_of};
+use crate::files::{name_of, put, read, read_line};
+use crate::input::battle_and;
 use crate::random::Random;
 use crate::screen;
 use clap::{Args, ValueEnum};
 use gen1::{Battle, Choice, EventList, Side};
-use std::io::BufRead;
 use std::path::{Path, PathBuf};
 
 /// The arguments of `play`.
 #[derive(Args)]
 pub struct Game {
-    /// Teams and seed as the object of run (you are side 1); without FILE both teams are drawn
+    /// Teams and seed, as in the input of run; you are side 1. Without FILE both teams are drawn
     file: Option<PathBuf>,
     /// Who plays side 2
     #[arg(long, value_enum, default_value = "playouts")]
@@ -40,7 +40,7 @@ enum Foe {
 pub fn play(game: &Game) -> Result<(), Fault> {
     let mut random = game.seed.map_or_else(Random::any, Random::new);
     let mut battle = match game.file.as_deref() {
-        Some(path) => battle_in(path).map_err(|why| why.of(Some(path)))?,
+        Some(path) => battle_in(path)?,
         None => {
             let members = usize::from(game.members);
             let (one, two) = (random.team(members), random.team(members));
@@ -56,7 +56,7 @@ pub fn play(game: &Game) -> Result<(), Fault> {
             break;
         };
         if battle.update_events(one, two, &mut events).is_ok() {
-            put(&text_of(&events))?;
+            put(text_of(&events))?;
         }
     }
     put(match battle.outcome().winner() {
@@ -68,8 +68,10 @@ pub fn play(game: &Game) -> Result<(), Fault> {
 
 /// The battle that a file describes.
 fn battle_in(path: &Path) -> Result<Battle, Fault> {
-    let value = value_of(&read(Some(path))?)?;
-    Sheet::of(&value).map_err(Fault::Value)?.battle()
+    let input = read(Some(path))?;
+    let (battle, ()) =
+        battle_and(&input, |_| Ok(())).map_err(|why| why.within(&name_of(Some(path))))?;
+    Ok(battle)
 }
 
 /// The choice of the person; `None` at the end of the input.
@@ -88,21 +90,17 @@ fn asked(battle: &Battle) -> Result<Option<Choice>, Fault> {
     }
     put(&text)?;
     loop {
-        put(&format!("your choice, 1 to {} (q leaves): ", choices.len()))?;
-        let mut line = String::new();
-        let count = std::io::stdin()
-            .lock()
-            .read_line(&mut line)
-            .map_err(|_| Fault::Read)?;
-        if count == 0 || line.trim() == "q" {
+        put(format!("your choice, 1 to {} (q leaves): ", choices.len()))?;
+        let line = read_line()?;
+        let Ok(word) = std::str::from_utf8(&line).map(str::trim) else {
+            put("That is not text in UTF-8. ")?;
+            continue;
+        };
+        if line.is_empty() || word == "q" {
             return Ok(None);
         }
-        if let Some(choice) = line
-            .trim()
-            .parse()
-            .ok()
-            .and_then(|number: usize| choices.get(number.checked_sub(1)?))
-        {
+        let number = word.parse::<usize>().ok();
+        if let Some(choice) = number.and_then(|number| choices.get(number.checked_sub(1)?)) {
             return Ok(Some(*choice));
         }
         put("That is none of them. ")?;
@@ -132,13 +130,12 @@ fn wins(game: &Game, battle: &Battle, choice: Choice, random: &mut Random) -> u3
 /// The score of side 2 in one random battle that begins with a choice: 2 for a win, 1 for a tie or a fault.
 fn won(battle: &Battle, choice: Choice, random: &mut Random) -> u32 {
     let mut copy = battle.clone();
-    let mut events = EventList::new();
     let mut two = Some(choice);
-    while let (Some(one), Some(other)) = (random.pick(&copy.choices(Side::One)).copied(), two) {
-        if copy.update_events(one, other, &mut events).is_err() {
+    while let (Some(one), Some(other)) = (random.choice(copy.offered_mask(Side::One)), two) {
+        if copy.update_silent(one, other).is_err() {
             break;
         }
-        two = random.pick(&copy.choices(Side::Two)).copied();
+        two = random.choice(copy.offered_mask(Side::Two));
     }
     match copy.outcome().winner() {
         Some(winner) => 2 * u32::from(winner == Side::Two),

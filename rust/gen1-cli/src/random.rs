@@ -1,5 +1,5 @@
 //! Random numbers for players and measurements; a battle has its own.
-use gen1::{MemberSpec, MoveId, Species, Team};
+use gen1::{Choice, MemberSpec, MoveId, OfferedMask, Species, Team};
 use std::hash::{BuildHasher, Hasher, RandomState};
 
 /// A random number generator (xorshift), whose output depends only on its seed.
@@ -28,6 +28,11 @@ impl Random {
     /// One of the items; `None` if there is none.
     pub fn pick<'a, T>(&mut self, items: &'a [T]) -> Option<&'a T> {
         items.get(self.below(items.len()))
+    }
+
+    /// One of the choices that are offered; `None` once the battle is over.
+    pub fn choice(&mut self, offered: OfferedMask) -> Option<Choice> {
+        offered.get(self.below(offered.len()))
     }
 
     /// The ten numbers of a battle's seed.

@@ -1,11 +1,11 @@
 //! A page that holds a battle (web/README.md, "A file that holds its battle").
-use crate::commands::put;
+use crate::commands::{events_of, hex};
 use crate::fault::Fault;
-use crate::input::{Sheet, at, list_of, pair_of, read, value_of};
-use crate::no_json::place_in;
+use crate::files::{name_of, named, put, read, replace};
+use crate::input::battle_and_choices;
 use clap::Args;
-use gen1::events_of;
-use std::path::PathBuf;
+use std::fs;
+use std::path::{Path, PathBuf};
 
 /// The place for a battle in a page.
 const PLACE: &str = r#"<script id="battle" type="application/json">null</script>"#;
@@ -13,31 +13,36 @@ const PLACE: &str = r#"<script id="battle" type="application/json">null</script>
 /// The arguments of `replay`.
 #[derive(Args)]
 pub struct Replay {
-    /// The object of run, or the bytes of a log; without FILE, standard input
+    /// The input of run, or a log; without FILE, or with -, standard input
     file: Option<PathBuf>,
     /// The page, as web/build makes it
     #[arg(long, value_name = "HTML")]
     page: PathBuf,
-    /// The file to write; without it, the page goes to standard output
+    /// The file to write, not one that is read; without it, or with -, standard output
     #[arg(long, value_name = "FILE")]
     out: Option<PathBuf>,
 }
 
 /// Writes the page with the battle in it.
 pub fn replay(asked: &Replay) -> Result<(), Fault> {
-    let file = asked.file.as_deref();
-    let battle = read(file)
-        .and_then(|input| battle_in(&input))
-        .map_err(|why| why.of(file))?;
-    let page = Some(asked.page.as_path());
-    let whole = read(page)
-        .and_then(|text| filled(&text, &battle).ok_or(Fault::Page))
-        .map_err(|why| why.of(page))?;
-    let out = asked.out.as_deref();
-    match out {
-        Some(path) => std::fs::write(path, whole).map_err(|_| Fault::Write.of(out)),
-        None => put(&whole),
+    let (file, page) = (asked.file.as_deref(), Some(asked.page.as_path()));
+    let out = named(asked.out.as_deref());
+    if is_same(named(file), out) || is_same(named(page), out) {
+        return Err(Fault::out());
     }
+    let battle = battle_in(&read(file)?).map_err(|why| why.within(&name_of(file)))?;
+    let text = read(page)?;
+    let whole = filled(&text, &battle).ok_or_else(|| Fault::page().within(&name_of(page)))?;
+    match out {
+        Some(path) => replace(path, whole.as_bytes()),
+        None => put(whole),
+    }
+}
+
+/// Whether two names are of one file.
+fn is_same(one: Option<&Path>, two: Option<&Path>) -> bool {
+    let found = |path: Option<&Path>| path.and_then(|path| fs::canonicalize(path).ok());
+    found(one).is_some_and(|file| found(two) == Some(file))
 }
 
 /// The page with a battle in the one place for it.
@@ -54,21 +59,10 @@ fn filled(page: &[u8], battle: &str) -> Option<String> {
 /// The JSON for an input: the text of an object of run with lawful teams, or the digits of a log.
 fn battle_in(input: &[u8]) -> Result<String, Fault> {
     if input.trim_ascii_start().first() != Some(&b'{') {
-        return log_in(input);
+        events_of(input)?;
+        return Ok(format!(r#"{{"log":"{}"}}"#, hex(input)));
     }
-    let value = value_of(input)?;
-    Sheet::of(&value).map_err(Fault::Value)?.battle()?;
-    at(&value, "choices", |list| list_of(list, pair_of)).map_err(Fault::Value)?;
-    String::from_utf8(input.into()).map_err(|_| {
-        let (line, column) = place_in(input);
-        Fault::Text { line, column }
-    })
-}
-
-fn log_in(log: &[u8]) -> Result<String, Fault> {
-    if let Some(fault) = events_of(log).find_map(Result::err) {
-        return Err(Fault::Log(fault));
-    }
-    let digits: String = log.iter().map(|byte| format!("{byte:02x}")).collect();
-    Ok(format!(r#"{{"log":"{digits}"}}"#))
+    battle_and_choices(input)?;
+    // JSON that was read is UTF-8.
+    Ok(String::from_utf8_lossy(input).into())
 }

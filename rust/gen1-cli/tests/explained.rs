@@ -1,33 +1,9 @@
 //! The explanation that `--explain` prints after the line of an error, and `log` (docs/PROGRAM.md, "Explanations", "log").
-use std::io::Write;
-use std::process::{Command, Output, Stdio};
-
-const TAUROS: &str = r#"{"species":"Tauros","level":100,"dvs":[15,15,15,15],"exp":[65535,65535,65535,65535,65535],"moves":[["Strength",3]]}"#;
-
-/// A battle of a Tauros against the given members; `end` is the rest of the object.
-fn battle(two: &str, end: &str) -> String {
-    format!(r#"{{"seed":[1,36,255,7,31,100,179,254,127,10],"one":[{TAUROS}],"two":[{two}],{end}}}"#)
-}
-
-fn ran(words: &[&str], input: &[u8]) -> Output {
-    let mut child = Command::new(env!("CARGO_BIN_EXE_gen1"))
-        .args(words)
-        .stdin(Stdio::piped())
-        .stdout(Stdio::piped())
-        .stderr(Stdio::piped())
-        .spawn()
-        .expect("the program starts");
-    let mut given = child.stdin.take().expect("standard input");
-    // A program that needs no more input may have ended already.
-    let _ = given.write_all(input);
-    drop(given);
-    child.wait_with_output().expect("the program ends")
-}
+mod common;
+use common::{TAUROS, battle, ran};
 
 fn told(words: &[&str], input: &[u8]) -> String {
-    let output = ran(words, input);
-    assert!(output.stdout.is_empty(), "nothing is printed");
-    String::from_utf8(output.stderr).expect("a text")
+    common::told(&ran(words, input)).1.into()
 }
 
 #[test]
@@ -40,45 +16,45 @@ fn a_misfit_is_told_with_its_way() {
     let cases = [
         (
             battle(TAUROS, r#""choices":[],"limit":0"#),
-            ".limit: expected a whole number from 1 to 9999",
+            ".limit: expected a whole number from 1 to 9999, found 0",
         ),
         (
             battle(TAUROS, r#""choices":[],"rules":null"#),
-            ".rules: expected a whole number from 0 to 3",
+            ".rules: expected a whole number from 0 to 3, found null",
         ),
         (
             battle(TAUROS, r#""choices":[[0,0],[17,256]]"#),
-            ".choices[1][1]: expected a whole number from 0 to 255",
+            ".choices[1][1]: expected a whole number from 0 to 255, found 256",
         ),
         (
             battle(TAUROS, r#""choices":[[0,0],[17]]"#),
-            ".choices[1]: expected a list of 2 items",
+            ".choices[1]: expected a list of 2 items, found a list of length 1",
         ),
         (
             battle(TAUROS, r#""choice":[]"#),
-            r#".: expected an object with the key "choices""#,
+            r#".: expected an object with the key "choices", found an object without it"#,
         ),
         (
             battle("{}", r#""choices":[]"#),
-            r#".two[0]: expected an object with the key "species""#,
+            r#".two[0]: expected an object with the key "species", found an object without it"#,
         ),
         (
             battle(&member(r#""tauros""#, "[]"), r#""choices":[]"#),
-            ".two[0].species: expected the name of a species",
+            r#".two[0].species: expected the name of a species, found "tauros""#,
         ),
         (
             battle(
                 &member(r#""Tauros""#, "[[],[],[],[],[]]"),
                 r#""choices":[]"#,
             ),
-            ".two[0].moves: expected a list of at most 4 moves",
+            ".two[0].moves: expected a list of at most 4 moves, found a list of length 5",
         ),
         (
             battle(
                 &member(r#""Tauros""#, r#"[["Tackle",0],["tackle",0]]"#),
                 r#""choices":[]"#,
             ),
-            ".two[0].moves[1][0]: expected the name of a move",
+            r#".two[0].moves[1][0]: expected the name of a move, found "tackle""#,
         ),
     ];
     for (input, words) in cases {
@@ -90,18 +66,17 @@ fn a_misfit_is_told_with_its_way() {
 
 #[test]
 fn what_is_no_json_is_told_with_its_place() {
-    let cases: [(&[u8], &str); 8] = [
-        (b"", "1 column 1"),
-        (b"[1,]", "1 column 4"),
-        (b"{\"a\" 1}", "1 column 6"),
-        (b"[1}", "1 column 3"),
-        (b"[\n  nul]", "2 column 6"),
-        (b"[01]", "1 column 3"),
-        (b"\"\xff\"", "1 column 2"),
-        (b"{} {}", "1 column 4"),
+    let cases: [(&[u8], &str); 7] = [
+        (b"", "1 column 0: EOF while parsing a value"),
+        (b"[1,]", "1 column 4: trailing comma"),
+        (b"{\"a\" 1}", "1 column 6: expected `:`"),
+        (b"[1}", "1 column 3: expected `,` or `]`"),
+        (b"[\n  nul]", "2 column 6: expected ident"),
+        (b"[01]", "1 column 3: invalid number"),
+        (b"{} {}", "1 column 4: trailing characters"),
     ];
     for (input, place) in cases {
-        let due = format!("error: json\nat line {place}: expected JSON\n");
+        let due = format!("error: json\nat line {place}\n");
         assert_eq!(told(&["calc", "--explain"], input), due);
     }
 }
@@ -115,10 +90,37 @@ fn refusals_are_told_in_words() {
     let input = battle(TAUROS, r#""choices":[[0,17]]"#);
     let due = "error: pair 0 refused 3\nat .choices[0]: side 2's choice is not offered\n";
     assert_eq!(told(&["run", "--explain"], input.as_bytes()), due);
-    let due = "error: log 1\na byte in a tag's place is no tag\n";
-    assert_eq!(told(&["print", "--explain"], &[0x1b, 0xff]), due);
-    let due = "error: read\nthe input could not be opened or read\n";
-    assert_eq!(told(&["run", "--explain", "no_such_file"], b""), due);
+}
+
+#[test]
+fn a_fault_of_a_log_is_told_with_its_place() {
+    // The win of side 1 is the bytes 26 and 1; 5 begins an event of more than two bytes.
+    let cases: [(&[u8], &str, &str); 4] = [
+        (
+            &[0xff],
+            "1",
+            "at byte 0, event 1: a byte in a tag's place is no tag",
+        ),
+        (
+            &[26, 1, 0xff],
+            "1",
+            "at byte 2, event 2: a byte in a tag's place is no tag",
+        ),
+        (
+            &[26, 1, 26, 2, 26, 3],
+            "2",
+            "at byte 4, event 3: a field of an event is out of its range",
+        ),
+        (
+            &[26, 1, 5, 1],
+            "3",
+            "at byte 2, event 2: the bytes end within an event",
+        ),
+    ];
+    for (log, number, words) in cases {
+        let due = format!("error: log {number}\n{words}\n");
+        assert_eq!(told(&["print", "--explain"], log), due);
+    }
 }
 
 #[test]

@@ -21,7 +21,9 @@ const FILES: [&str; 8] = [
 /// The text of a packed file, or `None` if the file or the command `xz` is missing.
 fn unpacked(file: &Path) -> Option<String> {
     let done = Command::new("xz").arg("-dc").arg(file).output().ok()?;
-    done.status.success().then(|| String::from_utf8(done.stdout).expect("UTF-8"))
+    done.status
+        .success()
+        .then(|| String::from_utf8(done.stdout).expect("UTF-8"))
 }
 
 fn bytes_of(hex: &str) -> Vec<u8> {

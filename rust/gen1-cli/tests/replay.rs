@@ -1,6 +1,6 @@
 //! Pages that hold a battle: a page is filled in its one place, and refused if it has none (web/README.md).
 use std::fs;
-use std::path::PathBuf;
+use std::path::{Path, PathBuf};
 use std::process::{Command, Output};
 
 const PAGE: &str = r#"<p>a</p><script id="battle" type="application/json">null</script><p>b</p>"#;
@@ -70,7 +70,7 @@ fn a_page_is_written_to_a_file() {
     let made = fs::read_to_string(&out).expect("a page");
     assert_eq!(made, PAGE.replace("null", r#"{"log":"1a01"}"#));
     let due = format!(
-        "error: write\n{}: the output could not be written\n",
+        "error: write\n{}: Is a directory (os error 21)\n",
         folder.display()
     );
     assert_eq!(told(&run(&folder)), (3, due.as_str()));
@@ -122,7 +122,7 @@ fn what_is_wrong_is_refused_and_nothing_is_printed() {
             PAGE,
             "json",
             "in",
-            r#"at .: expected an object with the key "choices""#,
+            r#"at .: expected an object with the key "choices", found an object without it"#,
         ),
         (
             "log",
@@ -130,7 +130,7 @@ fn what_is_wrong_is_refused_and_nothing_is_printed() {
             PAGE,
             "log 1",
             "in",
-            "a byte in a tag's place is no tag",
+            "at byte 2, event 2: a byte in a tag's place is no tag",
         ),
         (
             "cut",
@@ -138,7 +138,7 @@ fn what_is_wrong_is_refused_and_nothing_is_printed() {
             PAGE,
             "log 3",
             "in",
-            "the bytes end within an event",
+            "at byte 0, event 1: the bytes end within an event",
         ),
     ] {
         let done = replayed(name, input, page);
@@ -159,7 +159,7 @@ fn a_file_that_is_not_there_is_named() {
     fs::write(&log, [26, 1]).expect("the log is written");
     fs::write(&html, PAGE).expect("the page is written");
     let due = format!(
-        "error: read\n{}: the input could not be opened or read\n",
+        "error: read\n{}: No such file or directory (os error 2)\n",
         none.display()
     );
     for (file, page) in [(&none, &html), (&log, &none)] {
@@ -175,4 +175,97 @@ fn a_file_that_is_not_there_is_named() {
         .output()
         .expect("the program runs");
     assert_eq!(told(&done), (3, due.as_str()));
+}
+
+/// Runs `gen1 replay FILE --page PAGE --out OUT`, by a shell's command that has them as words.
+#[cfg(unix)]
+fn written(command: &str, file: &Path, page: &Path, out: &Path) -> Output {
+    Command::new("sh")
+        .args(["-c", command, env!("CARGO_BIN_EXE_gen1"), "replay"])
+        .arg(file)
+        .arg("--page")
+        .arg(page)
+        .arg("--out")
+        .arg(out)
+        .output()
+        .expect("the program runs")
+}
+
+/// A new folder with a log and a page in it.
+#[cfg(unix)]
+fn folder_of(name: &str, page: &str) -> [PathBuf; 3] {
+    let folder = path_of(name);
+    let _ = fs::remove_dir_all(&folder);
+    fs::create_dir(&folder).expect("a folder");
+    let [log, html] = ["log", "html"].map(|name| folder.join(name));
+    fs::write(&log, [26, 1]).expect("the log is written");
+    fs::write(&html, page).expect("the page is written");
+    [folder, log, html]
+}
+
+#[cfg(unix)]
+const RUN: &str = "exec \"$0\" \"$@\"";
+
+#[test]
+#[cfg(unix)]
+fn a_file_that_is_read_is_not_written() {
+    let [folder, log, html] = folder_of("read", PAGE);
+    let link = folder.join("link");
+    std::os::unix::fs::symlink(&html, &link).expect("a link");
+    let due =
+        "error: --out is a file that is read too\nit would be lost: give --out another name\n";
+    for out in [&html, &log, &link, &folder.join("../read/html")] {
+        assert_eq!(told(&written(RUN, &log, &html, out)), (2, due));
+    }
+    assert_eq!(fs::read(&log).expect("the log"), [26, 1]);
+    assert_eq!(fs::read_to_string(&html).expect("the page"), PAGE);
+}
+
+#[test]
+#[cfg(unix)]
+fn a_file_is_written_whole_or_not_at_all() {
+    use std::os::unix::fs::PermissionsExt;
+    let page = PAGE.to_string() + &" ".repeat(100_000);
+    let [folder, log, html] = folder_of("whole", &page);
+    let out = folder.join("out");
+    fs::write(&out, "before").expect("a file");
+    fs::set_permissions(&out, fs::Permissions::from_mode(0o640)).expect("its owner's");
+    // No file may have more than a few blocks: the signal ends the program, or a write fails.
+    let killed = written(&format!("ulimit -f 2; {RUN}"), &log, &html, &out);
+    assert_ne!(killed.status.code(), Some(0));
+    assert_eq!(fs::read_to_string(&out).expect("the file"), "before");
+    let [folder, log, html] = folder_of("whole", &page);
+    fs::write(&out, "before").expect("a file");
+    let failed = written(
+        &format!("trap '' XFSZ; ulimit -f 2; {RUN}"),
+        &log,
+        &html,
+        &out,
+    );
+    let due = format!(
+        "error: write\n{}: File too large (os error 27)\n",
+        out.display()
+    );
+    assert_eq!(told(&failed), (3, due.as_str()));
+    assert_eq!(fs::read_to_string(&out).expect("the file"), "before");
+    assert_eq!(
+        fs::read_dir(&folder).expect("a folder").count(),
+        3,
+        "nothing else is left"
+    );
+    fs::set_permissions(&out, fs::Permissions::from_mode(0o640)).expect("its owner's");
+    let link = folder.join("link");
+    std::os::unix::fs::symlink(&out, &link).expect("a link");
+    assert_eq!(told(&written(RUN, &log, &html, &link)), (0, ""));
+    let text = fs::read_to_string(&out).expect("the file");
+    assert_eq!(text, page.replace("null", r#"{"log":"1a01"}"#));
+    let mode = fs::metadata(&out).expect("the file").permissions().mode();
+    assert_eq!(mode & 0o777, 0o640);
+    assert_eq!(
+        fs::read_dir(&folder).expect("a folder").count(),
+        4,
+        "nothing else is left"
+    );
+    let device = written(RUN, &log, &html, Path::new("/dev/stdout"));
+    assert_eq!(device.stdout, text.as_bytes());
 }

@@ -1,0 +1,109 @@
+//! Files and the standard streams.
+use crate::fault::Fault;
+use std::fs::{self, File};
+use std::io::{self, BufRead, Read, Write};
+use std::path::{Path, PathBuf};
+
+/// The maximum length of an input, and of a line of `play`, in bytes.
+const LIMIT: u64 = 1_048_576;
+
+/// A file; `None` for a standard stream, which is meant by `-` too.
+pub fn named(file: Option<&Path>) -> Option<&Path> {
+    file.filter(|path| *path != Path::new("-"))
+}
+
+/// The name of an input in an explanation.
+pub fn name_of(file: Option<&Path>) -> String {
+    named(file).map_or("standard input".into(), |path| path.display().to_string())
+}
+
+/// Reads a file, or standard input if none is named.
+pub fn read(file: Option<&Path>) -> Result<Vec<u8>, Fault> {
+    let mut input = Vec::new();
+    let done = match named(file) {
+        Some(path) => {
+            File::open(path).and_then(|file| file.take(LIMIT + 1).read_to_end(&mut input))
+        }
+        None => io::stdin().lock().take(LIMIT + 1).read_to_end(&mut input),
+    };
+    done.map_err(|why| Fault::read(&name_of(file), &why))?;
+    within_limit(input, file)
+}
+
+/// Reads a line of standard input, with its line feed if it has one; no bytes at the end of the input.
+pub fn read_line() -> Result<Vec<u8>, Fault> {
+    let mut line = Vec::new();
+    let mut input = io::stdin().lock().take(LIMIT + 1);
+    input
+        .read_until(b'\n', &mut line)
+        .map_err(|why| Fault::read(&name_of(None), &why))?;
+    within_limit(line, None)
+}
+
+fn within_limit(input: Vec<u8>, file: Option<&Path>) -> Result<Vec<u8>, Fault> {
+    if input.len() as u64 > LIMIT {
+        return Err(Fault::too_long(&name_of(file)));
+    }
+    Ok(input)
+}
+
+/// Writes a text or bytes to standard output at once.
+pub fn put(text: impl AsRef<[u8]>) -> Result<(), Fault> {
+    let text = text.as_ref();
+    if text.is_empty() {
+        return Ok(());
+    }
+    is_open()?;
+    let mut out = io::stdout().lock();
+    out.write_all(text)
+        .and_then(|()| out.flush())
+        .map_err(|why| unwritten(&why))
+}
+
+/// An error of standard output.
+pub fn unwritten(why: &io::Error) -> Fault {
+    Fault::write("standard output", why)
+}
+
+/// Refuses a standard output that was closed when the program started.
+pub fn is_open() -> Result<(), Fault> {
+    if crate::closed::is_closed() {
+        return Err(unwritten(&io::Error::other("it is closed")));
+    }
+    Ok(())
+}
+
+/// Writes a file whole or not at all: to a new file beside it, which then gets its name.
+///
+/// What is not a regular file, such as a pipe or a device, is written to directly.
+pub fn replace(path: &Path, text: &[u8]) -> Result<(), Fault> {
+    let failed = |why: io::Error| Fault::write(&path.display().to_string(), &why);
+    // A link stays a link.
+    let target = fs::canonicalize(path).unwrap_or(path.into());
+    let old = fs::metadata(&target).ok();
+    if old.as_ref().is_some_and(|old| !old.is_file()) {
+        return fs::write(&target, text).map_err(failed);
+    }
+    let beside = name_beside(&target);
+    let mut file = File::create_new(&beside).map_err(failed)?;
+    let mut written = || {
+        file.write_all(text)?;
+        file.sync_all()?;
+        if let Some(old) = &old {
+            fs::set_permissions(&beside, old.permissions())?;
+        }
+        fs::rename(&beside, &target)
+    };
+    written().map_err(|why| {
+        // The error that is reported is the first one.
+        let _ = fs::remove_file(&beside);
+        failed(why)
+    })
+}
+
+/// A name in the same folder, for this process alone.
+fn name_beside(path: &Path) -> PathBuf {
+    let mut name = path.as_os_str().to_owned();
+    name.push(format!(".{}.part", std::process::id()));
+    name.into()
+}
