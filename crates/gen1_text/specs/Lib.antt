@@ -16,5 +16,7 @@ pub mod Texts
 pub mod PackedFields
 -- Packed lines.
 pub mod Packed
+-- The texts of errors.
+pub mod Faults
 -- What the code returns.
 pub mod Answers

@@ -1,78 +1,140 @@
 //! Why a text is not a team (docs/TEAM_TEXT.md, "Faults").
+ghost use Rattle.std.specs.Prelude.{Some, ◌≡◌};
+ghost use Rattle.gen1_text.specs.Faults.{member_words, packed_words, text_words};
+
 use gen1_stats::TeamRefusal;
-use thiserror::Error;
+use std::error::Error;
+use std::fmt;
 
 /// What is wrong with a line of a member, or a field of it.
-#[derive(Clone, Copy, Debug, PartialEq, Eq, Error)]
+#[derive(Clone, Copy, Debug, PartialEq, Eq)]
 pub enum MemberFault {
     /// No species of the first generation has the name.
-    #[error("expected the name of a species of the first generation")]
     Species,
     /// There is an item.
-    #[error("expected no item: the first generation has none")]
     Item,
     /// It is the seventh member.
-    #[error("expected at most six members")]
     SeventhMember,
     /// The level is not a whole number from 1 to 100.
-    #[error("expected a level from 1 to 100")]
     Level,
     /// The EVs are not written as they should be.
-    #[error("expected EVs from 0 to 255, as `252 HP / 4 Atk`, or packed as `252,4,,,,`")]
     Evs,
     /// SpA and SpD have different EVs.
-    #[error("expected the same EVs for SpA and SpD: the first generation has one Special")]
     SpecialEvs,
     /// The IVs are not written as they should be.
-    #[error("expected IVs from 0 to 31, as `14 HP / 0 Atk`, or packed as `14,0,,,,`")]
     Ivs,
     /// SpA and SpD have different DVs.
-    #[error("expected the same IVs for SpA and SpD: the first generation has one Special")]
     SpecialIvs,
     /// The IV of HP is not the one that follows from the others.
-    #[error("expected the HP IV that follows from the others, or none")]
     HpIv,
     /// No move of the first generation has the name.
-    #[error("expected the name of a move of the first generation")]
     Move,
     /// It is the member's fifth move.
-    #[error("expected at most four moves")]
     FifthMove,
     /// The line is not one that a member has.
-    #[error("expected a line of a member, as `Level: 50`, `EVs: 252 HP`, `IVs: 0 Atk` or `- Body Slam`")]
     UnknownLine,
 }
 
+impl MemberFault {
+    // What is expected, in words.
+    fn words(self) -> &'static str
+        ensures { result.now ≡ member_words self }
+    {
+        match self {
+            MemberFault::Species => "expected the name of a species of the first generation",
+            MemberFault::Item => "expected no item: the first generation has none",
+            MemberFault::SeventhMember => "expected at most six members",
+            MemberFault::Level => "expected a level from 1 to 100",
+            MemberFault::Evs =>
+                "expected EVs from 0 to 255, as `252 HP / 4 Atk`, or packed as `252,4,,,,`",
+            MemberFault::SpecialEvs =>
+                "expected the same EVs for SpA and SpD: the first generation has one Special",
+            MemberFault::Ivs =>
+                "expected IVs from 0 to 31, as `14 HP / 0 Atk`, or packed as `14,0,,,,`",
+            MemberFault::SpecialIvs =>
+                "expected the same IVs for SpA and SpD: the first generation has one Special",
+            MemberFault::HpIv => "expected the HP IV that follows from the others, or none",
+            MemberFault::Move => "expected the name of a move of the first generation",
+            MemberFault::FifthMove => "expected at most four moves",
+            MemberFault::UnknownLine => {
+                "expected a line of a member, as `Level: 50`, `EVs: 252 HP`, `IVs: 0 Atk` or `- Body Slam`"
+            }
+        }
+    }
+}
+
+impl fmt::Display for MemberFault {
+    ghost output = { λ fault. Some (member_words fault) };
+
+    fn fmt<W: fmt::Write>(&self, f: &mut fmt::Formatter<W>) -> fmt::Result {
+        let words = self.words();
+        write!(f, "{words}")
+    }
+}
+
+impl Error for MemberFault {}
+
 /// Why a text is not a team.
-#[derive(Clone, Copy, Debug, PartialEq, Eq, Error)]
+#[derive(Clone, Copy, Debug, PartialEq, Eq)]
 pub enum TextFault {
     /// A line of the text has an error; lines are counted from 1.
-    #[error("line {line}: {fault}")]
     Line { line: usize, fault: MemberFault },
     /// Each line can be read, but the members are not a team.
-    #[error("{0}")]
     Team(TeamRefusal),
 }
 
+impl fmt::Display for TextFault {
+    ghost output = { λ fault. Some (text_words fault) };
+
+    fn fmt<W: fmt::Write>(&self, f: &mut fmt::Formatter<W>) -> fmt::Result {
+        match self {
+            TextFault::Line { line, fault } => write!(f, "line {line}: {fault}"),
+            TextFault::Team(refusal) => write!(f, "{refusal}"),
+        }
+    }
+}
+
+impl Error for TextFault {}
+
 /// Why a packed line is not a team. Members and fields are counted from 1.
-#[derive(Clone, Copy, Debug, PartialEq, Eq, Error)]
+#[derive(Clone, Copy, Debug, PartialEq, Eq)]
 pub enum PackedFault {
     /// The member does not have twelve fields.
-    #[error("member {member}: expected twelve fields with `|` between them")]
     Fields {
         member: usize,
     },
     /// A field of the member has an error.
-    #[error("member {member}, field {field}: {fault}")]
     Field {
         member: usize,
         field: usize,
         fault: MemberFault,
     },
     /// There is a seventh member.
-    #[error("expected at most six members")]
     SeventhMember,
     /// Each field can be read, but the members are not a team.
-    #[error("{0}")]
     Team(TeamRefusal),
 }
+
+impl fmt::Display for PackedFault {
+    ghost output = { λ fault. Some (packed_words fault) };
+
+    fn fmt<W: fmt::Write>(&self, f: &mut fmt::Formatter<W>) -> fmt::Result {
+        match self {
+            PackedFault::Fields { member } => {
+                write!(
+                    f,
+                    "member {member}: expected twelve fields with `|` between them"
+                )
+            }
+            PackedFault::Field {
+                member,
+                field,
+                fault,
+            } => { write!(f, "member {member}, field {field}: {fault}") }
+            PackedFault::SeventhMember => write!(f, "expected at most six members"),
+            PackedFault::Team(refusal) => write!(f, "{refusal}"),
+        }
+    }
+}
+
+impl Error for PackedFault {}
