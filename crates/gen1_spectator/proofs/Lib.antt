@@ -5,3 +5,5 @@ pub mod Following
 pub mod Logs
 -- Views as plain structs.
 pub mod PlainViews
+-- HP and turn stay in their ranges.
+pub mod PlainRanges
