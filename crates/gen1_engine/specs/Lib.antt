@@ -1,5 +1,7 @@
 -- What an update returns and leaves.
 pub mod Update
+-- The texts of refusals.
+pub mod Refusals
 -- Many updates, one after the other.
 pub mod Replay
 -- What calls lead to, one after the other.

@@ -1,5 +1,5 @@
-//! Added to the sources (docs/PLAIN.md, "What is added"): comparison, hashing and text of battles, and text of refusals.
-use crate::generated::engine::{Battle, BattleResult, Refusal};
+//! Added to the sources (docs/PLAIN.md, "What is added"): comparison, hashing and text of battles.
+use crate::generated::engine::{Battle, BattleResult};
 use core::fmt;
 use core::hash::{Hash, Hasher};
 use crate::generated::machine::{Request, Side};
@@ -35,16 +35,6 @@ impl BattleResult {
         match side {
             Side::One => self.request_one,
             Side::Two => self.request_two,
-        }
-    }
-}
-
-/// `the battle is over`, or `side 1's choice is not offered`.
-impl fmt::Display for Refusal {
-    fn fmt(&self, f: &mut fmt::Formatter<'_>) -> fmt::Result {
-        match self {
-            Refusal::Over => f.write_str("the battle is over"),
-            Refusal::NotOffered(side) => write!(f, "side {side}'s choice is not offered"),
         }
     }
 }
