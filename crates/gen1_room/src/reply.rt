@@ -1,8 +1,10 @@
 //! The reply of a room to a submission (docs/MECHANICS.md, "Rooms").
-ghost use Rattle.std.specs.Prelude.{◌≡◌, ◌≤◌};
+ghost use Rattle.std.specs.Prelude.{Some, ◌≡◌, ◌≤◌};
+ghost use Rattle.gen1_room.specs.Refusals.{number_of, words_of};
 
 use gen1_engine::BattleResult;
-use thiserror::Error;
+use std::error::Error;
+use std::fmt;
 
 /// What happened after a submission was taken.
 #[derive(Clone, Copy, Debug, PartialEq, Eq, Drop)]
@@ -14,25 +16,19 @@ pub enum Submitted {
 }
 
 /// Why a submission was refused: the first of these that applies. The room is then as it was.
-#[derive(Clone, Copy, Debug, PartialEq, Eq, Error)]
+#[derive(Clone, Copy, Debug, PartialEq, Eq)]
 pub enum RoomRefusal {
     /// The battle is over.
-    #[error("the battle is over")]
     Over,
     /// The submission is for another pair than the current one, which has this number.
-    #[error("the current pair is {0}")]
     Stale(u32),
     /// The side's choice is there. If a side is asked nothing, its Pass is there from the start.
-    #[error("the side has chosen")]
     AlreadyChosen,
     /// The byte is not a choice that the side is offered.
-    #[error("the choice is not offered")]
     NotOffered,
 }
 
 impl RoomRefusal {
-    ghost use Rattle.gen1_room.specs.Refusals.{number_of};
-
     /// Returns the number of the refusal, 1 to 4, in the order of the tests.
     pub fn number(self) -> u8
         ensures value { result ≡ number_of self }
@@ -47,6 +43,21 @@ impl RoomRefusal {
         }
     }
 }
+
+impl fmt::Display for RoomRefusal {
+    ghost output = { λ refusal. Some (words_of refusal) };
+
+    fn fmt<W: fmt::Write>(&self, f: &mut fmt::Formatter<W>) -> fmt::Result {
+        match self {
+            RoomRefusal::Over => write!(f, "the battle is over"),
+            RoomRefusal::Stale(number) => write!(f, "the current pair is {number}"),
+            RoomRefusal::AlreadyChosen => write!(f, "the side has chosen"),
+            RoomRefusal::NotOffered => write!(f, "the choice is not offered"),
+        }
+    }
+}
+
+impl Error for RoomRefusal {}
 
 /// The reply to a submission.
 pub type Reply = Result<Submitted, RoomRefusal>;
