@@ -1,18 +1,19 @@
 -- A drawn count, by its one or two draws.
 use Rattle.std.proofs.Common.{◌%◌, ◌+◌, ◌≡◌}
 use Rattle.gen1_layout.proofs.Words.{Bool, Frame, Parts, Phase, Progress, ShowsDrawn, Telling, ap, choose-false, choose-true, draw, false, nat_le, refl, sym, true, ℕ, ◌∙◌}
+use Rattle.gen1_rolls.specs.Draws.{Drawing}
 use Rattle.gen1_rolls.specs.Streams.{byte_at, Stream}
 use Rattle.gen1_rolls.proofs.Standing.{byte_drawn, stands_after_draw}
 use Rattle.gen1_machine.specs.GoingOn.{count_again, count_by_draw, draw_count}
 
-module _ {A : Type 0} {byte : A → ℕ} {next : A → A} {width : ℕ} {origin : A} {g : Frame} {parts : Parts} {events : Telling} {old : A} {b : Bool} {p : Progress} where
+module _ {A : Type 0} {d : Drawing A} {origin : A} {g : Frame} {parts : Parts} {events : Telling} {old : A} {b : Bool} {p : Progress} where
   -- The drawn byte is the stream's.
-  pub drawn_byte : (d : ℕ) → ShowsDrawn byte next width origin g parts events old b p → d ≡ byte old → d ≡ byte_at p.stream p.drawn
-  drawn_byte d a e = byte_drawn a.stands e ∙ ap (λ (s : Stream). byte_at s p.drawn) (sym a.shows.stream)
+  pub drawn_byte : (byte : ℕ) → ShowsDrawn d origin g parts events old b p → byte ≡ d.byte old → byte ≡ byte_at p.stream p.drawn
+  drawn_byte byte a e = byte_drawn a.stands e ∙ ap (λ (s : Stream). byte_at s p.drawn) (sym a.shows.stream)
 
   -- The next place of the generator is one further.
-  pub drawn_next : {new : A} → ShowsDrawn byte next width origin g parts events old b p → new ≡ next old
-      → ShowsDrawn byte next width origin g parts events new b (record p { drawn = p.drawn + 1 })
+  pub drawn_next : {new : A} → ShowsDrawn d origin g parts events old b p → new ≡ d.next old
+      → ShowsDrawn d origin g parts events new b (record p { drawn = p.drawn + 1 })
   drawn_next a left =
       let h = a.shows in
       record {

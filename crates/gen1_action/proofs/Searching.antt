@@ -1,7 +1,7 @@
 -- How shown facts pass through draws until one passes a test.
 use Rattle.std.proofs.Common.{◌+◌, ◌≡◌}
 use Rattle.gen1_layout.proofs.Words.{Bool, Frame, None, Option, Parts, Phase, Progress, ShowsDrawn, Some, Telling, ap, false, refl, sym, ℕ, ◌∙◌}
-use Rattle.gen1_rolls.specs.Draws.{FindsDraw, FindsNone}
+use Rattle.gen1_rolls.specs.Draws.{Drawing, FindsDraw, FindsNone}
 use Rattle.gen1_rolls.specs.Streams.{Stream, byte_at, first, span}
 use Rattle.gen1_rolls.proofs.Standing.{found_then, none_then, stands_there}
 use Rattle.gen1_machine.specs.Progress.{draw_until}
@@ -14,11 +14,11 @@ unfolding draw_until
 searched test f p o e =
     ap (λ (x : Option ℕ). elim x as (λ _. Progress) [ Some k ↦ f (byte_at p.stream k) (record p { drawn = k + 1 }) | None ↦ record p { drawn = p.drawn + span p.stream } ]) e
 
-module _ {A : Type 0} {byte : A → ℕ} {next : A → A} {width : ℕ} {origin : A} {g : Frame} {parts : Parts} {events : Telling} {old new : A} {p : Progress} where
+module _ {A : Type 0} {d : Drawing A} {origin : A} {g : Frame} {parts : Parts} {events : Telling} {old new : A} {p : Progress} where
   -- A byte was found, and what follows it begins at the next place.
   pub found_by_drawing : {found : ℕ} (test : ℕ → Bool) (f : ℕ → Phase)
-      → ShowsDrawn byte next width origin g parts events old false p → FindsDraw byte next width test old found new
-      → (n : ℕ) × ShowsDrawn byte next width origin g parts events new false (record p { drawn = n }) × (draw_until test f p ≡ f found (record p { drawn = n }))
+      → ShowsDrawn d origin g parts events old false p → FindsDraw d test old found new
+      → (n : ℕ) × ShowsDrawn d origin g parts events new false (record p { drawn = n }) × (draw_until test f p ≡ f found (record p { drawn = n }))
   found_by_drawing test f a finds =
       found_then a.stands finds (λ m at is stands.
       let h = a.shows in
@@ -33,16 +33,16 @@ module _ {A : Type 0} {byte : A → ℕ} {next : A → A} {width : ℕ} {origin 
       ))
 
   pub drawn_until : {parts' : Parts} {events' : Telling} {b' : Bool} {found : ℕ} (test : ℕ → Bool) (f : ℕ → Phase)
-      → ShowsDrawn byte next width origin g parts events old false p → FindsDraw byte next width test old found new
-      → ((q : Progress) → ShowsDrawn byte next width origin g parts events new false q → ShowsDrawn byte next width origin g parts' events' new b' (f found q))
-      → ShowsDrawn byte next width origin g parts' events' new b' (draw_until test f p)
+      → ShowsDrawn d origin g parts events old false p → FindsDraw d test old found new
+      → ((q : Progress) → ShowsDrawn d origin g parts events new false q → ShowsDrawn d origin g parts' events' new b' (f found q))
+      → ShowsDrawn d origin g parts' events' new b' (draw_until test f p)
   drawn_until test f a finds then =
       let x = found_by_drawing test f a finds in
       rw x.2 (then (record p { drawn = x.0 }) x.1)
 
   -- No byte was found.
-  pub drawn_none : (test : ℕ → Bool) (f : ℕ → Phase) → ShowsDrawn byte next width origin g parts events old false p → FindsNone byte next width test old new
-      → ShowsDrawn byte next width origin g parts events new false (draw_until test f p)
+  pub drawn_none : (test : ℕ → Bool) (f : ℕ → Phase) → ShowsDrawn d origin g parts events old false p → FindsNone d test old new
+      → ShowsDrawn d origin g parts events new false (draw_until test f p)
   drawn_none test f a finds =
       none_then a.stands finds (λ none stands.
       let h = a.shows in

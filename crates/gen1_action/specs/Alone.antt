@@ -3,7 +3,7 @@
 use Rattle.std.specs.Prelude.{◌≡◌}
 use Rattle.gen1_layout.specs.Words.{Frame, Phase, Progress, Side, Telling, Within, false, ℕ}
 use Rattle.gen1_tables.specs.declared.effect.Effect.{Effect}
-use Rattle.gen1_rolls.specs.Draws.{StandsAt}
+use Rattle.gen1_rolls.specs.Draws.{Drawing, StandsAt}
 use Rattle.gen1_machine.specs.Ruling.{Ruling, ruling_of}
 use Rattle.gen1_machine.specs.Plans.{Doing, Plan}
 use Rattle.gen1_layout.specs.Parts.{Parts}
@@ -16,20 +16,20 @@ abbrev pub just_begun : Side → Known
 just_begun s = begun s nothing_yet
 
 -- The bytes, the events and the generator are those of a battle in the middle of an update.
-pub record Leaves {A : Type 0} (byte : A → ℕ) (next : A → A) (width : ℕ) (origin : A) (g : Frame) (parts : Parts) (events : Telling) (now : A) (p : Progress) : Type 0 where
+pub record Leaves {A : Type 0} (d : Drawing A) (origin : A) (g : Frame) (parts : Parts) (events : Telling) (now : A) (p : Progress) : Type 0 where
   pub within : Within g.setting parts p.field
   pub written : events p.events
-  pub stands : StandsAt byte next width origin g.stream p.drawn now
+  pub stands : StandsAt d origin g.stream p.drawn now
 
 -- The code leaves what a phase makes of an action that has just begun, under the rules of the battle.
-abbrev pub DoesAlone : {A : Type 0} → (A → ℕ) → (A → A) → ℕ → Side → Parts → Telling → A → Parts → Telling → A → (Ruling → Phase) → Type 0
-DoesAlone {A = A} byte next width side parts events old parts' events' new phase =
-    (origin : A) (g : Frame) (p : Progress) → ShowsKnown byte next width origin (just_begun side) g parts events old false p
-    → Leaves byte next width origin g parts' events' new (phase (ruling_of g.setting.terms) p)
+abbrev pub DoesAlone : {A : Type 0} → Drawing A → Side → Parts → Telling → A → Parts → Telling → A → (Ruling → Phase) → Type 0
+DoesAlone {A = A} d side parts events old parts' events' new phase =
+    (origin : A) (g : Frame) (p : Progress) → ShowsKnown d origin (just_begun side) g parts events old false p
+    → Leaves d origin g parts' events' new (phase (ruling_of g.setting.terms) p)
 
 -- The same for a side that is using a move with this effect.
-abbrev pub DoesAloneAt : {A : Type 0} → (A → ℕ) → (A → A) → ℕ → Side → Effect → Parts → Telling → A → Parts → Telling → A → (Ruling → Phase) → Type 0
-DoesAloneAt {A = A} byte next width side effect parts events old parts' events' new phase =
+abbrev pub DoesAloneAt : {A : Type 0} → Drawing A → Side → Effect → Parts → Telling → A → Parts → Telling → A → (Ruling → Phase) → Type 0
+DoesAloneAt {A = A} d side effect parts events old parts' events' new phase =
     (origin : A) (g : Frame) (p : Progress) (plan : Side → Plan) → plan side ≡ Doing effect → Follows g.setting.terms plan p
-    → ShowsKnown byte next width origin (just_begun side) g parts events old false p
-    → Leaves byte next width origin g parts' events' new (phase (ruling_of g.setting.terms) p)
+    → ShowsKnown d origin (just_begun side) g parts events old false p
+    → Leaves d origin g parts' events' new (phase (ruling_of g.setting.terms) p)

@@ -3,6 +3,7 @@
 -- what was known before it, the result of the phase is shown with what is known after it.
 use Rattle.std.specs.Prelude.{◌≡◌}
 use Rattle.gen1_layout.specs.Words.{Bool, Frame, None, Phase, Progress, Shows, ShowsDrawn, Side, Telling, false, ℕ}
+use Rattle.gen1_rolls.specs.Draws.{Drawing}
 use Rattle.gen1_machine.specs.declared.side.Side.TheVariants.{One}
 use Rattle.gen1_machine.specs.Progress.{Action}
 use Rattle.gen1_layout.specs.Parts.{Parts}
@@ -52,21 +53,21 @@ DoesKnowing parts events k parts' events' k' stopped phase =
     (g : Frame) (p : Progress) → Shows (knowing k g) parts events false p → Shows (knowing k' g) parts' events' stopped (phase p)
 
 -- Code with draws, for any generator that it is given.
-abbrev pub ShowsKnown : {A : Type 0} → (A → ℕ) → (A → A) → ℕ → A → Known → Frame → Parts → Telling → A → Bool → Progress → Type 0
-ShowsKnown byte next width origin k g parts events now stopped p = ShowsDrawn byte next width origin (knowing k g) parts events now stopped p
+abbrev pub ShowsKnown : {A : Type 0} → Drawing A → A → Known → Frame → Parts → Telling → A → Bool → Progress → Type 0
+ShowsKnown d origin k g parts events now stopped p = ShowsDrawn d origin (knowing k g) parts events now stopped p
 
-abbrev pub DoesKnowingDrawing : {A : Type 0} → (A → ℕ) → (A → A) → ℕ → Parts → Telling → A → Known → Parts → Telling → A → Known → Bool → Phase → Type 0
-DoesKnowingDrawing {A = A} byte next width parts events old k parts' events' new k' stopped phase =
-    (origin : A) (g : Frame) (p : Progress) → ShowsKnown byte next width origin k g parts events old false p
-    → ShowsKnown byte next width origin k' g parts' events' new stopped (phase p)
+abbrev pub DoesKnowingDrawing : {A : Type 0} → Drawing A → Parts → Telling → A → Known → Parts → Telling → A → Known → Bool → Phase → Type 0
+DoesKnowingDrawing {A = A} d parts events old k parts' events' new k' stopped phase =
+    (origin : A) (g : Frame) (p : Progress) → ShowsKnown d origin k g parts events old false p
+    → ShowsKnown d origin k' g parts' events' new stopped (phase p)
 
 -- After an action is over, it no longer matters whether a substitute broke in it.
 abbrev pub with_broke : Bool → Known → Known
 with_broke broke k = record k { broke = broke }
 
-abbrev pub ShowsOver : {A : Type 0} → (A → ℕ) → (A → A) → ℕ → A → Known → Frame → Parts → Telling → A → Bool → Progress → Type 0
-ShowsOver byte next width origin k g parts events now stopped p =
-    (broke : Bool) × ShowsKnown byte next width origin (with_broke broke k) g parts events now stopped p
+abbrev pub ShowsOver : {A : Type 0} → Drawing A → A → Known → Frame → Parts → Telling → A → Bool → Progress → Type 0
+ShowsOver d origin k g parts events now stopped p =
+    (broke : Bool) × ShowsKnown d origin (with_broke broke k) g parts events now stopped p
 
 -- No hit has been made or planned yet.
 abbrev pub IsUncounted : Known → Type 0

@@ -3,6 +3,7 @@
 use Rattle.std.specs.Prelude.{◌≡◌}
 use Rattle.gen1_layout.specs.Words.{Bool, Frame, Phase, Progress, Side, Telling, false, ℕ}
 use Rattle.gen1_tables.specs.declared.effect.Effect.{Effect}
+use Rattle.gen1_rolls.specs.Draws.{Drawing}
 use Rattle.gen1_machine.specs.declared.picks.Pick.{Pick}
 use Rattle.gen1_machine.specs.declared.picks.Pick.TheVariants.{Use}
 use Rattle.gen1_machine.specs.State.{Terms}
@@ -28,21 +29,21 @@ Before (Use used) terms plan p = Follows terms plan p × (p.action.letting_go �
 Before _ terms plan p = Follows terms plan p
 
 -- The code does what a phase does under the rules of the battle.
-abbrev pub DoesUnder : {A : Type 0} → (A → ℕ) → (A → A) → ℕ → Parts → Telling → A → Known → Parts → Telling → A → Known → Bool → (Ruling → Phase) → Type 0
-DoesUnder {A = A} byte next width parts events old k parts' events' new k' stopped phase =
-    (origin : A) (g : Frame) (p : Progress) → ShowsKnown byte next width origin k g parts events old false p
-    → ShowsKnown byte next width origin k' g parts' events' new stopped (phase (ruling_of g.setting.terms) p)
+abbrev pub DoesUnder : {A : Type 0} → Drawing A → Parts → Telling → A → Known → Parts → Telling → A → Known → Bool → (Ruling → Phase) → Type 0
+DoesUnder {A = A} d parts events old k parts' events' new k' stopped phase =
+    (origin : A) (g : Frame) (p : Progress) → ShowsKnown d origin k g parts events old false p
+    → ShowsKnown d origin k' g parts' events' new stopped (phase (ruling_of g.setting.terms) p)
 
 -- The same for a side that is using a move with this effect.
-abbrev pub DoesAt : {A : Type 0} → (A → ℕ) → (A → A) → ℕ → Side → Effect → Parts → Telling → A → Known → Parts → Telling → A → Known → Bool → (Ruling → Phase) → Type 0
-DoesAt {A = A} byte next width side effect parts events old k parts' events' new k' stopped phase =
+abbrev pub DoesAt : {A : Type 0} → Drawing A → Side → Effect → Parts → Telling → A → Known → Parts → Telling → A → Known → Bool → (Ruling → Phase) → Type 0
+DoesAt {A = A} d side effect parts events old k parts' events' new k' stopped phase =
     (origin : A) (g : Frame) (p : Progress) (plan : Side → Plan) → plan side ≡ Doing effect → Follows g.setting.terms plan p
-    → ShowsKnown byte next width origin k g parts events old false p
-    → ShowsKnown byte next width origin k' g parts' events' new stopped (phase (ruling_of g.setting.terms) p)
+    → ShowsKnown d origin k g parts events old false p
+    → ShowsKnown d origin k' g parts' events' new stopped (phase (ruling_of g.setting.terms) p)
 
 -- The same for a side whose pick is about to take such a move.
-abbrev pub DoesTaking : {A : Type 0} → (A → ℕ) → (A → A) → ℕ → Side → Pick → Effect → Parts → Telling → A → Known → Parts → Telling → A → Known → Bool → (Ruling → Phase) → Type 0
-DoesTaking {A = A} byte next width side pick effect parts events old k parts' events' new k' stopped phase =
+abbrev pub DoesTaking : {A : Type 0} → Drawing A → Side → Pick → Effect → Parts → Telling → A → Known → Parts → Telling → A → Known → Bool → (Ruling → Phase) → Type 0
+DoesTaking {A = A} d side pick effect parts events old k parts' events' new k' stopped phase =
     (origin : A) (g : Frame) (p : Progress) (plan : Side → Plan) → Takes pick effect (plan side) → Before pick g.setting.terms plan p
-    → ShowsKnown byte next width origin k g parts events old false p
-    → ShowsKnown byte next width origin k' g parts' events' new stopped (phase (ruling_of g.setting.terms) p)
+    → ShowsKnown d origin k g parts events old false p
+    → ShowsKnown d origin k' g parts' events' new stopped (phase (ruling_of g.setting.terms) p)

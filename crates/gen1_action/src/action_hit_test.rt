@@ -28,7 +28,7 @@ pub fn hit_or_miss<R: Rolls>(
     random: &mut R,
 )
     ensures shown { (events : List Event)
-        → DoesKnowingDrawing R.byte R.next R.SPAN battle.old (Told events) random.old known.old battle.new
+        → DoesKnowingDrawing R.drawing battle.old (Told events) random.old known.old battle.new
         (Told events) random.new known.new false (hit_or_miss side (move_at id)) }
     ensures counts { IsUncounted known.old → IsUncounted known.new }
 {
@@ -51,7 +51,7 @@ pub fn must_hit<R: Rolls, S: EventSink>(
     events: &mut S,
 ) -> bool
     requires room { HasRoom S.room 1 events.old }
-    ensures shown { DoesKnowingDrawing R.byte R.next R.SPAN battle.old (S.tells events.old) random.old
+    ensures shown { DoesKnowingDrawing R.drawing battle.old (S.tells events.old) random.old
         known.old battle.new (S.tells events.new) random.new known.new result
         (must_hit side (move_at id)) }
     ensures counts { IsUncounted known.old → IsUncounted known.new }

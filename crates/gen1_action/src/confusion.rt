@@ -18,7 +18,7 @@ pub fn confuse<R: Rolls, S: EventSink>(
     events: &mut S,
 )
     requires room { HasRoom S.room 1 events.old }
-    ensures shown { DoesDrawing R.byte R.next R.SPAN battle.old (S.tells events.old) random.old
+    ensures shown { DoesDrawing R.drawing battle.old (S.tells events.old) random.old
         battle.new (S.tells events.new) random.new false (confuse side) }
     ensures room { AddsAtMost S.room 1 events.old events.new }
 {

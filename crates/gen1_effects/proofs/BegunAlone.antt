@@ -1,23 +1,24 @@
 -- An operation by itself, from an action that has just begun. It doesn't matter that its action then ends.
 use Rattle.std.proofs.Common.{◌≡◌}
 use Rattle.gen1_layout.proofs.Words.{Bool, Frame, Parts, Phase, Progress, Side, Telling, false, refl, stop, subst, then-goes, then-stops, true, ℕ, ◌▸◌}
+use Rattle.gen1_rolls.specs.Draws.{Drawing}
 use Rattle.gen1_action.specs.declared.known.Known.{Known}
 use Rattle.gen1_action.specs.Alone.{just_begun, Leaves}
 use Rattle.gen1_action.specs.Knowing.{ShowsKnown}
 use Rattle.gen1_action.proofs.Knowledge.{leaves}
 
-module _ {A : Type 0} {byte : A → ℕ} {next : A → A} {width : ℕ} {origin : A} {parts : Parts} {events : Telling} {now : A} {b : Bool} where
+module _ {A : Type 0} {d : Drawing A} {origin : A} {parts : Parts} {events : Telling} {now : A} {b : Bool} where
   pub begun_alone : {p : Progress} (k : Known) (g : Frame) (s : Side) → k ≡ just_begun s
-      → ShowsKnown byte next width origin (just_begun s) g parts events now b p → ShowsKnown byte next width origin k g parts events now b p
+      → ShowsKnown d origin (just_begun s) g parts events now b p → ShowsKnown d origin k g parts events now b p
   begun_alone k g s is h = rw is h
 
   pub left_unended : (k : Known) (g : Frame) (f : Phase) (p : Progress)
-      → ShowsKnown byte next width origin k g parts events now b ((f ▸ stop) p) → Leaves byte next width origin g parts events now (f p)
+      → ShowsKnown d origin k g parts events now b ((f ▸ stop) p) → Leaves d origin g parts events now (f p)
   unfolding stop
   left_unended k g f p a = by (f p).stopped refl
     where
-      by : (stopped : Bool) → (f p).stopped ≡ stopped → Leaves byte next width origin g parts events now (f p)
-      by true e = leaves {k = k} g (subst (λ (q : Progress). ShowsKnown byte next width origin k g parts events now b q) (then-stops f stop p e) a)
+      by : (stopped : Bool) → (f p).stopped ≡ stopped → Leaves d origin g parts events now (f p)
+      by true e = leaves {k = k} g (subst (λ (q : Progress). ShowsKnown d origin k g parts events now b q) (then-stops f stop p e) a)
       by false e =
-          let h = subst (λ (q : Progress). ShowsKnown byte next width origin k g parts events now b q) (then-goes f stop p e) a in
+          let h = subst (λ (q : Progress). ShowsKnown d origin k g parts events now b q) (then-goes f stop p e) a in
           record { within = h.shows.within; written = h.shows.written; stands = h.stands }

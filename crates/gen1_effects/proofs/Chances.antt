@@ -1,7 +1,7 @@
 -- How shown facts pass through a draw by chance, and through draws until a byte passes a test.
 use Rattle.std.proofs.Common.{◌+◌, ◌≡◌}
 use Rattle.gen1_layout.proofs.Words.{Bool, Frame, None, Option, Parts, Phase, Progress, ShowsDrawn, Some, Telling, ap, choose-false, drawing, drawn_if_not, drawn_if_so, drawn_stays, false, nat_lt, refl, stay, sym, then-goes, true, ℕ, ◌∙◌, ◌▸◌}
-use Rattle.gen1_rolls.specs.Draws.{FindsDraw, FindsNone}
+use Rattle.gen1_rolls.specs.Draws.{Drawing, FindsDraw, FindsNone}
 use Rattle.gen1_rolls.specs.Streams.{Stream, byte_at, first, span}
 use Rattle.gen1_rolls.proofs.Standing.{byte_found, first-found, first-none, stands_after_found, stands_after_none, stands_there}
 use Rattle.gen1_machine.specs.Progress.{draw_until, when}
@@ -25,58 +25,58 @@ none-is test f p e =
     ]) e
 
 -- A test that fails, with a generator.
-module _ {A : Type 0} {byte : A → ℕ} {next : A → A} {width : ℕ} {origin : A} where
+module _ {A : Type 0} {d : Drawing A} {origin : A} where
   pub drawn_past : {g g' : Frame} {parts parts' : Parts} {events events' : Telling} {now now' : A} {b : Bool} {p : Progress} (test : Progress → Bool) (f k : Phase) → test p ≡ false
-      → ShowsDrawn byte next width origin g parts events now false p → ShowsDrawn byte next width origin g' parts' events' now' b (k p)
-      → ShowsDrawn byte next width origin g' parts' events' now' b ((when test f ▸ k) p)
+      → ShowsDrawn d origin g parts events now false p → ShowsDrawn d origin g' parts' events' now' b (k p)
+      → ShowsDrawn d origin g' parts' events' now' b ((when test f ▸ k) p)
   unfolding stay
   drawn_past {p = p} test f k e h a =
       let is : when test f p ≡ p = choose-false test f stay p e in
       rw (then-goes (when test f) k p (ap (λ (q : Progress). q.stopped) is ∙ h.shows.ends) ∙ ap k is) a
 
-module _ {A : Type 0} {byte : A → ℕ} {next : A → A} {width : ℕ} {origin : A} {g : Frame} {parts : Parts} {events : Telling} {old new : A} {b : Bool} {p : Progress} where
+module _ {A : Type 0} {d : Drawing A} {origin : A} {g : Frame} {parts : Parts} {events : Telling} {old new : A} {b : Bool} {p : Progress} where
   -- The draw was below the bound.
   pub comes : {g' : Frame} {parts' : Parts} {events' : Telling} {now : A} {b' result : Bool} (bound : ℕ) (f : Phase)
-      → ShowsDrawn byte next width origin g parts events old b p → result ≡ nat_lt (byte old) bound → new ≡ next old → result ≡ true
-      → (ShowsDrawn byte next width origin g parts events new b (record p { drawn = p.drawn + 1 })
-      → ShowsDrawn byte next width origin g' parts' events' now b' (f (record p { drawn = p.drawn + 1 })))
-      → ShowsDrawn byte next width origin g' parts' events' now b' (by_chance bound f p)
+      → ShowsDrawn d origin g parts events old b p → result ≡ nat_lt (d.byte old) bound → new ≡ d.next old → result ≡ true
+      → (ShowsDrawn d origin g parts events new b (record p { drawn = p.drawn + 1 })
+      → ShowsDrawn d origin g' parts' events' now b' (f (record p { drawn = p.drawn + 1 })))
+      → ShowsDrawn d origin g' parts' events' now b' (by_chance bound f p)
   unfolding by_chance happens_below
   comes bound f h is left e then =
-      drawing (happens_below bound f) {drawn = byte old} h refl left (λ d. drawn_if_so (λ q. nat_lt (byte old) bound) f stay (sym is ∙ e) (then d))
+      drawing (happens_below bound f) {drawn = d.byte old} h refl left (λ a. drawn_if_so (λ q. nat_lt (d.byte old) bound) f stay (sym is ∙ e) (then a))
 
   -- The draw wasn't below the bound.
   pub passes : {result : Bool} (bound : ℕ) (f : Phase)
-      → ShowsDrawn byte next width origin g parts events old b p → result ≡ nat_lt (byte old) bound → new ≡ next old → result ≡ false
-      → ShowsDrawn byte next width origin g parts events new b (by_chance bound f p)
+      → ShowsDrawn d origin g parts events old b p → result ≡ nat_lt (d.byte old) bound → new ≡ d.next old → result ≡ false
+      → ShowsDrawn d origin g parts events new b (by_chance bound f p)
   unfolding by_chance happens_below
   passes bound f h is left e =
-      drawing (happens_below bound f) {drawn = byte old} h refl left (λ d. drawn_if_not (λ q. nat_lt (byte old) bound) f stay (sym is ∙ e) (drawn_stays d))
+      drawing (happens_below bound f) {drawn = d.byte old} h refl left (λ a. drawn_if_not (λ q. nat_lt (d.byte old) bound) f stay (sym is ∙ e) (drawn_stays a))
 
   -- A byte passed the test.
   pub finding : {g' : Frame} {parts' : Parts} {events' : Telling} {now : A} {b' : Bool} {x : ℕ} (test : ℕ → Bool) (f : ℕ → Phase)
-      → ShowsDrawn byte next width origin g parts events old b p → FindsDraw byte next width test old x new
-      → ((m : ℕ) → test x ≡ true → ShowsDrawn byte next width origin g parts events new b (record p { drawn = m + 1 })
-      → ShowsDrawn byte next width origin g' parts' events' now b' (f x (record p { drawn = m + 1 })))
-      → ShowsDrawn byte next width origin g' parts' events' now b' (draw_until test f p)
-  finding test f a d then =
+      → ShowsDrawn d origin g parts events old b p → FindsDraw d test old x new
+      → ((m : ℕ) → test x ≡ true → ShowsDrawn d origin g parts events new b (record p { drawn = m + 1 })
+      → ShowsDrawn d origin g' parts' events' now b' (f x (record p { drawn = m + 1 })))
+      → ShowsDrawn d origin g' parts' events' now b' (draw_until test f p)
+  finding test f a finds then =
       let h = a.shows in
-      let m = p.drawn + d.passed in
-      let at = ap (λ (s : Stream). first s p.drawn test) h.stream ∙ first-found a.stands d in
-      let is = byte_found a.stands d ∙ ap (λ (s : Stream). byte_at s m) (sym h.stream) in
-      let found : ShowsDrawn byte next width origin g parts events new b (record p { drawn = m + 1 }) = record {
+      let m = p.drawn + finds.passed in
+      let at = ap (λ (s : Stream). first s p.drawn test) h.stream ∙ first-found a.stands finds in
+      let is = byte_found a.stands finds ∙ ap (λ (s : Stream). byte_at s m) (sym h.stream) in
+      let found : ShowsDrawn d origin g parts events new b (record p { drawn = m + 1 }) = record {
         shows = record { within = h.within; written = h.written; ends = h.ends; stream = h.stream; drawn = refl; skips = h.skips; action = h.action };
-        stands = stands_after_found a.stands d;
+        stands = stands_after_found a.stands finds;
       } in
-      rw (found-is test f p m at, ← is) (then m (ap test d.is ∙ d.first.meets) found)
+      rw (found-is test f p m at, ← is) (then m (ap test finds.is ∙ finds.first.meets) found)
 
   -- No byte passed the test.
-  pub finding_none : (test : ℕ → Bool) (f : ℕ → Phase) → ShowsDrawn byte next width origin g parts events old b p → FindsNone byte next width test old new
-      → ShowsDrawn byte next width origin g parts events new b (draw_until test f p)
-  finding_none test f a d =
+  pub finding_none : (test : ℕ → Bool) (f : ℕ → Phase) → ShowsDrawn d origin g parts events old b p → FindsNone d test old new
+      → ShowsDrawn d origin g parts events new b (draw_until test f p)
+  finding_none test f a finds =
       let h = a.shows in
-      let at = ap (λ (s : Stream). first s p.drawn test) h.stream ∙ first-none a.stands d in
+      let at = ap (λ (s : Stream). first s p.drawn test) h.stream ∙ first-none a.stands finds in
       rw (none-is test f p at) (record {
         shows = record { within = h.within; written = h.written; ends = h.ends; stream = h.stream; drawn = refl; skips = h.skips; action = h.action };
-        stands = stands_there (stands_after_none a.stands d) (ap (λ (s : Stream). p.drawn + span s) (sym h.stream));
+        stands = stands_there (stands_after_none a.stands finds) (ap (λ (s : Stream). p.drawn + span s) (sym h.stream));
       })

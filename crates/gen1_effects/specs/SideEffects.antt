@@ -3,6 +3,7 @@
 use Rattle.gen1_layout.specs.Words.{Bool, Frame, Phase, Progress, ShowsDrawn, Side, Telling, false, other, true, ℕ}
 use Rattle.gen1_tables.specs.declared.effect.Effect.{Effect}
 use Rattle.gen1_tables.specs.declared.effect.Effect.TheVariants as effects
+use Rattle.gen1_rolls.specs.Draws.{Drawing}
 use Rattle.gen1_stats.specs.declared.status.Status.TheVariants.{Burned, Paralysed}
 use Rattle.gen1_machine.specs.declared.health.Kind.{Kind}
 use Rattle.gen1_machine.specs.declared.health.Kind.TheVariants as kinds
@@ -20,10 +21,10 @@ use Rattle.gen1_effects.specs.declared.side_effects.Way.TheVariants as ways
 
 -- Code with draws does what a phase does under the rules of the battle, for any generator that it is given, and
 -- doesn't stop.
-abbrev pub DoesByRules : {A : Type 0} → (A → ℕ) → (A → A) → ℕ → Parts → Telling → A → Parts → Telling → A → (Ruling → Phase) → Type 0
-DoesByRules {A = A} byte next width parts events old parts' events' new phase =
-    (origin : A) (g : Frame) (p : Progress) → ShowsDrawn byte next width origin g parts events old false p
-    → ShowsDrawn byte next width origin g parts' events' new false (phase (ruling_of g.setting.terms) p)
+abbrev pub DoesByRules : {A : Type 0} → Drawing A → Parts → Telling → A → Parts → Telling → A → (Ruling → Phase) → Type 0
+DoesByRules {A = A} d parts events old parts' events' new phase =
+    (origin : A) (g : Frame) (p : Progress) → ShowsDrawn d origin g parts events old false p
+    → ShowsDrawn d origin g parts' events' new false (phase (ruling_of g.setting.terms) p)
 
 -- A status of a kind for the foe. A freeze depends on the rules.
 abbrev pub is_freeze : Kind → Bool

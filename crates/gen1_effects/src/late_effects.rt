@@ -45,7 +45,7 @@ pub fn group_two<R: Rolls, S: EventSink>(
 )
     requires room { HasRoom S.room 2 events.old }
     requires tie { is_late_but_bide (move_at id).effect ≡ true }
-    ensures shown { DoesAlone R.byte R.next R.SPAN side battle.old (S.tells events.old) random.old
+    ensures shown { DoesAlone R.drawing side battle.old (S.tells events.old) random.old
         battle.new (S.tells events.new) random.new
         (λ r. late_effect r side (move_at id) (move_at id).effect) }
     ensures room { AddsAtMost S.room 2 events.old events.new }
@@ -66,7 +66,7 @@ pub fn group_two_knowing<R: Rolls, S: EventSink>(
 )
     requires room { HasRoom S.room 2 events.old }
     requires tie { is_late_but_bide (move_at id).effect ≡ true }
-    ensures shown { DoesUnder R.byte R.next R.SPAN battle.old (S.tells events.old) random.old known.old
+    ensures shown { DoesUnder R.drawing battle.old (S.tells events.old) random.old known.old
         battle.new (S.tells events.new) random.new known.new true
         (λ r. late_effect r side (move_at id) (move_at id).effect ▸ stop) }
     ensures room { AddsAtMost S.room 2 events.old events.new }

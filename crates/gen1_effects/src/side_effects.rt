@@ -60,7 +60,7 @@ pub fn side_effect<R: Rolls, S: EventSink>(
     events: &mut S,
 )
     requires room { HasRoom S.room 1 events.old }
-    ensures shown { DoesAlone R.byte R.next R.SPAN side battle.old (S.tells events.old) random.old
+    ensures shown { DoesAlone R.drawing side battle.old (S.tells events.old) random.old
         battle.new (S.tells events.new) random.new
         (λ r. side_effect r side (move_at id) (move_at id).effect) }
     ensures room { AddsAtMost S.room 1 events.old events.new }
@@ -82,7 +82,7 @@ pub fn side_effect_knowing<R: Rolls, S: EventSink>(
     events: &mut S,
 ) -> bool
     requires room { HasRoom S.room 1 events.old }
-    ensures shown { DoesUnder R.byte R.next R.SPAN battle.old (S.tells events.old) random.old known.old
+    ensures shown { DoesUnder R.drawing battle.old (S.tells events.old) random.old known.old
         battle.new (S.tells events.new) random.new known.new result
         (λ r. side_effect r side (move_at id) (move_at id).effect) }
     ensures counts { IsUncounted known.old → IsUncounted known.new }
@@ -115,7 +115,7 @@ fn harm_unless_away<R: Rolls, S: EventSink>(
     events: &mut S,
 )
     requires room { HasRoom S.room 1 events.old }
-    ensures shown { DoesByRules R.byte R.next R.SPAN battle.old (S.tells events.old) random.old
+    ensures shown { DoesByRules R.drawing battle.old (S.tells events.old) random.old
         battle.new (S.tells events.new) random.new (λ r. harms_unless_away r side (move_at id) harm) }
     ensures room { AddsAtMost S.room 1 events.old events.new }
 {
@@ -134,7 +134,7 @@ fn do_harm<R: Rolls, S: EventSink>(
     events: &mut S,
 )
     requires room { HasRoom S.room 1 events.old }
-    ensures shown { DoesByRules R.byte R.next R.SPAN battle.old (S.tells events.old) random.old
+    ensures shown { DoesByRules R.drawing battle.old (S.tells events.old) random.old
         battle.new (S.tells events.new) random.new (λ r. harms r side (move_at id) harm) }
     ensures room { AddsAtMost S.room 1 events.old events.new }
 {

@@ -4,7 +4,8 @@ use Rattle.gen1_layout.proofs.Words.{Bool, Frame, None, Option, Parts, Phase, Pr
 use Rattle.gen1_rolls.specs.Streams.{Stream, byte_at, first, span}
 use Rattle.gen1_machine.specs.Damage.{is_factor, rotated_right_1, times_factor, varied_by, vary}
 use Rattle.gen1_machine.specs.Progress.{draw_until}
-use Rattle.gen1_hits.specs.Factors.{Varies}
+use Rattle.gen1_rolls.specs.Draws.{Drawing, StandsAt}
+use Rattle.gen1_hits.specs.Factors.{VariesFrom}
 
 -- The machine's factor, if none is drawn and if one is found at m
 
@@ -24,9 +25,9 @@ vary-draws d n m stream p large same at e =
     choose-false _ _ _ p large ∙ found is_factor (varied_by d) p m (rw (same, at) e) ∙ rw same refl
 
 -- What is shown after a factor was drawn.
-pub varying : {A : Type 0} {byte : A → ℕ} {next : A → A} {width : ℕ} {origin : A} {g : Frame} {parts parts' : Parts} {events : Telling} {old new : A} {b : Bool} {p : Progress}
-    → (damage result : ℕ) → ShowsDrawn byte next width origin g parts events old b p → Varies byte next width damage old result new
-    → Within g.setting parts' (with_last_damage result p.field) → ShowsDrawn byte next width origin g parts' events new b (vary damage p)
+pub varying : {A : Type 0} {d : Drawing A} {origin : A} {g : Frame} {parts parts' : Parts} {events : Telling} {old new : A} {b : Bool} {p : Progress}
+    → (damage result : ℕ) → ShowsDrawn d origin g parts events old b p → ((origin : A) (stream : Stream) (n : ℕ) → StandsAt d origin stream n old → VariesFrom d origin stream n damage result new)
+    → Within g.setting parts' (with_last_damage result p.field) → ShowsDrawn d origin g parts' events new b (vary damage p)
 unfolding set_last_damage on_field
 varying {origin = origin} {g = g} {parts = parts} {events = events} {b = b} {p = p} damage result a varies within =
     let v = varies origin g.stream p.drawn a.stands in

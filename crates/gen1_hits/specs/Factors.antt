@@ -2,22 +2,22 @@
 -- of all.
 use Rattle.std.specs.Prelude.{List, Option, if◌then◌else◌, map, nat_le, option_map, ℕ, ◌≡◌}
 use Rattle.std.specs.List.{range_with_len}
-use Rattle.gen1_rolls.specs.Draws.{StandsAt}
+use Rattle.gen1_rolls.specs.Draws.{Drawing, Ref, StandsAt}
 use Rattle.gen1_rolls.specs.Streams.{Stream}
 use Rattle.gen1_machine.specs.Damage.{DamageNumbers, before_types, times_factor, type_steps, vary}
 use Rattle.gen1_machine.specs.Progress.{Progress, set_last_damage}
 
 -- The machine's phase draws up to where the generator now is, and sets the last damage to the result.
-pub record VariesFrom {A : Type 0} (byte : A → ℕ) (next : A → A) (width : ℕ) (origin : A) (stream : Stream) (n damage result : ℕ) (new : A) : Type 0 where
+pub record VariesFrom {A : Type 0} (d : Drawing A) (origin : A) (stream : Stream) (n damage result : ℕ) (new : A) : Type 0 where
   pub drawn : ℕ
-  pub stands : StandsAt byte next width origin stream drawn new
+  pub stands : StandsAt d origin stream drawn new
   pub sets : (p : Progress) → p.stream ≡ stream → p.drawn ≡ n → vary damage p ≡ set_last_damage result (record p { drawn = drawn })
 
 -- This holds for any place of the generator.
-abbrev pub Varies : {A : Type 0} → (A → ℕ) → (A → A) → ℕ → ℕ → A → ℕ → A → Type 0
-Varies {A = A} byte next width damage old result new =
-    (origin : A) (stream : Stream) (n : ℕ) → StandsAt byte next width origin stream n old
-    → VariesFrom byte next width origin stream n damage result new
+abbrev pub Varies : {A : Type 0} → Drawing A → Ref A → ℕ → ℕ → Type 0
+Varies {A = A} d random damage result =
+    (origin : A) (stream : Stream) (n : ℕ) → StandsAt d origin stream n random.entry.now
+    → VariesFrom d origin stream n damage result random.exit.now
 
 -- Damage times a factor. 0 and 1 stay as they are.
 abbrev pub varied : ℕ → ℕ → ℕ

@@ -1,6 +1,8 @@
 //! Critical hits (docs/MECHANICS.md, "Critical hits").
 ghost use Rattle.std.specs.Prelude.{◌≡◌};
-ghost use Rattle.gen1_layout.specs.Words.{Event, Frame, List, Progress, ShowsDrawn, Told, false, move_at};
+ghost use Rattle.gen1_layout.specs.Operations.{Draws, learns, unchanged};
+ghost use Rattle.gen1_layout.specs.Words.{Event, List, false, move_at};
+ghost use Rattle.gen1_hits.specs.HitTests.{with_critical};
 ghost use Rattle.gen1_tables.specs.Species.{species_row};
 ghost use Rattle.gen1_machine.specs.Moves.{is_often_critical};
 ghost use Rattle.gen1_machine.specs.CriticalHits.{critical_bound, roll_critical, rotated_left_3};
@@ -24,11 +26,8 @@ const SLASH: u8 = 163;
 /// It takes one draw. The battle stays as it is, and no event is written.
 #[inline(always)] // docs/SPEED.md, "Hints on inlining"
 pub fn critical<R: Rolls>(battle: &Packed, side: Side, id: MoveId, random: &mut R) -> bool
-    ensures shown { (origin : R) (g : Frame) (events : List Event) (p : Progress)
-        → ShowsDrawn R.byte R.next R.SPAN origin g battle.now (Told events) random.old false p
-        → ShowsDrawn R.byte R.next R.SPAN origin
-        (record g { action = record g.action { critical = result } }) battle.now (Told events) random.new
-        false (roll_critical side (move_at id) p) }
+    ensures shown { (told : List Event) → Draws R.drawing random
+        (learns (with_critical result) (unchanged told battle)) false (roll_critical side (move_at id)) }
 {
     let rotated = rotated_left_3(random.draw());
     let focused = battle.is_on(side, Conditions::FOCUS_ENERGY);

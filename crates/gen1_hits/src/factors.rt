@@ -13,7 +13,7 @@ use gen1_rolls::{Rolls, until};
 /// Damage of 0 and 1 stays as it is, without a draw. Otherwise it draws until a byte is a factor, at most `R::SPAN`
 /// times.
 pub fn factor<R: Rolls>(damage: u16, random: &mut R) -> u16
-    ensures varies { Varies R.byte R.next R.SPAN damage random.old result random.new }
+    ensures varies { Varies R.drawing random damage result }
     ensures most { result ≤ damage }
 {
     if damage <= 1 {

@@ -1,5 +1,6 @@
 //! The hit test (docs/MECHANICS.md, "Hit test").
-ghost use Rattle.gen1_layout.specs.Words.{Event, Frame, List, Progress, Reads, Shows, ShowsDrawn, Told, draw, false, is_asleep, move_at, not, status_in};
+ghost use Rattle.gen1_layout.specs.Operations.{Does, Draws, learns, quiet};
+ghost use Rattle.gen1_layout.specs.Words.{Event, List, Reads, draw, false, is_asleep, move_at, not, status_in};
 ghost use Rattle.std.specs.Prelude.{max, ◌&&◌, ◌*◌, ◌+◌, ◌/◌, ◌≡◌, ◌≤◌};
 ghost use Rattle.gen1_machine.specs.Stages.{percent_at};
 ghost use Rattle.gen1_machine.specs.HitTest.{eats_dreams, hit_test, hits_below, lowers, miss, never_misses, scaled_in, settled_hit_in};
@@ -38,10 +39,8 @@ pub fn hit_test<R: Rolls>(
     base: u8,
     random: &mut R,
 ) -> Hit
-    ensures shown { (origin : R) (g : Frame) (events : List Event) (p : Progress)
-        → ShowsDrawn R.byte R.next R.SPAN origin g battle.old (Told events) random.old false p
-        → ShowsDrawn R.byte R.next R.SPAN origin (with_test result.hit result.kept g) battle.new
-        (Told events) random.new false (hit_test side (move_at id) base p) }
+    ensures shown { (told : List Event) → Draws R.drawing random
+        (learns (with_test result.hit result.kept) (quiet told battle)) false (hit_test side (move_at id) base) }
 {
     match settled_hit(battle, side, id) {
         Some(true) => Hit {
@@ -155,10 +154,8 @@ fn percent_at(stage: u8) -> u32
 
 // Draws, and returns whether the draw is below the byte. Otherwise the move misses.
 fn draw_below<R: Rolls>(battle: &mut Packed, side: Side, byte: u8, random: &mut R) -> bool
-    ensures shown { (origin : R) (g : Frame) (events : List Event) (p : Progress)
-        → ShowsDrawn R.byte R.next R.SPAN origin g battle.old (Told events) random.old false p
-        → ShowsDrawn R.byte R.next R.SPAN origin (with_miss_unless result g) battle.new (Told events)
-        random.new false (draw (hits_below side byte) p) }
+    ensures shown { (told : List Event) → Draws R.drawing random
+        (learns (with_miss_unless result) (quiet told battle)) false (draw (hits_below side byte)) }
 {
     if random.draw() < byte {
         return true;
@@ -168,9 +165,7 @@ fn draw_below<R: Rolls>(battle: &mut Packed, side: Side, byte: u8, random: &mut 
 }
 
 fn miss(battle: &mut Packed, side: Side)
-    ensures shown { (g : Frame) (events : List Event) (p : Progress)
-        → Shows g battle.old (Told events) false p
-        → Shows (with_miss_unless false g) battle.new (Told events) false (miss side p) }
+    ensures shown { (told : List Event) → Does (learns (with_miss_unless false) (quiet told battle)) false (miss side) }
 {
     battle.put_last_damage(0);
     battle.end_trapping(side);

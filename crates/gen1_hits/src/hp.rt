@@ -1,6 +1,7 @@
 //! HP that the member that is out loses and gains, with their events (docs/MECHANICS.md, "Order of events").
 ghost use Rattle.std.specs.Prelude.{◌&&◌};
-ghost use Rattle.gen1_layout.specs.Words.{AddsAtMost, Changes, Does, HasRoom, Reads, changed_member, false, healed_by, hurt_by, is_living, member_in, nat_lt};
+ghost use Rattle.gen1_layout.specs.Operations.{Does, scene};
+ghost use Rattle.gen1_layout.specs.Words.{AddsAtMost, Changes, HasRoom, Reads, changed_member, false, healed_by, hurt_by, is_living, member_in, nat_lt};
 ghost use Rattle.gen1_machine.specs.Progress.{gain_hp, lose_hp};
 
 use gen1_events::EventSink;
@@ -21,8 +22,7 @@ pub fn lose_hp<S: EventSink>(
     events: &mut S,
 )
     requires room { HasRoom S.room 1 events.old }
-    ensures shown { Does battle.old (S.tells events.old) battle.new (S.tells events.new) false
-        (lose_hp side source amount) }
+    ensures shown { Does (scene S.tells battle events) false (lose_hp side source amount) }
     ensures room { AddsAtMost S.room 1 events.old events.new }
 {
     if !loses(battle, side, amount) {
@@ -56,8 +56,7 @@ fn hurt(battle: &mut Packed, side: Side, amount: u16)
 /// changes.
 pub fn gain_hp<S: EventSink>(battle: &mut Packed, side: Side, amount: u16, events: &mut S)
     requires room { HasRoom S.room 1 events.old }
-    ensures shown { Does battle.old (S.tells events.old) battle.new (S.tells events.new) false
-        (gain_hp side amount) }
+    ensures shown { Does (scene S.tells battle events) false (gain_hp side amount) }
     ensures room { AddsAtMost S.room 1 events.old events.new }
 {
     if !gains(battle, side, amount) {

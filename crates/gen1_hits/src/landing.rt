@@ -1,6 +1,7 @@
 //! Where damage lands (docs/MECHANICS.md, "Landing"): on HP, or on a Substitute.
 ghost use Rattle.std.specs.Prelude.{◌≡◌};
-ghost use Rattle.gen1_layout.specs.Words.{AddsAtMost, Does, Frame, HasRoom, Progress, Reads, Shows, Some, conditions_in, false, nat_lt, other};
+ghost use Rattle.gen1_layout.specs.Operations.{Does, DoesWhere, holding, learns, scene};
+ghost use Rattle.gen1_layout.specs.Words.{AddsAtMost, HasRoom, Reads, Some, conditions_in, false, nat_lt, other};
 ghost use Rattle.gen1_machine.specs.Progress.{only};
 ghost use Rattle.gen1_machine.specs.Landing.{breaks, land_damage, land_on_hp, land_on_substitute};
 ghost use Rattle.gen1_hits.specs.Landing.{has_broken, landed_on, with_break};
@@ -27,9 +28,8 @@ pub enum Landed {
 /// written, and it needs one free place in `events`.
 pub fn land<S: EventSink>(battle: &mut Packed, user: Side, damage: u16, events: &mut S) -> Landed
     requires room { HasRoom S.room 1 events.old }
-    ensures shown { (g : Frame) (p : Progress) → Shows g battle.old (S.tells events.old) false p
-        → Shows (with_break (has_broken result) g) battle.new (S.tells events.new) false
-        (only (nat_lt 0 damage) (land_damage (other user) damage) p) }
+    ensures shown { Does (learns (with_break (has_broken result)) (scene S.tells battle events)) false
+        (only (nat_lt 0 damage) (land_damage (other user) damage)) }
     ensures landed { Reads battle.old result λ f. landed_on damage
         (conditions_in (other user) f).substitute }
     ensures room { AddsAtMost S.room 1 events.old events.new }
@@ -66,10 +66,9 @@ pub fn land_on_substitute<S: EventSink>(
     events: &mut S,
 ) -> bool
     requires room { HasRoom S.room 1 events.old }
-    ensures shown { (g : Frame) (p : Progress) → Shows g battle.old (S.tells events.old) false p
-        → (conditions_in target p.field).substitute ≡ Some hp
-        → Shows (with_break result g) battle.new (S.tells events.new) false
-        (land_on_substitute target damage hp p) }
+    ensures shown { DoesWhere (holding λ p. (conditions_in target p.field).substitute ≡ Some hp)
+        (learns (with_break result) (scene S.tells battle events)) false
+        (λ r. land_on_substitute target damage hp) }
     ensures broken { result ≡ breaks damage hp }
     ensures room { AddsAtMost S.room 1 events.old events.new }
 {
@@ -102,8 +101,7 @@ pub fn land_on_hp<S: EventSink>(
     events: &mut S,
 )
     requires room { HasRoom S.room 1 events.old }
-    ensures shown { Does battle.old (S.tells events.old) battle.new (S.tells events.new) false
-        (land_on_hp target source damage) }
+    ensures shown { Does (scene S.tells battle events) false (land_on_hp target source damage) }
     ensures room { AddsAtMost S.room 1 events.old events.new }
 {
     let taken = damage.min(battle.hp(target));

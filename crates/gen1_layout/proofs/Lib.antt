@@ -10,6 +10,8 @@ pub mod Steps
 mod Out
 pub mod WaysBack
 pub mod Chain
+-- The words of contracts, spelled out.
+mod Same
 pub mod Words
 pub mod Storing
 pub mod Begun

@@ -10,6 +10,8 @@ pub mod Flags
 pub mod SentOut
 -- What an operation of an update shows.
 pub mod Shows
+-- The words of an operation's contract.
+pub mod Operations
 -- Words for the clauses of contracts, and reexports.
 pub mod Words
 -- Loading: the tests of the bytes, and their meaning.

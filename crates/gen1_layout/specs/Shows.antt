@@ -1,8 +1,7 @@
 -- What the code of an update shows: its bytes, the events so far and the generator represent a battle in the middle
--- of an update. An operation is described by its phase. If something is shown before it, the phase of that is shown
--- after it.
+-- of an update. An operation is described by its phase (`Operations.antt`).
 use Rattle.std.specs.Prelude.{Bool, List, false, ℕ, ◌≡◌}
-use Rattle.gen1_rolls.specs.Draws.{StandsAt}
+use Rattle.gen1_rolls.specs.Draws.{Drawing, StandsAt}
 use Rattle.gen1_rolls.specs.Streams.{Stream}
 use Rattle.gen1_machine.specs.declared.event.Event.{Event}
 use Rattle.gen1_machine.specs.Progress.{Action, Phase, Progress}
@@ -48,9 +47,9 @@ pub record ShowsPacked (g : Frame) (parts : Parts) (events : Telling) (p : Progr
 
 -- What is shown inside an update with a generator, which is at the place that p has drawn to. What the frame says
 -- about draws doesn't matter then.
-pub record ShowsDrawn {A : Type 0} (byte : A → ℕ) (next : A → A) (width : ℕ) (origin : A) (g : Frame) (parts : Parts) (events : Telling) (now : A) (stopped : Bool) (p : Progress) : Type 0 where
+pub record ShowsDrawn {A : Type 0} (d : Drawing A) (origin : A) (g : Frame) (parts : Parts) (events : Telling) (now : A) (stopped : Bool) (p : Progress) : Type 0 where
   pub shows : Shows (record g { drawn = p.drawn }) parts events stopped p
-  pub stands : StandsAt byte next width origin g.stream p.drawn now
+  pub stands : StandsAt d origin g.stream p.drawn now
 
 -- Code without draws, from these parts and events to those, does what a phase does.
 abbrev pub Does : Parts → Telling → Parts → Telling → Bool → Phase → Type 0
@@ -58,7 +57,7 @@ Does parts events parts' events' stopped phase =
     (g : Frame) (p : Progress) → Shows g parts events false p → Shows g parts' events' stopped (phase p)
 
 -- Code with draws does what a phase does, for any generator that it is given.
-abbrev pub DoesDrawing : {A : Type 0} → (A → ℕ) → (A → A) → ℕ → Parts → Telling → A → Parts → Telling → A → Bool → Phase → Type 0
-DoesDrawing {A = A} byte next width parts events old parts' events' new stopped phase =
-    (origin : A) (g : Frame) (p : Progress) → ShowsDrawn byte next width origin g parts events old false p
-    → ShowsDrawn byte next width origin g parts' events' new stopped (phase p)
+abbrev pub DoesDrawing : {A : Type 0} → Drawing A → Parts → Telling → A → Parts → Telling → A → Bool → Phase → Type 0
+DoesDrawing {A = A} d parts events old parts' events' new stopped phase =
+    (origin : A) (g : Frame) (p : Progress) → ShowsDrawn d origin g parts events old false p
+    → ShowsDrawn d origin g parts' events' new stopped (phase p)

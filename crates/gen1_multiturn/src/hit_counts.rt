@@ -26,7 +26,7 @@ pub(crate) fn plan_unless_broken<R: Rolls>(
 )
     requires many { hits_more (move_at id).effect ≡ true }
     ensures shown { (parts : Parts) (events : List EventOf)
-        → DoesKnowingDrawing R.byte R.next R.SPAN parts (Told events) random.old known.old parts (Told events)
+        → DoesKnowingDrawing R.drawing parts (Told events) random.old known.old parts (Told events)
         random.new known.new false
         (unless broke_substitute (hit_effect side (move_at id) (move_at id).effect)) }
     ensures made { known.new.hits_made ≡ known.old.hits_made }
@@ -41,7 +41,7 @@ pub(crate) fn plan_unless_broken<R: Rolls>(
 fn plan_more<R: Rolls>(side: Side, id: MoveId, known: &mut Known, random: &mut R)
     requires many { hits_more (move_at id).effect ≡ true }
     ensures shown { (parts : Parts) (events : List EventOf)
-        → DoesKnowingDrawing R.byte R.next R.SPAN parts (Told events) random.old known.old parts (Told events)
+        → DoesKnowingDrawing R.drawing parts (Told events) random.old known.old parts (Told events)
         random.new known.new false (hit_effect side (move_at id) (move_at id).effect) }
     ensures made { known.new.hits_made ≡ known.old.hits_made }
     ensures few { IsFew known.old → IsFew known.new }
@@ -62,7 +62,7 @@ fn is_multi_hit(effect: Effect) -> bool
 // Two to five hits, drawn after the first hit only.
 fn plan_hits<R: Rolls>(known: &mut Known, random: &mut R)
     ensures shown { (parts : Parts) (events : List EventOf)
-        → DoesKnowingDrawing R.byte R.next R.SPAN parts (Told events) random.old known.old parts (Told events)
+        → DoesKnowingDrawing R.drawing parts (Told events) random.old known.old parts (Told events)
         random.new known.new false plan_hits }
     ensures made { known.new.hits_made ≡ known.old.hits_made }
     ensures few { IsFew known.old → IsFew known.new }

@@ -46,7 +46,7 @@ pub fn hits<R: Rolls, S: EventSink>(
 )
     requires room { HasRoom S.room 13 events.old }
     requires counts { IsUncounted known.old }
-    ensures shown { DoesKnowingDrawing R.byte R.next R.SPAN battle.old (S.tells events.old) random.old
+    ensures shown { DoesKnowingDrawing R.drawing battle.old (S.tells events.old) random.old
         known.old battle.new (S.tells events.new) random.new known.new false (hits side (move_at id)) }
     ensures room { AddsAtMost S.room 13 events.old events.new }
 {
@@ -103,7 +103,7 @@ fn hit_of_many<R: Rolls, S: EventSink>(
     requires room { HasRoom S.room 2 events.old }
     requires many { hits_more (move_at id).effect ≡ true }
     requires made { known.old.hits_made ≤ 4 }
-    ensures shown { DoesKnowingDrawing R.byte R.next R.SPAN battle.old (S.tells events.old) random.old
+    ensures shown { DoesKnowingDrawing R.drawing battle.old (S.tells events.old) random.old
         known.old battle.new (S.tells events.new) random.new known.new false
         (hit_once side (move_at id)) }
     ensures room { AddsAtMost S.room 2 events.old events.new }
@@ -187,7 +187,7 @@ fn other_hits<R: Rolls, S: EventSink>(
     requires many { hits_more (move_at id).effect ≡ true }
     requires made { known.old.hits_made ≡ 1 }
     requires few { IsFew known.old }
-    ensures shown { DoesKnowingDrawing R.byte R.next R.SPAN battle.old (S.tells events.old) random.old
+    ensures shown { DoesKnowingDrawing R.drawing battle.old (S.tells events.old) random.old
         known.old battle.new (S.tells events.new) random.new known.new false
         (other_hits side (move_at id)) }
     ensures room { AddsAtMost S.room 9 events.old events.new }
@@ -210,7 +210,7 @@ fn hit_again<R: Rolls, S: EventSink>(
     requires room { HasRoom S.room (2 * left) events.old }
     requires many { hits_more (move_at id).effect ≡ true }
     requires made { known.old.hits_made + left ≤ 5 }
-    ensures shown { DoesKnowingDrawing R.byte R.next R.SPAN battle.old (S.tells events.old) random.old
+    ensures shown { DoesKnowingDrawing R.drawing battle.old (S.tells events.old) random.old
         known.old battle.new (S.tells events.new) random.new known.new false
         (hit_again left side (move_at id)) }
     ensures room { AddsAtMost S.room (2 * left) events.old events.new }

@@ -2,7 +2,7 @@
 -- requests").
 use Rattle.std.specs.Prelude.{◌≡◌, ◌⊎◌}
 use Rattle.gen1_layout.specs.Words.{Event, Frame, List, Progress, Setting, Telling, Within, false, true, ℕ}
-use Rattle.gen1_rolls.specs.Draws.{StandsAt}
+use Rattle.gen1_rolls.specs.Draws.{Drawing, StandsAt}
 use Rattle.gen1_rolls.specs.Streams.{Link, Stream}
 use Rattle.gen1_machine.specs.declared.choice.Choice.{Choice}
 use Rattle.gen1_machine.specs.declared.side.Side.TheVariants.{One, Two}
@@ -42,10 +42,10 @@ pub record Updated (g : Setting) (parts : Parts) (events : Telling) (q : Progres
   pub drawn : q.drawn ≡ g.drawn
 
 -- The same with draws. Afterwards the generator is at the place that q has drawn to.
-pub record UpdatedDrawing {A : Type 0} (byte : A → ℕ) (next : A → A) (width : ℕ) (origin : A) (stream : Stream) (g : Setting) (parts : Parts) (events : Telling) (now : A) (q : Progress) : Type 0 where
+pub record UpdatedDrawing {A : Type 0} (d : Drawing A) (origin : A) (stream : Stream) (g : Setting) (parts : Parts) (events : Telling) (now : A) (q : Progress) : Type 0 where
   pub within : Within g parts q.field
   pub written : events q.events
-  pub stands : StandsAt byte next width origin stream q.drawn now
+  pub stands : StandsAt d origin stream q.drawn now
 
 -- The bytes represent the state after a pair of choices. The pair was accepted, with these events.
 pub record Steps (s : State) (one two : Choice) (parts : Parts) (events : Telling) : Type 0 where

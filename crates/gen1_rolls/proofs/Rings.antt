@@ -8,7 +8,7 @@ use Rattle.std.proofs.lemmas.List.Elements.{All-from_get_or}
 use Rattle.std.proofs.lemmas.Bool.{le-leb, lt-leb}
 use Rattle.std.proofs.lemmas.Grind.{common_steps}
 use Rattle.gen1_rolls.specs.Draws.{stream_of, StandsAt}
-use Rattle.gen1_rolls.specs.Link.{Ring, turned, byte_of, after_draw, ring_of, ring_at}
+use Rattle.gen1_rolls.specs.Link.{link, Ring, turned, byte_of, after_draw, ring_of, ring_at}
 use Rattle.gen1_rolls.specs.Streams.{iterate, renewed, times_renewed, byte_at, IsStream, Link}
 use Rattle.gen1_rolls.proofs.Standing.{own_is_stream}
 
@@ -86,7 +86,7 @@ unfolding byte_at
 byte_of-ring_at s n long = turned-at s (n / 9) (n % 9) long (omega arith)
 
 -- The ring after n draws is at place n.
-pub ring_at-stands : (seed : List ℕ) (n : ℕ) → 9 ≤ length seed → StandsAt byte_of after_draw 2304 (ring_of seed) (Link seed) n (ring_at seed n)
+pub ring_at-stands : (seed : List ℕ) (n : ℕ) → 9 ≤ length seed → StandsAt link (ring_of seed) (Link seed) n (ring_at seed n)
 ring_at-stands seed n long =
     record {
       reached = sym (iterate-ring_of seed n long);
@@ -95,17 +95,17 @@ ring_at-stands seed n long =
     }
 
 -- A generator at place n is that ring, so its index and its numbers are known together.
-pub ring-stands : {seed : List ℕ} {n : ℕ} {ring : Ring} → StandsAt byte_of after_draw 2304 (ring_of seed) (Link seed) n ring → 9 ≤ length seed → ring ≡ ring_at seed n
+pub ring-stands : {seed : List ℕ} {n : ℕ} {ring : Ring} → StandsAt link (ring_of seed) (Link seed) n ring → 9 ≤ length seed → ring ≡ ring_at seed n
 ring-stands {seed = seed} {n = n} a long = a.reached ∙ iterate-ring_of seed n long
 
 -- A ring in its first round is at its index in the stream that its numbers give.
-pub first_round-stands : (i : ℕ) (s : List ℕ) → 9 ≤ length s → i < 9 → StandsAt byte_of after_draw 2304 (ring_of s) (Link s) i (record { index = i; numbers = s })
+pub first_round-stands : (i : ℕ) (s : List ℕ) → 9 ≤ length s → i < 9 → StandsAt link (ring_of s) (Link s) i (record { index = i; numbers = s })
 first_round-stands i s long lt =
-    subst (λ (ring : Ring). StandsAt byte_of after_draw 2304 (ring_of s) (Link s) i ring) (sym (ring-first_round i s lt)) (ring_at-stands s i long)
+    subst (λ (ring : Ring). StandsAt link (ring_of s) (Link s) i ring) (sym (ring-first_round i s lt)) (ring_at-stands s i long)
 
 -- So its draws are a stream.
 pub first_round-stream : (i : ℕ) (s : List ℕ) → length s ≡ 10 → i < 9 → ((j : ℕ) → j < length s → get_or s j 0 < 256)
-    → IsStream (stream_of byte_of after_draw 2304 (record { index = i; numbers = s }))
+    → IsStream (stream_of link (record { index = i; numbers = s }))
 first_round-stream i s ten lt small =
     own_is_stream (first_round-stands i s (omega (arith, ten)) lt) (ten, All-from_get_or (λ x. x < 256) s 0 small)
 

@@ -1,42 +1,52 @@
 -- What a generator draws, what a search by draws finds, and the place of a generator in a stream (docs/MECHANICS.md,
 -- "Link numbers").
 --
--- Three things describe a generator of any type: the byte that it draws next (`byte`), its value after a draw
--- (`next`), and a number of draws in a row that hold every byte (`width`). Under a bound `R: Rolls` these are
--- `R.byte`, `R.next` and `R.SPAN`.
+-- A generator of any type is described by its `Drawing`. Under a bound `R: Rolls` this is `R.drawing`.
 use Rattle.std.specs.Prelude.{◌≡◌, ℕ, ◌+◌, ◌<◌, Bool, IsFalse}
+use Rattle.std.specs.Borrow.{MutBor}
+use denote.Triple.Both.{Both}
 use Rattle.gen1_rolls.specs.Streams.{iterate, Stream, byte_at, span, IsFirstOf, Drawn}
 
+-- a parameter `&mut T`, as an `ensures` has it: as the call began, and at the return
+abbrev pub Ref : Type 0 → Type 0
+Ref T = Both (MutBor T) (MutBor T)
+
+-- the byte that a generator draws next, what a draw leaves of it, and how many draws in a row hold every byte
+pub record Drawing (A : Type 0) : Type 0 where
+  pub byte : A → ℕ
+  pub next : A → A
+  pub width : ℕ
+
 -- The bytes that a generator draws, one after another.
-abbrev pub draws_of : {A : Type 0} → (A → ℕ) → (A → A) → A → ℕ → ℕ
-draws_of byte next r k = byte (iterate k next r)
+abbrev pub draws_of : {A : Type 0} → Drawing A → A → ℕ → ℕ
+draws_of d r k = d.byte (iterate k d.next r)
 
 -- Those bytes as a stream: the draws of a generator from its present value on.
-abbrev pub stream_of : {A : Type 0} → (A → ℕ) → (A → A) → ℕ → A → Stream
-stream_of byte next width r = Drawn (draws_of byte next r) width
+abbrev pub stream_of : {A : Type 0} → Drawing A → A → Stream
+stream_of d r = Drawn (draws_of d r) d.width
 
 -- The byte alone settles what a test can return for it.
 abbrev pub Settles : (ℕ → Bool → Type 0) → (ℕ → Bool) → Type 0
 Settles answers test = (x : ℕ) (answer : Bool) → x < 256 → answers x answer → answer ≡ test x
 
 -- From old on, a number of draws fail the test, and the next passes it. That draw is b, and leaves new.
-pub record FindsDraw {A : Type 0} (byte : A → ℕ) (next : A → A) (width : ℕ) (test : ℕ → Bool) (old : A) (b : ℕ) (new : A) : Type 0 where
+pub record FindsDraw {A : Type 0} (d : Drawing A) (test : ℕ → Bool) (old : A) (b : ℕ) (new : A) : Type 0 where
   pub passed : ℕ
-  pub within : passed < width
-  pub first : IsFirstOf (draws_of byte next old) 0 test passed
-  pub is : b ≡ draws_of byte next old passed
-  pub left : new ≡ iterate (passed + 1) next old
+  pub within : passed < d.width
+  pub first : IsFirstOf (draws_of d old) 0 test passed
+  pub is : b ≡ draws_of d old passed
+  pub left : new ≡ iterate (passed + 1) d.next old
 
 -- No byte passes the test, so a whole span of draws from old on fails it. They leave new.
-pub record FindsNone {A : Type 0} (byte : A → ℕ) (next : A → A) (width : ℕ) (test : ℕ → Bool) (old new : A) : Type 0 where
+pub record FindsNone {A : Type 0} (d : Drawing A) (test : ℕ → Bool) (old new : A) : Type 0 where
   pub none_meets : (b : ℕ) → b < 256 → IsFalse (test b)
-  pub none_drawn : (k : ℕ) → k < width → IsFalse (test (draws_of byte next old k))
-  pub left : new ≡ iterate width next old
+  pub none_drawn : (k : ℕ) → k < d.width → IsFalse (test (draws_of d old k))
+  pub left : new ≡ iterate d.width d.next old
 
 -- The generator `now` is `origin` after n draws, and `origin` draws the stream s.
 --
--- A function that is generic in `R: Rolls` says in a clause: for each origin, s and n, if `StandsAt R.byte R.next
--- R.SPAN origin s n r.old` holds, the same holds of r.new with its own count of draws. It gives its result by
+-- A function that is generic in `R: Rolls` says in a clause: for each origin, s and n, if `StandsAt R.drawing
+-- origin s n r.old` holds, the same holds of r.new with its own count of draws. It gives its result by
 -- `byte_at s` and `first s`. Its proof uses the lemmas of proofs/Standing.antt, where a is the fact about the place
 -- of r:
 --     r.draw()         `byte_drawn a c.draw.ensures.drawn` : the byte is `byte_at s n`
@@ -49,14 +59,21 @@ pub record FindsNone {A : Type 0} (byte : A → ℕ) (next : A → A) (width : �
 -- `stands_there a e` renames n.
 --
 -- Each generator is at some place of some stream. `stands_at_itself` of proofs/Standing.antt puts each value r of
--- each R at the beginning of its own stream, `stream_of R.byte R.next R.SPAN r`. `draws_a_stream` says that this is a
+-- each R at the beginning of its own stream, `stream_of R.drawing r`. `draws_a_stream` says that this is a
 -- stream. So such a clause says something about every generator, and a body that depends on its type or SPAN is
 -- refused.
 --
 -- If R is chosen, the clauses `stands` of `LinkRandom::new`, `LinkRandom::from_parts` and `Sweep::new` give a stream
 -- that is named by data. proofs/Rings.antt has `ring_at-stands seed n`, for a generator with the index and numbers
 -- after n draws. Its converse is `ring-stands a` : now ≡ ring_at seed n, so both are known after any operation.
-pub record StandsAt {A : Type 0} (byte : A → ℕ) (next : A → A) (width : ℕ) (origin : A) (s : Stream) (n : ℕ) (now : A) : Type 0 where
-  pub reached : now ≡ iterate n next origin
-  pub bytes : (k : ℕ) → draws_of byte next origin k ≡ byte_at s k
-  pub spans : width ≡ span s
+pub record StandsAt {A : Type 0} (d : Drawing A) (origin : A) (s : Stream) (n : ℕ) (now : A) : Type 0 where
+  pub reached : now ≡ iterate n d.next origin
+  pub bytes : (k : ℕ) → draws_of d origin k ≡ byte_at s k
+  pub spans : d.width ≡ span s
+
+-- the same of parameters, as a clause names them: a search that was handed a generator finds this byte, or none
+abbrev pub Finds : {A : Type 0} → Drawing A → (ℕ → Bool) → Ref A → ℕ → Type 0
+Finds d test r b = FindsDraw d test r.entry.now b r.exit.now
+
+abbrev pub FindsNoDraw : {A : Type 0} → Drawing A → (ℕ → Bool) → Ref A → Type 0
+FindsNoDraw d test r = FindsNone d test r.entry.now r.exit.now

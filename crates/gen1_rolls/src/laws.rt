@@ -8,16 +8,16 @@ use crate::rolls::Rolls;
 /// Every generator is at the beginning of its own stream. So what a clause says for each stream that a generator may
 /// draw, it says for each generator.
 pub fn every_generator_stands<R: Rolls>()
-    ensures { (r : R) → StandsAt R.byte R.next R.SPAN r (stream_of R.byte R.next R.SPAN r) 0 r }
+    ensures { (r : R) → StandsAt R.drawing r (stream_of R.drawing r) 0 r }
 {}
 
 /// A generator's own stream keeps to the law of streams: it is bytes, of which any `SPAN` in a row hold every number.
 ///
 /// The law follows from a draw, so one draw is taken from a copy. `random` itself doesn't change.
 pub fn draws_a_stream<R: Rolls + Copy>(random: &R)
-    ensures stands { StandsAt R.byte R.next R.SPAN random.now
-        (stream_of R.byte R.next R.SPAN random.now) 0 random.now }
-    ensures stream { IsStream (stream_of R.byte R.next R.SPAN random.now) }
+    ensures stands { StandsAt R.drawing random.now
+        (stream_of R.drawing random.now) 0 random.now }
+    ensures stream { IsStream (stream_of R.drawing random.now) }
 {
     let mut copy = *random;
     copy.draw();

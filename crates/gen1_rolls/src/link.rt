@@ -1,7 +1,7 @@
 //! The generator of a link battle (docs/MECHANICS.md, "Link numbers").
 ghost use Rattle.std.specs.Prelude.{◌≡◌, ◌<◌, nat_lt, if◌then◌else◌, slice_index, length, IfSome};
 ghost use Rattle.gen1_rolls.specs.Draws.{stream_of, StandsAt};
-ghost use Rattle.gen1_rolls.specs.Link.{Ring, ring_of, byte_of, after_draw, turned};
+ghost use Rattle.gen1_rolls.specs.Link.{Ring, link, ring_of, turned};
 ghost use Rattle.gen1_rolls.specs.Streams.{IsStream, renewed, Link};
 
 use crate::rolls::Rolls;
@@ -34,7 +34,7 @@ impl LinkRandom {
     /// The generator at the beginning of a battle. Its first nine draws are the first nine numbers.
     pub fn new(seed: [u8; 10]) -> Self
         ensures start { result ≡ ring_of seed }
-        ensures stands { StandsAt byte_of after_draw 2304 (ring_of seed) (Link seed) 0 result }
+        ensures stands { StandsAt link (ring_of seed) (Link seed) 0 result }
     {
         LinkRandom {
             index: 0,
@@ -48,7 +48,7 @@ impl LinkRandom {
             then Some (record { index = index; numbers = numbers })
             else None) }
         ensures stands { IfSome result (λ r.
-            StandsAt byte_of after_draw 2304 (ring_of numbers) (Link numbers) index r) }
+            StandsAt link (ring_of numbers) (Link numbers) index r) }
     {
         if index < 9 {
             Some(LinkRandom { index, numbers })
@@ -78,9 +78,7 @@ impl Rolls for LinkRandom {
 
     ghost SPAN = { 2304 };
 
-    ghost byte = { byte_of };
-
-    ghost next = { after_draw };
+    ghost drawing = { link };
 
     fn draw(&mut self) -> u8 {
         let drawn = number_at(&self.numbers, self.index);
@@ -93,9 +91,11 @@ impl Rolls for LinkRandom {
         drawn
     }
 
-    ghost use Rattle.std.proofs.Common.{lit<};
+    ghost use Rattle.std.proofs.Common.{lit<, refl};
 
     ghost positive = { lit< tt };
+
+    ghost spans = { refl };
 }
 
 /// Renews one of the nine numbers: five times the number, plus one, modulo 256 (docs/MECHANICS.md, "Link numbers").
@@ -122,7 +122,7 @@ fn number_at(numbers: &[u8], index: u8) -> u8
     requires ten { length numbers.now ≡ 10 }
     ensures value { result ≡ slice_index numbers.now index }
     ensures stream { IsStream
-        (stream_of byte_of after_draw 2304 (record { index = index; numbers = numbers.now })) }
+        (stream_of link (record { index = index; numbers = numbers.now })) }
 {
     numbers[index as usize]
 }

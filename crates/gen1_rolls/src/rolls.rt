@@ -1,6 +1,6 @@
 //! A generator of bytes, which all draws of a battle come from (docs/MECHANICS.md, "Link numbers").
 ghost use Rattle.std.specs.Prelude.{◌≡◌, ℕ, ◌<◌};
-ghost use Rattle.gen1_rolls.specs.Draws.{stream_of};
+ghost use Rattle.gen1_rolls.specs.Draws.{Drawing, stream_of};
 ghost use Rattle.gen1_rolls.specs.Streams.{IsStream};
 
 /// A generator of bytes (docs/MECHANICS.md, "Link numbers").
@@ -13,18 +13,18 @@ pub trait Rolls {
 
     ghost SPAN: { ℕ };
 
-    // The byte that is drawn next, and the generator after a draw.
-    ghost byte: { Self → ℕ };
-
-    ghost next: { Self → Self };
+    // The byte that is drawn next, the generator after a draw, and how many draws in a row hold every byte.
+    ghost drawing: { Drawing Self };
 
     /// Draws the next byte.
     ///
     /// The draws from this one on are a stream: bytes, of which any `SPAN` in a row hold every number from 0 to 255.
     fn draw(&mut self) -> u8
-        ensures drawn { result ≡ byte self.old }
-        ensures left { self.new ≡ next self.old }
-        ensures stream { IsStream (stream_of byte next SPAN self.old) };
+        ensures drawn { result ≡ drawing.byte self.old }
+        ensures left { self.new ≡ drawing.next self.old }
+        ensures stream { IsStream (stream_of drawing self.old) };
 
     ghost positive: { 0 < SPAN };
+
+    ghost spans: { drawing.width ≡ SPAN };
 }

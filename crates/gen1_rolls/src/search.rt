@@ -1,6 +1,6 @@
 //! The first draw that passes a test (docs/MECHANICS.md, "Link numbers").
 ghost use Rattle.std.specs.Prelude.{ℕ, Bool, IfSome, IfNone};
-ghost use Rattle.gen1_rolls.specs.Draws.{Settles, FindsDraw, FindsNone};
+ghost use Rattle.gen1_rolls.specs.Draws.{Settles, Finds, FindsNoDraw};
 
 use crate::rolls::Rolls;
 
@@ -11,9 +11,9 @@ use crate::rolls::Rolls;
 pub fn until<R: Rolls, F: Fn(u8) -> bool>(r: &mut R, test: F) -> Option<u8>
     requires callable { F.IsAlwaysCallable test }
     ensures found { (p : ℕ → Bool) → Settles (F.post test) p
-        → IfSome result (λ b. FindsDraw R.byte R.next R.SPAN p r.old b r.new) }
+        → IfSome result (λ b. Finds R.drawing p r b) }
     ensures none { (p : ℕ → Bool) → Settles (F.post test) p
-        → IfNone result (FindsNone R.byte R.next R.SPAN p r.old r.new) }
+        → IfNone result (FindsNoDraw R.drawing p r) }
 {
     'draws: for _ in 0..R::SPAN {
         let byte = r.draw();

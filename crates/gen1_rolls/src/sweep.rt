@@ -2,7 +2,7 @@
 ghost use Rattle.std.specs.Prelude.{◌≡◌, ℕ};
 ghost use Rattle.gen1_rolls.specs.Draws.{stream_of, StandsAt};
 ghost use Rattle.gen1_rolls.specs.Streams.{IsStream, Sweep as SweepFrom};
-ghost use Rattle.gen1_rolls.specs.Sweep.{one_up};
+ghost use Rattle.gen1_rolls.specs.Sweep.{one_up, sweep};
 
 use crate::rolls::Rolls;
 use std::marker::Model;
@@ -28,7 +28,7 @@ impl Sweep {
     /// A sweep whose first draw is the number.
     pub fn new(number: u8) -> Self
         ensures start { result ≡ number }
-        ensures stands { StandsAt (λ x. x) one_up 256 result (SweepFrom number) 0 result }
+        ensures stands { StandsAt sweep result (SweepFrom number) 0 result }
     {
         Sweep { number }
     }
@@ -39,9 +39,7 @@ impl Rolls for Sweep {
 
     ghost SPAN = { 256 };
 
-    ghost byte = { λ n. n };
-
-    ghost next = { one_up };
+    ghost drawing = { sweep };
 
     fn draw(&mut self) -> u8 {
         let drawn = self.number;
@@ -49,15 +47,17 @@ impl Rolls for Sweep {
         drawn
     }
 
-    ghost use Rattle.std.proofs.Common.{lit<};
+    ghost use Rattle.std.proofs.Common.{lit<, refl};
 
     ghost positive = { lit< tt };
+
+    ghost spans = { refl };
 }
 
 /// The number after a number. Its contract also says that the draws from the first on are a stream.
 fn step(number: u8) -> u8
     ensures value { result ≡ one_up number }
-    ensures stream { IsStream (stream_of (λ x. x) one_up 256 number) }
+    ensures stream { IsStream (stream_of sweep number) }
 {
     number.wrapping_add(1)
 }

@@ -2,6 +2,7 @@
 -- after it.
 use Rattle.std.specs.Prelude.{◌≡◌}
 use Rattle.gen1_layout.specs.Words.{Bool, Frame, Phase, Progress, Shows, ShowsDrawn, Telling, false, true, ℕ}
+use Rattle.gen1_rolls.specs.Draws.{Drawing}
 use Rattle.gen1_machine.specs.declared.terms.Outcome.{Outcome}
 use Rattle.gen1_machine.specs.declared.terms.Outcome.TheVariants as outcomes
 use Rattle.gen1_machine.specs.Progress.{Action}
@@ -32,12 +33,12 @@ pub record Tells (g : Frame) (parts : Parts) (events : Telling) (answer : Gate) 
   pub outcome : after.field.outcome ≡ outcome_after answer before.field.outcome
 
 -- The same with a generator.
-pub record TellsDrawn {A : Type 0} (byte : A → ℕ) (next : A → A) (width : ℕ) (origin : A) (g : Frame) (parts : Parts) (events : Telling) (now : A) (answer : Gate) (before after : Progress) : Type 0 where
-  pub shows : ShowsDrawn byte next width origin (frame_after answer after g) parts events now (stopped_by answer) after
+pub record TellsDrawn {A : Type 0} (d : Drawing A) (origin : A) (g : Frame) (parts : Parts) (events : Telling) (now : A) (answer : Gate) (before after : Progress) : Type 0 where
+  pub shows : ShowsDrawn d origin (frame_after answer after g) parts events now (stopped_by answer) after
   pub outcome : after.field.outcome ≡ outcome_after answer before.field.outcome
 
 -- Code with draws does what a phase does, and its result says how that ended.
-abbrev pub DoesTelling : {A : Type 0} → (A → ℕ) → (A → A) → ℕ → Parts → Telling → A → Parts → Telling → A → Gate → Phase → Type 0
-DoesTelling {A = A} byte next width parts events old parts' events' new answer phase =
-    (origin : A) (g : Frame) (p : Progress) → ShowsDrawn byte next width origin g parts events old false p
-    → TellsDrawn byte next width origin g parts' events' new answer p (phase p)
+abbrev pub DoesTelling : {A : Type 0} → Drawing A → Parts → Telling → A → Parts → Telling → A → Gate → Phase → Type 0
+DoesTelling {A = A} d parts events old parts' events' new answer phase =
+    (origin : A) (g : Frame) (p : Progress) → ShowsDrawn d origin g parts events old false p
+    → TellsDrawn d origin g parts' events' new answer p (phase p)

@@ -34,7 +34,7 @@ pub fn gate<R: Rolls, S: EventSink>(
     events: &mut S,
 ) -> Gate
     requires room { HasRoom S.room 3 events.old }
-    ensures shown { DoesTelling R.byte R.next R.SPAN battle.old (S.tells events.old) random.old
+    ensures shown { DoesTelling R.drawing battle.old (S.tells events.old) random.old
         battle.new (S.tells events.new) random.new result (gate_or_held side pick) }
     ensures room { AddsAtMost S.room 3 events.old events.new }
 {
@@ -88,7 +88,7 @@ fn take_tests<R: Rolls, S: EventSink>(
     events: &mut S,
 ) -> Gate
     requires room { HasRoom S.room 3 events.old }
-    ensures shown { DoesTelling R.byte R.next R.SPAN battle.old (S.tells events.old) random.old
+    ensures shown { DoesTelling R.drawing battle.old (S.tells events.old) random.old
         battle.new (S.tells events.new) random.new result (gate side pick) }
     ensures room { AddsAtMost S.room 3 events.old events.new }
 {

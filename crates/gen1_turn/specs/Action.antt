@@ -3,6 +3,7 @@
 -- exception, since it doesn't matter after an action is over.
 use Rattle.std.specs.Prelude.{◌≡◌}
 use Rattle.gen1_layout.specs.Words.{Bool, Frame, Phase, Progress, Side, Telling, false, ℕ}
+use Rattle.gen1_rolls.specs.Draws.{Drawing}
 use Rattle.gen1_machine.specs.declared.picks.Pick.{Pick}
 use Rattle.gen1_machine.specs.Ruling.{Ruling, ruling_of}
 use Rattle.gen1_machine.specs.Plans.{FitsPick, Plan}
@@ -12,15 +13,15 @@ use Rattle.gen1_action.specs.Knowing.{ShowsKnown, ShowsOver}
 use Rattle.gen1_action.specs.Planned.{Follows}
 
 -- The parts of an action that has begun.
-abbrev pub DoesParts : {A : Type 0} → (A → ℕ) → (A → A) → ℕ → Side → Pick → Parts → Telling → A → Known → Parts → Telling → A → Known → Bool → (Ruling → Phase) → Type 0
-DoesParts {A = A} byte next width side pick parts events old k parts' events' new k' stopped phase =
+abbrev pub DoesParts : {A : Type 0} → Drawing A → Side → Pick → Parts → Telling → A → Known → Parts → Telling → A → Known → Bool → (Ruling → Phase) → Type 0
+DoesParts {A = A} d side pick parts events old k parts' events' new k' stopped phase =
     (origin : A) (g : Frame) (p : Progress) (plan : Side → Plan) → FitsPick pick (plan side) → Follows g.setting.terms plan p → p.action.letting_go ≡ false
-    → ShowsKnown byte next width origin k g parts events old false p
-    → ShowsOver byte next width origin k' g parts' events' new stopped (phase (ruling_of g.setting.terms) p)
+    → ShowsKnown d origin k g parts events old false p
+    → ShowsOver d origin k' g parts' events' new stopped (phase (ruling_of g.setting.terms) p)
 
 -- A whole action.
-abbrev pub Acts : {A : Type 0} → (A → ℕ) → (A → A) → ℕ → Side → Pick → Parts → Telling → A → Known → Parts → Telling → A → Known → Bool → (Ruling → Phase) → Type 0
-Acts {A = A} byte next width side pick parts events old k parts' events' new k' stopped phase =
+abbrev pub Acts : {A : Type 0} → Drawing A → Side → Pick → Parts → Telling → A → Known → Parts → Telling → A → Known → Bool → (Ruling → Phase) → Type 0
+Acts {A = A} d side pick parts events old k parts' events' new k' stopped phase =
     (origin : A) (g : Frame) (p : Progress) (plan : Side → Plan) → FitsPick pick (plan side) → Follows g.setting.terms plan p
-    → ShowsOver byte next width origin k g parts events old false p
-    → ShowsOver byte next width origin k' g parts' events' new stopped (phase (ruling_of g.setting.terms) p)
+    → ShowsOver d origin k g parts events old false p
+    → ShowsOver d origin k' g parts' events' new stopped (phase (ruling_of g.setting.terms) p)

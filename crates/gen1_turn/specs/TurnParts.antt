@@ -1,6 +1,7 @@
 -- What the parts of a turn show, each with the residual damage of its side (docs/MECHANICS.md, "Order of a turn").
 use Rattle.std.specs.Prelude.{◌∷◌, ◌≡◌}
 use Rattle.gen1_layout.specs.Words.{Bool, Event, Frame, List, Phase, Progress, ShowsDrawn, Side, Telling, Told, [], false, other, true, ℕ, ◌▸◌}
+use Rattle.gen1_rolls.specs.Draws.{Drawing}
 use Rattle.gen1_machine.specs.declared.choice.Choice.{Choice}
 use Rattle.gen1_machine.specs.declared.picks.Pick.{Pick}
 use Rattle.gen1_machine.specs.declared.side.Side.TheVariants.{One, Two}
@@ -15,10 +16,10 @@ use Rattle.gen1_action.specs.Knowing.{ShowsOver}
 use Rattle.gen1_action.specs.Planned.{Follows}
 
 -- The side that begins. Nothing changes but the draws, and any phase that follows in the machine gets this side.
-abbrev pub Orders : {A : Type 0} → (A → ℕ) → (A → A) → ℕ → Parts → A → A → Side → ((Side → Phase) → Phase) → Type 0
-Orders {A = A} byte next width parts old new result order =
-    (origin : A) (g : Frame) (events : List Event) (p : Progress) → ShowsDrawn byte next width origin g parts (Told events) old false p
-    → (n : ℕ) × ShowsDrawn byte next width origin g parts (Told events) new false (record p { drawn = n })
+abbrev pub Orders : {A : Type 0} → Drawing A → Parts → A → A → Side → ((Side → Phase) → Phase) → Type 0
+Orders {A = A} d parts old new result order =
+    (origin : A) (g : Frame) (events : List Event) (p : Progress) → ShowsDrawn d origin g parts (Told events) old false p
+    → (n : ℕ) × ShowsDrawn d origin g parts (Told events) new false (record p { drawn = n })
     × ((begins : Side → Phase) → order begins p ≡ begins result (record p { drawn = n }))
 
 -- What is shown when the rest of a turn may be skipped. If it is skipped, the whole turn is shown, whatever its rest
@@ -36,22 +37,22 @@ abbrev pub PartLeaves : (Bool → Progress → Type 0) → Bool → Phase → Si
 PartLeaves Shown falls part s = LeavesRest Shown falls (λ rest. part ▸ suffering s rest) (λ p. residual s (part p))
 
 -- A side's action by this pick, and its residual damage.
-abbrev pub ActsAndSuffers : {A : Type 0} → (A → ℕ) → (A → A) → ℕ → Side → Pick → Parts → Telling → A → Known → Parts → Telling → A → Known → Bool → Type 0
-ActsAndSuffers {A = A} byte next width side pick parts events old k parts' events' new k' falls =
+abbrev pub ActsAndSuffers : {A : Type 0} → Drawing A → Side → Pick → Parts → Telling → A → Known → Parts → Telling → A → Known → Bool → Type 0
+ActsAndSuffers {A = A} d side pick parts events old k parts' events' new k' falls =
     (origin : A) (g : Frame) (p : Progress) (plan : Side → Plan) → FitsPick pick (plan side) → Follows g.setting.terms plan p
-    → ShowsOver byte next width origin k g parts events old false p
-    → PartLeaves (ShowsOver byte next width origin k' g parts' events' new) falls (do_part (ruling_of g.setting.terms) (Acts side pick)) side p
+    → ShowsOver d origin k g parts events old false p
+    → PartLeaves (ShowsOver d origin k' g parts' events' new) falls (do_part (ruling_of g.setting.terms) (Acts side pick)) side p
 
 -- Code of a turn, for callers to which it doesn't matter whether the rest is skipped.
-abbrev pub Ends : {A : Type 0} → (A → ℕ) → (A → A) → ℕ → A → Known → Frame → Parts → Telling → A → Progress → Type 0
-Ends byte next width origin k g parts events now p = (stopped : Bool) × ShowsOver byte next width origin k g parts events now stopped p
+abbrev pub Ends : {A : Type 0} → Drawing A → A → Known → Frame → Parts → Telling → A → Progress → Type 0
+Ends d origin k g parts events now p = (stopped : Bool) × ShowsOver d origin k g parts events now stopped p
 
 -- It does what a phase does under the rules of the battle, if the plans of both sides meet a premise.
-abbrev pub DoesTurn : {A : Type 0} → (A → ℕ) → (A → A) → ℕ → Parts → Telling → A → Known → Parts → Telling → A → Known → ((Side → Plan) → Progress → Type 0) → (Ruling → Phase) → Type 0
-DoesTurn {A = A} byte next width parts events old k parts' events' new k' Asks phase =
+abbrev pub DoesTurn : {A : Type 0} → Drawing A → Parts → Telling → A → Known → Parts → Telling → A → Known → ((Side → Plan) → Progress → Type 0) → (Ruling → Phase) → Type 0
+DoesTurn {A = A} d parts events old k parts' events' new k' Asks phase =
     (origin : A) (g : Frame) (p : Progress) (plan : Side → Plan) → Asks plan p → Follows g.setting.terms plan p
-    → ShowsOver byte next width origin k g parts events old false p
-    → Ends byte next width origin k' g parts' events' new (phase (ruling_of g.setting.terms) p)
+    → ShowsOver d origin k g parts events old false p
+    → Ends d origin k' g parts' events' new (phase (ruling_of g.setting.terms) p)
 
 -- The premise about the plans for these choices.
 abbrev pub Chooses : Choice → Choice → (Side → Plan) → Progress → Type 0

@@ -28,7 +28,7 @@ pub fn act<R: Rolls, S: EventSink>(
     events: &mut S,
 ) -> bool
     requires room { HasRoom S.room 21 events.old }
-    ensures shown { Acts R.byte R.next R.SPAN side pick battle.old (S.tells events.old) random.old
+    ensures shown { Acts R.drawing side pick battle.old (S.tells events.old) random.old
         known.old battle.new (S.tells events.new) random.new known.new result (λ r. act r side pick) }
     ensures room { AddsAtMost S.room 21 events.old events.new }
 {
@@ -48,7 +48,7 @@ fn action_parts<R: Rolls, S: EventSink>(
 ) -> bool
     requires room { HasRoom S.room 21 events.old }
     requires counts { IsUncounted known.old }
-    ensures shown { DoesParts R.byte R.next R.SPAN side pick battle.old (S.tells events.old) random.old
+    ensures shown { DoesParts R.drawing side pick battle.old (S.tells events.old) random.old
         known.old battle.new (S.tells events.new) random.new known.new result
         (λ r. action_parts r side pick) }
     ensures room { AddsAtMost S.room 21 events.old events.new }

@@ -33,7 +33,7 @@ pub(crate) fn carry_out<R: Rolls, S: EventSink>(
 ) -> bool
     requires room { HasRoom S.room 18 events.old }
     requires counts { IsUncounted known.old }
-    ensures shown { DoesTaking R.byte R.next R.SPAN side pick (move_at id).effect battle.old
+    ensures shown { DoesTaking R.drawing side pick (move_at id).effect battle.old
         (S.tells events.old) random.old known.old battle.new (S.tells events.new) random.new known.new
         result (λ r. carry_out r side pick (move_at id)) }
     ensures room { AddsAtMost S.room 18 events.old events.new }
@@ -57,7 +57,7 @@ fn lead_up_unless_let_go<R: Rolls, S: EventSink>(
     events: &mut S,
 ) -> bool
     requires room { HasRoom S.room 4 events.old }
-    ensures shown { DoesTaking R.byte R.next R.SPAN side pick (move_at id).effect battle.old
+    ensures shown { DoesTaking R.drawing side pick (move_at id).effect battle.old
         (S.tells events.old) random.old known.old battle.new (S.tells events.new) random.new known.new
         result (λ r. unless lets_energy_go (lead_up side pick (move_at id))) }
     ensures same { result ≡ false → known.new ≡ known.old }
@@ -81,7 +81,7 @@ fn damage_and_strike<R: Rolls, S: EventSink>(
 ) -> bool
     requires room { HasRoom S.room 14 events.old }
     requires counts { IsUncounted known.old }
-    ensures shown { DoesAt R.byte R.next R.SPAN side (move_at id).effect battle.old (S.tells events.old)
+    ensures shown { DoesAt R.drawing side (move_at id).effect battle.old (S.tells events.old)
         random.old known.old battle.new (S.tells events.new) random.new known.new result
         (λ r. damage_and_strike r side (move_at id)) }
     ensures room { AddsAtMost S.room 14 events.old events.new }
@@ -103,7 +103,7 @@ fn damage_unless_landing<R: Rolls>(
     random: &mut R,
 ) -> bool
     ensures shown { (events : List Event)
-        → DoesKnowingDrawing R.byte R.next R.SPAN battle.old (Told events) random.old known.old battle.new
+        → DoesKnowingDrawing R.drawing battle.old (Told events) random.old known.old battle.new
         (Told events) random.new known.new result
         (unless (lands_at_once (move_at id)) (damage_of side (move_at id) (move_at id).effect)) }
     ensures counts { IsUncounted known.old → IsUncounted known.new }
@@ -130,7 +130,7 @@ fn late_part<R: Rolls, S: EventSink>(
     events: &mut S,
 ) -> bool
     requires room { HasRoom S.room 2 events.old }
-    ensures shown { DoesAt R.byte R.next R.SPAN side (move_at id).effect battle.old (S.tells events.old)
+    ensures shown { DoesAt R.drawing side (move_at id).effect battle.old (S.tells events.old)
         random.old known.old battle.new (S.tells events.new) random.new known.new result
         (λ r. late_part r side (move_at id)) }
     ensures same { result ≡ false → known.new ≡ known.old }
@@ -153,7 +153,7 @@ fn late_effect<R: Rolls, S: EventSink>(
     events: &mut S,
 ) -> bool
     requires room { HasRoom S.room 2 events.old }
-    ensures shown { DoesAt R.byte R.next R.SPAN side (move_at id).effect battle.old (S.tells events.old)
+    ensures shown { DoesAt R.drawing side (move_at id).effect battle.old (S.tells events.old)
         random.old known.old battle.new (S.tells events.new) random.new known.new result
         (λ r. only (is_late (move_at id).effect)
         (late_effect r side (move_at id) (move_at id).effect ▸ stop)) }

@@ -24,13 +24,13 @@ impl<R: Rolls> Rolls for BySide<R> {
 
     ghost SPAN = { R.SPAN };
 
-    ghost byte = { R.byte };
-
-    ghost next = { R.next };
+    ghost drawing = { R.drawing };
 
     fn draw(&mut self) -> u8 {
         self.0.draw()
     }
 
     ghost positive = { R.positive };
+
+    ghost spans = { R.spans };
 }

@@ -30,7 +30,7 @@ pub(crate) fn lead_up<R: Rolls, S: EventSink>(
     events: &mut S,
 ) -> bool
     requires room { HasRoom S.room 4 events.old }
-    ensures shown { DoesTaking R.byte R.next R.SPAN side pick (move_at id).effect battle.old
+    ensures shown { DoesTaking R.drawing side pick (move_at id).effect battle.old
         (S.tells events.old) random.old known.old battle.new (S.tells events.new) random.new known.new
         result (λ r. lead_up side pick (move_at id)) }
     ensures same { result ≡ false → known.new ≡ known.old }
@@ -54,7 +54,7 @@ fn begin_move<R: Rolls, S: EventSink>(
     events: &mut S,
 ) -> bool
     requires room { HasRoom S.room 2 events.old }
-    ensures shown { DoesAt R.byte R.next R.SPAN side (move_at id).effect battle.old (S.tells events.old)
+    ensures shown { DoesAt R.drawing side (move_at id).effect battle.old (S.tells events.old)
         random.old known.old battle.new (S.tells events.new) random.new known.new result
         (λ r. begin_move side (move_at id)) }
     ensures same { result ≡ false → known.new ≡ known.old }
@@ -78,7 +78,7 @@ fn early_effect<R: Rolls, S: EventSink>(
     events: &mut S,
 ) -> bool
     requires room { HasRoom S.room 2 events.old }
-    ensures shown { DoesKnowingDrawing R.byte R.next R.SPAN battle.old (S.tells events.old) random.old
+    ensures shown { DoesKnowingDrawing R.drawing battle.old (S.tells events.old) random.old
         known.old battle.new (S.tells events.new) random.new known.new result
         (only (is_early (move_at id).effect) (early_effect side (move_at id) (move_at id).effect
         ▸ stop)) }
@@ -108,7 +108,7 @@ fn prelude<R: Rolls, S: EventSink>(
     events: &mut S,
 )
     requires room { HasRoom S.room 1 events.old }
-    ensures shown { DoesAt R.byte R.next R.SPAN side (move_at id).effect battle.old (S.tells events.old)
+    ensures shown { DoesAt R.drawing side (move_at id).effect battle.old (S.tells events.old)
         random.old known.now battle.new (S.tells events.new) random.new known.now false
         (λ r. prelude side (move_at id)) }
     ensures room { AddsAtMost S.room 1 events.old events.new }

@@ -26,7 +26,7 @@ pub(crate) fn strike<R: Rolls, S: EventSink>(
 ) -> bool
     requires room { HasRoom S.room 14 events.old }
     requires counts { IsUncounted known.old }
-    ensures shown { DoesUnder R.byte R.next R.SPAN battle.old (S.tells events.old) random.old known.old
+    ensures shown { DoesUnder R.drawing battle.old (S.tells events.old) random.old known.old
         battle.new (S.tells events.new) random.new known.new result (λ r. strike r side (move_at id)) }
     ensures room { AddsAtMost S.room 14 events.old events.new }
 {
@@ -48,7 +48,7 @@ fn hits_with_effect<R: Rolls, S: EventSink>(
 ) -> bool
     requires room { HasRoom S.room 14 events.old }
     requires counts { IsUncounted known.old }
-    ensures shown { DoesUnder R.byte R.next R.SPAN battle.old (S.tells events.old) random.old known.old
+    ensures shown { DoesUnder R.drawing battle.old (S.tells events.old) random.old known.old
         battle.new (S.tells events.new) random.new known.new result
         (λ r. hits_with_effect r side (move_at id)) }
     ensures room { AddsAtMost S.room 14 events.old events.new }

@@ -33,7 +33,7 @@ pub(crate) fn take_turn<R: Rolls, S: EventSink>(
     events: &mut S,
 )
     requires room { HasRoom S.room 48 events.old }
-    ensures shown { DoesTurn R.byte R.next R.SPAN battle.old (S.tells events.old) random.old known.old
+    ensures shown { DoesTurn R.drawing battle.old (S.tells events.old) random.old known.old
         battle.new (S.tells events.new) random.new known.new (Chooses one two) (λ r. turn r one two) }
     ensures room { AddsAtMost S.room 48 events.old events.new }
 {
@@ -58,7 +58,7 @@ fn act_on_choices<R: Rolls, S: EventSink>(
     events: &mut S,
 )
     requires room { HasRoom S.room 48 events.old }
-    ensures shown { DoesTurn R.byte R.next R.SPAN battle.old (S.tells events.old) random.old known.old
+    ensures shown { DoesTurn R.drawing battle.old (S.tells events.old) random.old known.old
         battle.new (S.tells events.new) random.new known.new (Chooses one two)
         (λ r. play_turn r one two) }
     ensures room { AddsAtMost S.room 48 events.old events.new }
@@ -97,7 +97,7 @@ fn both_pick<R: Rolls, S: EventSink>(
     events: &mut S,
 )
     requires room { HasRoom S.room 48 events.old }
-    ensures shown { DoesTurn R.byte R.next R.SPAN battle.old (S.tells events.old) random.old known.old
+    ensures shown { DoesTurn R.drawing battle.old (S.tells events.old) random.old known.old
         battle.new (S.tells events.new) random.new known.new
         (λ plan p. FitsPick one (plan sides.One) × FitsPick two (plan sides.Two))
         (λ r. both_pick r one two) }
@@ -137,7 +137,7 @@ fn both_act<R: Rolls, S: EventSink>(
     events: &mut S,
 )
     requires room { HasRoom S.room 48 events.old }
-    ensures shown { DoesTurn R.byte R.next R.SPAN battle.old (S.tells events.old) random.old known.old
+    ensures shown { DoesTurn R.drawing battle.old (S.tells events.old) random.old known.old
         battle.new (S.tells events.new) random.new known.new
         (λ plan p. FitsPick mine (plan side) × FitsPick others (plan (other side)))
         (λ r. do_parts r (acts_in_turn side mine others)) }
@@ -164,7 +164,7 @@ fn one_picks<R: Rolls, S: EventSink>(
     events: &mut S,
 )
     requires room { HasRoom S.room 48 events.old }
-    ensures shown { DoesTurn R.byte R.next R.SPAN battle.old (S.tells events.old) random.old known.old
+    ensures shown { DoesTurn R.drawing battle.old (S.tells events.old) random.old known.old
         battle.new (S.tells events.new) random.new known.new
         (λ plan p. FitsPick pick (plan side) × (plan (other side) ≡ Any)
         × InRange (other side) place p.field) (λ r. one_picks r side pick place) }

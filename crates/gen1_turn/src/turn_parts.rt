@@ -32,7 +32,7 @@ pub(crate) fn act_and_suffer<R: Rolls, S: EventSink>(
     events: &mut S,
 ) -> bool
     requires room { HasRoom S.room 24 events.old }
-    ensures shown { ActsAndSuffers R.byte R.next R.SPAN side pick battle.old (S.tells events.old)
+    ensures shown { ActsAndSuffers R.drawing side pick battle.old (S.tells events.old)
         random.old known.old battle.new (S.tells events.new) random.new known.new result }
     ensures room { AddsAtMost S.room 24 events.old events.new }
 {
@@ -53,7 +53,7 @@ fn act_and_suffer_as<R: Rolls, S: EventSink>(
     events: &mut S,
 ) -> bool
     requires room { HasRoom S.room 24 events.old }
-    ensures shown { ActsAndSuffers R.byte R.next R.SPAN side pick battle.old (S.tells events.old)
+    ensures shown { ActsAndSuffers R.drawing side pick battle.old (S.tells events.old)
         random.old known.old battle.new (S.tells events.new) random.new known.new result }
     ensures room { AddsAtMost S.room 24 events.old events.new }
 {
@@ -73,7 +73,7 @@ fn act_unless_skipped<R: Rolls, S: EventSink>(
     events: &mut S,
 ) -> bool
     requires room { HasRoom S.room 21 events.old }
-    ensures shown { Acts R.byte R.next R.SPAN side pick battle.old (S.tells events.old) random.old
+    ensures shown { Acts R.drawing side pick battle.old (S.tells events.old) random.old
         known.old battle.new (S.tells events.new) random.new known.new result
         (λ r. do_part r (ActsPart side pick)) }
     ensures room { AddsAtMost S.room 21 events.old events.new }

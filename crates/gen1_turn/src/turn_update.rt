@@ -38,8 +38,8 @@ pub fn turn<R: Rolls, S: EventSink>(
     requires room { HasRoom S.room 51 events.old }
     ensures updated { (s : State) (origin : R) (stream : Stream) (drawn : ℕ) → Stands battle.old s
         → Plays s Move one two
-        → IsStream stream → StandsAt R.byte R.next R.SPAN origin stream drawn random
-        → UpdatedDrawing R.byte R.next R.SPAN origin stream (setting_of s) battle.new
+        → IsStream stream → StandsAt R.drawing origin stream drawn random
+        → UpdatedDrawing R.drawing origin stream (setting_of s) battle.new
         (S.tells events.new) result
         (close_update (ruling_of s.terms)
         (turn (ruling_of s.terms) one two (drawing_on stream drawn s))) }

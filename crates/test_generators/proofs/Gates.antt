@@ -1,7 +1,7 @@
 -- What the clause of the gate says about a generator at the beginning of its own stream, and about a member that is free.
 use Rattle.std.proofs.Common.{◌≡◌}
 use Rattle.gen1_layout.proofs.Words.{Bool, Event, Field, List, Parts, Progress, Setting, Side, Told, ap, choose, choose-true, draw, false, nat_lt, note, on_conditions, on_field, refl, stay, stop, sym, true, ℕ, ◌∙◌, ◌▸◌}
-use Rattle.gen1_rolls.specs.Draws.{stream_of}
+use Rattle.gen1_rolls.specs.Draws.{Drawing, stream_of}
 use Rattle.gen1_rolls.specs.Streams.{byte_at, iterate}
 use Rattle.gen1_stats.specs.declared.status.Status.TheVariants.{Healthy, Paralysed}
 use Rattle.gen1_stats.specs.Members.{is_paralysed, sleeps_or_freezes}
@@ -32,28 +32,28 @@ unfolding choose stay stop cant note on_conditions on_field ◌▸◌ unless_sto
 paralysed true s p e = rw e (refl, refl)
 paralysed false s p e = rw e (refl, refl)
 
-module _ {A : Type 0} (byte : A → ℕ) (next : A → A) (width : ℕ) (r new : A) (s : Side) (used : UsedMove) (g : Setting) (parts : Parts) (f : Field) (before after : List Event) (answer : Gate)
-    (h : TellsDrawn byte next width r (frame g (stream_of byte next width r) s) parts (Told after) new answer (begun f (stream_of byte next width r) s before)
-    (gate_or_held s (Use used) (begun f (stream_of byte next width r) s before)))
+module _ {A : Type 0} (d : Drawing A) (r new : A) (s : Side) (used : UsedMove) (g : Setting) (parts : Parts) (f : Field) (before after : List Event) (answer : Gate)
+    (h : TellsDrawn d r (frame g (stream_of d r) s) parts (Told after) new answer (begun f (stream_of d r) s before)
+    (gate_or_held s (Use used) (begun f (stream_of d r) s before)))
     (free : IsFree s f) where
   abbrev p : Progress
-  p = begun f (stream_of byte next width r) s before
+  p = begun f (stream_of d r) s before
 
   pub healthy-goes : status_in s f ≡ Healthy → (answer ≡ Go) × (new ≡ r)
   unfolding gate_or_held
   healthy-goes e =
       let same = gate-acts s (Use used) p (record { free = free; able = ap keeps_from_acting e; busy = refl }) refl in
-      (goes answer (sym (ap (λ (q : Progress). q.stopped) same) ∙ h.shows.shows.ends), h.shows.stands.reached ∙ ap (λ (q : Progress). iterate q.drawn next r) same)
+      (goes answer (sym (ap (λ (q : Progress). q.stopped) same) ∙ h.shows.shows.ends), h.shows.stands.reached ∙ ap (λ (q : Progress). iterate q.drawn d.next r) same)
 
-  draws : is_paralysed (status_in s f) ≡ true → paralysis_test s p ≡ may_be_paralysed s (byte r) (record p { drawn = 1 })
+  draws : is_paralysed (status_in s f) ≡ true → paralysis_test s p ≡ may_be_paralysed s (d.byte r) (record p { drawn = 1 })
   unfolding paralysis_test draw may_be_paralysed byte_at
   draws e = choose-true _ _ _ p e
 
-  pub paralysed-draws : status_in s f ≡ Paralysed → (stopped_by answer ≡ nat_lt (byte r) 63) × (new ≡ next r)
+  pub paralysed-draws : status_in s f ≡ Paralysed → (stopped_by answer ≡ nat_lt (d.byte r) 63) × (new ≡ d.next r)
   unfolding gate_or_held ◌▸◌ draw may_be_paralysed byte_at
   paralysed-draws e =
       let q : Progress = record p { drawn = 1 } in
-      let stops = nat_lt (byte r) 63 in
+      let stops = nat_lt (d.byte r) 63 in
       let same = gate-free s p free refl (Use used) (ap sleeps_or_freezes e) ∙ ap (unless_stopped (only false stop)) (draws (ap is_paralysed e)) in
       let t = paralysed stops s q refl in
-      (sym h.shows.shows.ends ∙ ap (λ (x : Progress). x.stopped) same ∙ t.1, h.shows.stands.reached ∙ ap (λ (x : Progress). iterate x.drawn next r) same ∙ ap (λ (k : ℕ). iterate k next r) t.0)
+      (sym h.shows.shows.ends ∙ ap (λ (x : Progress). x.stopped) same ∙ t.1, h.shows.stands.reached ∙ ap (λ (x : Progress). iterate x.drawn d.next r) same ∙ ap (λ (k : ℕ). iterate k d.next r) t.0)

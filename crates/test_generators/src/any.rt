@@ -22,8 +22,8 @@ use gen1_tables::MoveId;
 /// machine's bound.
 pub fn critical_by<R: Rolls>(battle: &Packed, side: Side, id: MoveId, random: &mut R) -> bool
     ensures { (g : Setting) (f : Field) → Within g battle.now f
-        → (result ≡ nat_lt (rotated_left_3 (R.byte random.old))
-        (critical_bound_in side (move_at id) f)) × (random.new ≡ R.next random.old) }
+        → (result ≡ nat_lt (rotated_left_3 (R.drawing.byte random.old))
+        (critical_bound_in side (move_at id) f)) × (random.new ≡ R.drawing.next random.old) }
 {
     critical(battle, side, id, random)
 }
@@ -33,9 +33,9 @@ pub fn critical_by<R: Rolls>(battle: &Packed, side: Side, id: MoveId, random: &m
 pub fn factor_by<R: Rolls>(damage: u16, random: &mut R) -> u16
     ensures kept { damage ≤ 1 → (result ≡ damage) × (random.new ≡ random.old) }
     ensures drawn { (m : ℕ) → 1 < damage
-        → first (stream_of R.byte R.next R.SPAN random.old) 0 is_factor ≡ Some m
-        → (result ≡ times_factor (rotated_right_1 (draws_of R.byte R.next random.old m)) damage)
-        × (random.new ≡ iterate (m + 1) R.next random.old) }
+        → first (stream_of R.drawing random.old) 0 is_factor ≡ Some m
+        → (result ≡ times_factor (rotated_right_1 (draws_of R.drawing random.old m)) damage)
+        × (random.new ≡ iterate (m + 1) R.drawing.next random.old) }
 {
     factor(damage, random)
 }
@@ -51,8 +51,8 @@ pub fn hit_test_by<R: Rolls>(
 ) -> Hit
     ensures { (g : Setting) (f : Field) → Within g battle.old f
         → settled_hit_in side (move_at id) f ≡ None
-        → (result.hit ≡ nat_lt (R.byte random.old) (scaled_in side base f))
-        × (random.new ≡ R.next random.old) }
+        → (result.hit ≡ nat_lt (R.drawing.byte random.old) (scaled_in side base f))
+        × (random.new ≡ R.drawing.next random.old) }
 {
     hit_test(battle, side, id, base, random)
 }
@@ -72,7 +72,7 @@ pub fn gate_by<R: Rolls>(
         → (result ≡ Gate.Go) × (random.new ≡ random.old) }
     ensures paralysed { (g : Setting) (f : Field) → Within g battle.old f → IsFree side f
         → status_in side f ≡ Paralysed
-        → (stopped_by result ≡ nat_lt (R.byte random.old) 63) × (random.new ≡ R.next random.old) }
+        → (stopped_by result ≡ nat_lt (R.drawing.byte random.old) 63) × (random.new ≡ R.drawing.next random.old) }
 {
     gate(battle, side, Pick::Use(used), random, events)
 }

@@ -8,7 +8,7 @@ ghost use Rattle.gen1_stats.specs.declared.status.Status.TheVariants.{Paralysed}
 ghost use Rattle.gen1_machine.specs.CriticalHits.{critical_bound_in, rotated_left_3};
 ghost use Rattle.gen1_machine.specs.Damage.{is_factor, rotated_right_1, times_factor};
 ghost use Rattle.gen1_machine.specs.HitTest.{scaled_in, settled_hit_in};
-ghost use Rattle.test_generators.specs.Countdown.{one_down};
+ghost use Rattle.test_generators.specs.Countdown.{countdown};
 ghost use Rattle.gen1_status.specs.Gate.{IsFree};
 
 use crate::any::{critical_by, factor_by, gate_by, hit_test_by};
@@ -21,7 +21,7 @@ use gen1_tables::MoveId;
 /// The countdown from a number. Its own stream keeps to the law of streams, like that of any generator.
 pub fn own_stream(number: u8) -> Countdown
     ensures start { result ≡ number }
-    ensures stream { IsStream (stream_of (λ x. x) one_down 1000 result) }
+    ensures stream { IsStream (stream_of countdown result) }
 {
     let random = Countdown::new(number);
     draws_a_stream(&random);

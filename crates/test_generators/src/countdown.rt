@@ -2,7 +2,7 @@
 ghost use Rattle.std.specs.Prelude.{◌≡◌, ℕ};
 ghost use Rattle.gen1_rolls.specs.Draws.{stream_of};
 ghost use Rattle.gen1_rolls.specs.Streams.{IsStream};
-ghost use Rattle.test_generators.specs.Countdown.{one_down};
+ghost use Rattle.test_generators.specs.Countdown.{countdown, one_down};
 
 use gen1_rolls::Rolls;
 use std::marker::Model;
@@ -36,9 +36,7 @@ impl Rolls for Countdown {
 
     ghost SPAN = { 1000 };
 
-    ghost byte = { λ n. n };
-
-    ghost next = { one_down };
+    ghost drawing = { countdown };
 
     fn draw(&mut self) -> u8 {
         let drawn = self.number;
@@ -46,15 +44,17 @@ impl Rolls for Countdown {
         drawn
     }
 
-    ghost use Rattle.std.proofs.Common.{lit<};
+    ghost use Rattle.std.proofs.Common.{lit<, refl};
 
     ghost positive = { lit< tt };
+
+    ghost spans = { refl };
 }
 
 /// The number before a number. Its contract also says that the draws from the first on are a stream.
 fn step(number: u8) -> u8
     ensures value { result ≡ one_down number }
-    ensures stream { IsStream (stream_of (λ x. x) one_down 1000 number) }
+    ensures stream { IsStream (stream_of countdown number) }
 {
     number.wrapping_sub(1)
 }

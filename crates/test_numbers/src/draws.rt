@@ -56,11 +56,11 @@ fn the_first_draw_that_meets_a_test(rt: HostRuntime) {
 /// Draws a count from 1 to 7: the lowest three bits of the first draw in which they aren't 0. Like the engine, it
 /// works for any generator.
 fn count<R: Rolls>(r: &mut R) -> u8
-    ensures { (origin : R) (s : Stream) (n : ℕ) → StandsAt R.byte R.next R.SPAN origin s n r.old
+    ensures { (origin : R) (s : Stream) (n : ℕ) → StandsAt R.drawing origin s n r.old
         → MatchOption (first s n (λ b. nat_lt 0 (low_bits 3 b)))
-        ((result ≡ 0) × StandsAt R.byte R.next R.SPAN origin s (n + span s) r.new)
+        ((result ≡ 0) × StandsAt R.drawing origin s (n + span s) r.new)
         (λ m. (result ≡ low_bits 3 (byte_at s m))
-        × StandsAt R.byte R.next R.SPAN origin s (m + 1) r.new) }
+        × StandsAt R.drawing origin s (m + 1) r.new) }
 {
     match until(r, |b| b % 8 != 0) {
         Some(b) => b % 8,

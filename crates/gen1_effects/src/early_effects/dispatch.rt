@@ -60,7 +60,7 @@ pub fn group_one<R: Rolls, S: EventSink>(
 )
     requires room { HasRoom S.room 2 events.old }
     requires early { is_early_but_substitute (move_at id).effect ≡ true }
-    ensures shown { DoesAlone R.byte R.next R.SPAN side battle.old (S.tells events.old) random.old
+    ensures shown { DoesAlone R.drawing side battle.old (S.tells events.old) random.old
         battle.new (S.tells events.new) random.new
         (λ rules. early_effect side (move_at id) (move_at id).effect ▸ stop) }
     ensures room { AddsAtMost S.room 2 events.old events.new }
@@ -82,7 +82,7 @@ pub fn group_one_knowing<R: Rolls, S: EventSink>(
 )
     requires room { HasRoom S.room 2 events.old }
     requires early { is_early_but_substitute (move_at id).effect ≡ true }
-    ensures shown { DoesKnowingDrawing R.byte R.next R.SPAN battle.old (S.tells events.old) random.old
+    ensures shown { DoesKnowingDrawing R.drawing battle.old (S.tells events.old) random.old
         known.old battle.new (S.tells events.new) random.new known.new true
         (early_effect side (move_at id) (move_at id).effect ▸ stop) }
     ensures counts { IsUncounted known.old → IsUncounted known.new }

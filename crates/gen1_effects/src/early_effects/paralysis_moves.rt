@@ -21,7 +21,7 @@ pub(super) fn paralyse_foe<R: Rolls, S: EventSink>(
     events: &mut S,
 )
     requires room { HasRoom S.room 2 events.old }
-    ensures shown { DoesKnowingDrawing R.byte R.next R.SPAN battle.old (S.tells events.old) random.old
+    ensures shown { DoesKnowingDrawing R.drawing battle.old (S.tells events.old) random.old
         known.old battle.new (S.tells events.new) random.new known.new true
         (paralyse_foe side (move_at id) ▸ stop) }
     ensures counts { IsUncounted known.old → IsUncounted known.new }

@@ -25,7 +25,7 @@ pub(super) fn put_to_sleep<R: Rolls, S: EventSink>(
     events: &mut S,
 ) -> bool
     requires room { HasRoom S.room 2 events.old }
-    ensures shown { DoesUnder R.byte R.next R.SPAN battle.old (S.tells events.old) random.old known.old
+    ensures shown { DoesUnder R.drawing battle.old (S.tells events.old) random.old known.old
         battle.new (S.tells events.new) random.new known.new result
         (λ r. put_to_sleep r side (move_at id)) }
     ensures room { AddsAtMost S.room 2 events.old events.new }
@@ -46,7 +46,7 @@ fn ready_to_sleep<R: Rolls, S: EventSink>(
     events: &mut S,
 ) -> bool
     requires room { HasRoom S.room 1 events.old }
-    ensures shown { DoesKnowingDrawing R.byte R.next R.SPAN battle.old (S.tells events.old) random.old
+    ensures shown { DoesKnowingDrawing R.drawing battle.old (S.tells events.old) random.old
         known.old battle.new (S.tells events.new) random.new known.new result
         (ready_to_sleep side (move_at id)) }
     ensures room { AddsAtMost S.room 1 events.old events.new }
@@ -72,8 +72,8 @@ fn sleep_by_rules<R: Rolls, S: EventSink>(
 ) -> bool
     requires room { HasRoom S.room 1 events.old }
     ensures shown { (origin : R) (g : Frame) (p : Progress)
-        → ShowsDrawn R.byte R.next R.SPAN origin g battle.old (S.tells events.old) random.old false p
-        → ShowsDrawn R.byte R.next R.SPAN origin g battle.new (S.tells events.new) random.new result
+        → ShowsDrawn R.drawing origin g battle.old (S.tells events.old) random.old false p
+        → ShowsDrawn R.drawing origin g battle.new (S.tells events.new) random.new result
         (sleeps_under g.setting.terms.rules.sleep_clause side p) }
     ensures room { AddsAtMost S.room 1 events.old events.new }
 {
@@ -94,8 +94,8 @@ fn sleep_only_one<R: Rolls, S: EventSink>(
     requires room { HasRoom S.room 1 events.old }
     ensures shown { (origin : R) (g : Frame) (p : Progress)
         → g.setting.terms.rules.sleep_clause ≡ true
-        → ShowsDrawn R.byte R.next R.SPAN origin g battle.old (S.tells events.old) random.old false p
-        → ShowsDrawn R.byte R.next R.SPAN origin g battle.new (S.tells events.new) random.new result
+        → ShowsDrawn R.drawing origin g battle.old (S.tells events.old) random.old false p
+        → ShowsDrawn R.drawing origin g battle.new (S.tells events.new) random.new result
         (sleep_only_one side p) }
     ensures room { AddsAtMost S.room 1 events.old events.new }
 {
@@ -120,8 +120,8 @@ fn fall_asleep<R: Rolls, S: EventSink>(
     requires room { HasRoom S.room 1 events.old }
     ensures shown { (origin : R) (g : Frame) (p : Progress)
         → g.setting.terms.rules.sleep_clause ≡ marked
-        → ShowsDrawn R.byte R.next R.SPAN origin g battle.old (S.tells events.old) random.old false p
-        → ShowsDrawn R.byte R.next R.SPAN origin g battle.new (S.tells events.new) random.new false
+        → ShowsDrawn R.drawing origin g battle.old (S.tells events.old) random.old false p
+        → ShowsDrawn R.drawing origin g battle.new (S.tells events.new) random.new false
         (fall_asleep marked side p) }
     ensures room { AddsAtMost S.room 1 events.old events.new }
 {

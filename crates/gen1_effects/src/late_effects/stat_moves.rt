@@ -47,7 +47,7 @@ pub(super) fn lower_foes_stat<R: Rolls, S: EventSink>(
 ) -> bool
     requires room { HasRoom S.room 2 events.old }
     ensures shown { IsBetween 1 2 by
-        → DoesKnowingDrawing R.byte R.next R.SPAN battle.old (S.tells events.old) random.old known.old
+        → DoesKnowingDrawing R.drawing battle.old (S.tells events.old) random.old known.old
         battle.new (S.tells events.new) random.new known.new result
         (lower_foes_stat side (move_at id) stat by) }
     ensures room { AddsAtMost S.room 2 events.old events.new }

@@ -5,8 +5,8 @@ use gen1_rolls::Rolls;
 
 // Draws, and returns whether the draw is below the bound.
 pub(super) fn is_drawn_below<R: Rolls>(bound: u8, random: &mut R) -> bool
-    ensures drawn { result ≡ nat_lt (R.byte random.old) bound }
-    ensures left { random.new ≡ R.next random.old }
+    ensures drawn { result ≡ nat_lt (R.drawing.byte random.old) bound }
+    ensures left { random.new ≡ R.drawing.next random.old }
 {
     random.draw() < bound
 }

@@ -22,7 +22,7 @@ pub(super) fn disable<R: Rolls, S: EventSink>(
     events: &mut S,
 ) -> bool
     requires room { HasRoom S.room 1 events.old }
-    ensures shown { DoesKnowingDrawing R.byte R.next R.SPAN battle.old (S.tells events.old) random.old
+    ensures shown { DoesKnowingDrawing R.drawing battle.old (S.tells events.old) random.old
         known.old battle.new (S.tells events.new) random.new known.new result
         (disable side (move_at id)) }
     ensures counts { IsUncounted known.old → IsUncounted known.new }
@@ -46,7 +46,7 @@ fn draw_slot<R: Rolls, S: EventSink>(
     events: &mut S,
 ) -> bool
     requires room { HasRoom S.room 1 events.old }
-    ensures shown { DoesDrawing R.byte R.next R.SPAN battle.old (S.tells events.old) random.old
+    ensures shown { DoesDrawing R.drawing battle.old (S.tells events.old) random.old
         battle.new (S.tells events.new) random.new result (draw_slot side) }
     ensures room { AddsAtMost S.room 1 events.old events.new }
 {
@@ -74,8 +74,8 @@ fn disable_slot<R: Rolls, S: EventSink>(
     ensures shown { (origin : R) (g : Frame) (p : Progress)
         → any_pp ≡ has_pp (member (other side) p).moves
         → names_slot (member (other side) p).moves byte ≡ true
-        → ShowsDrawn R.byte R.next R.SPAN origin g battle.old (S.tells events.old) random.old false p
-        → ShowsDrawn R.byte R.next R.SPAN origin g battle.new (S.tells events.new) random.new result
+        → ShowsDrawn R.drawing origin g battle.old (S.tells events.old) random.old false p
+        → ShowsDrawn R.drawing origin g battle.new (S.tells events.new) random.new result
         (disable_slot side (member (other side) p).moves byte p) }
     ensures room { AddsAtMost S.room 1 events.old events.new }
 {

@@ -9,7 +9,7 @@ use gen1_rolls::Rolls;
 
 pub(super) fn may_flinch<R: Rolls>(battle: &mut Packed, side: Side, bound: u8, random: &mut R)
     ensures shown { (events : List Event)
-        → DoesDrawing R.byte R.next R.SPAN battle.old (Told events) random.old battle.new (Told events) random.new
+        → DoesDrawing R.drawing battle.old (Told events) random.old battle.new (Told events) random.new
         false (by_chance bound (flinch (other side))) }
 {
     if !is_drawn_below(bound, random) {

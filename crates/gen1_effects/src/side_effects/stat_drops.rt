@@ -21,7 +21,7 @@ pub(super) fn may_lower<R: Rolls, S: EventSink>(
     events: &mut S,
 )
     requires room { HasRoom S.room 1 events.old }
-    ensures shown { DoesDrawing R.byte R.next R.SPAN battle.old (S.tells events.old) random.old
+    ensures shown { DoesDrawing R.drawing battle.old (S.tells events.old) random.old
         battle.new (S.tells events.new) random.new false
         (by_chance 85 (lower_stage side (other side) stat 1 stay)) }
     ensures room { AddsAtMost S.room 1 events.old events.new }

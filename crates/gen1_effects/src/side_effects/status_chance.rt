@@ -30,7 +30,7 @@ pub(super) fn may_poison<R: Rolls, S: EventSink>(
     events: &mut S,
 )
     requires room { HasRoom S.room 1 events.old }
-    ensures shown { DoesDrawing R.byte R.next R.SPAN battle.old (S.tells events.old) random.old
+    ensures shown { DoesDrawing R.drawing battle.old (S.tells events.old) random.old
         battle.new (S.tells events.new) random.new false (may_poison side bound) }
     ensures room { AddsAtMost S.room 1 events.old events.new }
 {
@@ -67,7 +67,7 @@ pub(super) fn may_inflict<R: Rolls, S: EventSink>(
 )
     requires room { HasRoom S.room 1 events.old }
     ensures shown { IsCountOf kind 0
-        → DoesByRules R.byte R.next R.SPAN battle.old (S.tells events.old) random.old battle.new
+        → DoesByRules R.drawing battle.old (S.tells events.old) random.old battle.new
         (S.tells events.new) random.new
         (λ r. may_inflict side (move_at id) bound (afflict r side kind)) }
     ensures room { AddsAtMost S.room 1 events.old events.new }

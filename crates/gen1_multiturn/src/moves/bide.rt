@@ -35,7 +35,7 @@ pub fn bide<R: Rolls, S: EventSink>(
     events: &mut S,
 ) -> Option<u16>
     requires room { HasRoom S.room 1 events.old }
-    ensures left { DoesAloneAt R.byte R.next R.SPAN side Bide battle.old (S.tells events.old) random.old
+    ensures left { DoesAloneAt R.drawing side Bide battle.old (S.tells events.old) random.old
         battle.new (S.tells events.new) random.new (λ r. use_bide side) }
     ensures energy { Reads battle.old result λ f. energy_let_out f.last_damage
         (underway_in side f).bide }
@@ -91,7 +91,7 @@ pub fn start_bide<R: Rolls, S: EventSink>(
 )
     requires room { HasRoom S.room 1 events.old }
     ensures shown { (known : Knowledge) (effect : Effect) → bides effect ≡ true
-        → DoesAt R.byte R.next R.SPAN side effect battle.old (S.tells events.old) random.old known
+        → DoesAt R.drawing side effect battle.old (S.tells events.old) random.old known
         battle.new (S.tells events.new) random.new known false (λ r. start_bide side) }
     ensures room { AddsAtMost S.room 1 events.old events.new }
 {

@@ -47,7 +47,7 @@ pub fn charge_knowing<R: Rolls, S: EventSink>(
     events: &mut S,
 ) -> bool
     requires room { HasRoom S.room 1 events.old }
-    ensures shown { DoesTaking R.byte R.next R.SPAN side pick (move_at id).effect battle.old
+    ensures shown { DoesTaking R.drawing side pick (move_at id).effect battle.old
         (S.tells events.old) random.now known.now battle.new (S.tells events.new) random.now known.now
         result (λ r. charge side pick (move_at id)) }
     ensures room { AddsAtMost S.room 1 events.old events.new }

@@ -40,7 +40,7 @@ pub fn counter_knowing<R: Rolls>(
     random: &mut R,
 )
     ensures shown { (events : List Event)
-        → DoesKnowingDrawing R.byte R.next R.SPAN battle.old (Told events) random.old known.old battle.new
+        → DoesKnowingDrawing R.drawing battle.old (Told events) random.old known.old battle.new
         (Told events) random.new known.new false (counter side (move_at id)) }
     ensures counts { IsUncounted known.old → IsUncounted known.new }
 {

@@ -26,7 +26,7 @@ const SUPER_FANG: u8 = 162;
 /// for Psywave. For Seismic Toss, Night Shade and every other move it is the user's level. `None` is the fault of
 /// Psywave at level 1, which draws nothing.
 pub fn fixed<R: Rolls>(battle: &Packed, side: Side, id: MoveId, random: &mut R) -> Option<u16>
-    ensures deals { DealsAs R.byte R.next R.SPAN battle.now random.old result random.new
+    ensures deals { DealsAs R.drawing battle.now random.old result random.new
         (deal_fixed side id) }
 {
     let number = id.number();
@@ -59,7 +59,7 @@ pub fn fixed_knowing<R: Rolls>(
     random: &mut R,
 ) -> bool
     ensures shown { (events : List Event)
-        → DoesKnowingDrawing R.byte R.next R.SPAN battle.old (Told events) random.old known.old battle.new
+        → DoesKnowingDrawing R.drawing battle.old (Told events) random.old known.old battle.new
         (Told events) random.new known.new result (fixed_damage side (move_at id)) }
     ensures counts { IsUncounted known.old → IsUncounted known.new }
 {
@@ -82,7 +82,7 @@ pub fn fixed_knowing<R: Rolls>(
 // A draw above 0 and below one and a half times the level.
 fn psywave<R: Rolls>(level: u8, random: &mut R) -> Option<u16>
     ensures deals { (parts : Parts)
-        → DealsAs R.byte R.next R.SPAN parts random.old result random.new (psywave level) }
+        → DealsAs R.drawing parts random.old result random.new (psywave level) }
 {
     if level <= 1 {
         return None;

@@ -29,7 +29,7 @@ pub fn knock_out<R: Rolls>(
     random: &mut R,
 )
     ensures shown { (events : List Event)
-        → DoesKnowingDrawing R.byte R.next R.SPAN battle.old (Told events) random.old known.old battle.new
+        → DoesKnowingDrawing R.drawing battle.old (Told events) random.old known.old battle.new
         (Told events) random.new known.new false (knock_out side (move_at id)) }
     ensures counts { IsUncounted known.old → IsUncounted known.new }
 {
@@ -58,7 +58,7 @@ fn knock_out_by_type<R: Rolls>(
     random: &mut R,
 )
     ensures shown { (events : List Event)
-        → DoesKnowingDrawing R.byte R.next R.SPAN battle.old (Told events) random.old known.old battle.new
+        → DoesKnowingDrawing R.drawing battle.old (Told events) random.old known.old battle.new
         (Told events) random.new known.new false (knock_out_by_type side (move_at id)) }
     ensures counts { IsUncounted known.old → IsUncounted known.new }
 {
@@ -72,7 +72,7 @@ fn knock_out_by_type<R: Rolls>(
 // The draws of a factor, which isn't used.
 fn deal_everything<R: Rolls>(battle: &mut Packed, random: &mut R)
     ensures shown { (events : List Event)
-        → DoesDrawing R.byte R.next R.SPAN battle.old (Told events) random.old battle.new (Told events) random.new
+        → DoesDrawing R.drawing battle.old (Told events) random.old battle.new (Told events) random.new
         false (draw_until is_factor deal_everything) }
 {
     let Some(_) = until(random, |byte| is_factor(byte)) else {

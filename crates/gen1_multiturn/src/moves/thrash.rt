@@ -35,7 +35,7 @@ pub fn thrash<R: Rolls, S: EventSink>(
 )
     requires room { HasRoom S.room 1 events.old }
     ensures left { (move : Move) → accuracy_byte move ≡ 255
-        → DoesAloneAt R.byte R.next R.SPAN side Thrash battle.old (S.tells events.old) random.old
+        → DoesAloneAt R.drawing side Thrash battle.old (S.tells events.old) random.old
         battle.new (S.tells events.new) random.new (λ r. use_thrash side move) }
     ensures room { AddsAtMost S.room 1 events.old events.new }
 {
@@ -55,7 +55,7 @@ pub fn thrash_knowing<R: Rolls, S: EventSink>(
 )
     requires room { HasRoom S.room 1 events.old }
     requires tie { thrashes (move_at id).effect ≡ true }
-    ensures shown { DoesAt R.byte R.next R.SPAN side (move_at id).effect battle.old (S.tells events.old)
+    ensures shown { DoesAt R.drawing side (move_at id).effect battle.old (S.tells events.old)
         random.old known.now battle.new (S.tells events.new) random.new known.now false
         (λ r. thrash_about side (move_at id)) }
     ensures room { AddsAtMost S.room 1 events.old events.new }
@@ -75,7 +75,7 @@ fn thrash_with<R: Rolls, S: EventSink>(
     requires room { HasRoom S.room 1 events.old }
     ensures shown { (move : Move) (effect : Effect) → accuracy_byte move ≡ accuracy
         → thrashes effect ≡ true
-        → DoesAt R.byte R.next R.SPAN side effect battle.old (S.tells events.old) random.old known.now
+        → DoesAt R.drawing side effect battle.old (S.tells events.old) random.old known.now
         battle.new (S.tells events.new) random.new known.now false (λ r. thrash_about side move) }
     ensures room { AddsAtMost S.room 1 events.old events.new }
 {
@@ -96,8 +96,8 @@ fn thrash_on<R: Rolls, S: EventSink>(
 )
     requires room { HasRoom S.room 1 events.old }
     ensures shown { (origin : R) (g : Frame) (p : Progress) → (underway side p).thrash ≡ left
-        → ShowsDrawn R.byte R.next R.SPAN origin g battle.old (S.tells events.old) random.old false p
-        → ShowsDrawn R.byte R.next R.SPAN origin g battle.new (S.tells events.new) random.new false
+        → ShowsDrawn R.drawing origin g battle.old (S.tells events.old) random.old false p
+        → ShowsDrawn R.drawing origin g battle.new (S.tells events.new) random.new false
         (thrash_less side left p) }
     ensures room { AddsAtMost S.room 1 events.old events.new }
 {
@@ -118,8 +118,8 @@ fn begin_thrashing<R: Rolls>(battle: &mut Packed, side: Side, accuracy: u8, rand
     ensures shown { (events : List Event) (move : Move) (origin : R) (g : Frame) (p : Progress)
         → accuracy_byte move ≡ accuracy
         → (underway side p).bide ≡ None → (underway side p).trapping ≡ None
-        → ShowsDrawn R.byte R.next R.SPAN origin g battle.old (Told events) random.old false p
-        → ShowsDrawn R.byte R.next R.SPAN origin g battle.new (Told events) random.new false
+        → ShowsDrawn R.drawing origin g battle.old (Told events) random.old false p
+        → ShowsDrawn R.drawing origin g battle.new (Told events) random.new false
         (draw (thrash_for side move) p) }
 {
     let byte = random.draw();

@@ -24,7 +24,7 @@ use gen1_rolls::Rolls;
 /// written, and nothing else changes.
 pub fn trap<R: Rolls>(battle: &mut Packed, side: Side, random: &mut R)
     ensures left { (events : List Event)
-        → DoesAloneAt R.byte R.next R.SPAN side Trapping battle.old (Told events) random.old battle.new
+        → DoesAloneAt R.drawing side Trapping battle.old (Told events) random.old battle.new
         (Told events) random.new (λ r. use_trap side) }
 {
     let known = seen_going_on(battle, side);
@@ -35,7 +35,7 @@ pub fn trap<R: Rolls>(battle: &mut Packed, side: Side, random: &mut R)
 /// on").
 pub fn trap_knowing<R: Rolls>(battle: &mut Packed, side: Side, known: &Known, random: &mut R)
     ensures shown { (events : List Event) (effect : Effect) → traps effect ≡ true
-        → DoesAt R.byte R.next R.SPAN side effect battle.old (Told events) random.old known.now battle.new
+        → DoesAt R.drawing side effect battle.old (Told events) random.old known.now battle.new
         (Told events) random.new known.now false (λ r. trap side) }
 {
     if known.going_on {
@@ -60,8 +60,8 @@ fn trap_one_turn_less(battle: &mut Packed, side: Side)
 fn begin_trapping<R: Rolls>(battle: &mut Packed, side: Side, random: &mut R)
     ensures shown { (events : List Event) (origin : R) (g : Frame) (p : Progress)
         → (underway side p).bide ≡ None → (underway side p).thrash ≡ None
-        → ShowsDrawn R.byte R.next R.SPAN origin g battle.old (Told events) random.old false p
-        → ShowsDrawn R.byte R.next R.SPAN origin g battle.new (Told events) random.new false
+        → ShowsDrawn R.drawing origin g battle.old (Told events) random.old false p
+        → ShowsDrawn R.drawing origin g battle.new (Told events) random.new false
         ((on_conditions (other side) without_recharge ▸ draw_count (trap_for side)) p) }
 {
     battle.put_flag(side.other(), Conditions::RECHARGE, false);

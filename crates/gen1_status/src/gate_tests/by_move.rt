@@ -22,7 +22,7 @@ pub(super) fn gate_of_move<R: Rolls, S: EventSink>(
     events: &mut S,
 ) -> Gate
     requires room { HasRoom S.room 2 events.old }
-    ensures shown { DoesTelling R.byte R.next R.SPAN battle.old (S.tells events.old) random.old
+    ensures shown { DoesTelling R.drawing battle.old (S.tells events.old) random.old
         battle.new (S.tells events.new) random.new result (gate_of_move side pick) }
     ensures room { AddsAtMost S.room 2 events.old events.new }
 {
@@ -68,7 +68,7 @@ fn paralysis_test<R: Rolls, S: EventSink>(
     events: &mut S,
 ) -> bool
     requires room { HasRoom S.room 1 events.old }
-    ensures shown { DoesDrawing R.byte R.next R.SPAN battle.old (S.tells events.old) random.old
+    ensures shown { DoesDrawing R.drawing battle.old (S.tells events.old) random.old
         battle.new (S.tells events.new) random.new result (paralysis_test side) }
     ensures room { AddsAtMost S.room 1 events.old events.new }
     ensures quiet { result ≡ false → AddsNone S.room events.old events.new }

@@ -24,8 +24,8 @@ pub(super) fn confusion_test<R: Rolls, S: EventSink>(
     requires room { HasRoom S.room 2 events.old }
     ensures shown { (origin : R) (g : Frame) (p : Progress)
         → (conditions side p).confused ≡ confused
-        → ShowsDrawn R.byte R.next R.SPAN origin g battle.old (S.tells events.old) random.old false p
-        → TellsDrawn R.byte R.next R.SPAN origin g battle.new (S.tells events.new) random.new result p
+        → ShowsDrawn R.drawing origin g battle.old (S.tells events.old) random.old false p
+        → TellsDrawn R.drawing origin g battle.new (S.tells events.new) random.new result p
         (confusion_test side confused p) }
     ensures room { AddsAtMost S.room 2 events.old events.new }
     ensures quiet { result ≡ Gate.Go → AddsAtMost S.room 1 events.old events.new }
@@ -63,8 +63,8 @@ fn confusion_lasts<R: Rolls, S: EventSink>(
     requires room { HasRoom S.room 2 events.old }
     ensures shown { (origin : R) (g : Frame) (p : Progress)
         → (conditions side p).confused ≡ Some turns
-        → ShowsDrawn R.byte R.next R.SPAN origin g battle.old (S.tells events.old) random.old false p
-        → TellsDrawn R.byte R.next R.SPAN origin g battle.new (S.tells events.new) random.new result p
+        → ShowsDrawn R.drawing origin g battle.old (S.tells events.old) random.old false p
+        → TellsDrawn R.drawing origin g battle.new (S.tells events.new) random.new result p
         ((lasts side volatiles.Confusion with_confusion_one_less ▸ draw (may_hurt_itself side)) p) }
     ensures room { AddsAtMost S.room 2 events.old events.new }
     ensures quiet { result ≡ Gate.Go → AddsAtMost S.room 1 events.old events.new }

@@ -11,4 +11,4 @@ unfolding hit_or_miss
 returns-clause-shown t c events origin g p h =
     let base = c.base_of-base.ensures.stands _ _ h.shows.within
     ∙ ap (λ (a : Action). if a.going_on then (active c.args.side p).kept_accuracy else accuracy_byte (move_at c.args.id)) (sym h.shows.action) in
-    rw c.missed_after-known.ensures (drawn_seeing _ (hit_test c.args.side (move_at c.args.id)) base (c.hit_test-test.ensures.shown origin (knowing c.args.known.now g) events p h))
+    rw c.missed_after-known.ensures (drawn_seeing _ (hit_test c.args.side (move_at c.args.id)) base (c.hit_test-test.ensures.shown events origin (knowing c.args.known.now g) p h))

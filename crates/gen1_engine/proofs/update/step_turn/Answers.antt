@@ -1,6 +1,6 @@
 use Rattle.std.proofs.Common.{arith, length, subst, sym, ◌≡◌, ◌≤◌}
 use Rattle.gen1_rolls.specs.Draws.{StandsAt}
-use Rattle.gen1_rolls.specs.Link.{Ring, after_draw, byte_of, ring_at, ring_of}
+use Rattle.gen1_rolls.specs.Link.{Ring, link, ring_at, ring_of}
 use Rattle.gen1_rolls.specs.Streams.{Link}
 use Rattle.gen1_rolls.proofs.Rings.{ring-stands, ring_at-stands}
 use Rattle.gen1_machine.specs.declared.side.Side.TheVariants.{One}
@@ -20,7 +20,7 @@ returns-in-Some-clause-stepped t c s h plays =
     let w = within_asked One h both.0 apart in
     let long : 9 ≤ length s.seed = omega (arith, h.valid.seed.0) in
     let is : c.in-Some.generator ≡ ring_at s.seed s.drawn = let e = c.in-Some.ensures.stands (setting_of s) s.field w in cc in
-    let at = subst (λ (r : Ring). StandsAt byte_of after_draw 2304 (ring_of s.seed) (Link s.seed) s.drawn r) (sym is) (ring_at-stands s.seed s.drawn long) in
+    let at = subst (λ (r : Ring). StandsAt link (ring_of s.seed) (Link s.seed) s.drawn r) (sym is) (ring_at-stands s.seed s.drawn long) in
     let left = c.turn-left.ensures.updated s (ring_of s.seed) (Link s.seed) s.drawn h plays h.valid.seed at in
     let q = close_update (ruling_of s.terms) (turn (ruling_of s.terms) c.args.one c.args.two (opened s)) in
     turned_so s c.args.one c.args.two q h.valid (turn_made s c.args.one c.args.two h.valid plays)

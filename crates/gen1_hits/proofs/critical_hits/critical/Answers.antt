@@ -8,7 +8,7 @@ pub returns : goal.returns
 unfolding roll_critical critical_by set_critical
 returns t c =
     record {
-      shown = λ origin g events p h.
+      shown = λ told origin g p h.
           let w = h.shows.within in
           let bound : c.critical_bound.result ≡ critical_bound_in c.args.side (move_at c.args.id) p.field =
           rw (c.species.ensures.stands _ _ w, c.is_on-focused.ensures.stands 8 refl _ _ w) at c.critical_bound.ensures in

@@ -7,7 +7,7 @@ pub returns-then-draw-byte : goal.returns-then-draw-byte
 unfolding hits_below
 returns-then-draw-byte t c =
     record {
-      shown = λ origin g events p h.
+      shown = λ told origin g p h.
           let below : nat_lt c.draw.result c.args.byte ≡ true = grind (arith, nat_tests) in
           drawing (hits_below c.args.side c.args.byte) h c.draw.ensures.drawn c.draw.ensures.left (λ a. still a (if_so _ _ _ below (stays a.shows)) refl);
     }
@@ -16,7 +16,7 @@ pub returns : goal.returns
 unfolding hits_below
 returns t c =
     record {
-      shown = λ origin g events p h.
+      shown = λ told origin g p h.
           let above : nat_lt c.draw.result c.args.byte ≡ false = grind (arith, nat_tests) in
           drawing (hits_below c.args.side c.args.byte) h c.draw.ensures.drawn c.draw.ensures.left
           (λ a. still a (if_not _ _ _ above (c.miss.ensures.shown _ _ _ a.shows)) refl);

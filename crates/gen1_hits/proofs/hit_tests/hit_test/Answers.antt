@@ -6,7 +6,7 @@ pub returns-in-Some-true : goal.returns-in-Some-true
 unfolding hit_test test_by set_tested
 returns-in-Some-true t c =
     record {
-      shown = λ origin g events p h.
+      shown = λ told origin g p h.
           let is = rw c.in-Some-true.field-0-test at (c.in-Some-true.ensures.stands _ _ h.shows.within) in
           let tested = acted (λ (x : Action). record x { accuracy_tested = Some c.args.base }) h.shows in
           drawn_seeing _ (test_by c.args.side c.args.base) is (still h tested refl);
@@ -16,7 +16,7 @@ pub returns-in-Some-false : goal.returns-in-Some-false
 unfolding hit_test test_by set_tested
 returns-in-Some-false t c =
     record {
-      shown = λ origin g events p h.
+      shown = λ told origin g p h.
           let is = rw c.in-Some-false.field-0-test at (c.in-Some-false.ensures.stands _ _ h.shows.within) in
           let tested = acted (λ (x : Action). record x { accuracy_tested = Some c.args.base }) h.shows in
           drawn_seeing _ (test_by c.args.side c.args.base) is (still h (goes _ _ tested (c.miss.ensures.shown _ _ _ tested)) refl);
@@ -26,7 +26,7 @@ pub returns-in-None : goal.returns-in-None
 unfolding hit_test test_by set_tested
 returns-in-None t c =
     record {
-      shown = λ origin g events p h.
+      shown = λ told origin g p h.
           let is = c.in-None.ensures.stands _ _ h.shows.within in
           let byte = c.scaled_accuracy-kept.ensures.stands _ _ h.shows.within in
           let tested = still h (acted (λ (x : Action). record x { accuracy_tested = Some c.scaled_accuracy-kept.result }) h.shows) refl in

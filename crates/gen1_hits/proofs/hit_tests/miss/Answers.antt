@@ -8,7 +8,7 @@ pub returns : goal.returns
 unfolding miss set_missed without_trapping
 returns c =
     record {
-      shown = λ g events p h.
+      shown = λ told g p h.
           let a = acted (λ (x : Action). record x { missed = true }) h in
           let b = put_damage a 0 (c.put_last_damage.ensures.stands _ _ a.within) in
           goes _ _ a (goes _ _ b (put_on_conditions b c.args.side without_trapping (c.end_trapping.ensures.stands _ _ without_trapping b.within refl)));

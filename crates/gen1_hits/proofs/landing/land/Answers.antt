@@ -13,7 +13,7 @@ returns-then-land_on_substitute-clause-shown t c g p h =
     let hp = c.in-Some.ensures.stands _ _ h.within in
     let some : nat_lt 0 c.args.damage ≡ true = grind (arith, nat_tests) in
     rw (← c.other-target.ensures)
-    (if_so _ _ _ some (seeing _ (land_by c.other-target.result c.args.damage) hp (c.if-land_on_substitute.ensures.shown g p h (sym hp))))
+    (if_so _ _ _ some (seeing _ (land_by c.other-target.result c.args.damage) hp (c.if-land_on_substitute.ensures.shown g p (sym hp) h)))
 
 pub returns-else-land_on_substitute-clause-shown : goal.returns-else-land_on_substitute-clause-shown
 unfolding land_damage land_by
@@ -21,7 +21,7 @@ returns-else-land_on_substitute-clause-shown t c g p h =
     let hp = c.in-Some.ensures.stands _ _ h.within in
     let some : nat_lt 0 c.args.damage ≡ true = grind (arith, nat_tests) in
     rw (← c.other-target.ensures)
-    (if_so _ _ _ some (seeing _ (land_by c.other-target.result c.args.damage) hp (c.if-land_on_substitute.ensures.shown g p h (sym hp))))
+    (if_so _ _ _ some (seeing _ (land_by c.other-target.result c.args.damage) hp (c.if-land_on_substitute.ensures.shown g p (sym hp) h)))
 
 pub returns-in-None-clause-shown : goal.returns-in-None-clause-shown
 unfolding land_damage land_by

@@ -8,7 +8,7 @@ use Rattle.gen1_hits.proofs.landing.land_on_substitute.Goals as goal
 
 pub returns-then-breaks-clause-shown : goal.returns-then-breaks-clause-shown
 unfolding land_on_substitute set_broke ends without_substitute
-returns-then-breaks-clause-shown t c g p h is =
+returns-then-breaks-clause-shown t c g p is h =
     let s = c.args.target in
     let a = acted (λ (x : Action). record x { broke = true }) h in
     let w = c.put_substitute.ensures.stands _ _ without_substitute a.within refl tt in
@@ -18,7 +18,7 @@ returns-then-breaks-clause-shown t c g p h is =
 
 pub returns-clause-shown : goal.returns-clause-shown
 unfolding land_on_substitute lasts with_substitute_hurt
-returns-clause-shown t c g p h is =
+returns-clause-shown t c g p is h =
     let s = c.args.target in
     let conditions = conditions_in s p.field in
     let change = with_substitute_hurt c.args.damage in

@@ -7,7 +7,7 @@ use Rattle.gen1_rolls.proofs.search.until.Goals as goal
 
 pub returns-then-test-clause-found : goal.returns-then-test-clause-found
 returns-then-test-clause-found g c p settles =
-    let drawn = c.draw-byte.ensures.drawn ∙ ap g.R.Rolls.byte c.draws.invariant.drawn in
+    let drawn = c.draw-byte.ensures.drawn ∙ ap g.R.Rolls.drawing.byte c.draws.invariant.drawn in
     record {
       passed = c.draws.counter;
       first =
@@ -16,31 +16,31 @@ returns-then-test-clause-found g c p settles =
             meets = ap p (sym drawn) ∙ sym (settles c.draw-byte.result true c.draw-byte.type_inv c.if-test.ensures);
             none_before = λ k _ lt. c.draws.invariant.failed p settles k lt;
           };
-      within = omega (arith, c.SPAN-end.ensures, c.draws-test.true);
+      within = omega (arith, c.SPAN-end.ensures, c.draws-test.true, g.met.R.Rolls.spans);
       is = drawn;
-      left = c.draw-byte.ensures.left ∙ ap g.R.Rolls.next c.draws.invariant.drawn ∙ sym (iterate-more g.R.Rolls.next c.draws.counter c.args.r.now);
+      left = c.draw-byte.ensures.left ∙ ap g.R.Rolls.drawing.next c.draws.invariant.drawn ∙ sym (iterate-more g.R.Rolls.drawing.next c.draws.counter c.args.r.now);
     }
 
 pub draws-preserved : goal.draws-preserved
 draws-preserved g c =
-    let drawn = c.draw-byte.ensures.drawn ∙ ap g.R.Rolls.byte c.draws.invariant.drawn in
+    let drawn = c.draw-byte.ensures.drawn ∙ ap g.R.Rolls.drawing.byte c.draws.invariant.drawn in
     record {
-      drawn = c.draw-byte.ensures.left ∙ ap g.R.Rolls.next c.draws.invariant.drawn ∙ sym (iterate-more g.R.Rolls.next c.draws.counter c.args.r.now);
+      drawn = c.draw-byte.ensures.left ∙ ap g.R.Rolls.drawing.next c.draws.invariant.drawn ∙ sym (iterate-more g.R.Rolls.drawing.next c.draws.counter c.args.r.now);
       failed = λ p settles. below_more _ _ (c.draws.invariant.failed p settles)
           (ap p (sym drawn) ∙ sym (settles c.draw-byte.result false c.draw-byte.type_inv c.if-test.ensures));
       full = λ _.
-          full_from g.R.Rolls.byte g.R.Rolls.next c.args.r.now c.draws.r g.R.Rolls.SPAN c.draws.counter c.draws.invariant.drawn
-          c.draws.invariant.full (draws_of-full (stands_at_itself g.R.Rolls.byte g.R.Rolls.next g.R.Rolls.SPAN c.draws.r) c.draw-byte.ensures.stream);
+          full_from g.R.Rolls.drawing c.args.r.now c.draws.r g.R.Rolls.drawing.width c.draws.counter c.draws.invariant.drawn
+          c.draws.invariant.full (draws_of-full (stands_at_itself g.R.Rolls.drawing c.draws.r) c.draw-byte.ensures.stream);
     }
 
 pub returns-clause-none : goal.returns-clause-none
 returns-clause-none g c p settles =
-    let all : c.draws.counter ≡ g.R.Rolls.SPAN = omega (arith, c.SPAN-end.ensures, c.draws-test.false, c.draws.auto.counter-end) in
-    let some : 0 < c.draws.counter = omega (arith, all, g.met.R.Rolls.positive) in
+    let all : c.draws.counter ≡ g.R.Rolls.drawing.width = omega (arith, c.SPAN-end.ensures, c.draws-test.false, c.draws.auto.counter-end, g.met.R.Rolls.spans) in
+    let some : 0 < c.draws.counter = omega (arith, all, g.met.R.Rolls.positive, g.met.R.Rolls.spans) in
     record {
       none_meets =
-          none_meets (draws_of g.R.Rolls.byte g.R.Rolls.next c.args.r.now) p g.R.Rolls.SPAN c.draws.counter (omega (arith, all))
+          none_meets (draws_of g.R.Rolls.drawing c.args.r.now) p g.R.Rolls.drawing.width c.draws.counter (omega (arith, all))
           (c.draws.invariant.full some) (c.draws.invariant.failed p settles);
       none_drawn = λ k lt. c.draws.invariant.failed p settles k (omega (arith, all, lt));
-      left = c.draws.invariant.drawn ∙ ap (λ k. iterate k g.R.Rolls.next c.args.r.now) all;
+      left = c.draws.invariant.drawn ∙ ap (λ k. iterate k g.R.Rolls.drawing.next c.args.r.now) all;
     }

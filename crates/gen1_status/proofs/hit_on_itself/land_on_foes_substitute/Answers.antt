@@ -12,5 +12,5 @@ pub returns-clause-shown : goal.returns-clause-shown
 unfolding land_on_foes_substitute
 returns-clause-shown t c g p is h =
     let foe = is ∙ c.in-Some.is in
-    let a = c.land_on_substitute.ensures.shown g p h (rw c.other.ensures foe) in
+    let a = c.land_on_substitute.ensures.shown g p (rw c.other.ensures foe) h in
     rw c.in-Some.is (broken_so g (c.land_on_substitute.result || g.action.broke) (rw (← c.other.ensures) a))

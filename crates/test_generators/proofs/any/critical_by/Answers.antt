@@ -6,5 +6,5 @@ use Rattle.test_generators.proofs.any.critical_by.Goals as goal
 pub returns : goal.returns
 returns t c g f w =
     let r = c.args.random.now in
-    critical-is t.R.Rolls.byte t.R.Rolls.next t.R.Rolls.SPAN r _ c.args.side (move_at c.args.id) g _ f _
-    (c.critical.ensures.shown _ _ _ _ (begun-shown t.R.Rolls.byte t.R.Rolls.next t.R.Rolls.SPAN r c.args.side _ w))
+    critical-is t.R.Rolls.drawing r _ c.args.side (move_at c.args.id) g _ f _
+    (c.critical.ensures.shown _ _ _ _ (begun-shown t.R.Rolls.drawing r c.args.side _ w))

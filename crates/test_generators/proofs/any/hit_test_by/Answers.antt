@@ -6,5 +6,5 @@ use Rattle.test_generators.proofs.any.hit_test_by.Goals as goal
 pub returns : goal.returns
 returns t c g f w unsettled =
     let r = c.args.random.now in
-    hit_test-is t.R.Rolls.byte t.R.Rolls.next t.R.Rolls.SPAN r _ c.args.side (move_at c.args.id) c.args.base g _ f _ _ unsettled
-    (c.hit_test.ensures.shown _ _ _ _ (begun-shown t.R.Rolls.byte t.R.Rolls.next t.R.Rolls.SPAN r c.args.side _ w))
+    hit_test-is t.R.Rolls.drawing r _ c.args.side (move_at c.args.id) c.args.base g _ f _ _ unsettled
+    (c.hit_test.ensures.shown _ _ _ _ (begun-shown t.R.Rolls.drawing r c.args.side _ w))

@@ -9,14 +9,14 @@ use Rattle.gen1_multiturn.proofs.moves.counter.counter_knowing.Goals as goal
 pub returns-in_default-clause-shown : goal.returns-in_default-clause-shown
 unfolding counter set_missed
 returns-in_default-clause-shown t c events origin g p h =
-    let a = c.critical-known.ensures.shown origin (knowing c.args.known.now g) events p h in
+    let a = c.critical-known.ensures.shown events origin (knowing c.args.known.now g) p h in
     let no = missed-if _ _ (sym (c.counter.ensures.stands _ _ a.shows.within) ∙ c.in_default.is) in
     drawn_goes _ _ a (drawn_if_not _ _ _ no (drawn_acted (λ (x : Action). record x { missed = true }) a))
 
 pub returns-clause-shown : goal.returns-clause-shown
 unfolding counter counter_by
 returns-clause-shown t c events origin g p h =
-    let a = c.critical-known.ensures.shown origin (knowing c.args.known.now g) events p h in
+    let a = c.critical-known.ensures.shown events origin (knowing c.args.known.now g) p h in
     let k = record c.args.known.now { critical = c.critical-known.result } in
     let damage = c.in-Some.damage in
     let dealt = dealt-if _ _ damage (sym (c.counter.ensures.stands _ _ a.shows.within) ∙ c.in-Some.is) in
