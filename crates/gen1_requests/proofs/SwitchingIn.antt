@@ -23,7 +23,7 @@ use Rattle.gen1_layout.specs.Shows.{ShowsPacked}
 use Rattle.gen1_layout.specs.Storable.{IsStorable, IsStorableParty}
 use Rattle.gen1_layout.proofs.Steps.{within_packed}
 use Rattle.gen1_requests.specs.SwitchingIn.{coming_out, halvings_of, quarterings_of, stats_out, with_out}
-use Rattle.gen1_requests.specs.Updates.{beginning}
+use Rattle.gen1_requests.specs.Updates.{frame_of}
 
 -- The machine's member that comes out is that of the code, by the penalty of its status.
 pub sent_made : (place : ℕ) (m : Member)
@@ -153,7 +153,7 @@ free_one s = subst (λ (q : Progress). (underway_in One q.field).trapping ≡ No
 
 -- Both first members are out.
 pub both_begun : (s : State) {parts : Parts} {events : Telling} → IsUnstarted s.terms s.field
-    → ShowsPacked (beginning s) parts events (send_out Two 1 (send_out One 1 (opened s))) → Shows (beginning s) parts events false (start (opened s))
+    → ShowsPacked (frame_of s) parts events (send_out Two 1 (send_out One 1 (opened s))) → Shows (frame_of s) parts events false (start (opened s))
 unfolding start
 both_begun s un h =
     let one = sends_as One 1 (opened s) refl in

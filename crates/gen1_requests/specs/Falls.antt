@@ -7,6 +7,7 @@ use Rattle.gen1_machine.specs.declared.terms.Outcome.TheVariants.{Fault}
 use Rattle.gen1_machine.specs.Falls.{ask_for_moves, ask_for_switches, end_if_decided}
 use Rattle.gen1_machine.specs.Progress.{choose, has_fallen}
 use Rattle.gen1_machine.specs.Ruling.{ruling_of}
+use Rattle.gen1_layout.specs.Operations.{Premise}
 use Rattle.gen1_layout.specs.Parts.{Parts}
 
 -- The number of the fault that ended a battle.
@@ -17,6 +18,10 @@ fault_in _ = None
 -- What is asked for next, if nothing is decided.
 abbrev pub ask_next : Phase
 ask_next = choose (λ p. has_fallen One p || has_fallen Two p) ask_for_switches ask_for_moves
+
+-- a premise: the turn limit is not reached
+abbrev pub turns_left : Premise
+turns_left g p Then = p.field.turn < g.setting.terms.limit → Then
 
 -- By whether the battle is decided. Either it has ended and the rest of the update is skipped, or nothing has
 -- happened and a turn is left.

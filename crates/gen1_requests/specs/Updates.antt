@@ -3,7 +3,7 @@
 use Rattle.std.specs.Prelude.{◌≡◌, ◌⊎◌}
 use Rattle.gen1_layout.specs.Words.{Event, Frame, List, Progress, Setting, Telling, Within, false, true, ℕ}
 use Rattle.gen1_rolls.specs.Draws.{Drawing, StandsAt}
-use Rattle.gen1_rolls.specs.Streams.{Link, Stream}
+use Rattle.gen1_rolls.specs.Streams.{IsStream, Link, Stream}
 use Rattle.gen1_machine.specs.declared.choice.Choice.{Choice}
 use Rattle.gen1_machine.specs.declared.side.Side.TheVariants.{One, Two}
 use Rattle.gen1_machine.specs.declared.terms.Outcome.TheVariants.{Ongoing}
@@ -12,12 +12,13 @@ use Rattle.gen1_machine.specs.State.{State}
 use Rattle.gen1_machine.specs.Progress.{new_action}
 use Rattle.gen1_machine.specs.Step.{offers, opened, step, Accepted}
 use Rattle.gen1_machine.specs.Valid.{IsUnstarted}
+use Rattle.gen1_layout.specs.Operations.{Scene}
 use Rattle.gen1_layout.specs.Parts.{Parts}
 use Rattle.gen1_layout.specs.Within.{setting_of, Stands}
 
 -- An update at its start.
-abbrev pub beginning : State → Frame
-beginning s = record { setting = setting_of s; stream = Link s.seed; drawn = s.drawn; skips = false; action = new_action One }
+abbrev pub frame_of : State → Frame
+frame_of s = record { setting = setting_of s; stream = Link s.seed; drawn = s.drawn; skips = false; action = new_action One }
 
 -- The update begins on any stream, at any place in it.
 abbrev pub drawing_on : Stream → ℕ → State → Progress
@@ -46,6 +47,13 @@ pub record UpdatedDrawing {A : Type 0} (d : Drawing A) (origin : A) (stream : St
   pub within : Within g parts q.field
   pub written : events q.events
   pub stands : StandsAt d origin stream q.drawn now
+
+-- code with draws makes such an update, wherever on a stream its generator stands: from the generator that it was passed to the
+-- one that it returns
+abbrev pub UpdatesDrawing : {A : Type 0} → Drawing A → A → A → Setting → Scene → (Stream → ℕ → Progress) → Type 0
+UpdatesDrawing {A = A} d old new g s after = s λ _ _ _ parts' events' _.
+    (origin : A) (stream : Stream) (drawn : ℕ) → IsStream stream → StandsAt d origin stream drawn old
+    → UpdatedDrawing d origin stream g parts' events' new (after stream drawn)
 
 -- The bytes represent the state after a pair of choices. The pair was accepted, with these events.
 pub record Steps (s : State) (one two : Choice) (parts : Parts) (events : Telling) : Type 0 where

@@ -1,17 +1,17 @@
 //! The end of an update: who has fallen, who has won, and what is asked for next (docs/MECHANICS.md, "Falls and
 //! requests", "Turn limit").
-ghost use Rattle.std.specs.Prelude.{not, ◌&&◌, ◌<◌, ◌≡◌};
+ghost use Rattle.std.specs.Prelude.{not, ◌&&◌, ◌≡◌};
 ghost use Rattle.gen1_tables.specs.Types.{any};
-ghost use Rattle.gen1_layout.specs.Words.{AddsAtMost, AddsNone, Bool, Does, Event as EventOf, Field, Frame, HasRoom, List, Progress, Reads, Setting, Shows, Told, Within, false, is_living, nat_le, party, true, ◌▸◌};
+ghost use Rattle.gen1_layout.specs.Operations.{Does, DoesAnyway, DoesWhere, anything, quiet, scene};
+ghost use Rattle.gen1_layout.specs.Words.{AddsAtMost, AddsNone, Event as EventOf, Field, Frame, HasRoom, List, Progress, Reads, Setting, Shows, Within, false, is_living, nat_le, party, true, ◌▸◌};
 ghost use Rattle.gen1_machine.specs.declared.event.Event.TheVariants as told;
 ghost use Rattle.gen1_machine.specs.declared.side.Side.TheVariants as sides;
 ghost use Rattle.gen1_machine.specs.Falls.{ask_for_moves, ask_nothing, battle_ends, close, faint_if_fallen, faint_in_order, settle, switch_if, the_fallen_faint};
 ghost use Rattle.gen1_machine.specs.Progress.{note};
-ghost use Rattle.gen1_machine.specs.Ruling.{ruling_of};
 ghost use Rattle.gen1_machine.specs.State.{has_fallen_in};
 ghost use Rattle.gen1_machine.specs.Valid.{IsOutcome};
 ghost use Rattle.gen1_stats.specs.Members.{IsBetween};
-ghost use Rattle.gen1_requests.specs.Falls.{Decides, ask_next, fault_in};
+ghost use Rattle.gen1_requests.specs.Falls.{Decides, ask_next, fault_in, turns_left};
 
 use gen1_events::EventSink;
 use gen1_layout::Packed;
@@ -30,11 +30,8 @@ use gen1_machine::{Event, FaultCode, Outcome, Request, Side, TurnNumber};
 #[inline(always)] // docs/SPEED.md, "Hints on inlining"
 pub fn close<S: EventSink>(battle: &mut Packed, actor: Side, events: &mut S)
     requires space { HasRoom S.room 3 events.old }
-    ensures shown { (g : Frame) (p : Progress) → g.action.side ≡ actor
-        → Shows g battle.old (S.tells events.old) false p
-        → (stopped : Bool)
-        × Shows g battle.new (S.tells events.new) stopped
-        (close (ruling_of g.setting.terms) p.field.outcome p) }
+    ensures shown { DoesAnyway (λ g p Then. g.action.side ≡ actor → Then)
+        (scene S.tells battle events) (λ r p. close r p.field.outcome p) }
     ensures room { AddsAtMost S.room 3 events.old events.new }
 {
     match fault_in(battle.outcome()) {
@@ -58,8 +55,7 @@ fn fault_in(outcome: Outcome) -> Option<u8>
 #[inline(never)] // docs/SPEED.md, "Hints on inlining"
 fn end_by_fault<S: EventSink>(battle: &mut Packed, number: u8, events: &mut S)
     requires space { HasRoom S.room 1 events.old }
-    ensures shown { IsBetween 1 2 number
-        → Does battle.old (S.tells events.old) battle.new (S.tells events.new) false
+    ensures shown { IsBetween 1 2 number → Does (scene S.tells battle events) false
         (ask_nothing ▸ note λ f. told.Fault number) }
     ensures room { AddsAtMost S.room 1 events.old events.new }
 {
@@ -71,11 +67,8 @@ fn end_by_fault<S: EventSink>(battle: &mut Packed, number: u8, events: &mut S)
 
 fn faint_and_settle<S: EventSink>(battle: &mut Packed, actor: Side, events: &mut S)
     requires space { HasRoom S.room 3 events.old }
-    ensures shown { (g : Frame) (p : Progress) → g.action.side ≡ actor
-        → Shows g battle.old (S.tells events.old) false p
-        → (stopped : Bool)
-        × Shows g battle.new (S.tells events.new) stopped
-        ((the_fallen_faint ▸ settle (ruling_of g.setting.terms)) p) }
+    ensures shown { DoesAnyway (λ g p Then. g.action.side ≡ actor → Then)
+        (scene S.tells battle events) (λ r. the_fallen_faint ▸ settle r) }
     ensures room { AddsAtMost S.room 3 events.old events.new }
 {
     if nobody_has_fallen(battle) {
@@ -97,10 +90,8 @@ fn nobody_has_fallen(battle: &Packed) -> bool
 // What is settled while both members that are out live: neither side has lost.
 fn go_on<S: EventSink>(battle: &mut Packed, events: &mut S)
     requires space { HasRoom S.room 1 events.old }
-    ensures shown { (g : Frame) (p : Progress) → has_fallen_in sides.One p.field ≡ false
-        → has_fallen_in sides.Two p.field ≡ false
-        → Shows g battle.old (S.tells events.old) false p → (stopped : Bool)
-        × Shows g battle.new (S.tells events.new) stopped (settle (ruling_of g.setting.terms) p) }
+    ensures shown { DoesAnyway (λ g p Then. has_fallen_in sides.One p.field ≡ false
+        → has_fallen_in sides.Two p.field ≡ false → Then) (scene S.tells battle events) settle }
     ensures room { AddsAtMost S.room 1 events.old events.new }
 {
     if is_last_turn(battle) {
@@ -112,8 +103,7 @@ fn go_on<S: EventSink>(battle: &mut Packed, events: &mut S)
 
 fn faint_in_order<S: EventSink>(battle: &mut Packed, actor: Side, events: &mut S)
     requires space { HasRoom S.room 2 events.old }
-    ensures shown { Does battle.old (S.tells events.old) battle.new (S.tells events.new) false
-        (faint_in_order actor) }
+    ensures shown { Does (scene S.tells battle events) false (faint_in_order actor) }
     ensures room { AddsAtMost S.room 2 events.old events.new }
 {
     faint_if_fallen(battle, actor.other(), events);
@@ -122,8 +112,7 @@ fn faint_in_order<S: EventSink>(battle: &mut Packed, actor: Side, events: &mut S
 
 fn faint_if_fallen<S: EventSink>(battle: &mut Packed, side: Side, events: &mut S)
     requires space { HasRoom S.room 1 events.old }
-    ensures shown { Does battle.old (S.tells events.old) battle.new (S.tells events.new) false
-        (faint_if_fallen side) }
+    ensures shown { Does (scene S.tells battle events) false (faint_if_fallen side) }
     ensures room { AddsAtMost S.room 1 events.old events.new }
 {
     if !battle.has_fallen(side) {
@@ -135,9 +124,7 @@ fn faint_if_fallen<S: EventSink>(battle: &mut Packed, side: Side, events: &mut S
 
 fn settle<S: EventSink>(battle: &mut Packed, events: &mut S)
     requires space { HasRoom S.room 1 events.old }
-    ensures shown { (g : Frame) (p : Progress) → Shows g battle.old (S.tells events.old) false p
-        → (stopped : Bool)
-        × Shows g battle.new (S.tells events.new) stopped (settle (ruling_of g.setting.terms) p) }
+    ensures shown { DoesAnyway anything (scene S.tells battle events) settle }
     ensures room { AddsAtMost S.room 1 events.old events.new }
 {
     if end_if_decided(battle, events) {
@@ -198,8 +185,7 @@ fn has_living(battle: &Packed, side: Side) -> bool
 #[inline(always)] // docs/SPEED.md, "Hints on inlining"
 fn battle_ends<S: EventSink>(battle: &mut Packed, outcome: Outcome, event: Event, events: &mut S)
     requires space { HasRoom S.room 1 events.old }
-    ensures shown { IsOutcome outcome
-        → Does battle.old (S.tells events.old) battle.new (S.tells events.new) true
+    ensures shown { IsOutcome outcome → Does (scene S.tells battle events) true
         (battle_ends outcome event) }
     ensures room { AddsAtMost S.room 1 events.old events.new }
 {
@@ -209,8 +195,7 @@ fn battle_ends<S: EventSink>(battle: &mut Packed, outcome: Outcome, event: Event
 }
 
 fn ask_nothing(battle: &mut Packed)
-    ensures shown { (events : List EventOf)
-        → Does battle.old (Told events) battle.new (Told events) false ask_nothing }
+    ensures shown { (told : List EventOf) → Does (quiet told battle) false ask_nothing }
 {
     battle.put_requests(Request::Pass, Request::Pass);
 }
@@ -218,9 +203,7 @@ fn ask_nothing(battle: &mut Packed)
 // A switch for each side whose member has fallen, otherwise moves of both for the next turn.
 fn ask_next<S: EventSink>(battle: &mut Packed, events: &mut S)
     requires space { HasRoom S.room 1 events.old }
-    ensures shown { (g : Frame) (p : Progress) → p.field.turn < g.setting.terms.limit
-        → Shows g battle.old (S.tells events.old) false p
-        → Shows g battle.new (S.tells events.new) false (ask_next p) }
+    ensures shown { DoesWhere turns_left (scene S.tells battle events) false (λ r. ask_next) }
     ensures room { AddsAtMost S.room 1 events.old events.new }
 {
     let one = battle.has_fallen(Side::One);
@@ -246,9 +229,7 @@ fn switch_if(fallen: bool) -> Request
 #[inline(never)] // docs/SPEED.md, "Hints on inlining"
 fn ask_for_moves<S: EventSink>(battle: &mut Packed, events: &mut S)
     requires space { HasRoom S.room 1 events.old }
-    ensures shown { (g : Frame) (p : Progress) → p.field.turn < g.setting.terms.limit
-        → Shows g battle.old (S.tells events.old) false p
-        → Shows g battle.new (S.tells events.new) false (ask_for_moves p) }
+    ensures shown { DoesWhere turns_left (scene S.tells battle events) false (λ r. ask_for_moves) }
     ensures room { AddsAtMost S.room 1 events.old events.new }
 {
     battle.put_next_turn();

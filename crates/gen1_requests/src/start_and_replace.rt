@@ -1,6 +1,7 @@
 //! The two updates in which members come out and none acts: the first of a battle, and replacements for fallen
 //! members (docs/MECHANICS.md, "Falls and requests").
-ghost use Rattle.gen1_layout.specs.Words.{AddsAtMost, Frame, HasRoom, Progress, Shows, [], false};
+ghost use Rattle.gen1_layout.specs.Operations.{DoesWhere, holding, scene};
+ghost use Rattle.gen1_layout.specs.Words.{AddsAtMost, HasRoom, Shows, [], false};
 ghost use Rattle.gen1_machine.specs.declared.choice.Choice.TheVariants.{Pass};
 ghost use Rattle.gen1_machine.specs.declared.side.Side.TheVariants as sides;
 ghost use Rattle.gen1_machine.specs.declared.terms.Request.TheVariants.{Switch};
@@ -11,7 +12,7 @@ ghost use Rattle.gen1_machine.specs.Step.{close_update, opened};
 ghost use Rattle.gen1_machine.specs.SwitchingIn.{replace, send_if_chosen, start};
 ghost use Rattle.gen1_machine.specs.Valid.{IsUnstarted};
 ghost use Rattle.gen1_layout.specs.Within.{Stands, setting_of};
-ghost use Rattle.gen1_requests.specs.Updates.{Plays, Starts, Steps, Updated, beginning};
+ghost use Rattle.gen1_requests.specs.Updates.{Plays, Starts, Steps, Updated, frame_of};
 
 use crate::switching_in::send_first;
 use crate::{close, send_out};
@@ -68,7 +69,7 @@ pub fn send_both_first<S: EventSink>(battle: &mut Packed, events: &mut S)
     requires space { HasRoom S.room 2 events.old }
     ensures shown { (s : State) → S.tells events.old [] → Stands battle.old s
         → IsUnstarted s.terms s.field
-        → Shows (beginning s) battle.new (S.tells events.new) false (start (opened s)) }
+        → Shows (frame_of s) battle.new (S.tells events.new) false (start (opened s)) }
     ensures room { AddsAtMost S.room 2 events.old events.new }
 {
     if let Some(first) = Place::new(1) {
@@ -80,10 +81,9 @@ pub fn send_both_first<S: EventSink>(battle: &mut Packed, events: &mut S)
 #[inline(never)] // docs/SPEED.md, "Hints on inlining"
 fn send_both_chosen<S: EventSink>(battle: &mut Packed, one: Choice, two: Choice, events: &mut S)
     requires space { HasRoom S.room 2 events.old }
-    ensures shown { (g : Frame) (p : Progress) → Comes one sides.One p.field
-        → Comes two sides.Two p.field
-        → Shows g battle.old (S.tells events.old) false p
-        → Shows g battle.new (S.tells events.new) false (replace one two p) }
+    ensures shown { DoesWhere
+        (λ g p Then. Comes one sides.One p.field → Comes two sides.Two p.field → Then)
+        (scene S.tells battle events) false (λ r. replace one two) }
     ensures room { AddsAtMost S.room 2 events.old events.new }
 {
     send_if_chosen(battle, Side::One, one, events);
@@ -93,9 +93,8 @@ fn send_both_chosen<S: EventSink>(battle: &mut Packed, one: Choice, two: Choice,
 #[inline(always)] // docs/SPEED.md, "Hints on inlining"
 fn send_if_chosen<S: EventSink>(battle: &mut Packed, side: Side, choice: Choice, events: &mut S)
     requires space { HasRoom S.room 1 events.old }
-    ensures shown { (g : Frame) (p : Progress) → Comes choice side p.field
-        → Shows g battle.old (S.tells events.old) false p
-        → Shows g battle.new (S.tells events.new) false (send_if_chosen side choice p) }
+    ensures shown { DoesWhere (holding λ p. Comes choice side p.field) (scene S.tells battle events)
+        false (λ r. send_if_chosen side choice) }
     ensures room { AddsAtMost S.room 1 events.old events.new }
 {
     match choice {

@@ -1,5 +1,6 @@
 //! Members that come out (docs/MECHANICS.md, "Switching in").
 ghost use Rattle.std.specs.Prelude.{[], ◌++◌, ◌≡◌, ◌∷◌};
+ghost use Rattle.gen1_layout.specs.Operations.{DoesWhere, holding, scene};
 ghost use Rattle.gen1_layout.specs.Words.{AddsAtMost, Event as EventOf, Field, Frame, HasRoom, List, None, Packs, Progress, Setting, Shows, Some, Within, false, member_at, other, party, underway_in};
 ghost use Rattle.gen1_machine.specs.Plans.{InRange};
 ghost use Rattle.gen1_machine.specs.SwitchingIn.{send_out};
@@ -19,9 +20,8 @@ use gen1_stats::Status;
 #[inline(always)] // docs/SPEED.md, "Hints on inlining"
 pub fn send_out<S: EventSink>(battle: &mut Packed, side: Side, place: Place, events: &mut S)
     requires space { HasRoom S.room 1 events.old }
-    ensures shown { (g : Frame) (p : Progress) → InRange side place p.field
-        → Shows g battle.old (S.tells events.old) false p
-        → Shows g battle.new (S.tells events.new) false (send_out side place p) }
+    ensures shown { DoesWhere (holding λ p. InRange side place p.field) (scene S.tells battle events)
+        false (λ r. send_out side place) }
     ensures room { AddsAtMost S.room 1 events.old events.new }
 {
     tell_coming_out(battle, side, place, events);

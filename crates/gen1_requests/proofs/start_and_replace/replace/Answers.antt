@@ -8,7 +8,7 @@ use Rattle.gen1_machine.specs.SwitchingIn.{replace}
 use Rattle.gen1_machine.specs.Step.{close_update, opened}
 use Rattle.gen1_layout.specs.Within.{setting_of, Stands}
 use Rattle.gen1_layout.proofs.Storing.{within_of}
-use Rattle.gen1_requests.specs.Updates.{beginning, Plays, Updated}
+use Rattle.gen1_requests.specs.Updates.{frame_of, Plays, Updated}
 use Rattle.gen1_requests.proofs.OfferedChoices.{comes_offered, reopened, started}
 use Rattle.gen1_requests.proofs.Stepped.{replaced-so}
 use Rattle.gen1_requests.proofs.start_and_replace.replace.Goals as goal
@@ -22,7 +22,7 @@ returns t c = record { updated = left; stepped = λ s stands plays. replaced-so 
     left s stands plays =
         let apart : (Pass ≡ Switch → ⊥) = λ e. cc in
         let v = started s Switch c.args.one c.args.two stands.valid apart plays in
-        let a = c.send_both_chosen.ensures.shown (beginning s) (opened s) (comes_offered s One c.args.one v.field plays.goes_on plays.first) (comes_offered s Two c.args.two v.field plays.goes_on plays.second)
+        let a = c.send_both_chosen.ensures.shown (frame_of s) (opened s) (comes_offered s One c.args.one v.field plays.goes_on plays.first) (comes_offered s Two c.args.two v.field plays.goes_on plays.second)
         (record { within = within_of _ s stands v.field; written = c.requires.empty; ends = refl; stream = refl; drawn = refl; skips = refl; action = refl }) in
-        let d = c.close.ensures.shown (beginning s) (record (replace c.args.one c.args.two (opened s)) { stopped = false }) refl (reopened a) in
+        let d = c.close.ensures.shown (frame_of s) (record (replace c.args.one c.args.two (opened s)) { stopped = false }) refl (reopened a) in
         record { within = d.1.within; written = d.1.written; drawn = d.1.drawn }

@@ -5,7 +5,7 @@ use Rattle.gen1_machine.specs.State.{State}
 use Rattle.gen1_machine.specs.SwitchingIn.{start}
 use Rattle.gen1_machine.specs.Step.{close_update, opened}
 use Rattle.gen1_layout.specs.Within.{setting_of, Stands}
-use Rattle.gen1_requests.specs.Updates.{beginning, Starts, Updated}
+use Rattle.gen1_requests.specs.Updates.{frame_of, Starts, Updated}
 use Rattle.gen1_requests.proofs.OfferedChoices.{reopened}
 use Rattle.gen1_requests.proofs.Stepped.{started-so}
 use Rattle.gen1_requests.proofs.start_and_replace.start.Goals as goal
@@ -17,5 +17,5 @@ returns t c = record { updated = left; stepped = λ s stands starts. started-so 
     left : (s : State) → Stands c.args.battle.now s → Starts s → Updated (setting_of s) c.close.new.battle (t.S.EventSink.tells c.close.new.events) (close_update (ruling_of s.terms) (start (opened s)))
     left s stands starts =
         let a = c.send_both_first.ensures.shown s c.requires.empty stands starts.unstarted in
-        let d = c.close.ensures.shown (beginning s) (record (start (opened s)) { stopped = false }) refl (reopened a) in
+        let d = c.close.ensures.shown (frame_of s) (record (start (opened s)) { stopped = false }) refl (reopened a) in
         record { within = d.1.within; written = d.1.written; drawn = d.1.drawn }
