@@ -2,10 +2,11 @@
 -- after it.
 use Rattle.std.specs.Prelude.{◌≡◌}
 use Rattle.gen1_layout.specs.Words.{Bool, Frame, Phase, Progress, Shows, ShowsDrawn, Telling, false, true, ℕ}
-use Rattle.gen1_rolls.specs.Draws.{Drawing}
+use Rattle.gen1_rolls.specs.Draws.{Drawing, Ref}
 use Rattle.gen1_machine.specs.declared.terms.Outcome.{Outcome}
 use Rattle.gen1_machine.specs.declared.terms.Outcome.TheVariants as outcomes
 use Rattle.gen1_machine.specs.Progress.{Action}
+use Rattle.gen1_layout.specs.Operations.{Premise, Scene}
 use Rattle.gen1_layout.specs.Parts.{Parts}
 use Rattle.gen1_status.specs.declared.gate_answer.Gate.{Gate}
 use Rattle.gen1_status.specs.declared.gate_answer.Gate.TheVariants.{Go, Fault}
@@ -37,8 +38,14 @@ pub record TellsDrawn {A : Type 0} (d : Drawing A) (origin : A) (g : Frame) (par
   pub shows : ShowsDrawn d origin (frame_after answer after g) parts events now (stopped_by answer) after
   pub outcome : after.field.outcome ≡ outcome_after answer before.field.outcome
 
--- Code with draws does what a phase does, and its result says how that ended.
-abbrev pub DoesTelling : {A : Type 0} → Drawing A → Parts → Telling → A → Parts → Telling → A → Gate → Phase → Type 0
-DoesTelling {A = A} d parts events old parts' events' new answer phase =
-    (origin : A) (g : Frame) (p : Progress) → ShowsDrawn d origin g parts events old false p
-    → TellsDrawn d origin g parts' events' new answer p (phase p)
+-- code without draws does what a phase does, and its result says how that ended
+abbrev pub DoesTelling : Scene → Gate → Phase → Type 0
+DoesTelling s answer phase = s λ parts events knows parts' events' knows'.
+    (g : Frame) (p : Progress) → Shows (knows g) parts events false p → Tells (knows' g) parts' events' answer p (phase p)
+
+-- the same with draws, where a premise holds
+abbrev pub DrawsTelling : {A : Type 0} → Drawing A → Ref A → Premise → Scene → Gate → Phase → Type 0
+DrawsTelling {A = A} d random premise s answer phase = s λ parts events knows parts' events' knows'.
+    (origin : A) (g : Frame) (p : Progress) → premise g p
+    (ShowsDrawn d origin (knows g) parts events random.entry.now false p
+    → TellsDrawn d origin (knows' g) parts' events' random.exit.now answer p (phase p))

@@ -1,11 +1,12 @@
 //! The gate: what can keep a member from acting (docs/MECHANICS.md, "Gate"). The tests run in order, and the first
 //! that stops decides.
 ghost use Rattle.std.specs.Prelude.{◌≡◌};
-ghost use Rattle.gen1_layout.specs.Words.{AddsAtMost, Does, Field, HasRoom, Setting, Within, true};
+ghost use Rattle.gen1_layout.specs.Operations.{Does, anything, looking, scene};
+ghost use Rattle.gen1_layout.specs.Words.{AddsAtMost, Field, HasRoom, Setting, Within, true};
 ghost use Rattle.gen1_machine.specs.Action.{gate_or_held};
 ghost use Rattle.gen1_machine.specs.Gate.{cant, gate};
 ghost use Rattle.gen1_status.specs.Gate.{ActsAtOnce, is_held, keeps_from_acting};
-ghost use Rattle.gen1_status.specs.GateAnswer.{DoesTelling};
+ghost use Rattle.gen1_status.specs.GateAnswer.{DrawsTelling};
 
 mod by_move;
 mod by_status;
@@ -34,8 +35,8 @@ pub fn gate<R: Rolls, S: EventSink>(
     events: &mut S,
 ) -> Gate
     requires room { HasRoom S.room 3 events.old }
-    ensures shown { DoesTelling R.drawing battle.old (S.tells events.old) random.old
-        battle.new (S.tells events.new) random.new result (gate_or_held side pick) }
+    ensures shown { DrawsTelling R.drawing random anything (scene S.tells battle events) result
+        (gate_or_held side pick) }
     ensures room { AddsAtMost S.room 3 events.old events.new }
 {
     if is_held(pick) {
@@ -88,8 +89,8 @@ fn take_tests<R: Rolls, S: EventSink>(
     events: &mut S,
 ) -> Gate
     requires room { HasRoom S.room 3 events.old }
-    ensures shown { DoesTelling R.drawing battle.old (S.tells events.old) random.old
-        battle.new (S.tells events.new) random.new result (gate side pick) }
+    ensures shown { DrawsTelling R.drawing random anything (scene S.tells battle events) result
+        (gate side pick) }
     ensures room { AddsAtMost S.room 3 events.old events.new }
 {
     if gate_of_status(battle, side, events) {
@@ -105,8 +106,7 @@ fn take_tests<R: Rolls, S: EventSink>(
 #[inline(never)] // docs/SPEED.md, "Hints on inlining"
 fn cant<S: EventSink>(battle: &Packed, side: Side, why: CantReason, events: &mut S)
     requires room { HasRoom S.room 1 events.old }
-    ensures shown { Does battle.now (S.tells events.old) battle.now (S.tells events.new) true
-        (cant side why) }
+    ensures shown { Does (looking S.tells battle events) true (cant side why) }
     ensures room { AddsAtMost S.room 1 events.old events.new }
 {
     events.push(Event::Cant(battle.who(side), why));

@@ -1,8 +1,9 @@
 //! The hit of a confused member on itself (docs/MECHANICS.md, "Hit on itself").
 ghost use Rattle.std.specs.Prelude.{◌≡◌, ◌≢◌};
+ghost use Rattle.gen1_layout.specs.Operations.{scene};
 ghost use Rattle.gen1_layout.specs.Words.{AddsAtMost, Frame, HasRoom, Progress, Shows, conditions, false, other, stop, ◌▸◌};
 ghost use Rattle.gen1_machine.specs.HitOnItself.{hurt_itself, hurt_itself_by, land_on_foes_substitute};
-ghost use Rattle.gen1_status.specs.GateAnswer.{Tells, frame_after};
+ghost use Rattle.gen1_status.specs.GateAnswer.{DoesTelling, frame_after};
 
 use crate::Gate;
 use gen1_events::EventSink;
@@ -16,8 +17,7 @@ use gen1_machine::{DamageSource, Outcome, Side};
 /// The power is 40, and its own Attack works against its own Defense. It writes at most one event.
 pub(crate) fn hurt_itself<S: EventSink>(battle: &mut Packed, side: Side, events: &mut S) -> Gate
     requires room { HasRoom S.room 1 events.old }
-    ensures shown { (g : Frame) (p : Progress) → Shows g battle.old (S.tells events.old) false p
-        → Tells g battle.new (S.tells events.new) result p (hurt_itself side p) }
+    ensures shown { DoesTelling (scene S.tells battle events) result (hurt_itself side) }
     ensures room { AddsAtMost S.room 1 events.old events.new }
     ensures stops { result ≢ Gate.Go }
 {
@@ -36,8 +36,8 @@ fn hurt_itself_by<S: EventSink>(
     events: &mut S,
 ) -> Gate
     requires room { HasRoom S.room 1 events.old }
-    ensures shown { (g : Frame) (p : Progress) → Shows g battle.old (S.tells events.old) false p
-        → Tells g battle.new (S.tells events.new) result p ((hurt_itself_by side damage ▸ stop) p) }
+    ensures shown { DoesTelling (scene S.tells battle events) result
+        (hurt_itself_by side damage ▸ stop) }
     ensures room { AddsAtMost S.room 1 events.old events.new }
     ensures stops { result ≢ Gate.Go }
 {

@@ -1,6 +1,7 @@
 //! Statuses that a member gets (docs/MECHANICS.md, "Penalties", "Order of events").
 ghost use Rattle.std.specs.Prelude.{◌≡◌};
-ghost use Rattle.gen1_layout.specs.Words.{AddsAtMost, Does, Frame, HasRoom, Progress, Shows, false};
+ghost use Rattle.gen1_layout.specs.Operations.{Does, DoesWhere, scene, under};
+ghost use Rattle.gen1_layout.specs.Words.{AddsAtMost, HasRoom, false};
 ghost use Rattle.gen1_machine.specs.Progress.{inflict};
 ghost use Rattle.gen1_machine.specs.Valid.{IsStatus};
 ghost use Rattle.gen1_status.specs.Infliction.{IsCountOf, status_of_kind};
@@ -24,8 +25,7 @@ pub fn inflict<S: EventSink>(
     events: &mut S,
 )
     requires room { HasRoom S.room 1 events.old }
-    ensures shown { IsCountOf kind count
-        → Does battle.old (S.tells events.old) battle.new (S.tells events.new) false
+    ensures shown { IsCountOf kind count → Does (scene S.tells battle events) false
         (inflict target (status_of_kind kind count) kind) }
     ensures room { AddsAtMost S.room 1 events.old events.new }
 {
@@ -45,9 +45,8 @@ pub fn inflict_status<S: EventSink>(
     events: &mut S,
 )
     requires room { HasRoom S.room 1 events.old }
-    ensures shown { (g : Frame) (p : Progress) → IsStatus g.setting.terms.rules status
-        → Shows g battle.old (S.tells events.old) false p
-        → Shows g battle.new (S.tells events.new) false (inflict target status kind p) }
+    ensures shown { DoesWhere (under λ t. IsStatus t.rules status) (scene S.tells battle events) false
+        (λ r. inflict target status kind) }
     ensures room { AddsAtMost S.room 1 events.old events.new }
 {
     battle.put_status(target, status);

@@ -1,6 +1,7 @@
 //! The damage of poison, a burn and Leech Seed (docs/MECHANICS.md, "Residual damage").
 ghost use Rattle.std.specs.Prelude.{◌||◌, ◌≡◌, ◌≤◌};
-ghost use Rattle.gen1_layout.specs.Words.{AddsAtMost, Does, Event, HasRoom, List, Reads, Told, conditions_in, false, is_living, member_in, status_in};
+ghost use Rattle.gen1_layout.specs.Operations.{Does, quiet, scene};
+ghost use Rattle.gen1_layout.specs.Words.{AddsAtMost, Event, HasRoom, List, Reads, conditions_in, false, is_living, member_in, status_in};
 ghost use Rattle.gen1_machine.specs.Conditions.{one_more};
 ghost use Rattle.gen1_machine.specs.ResidualDamage.{residual, residual_in, suffer, suffer_seed, suffer_status, times_poisoned, worsen};
 ghost use Rattle.gen1_status.specs.ResidualDamage.{takes_hp};
@@ -22,8 +23,7 @@ use gen1_stats::Status;
 #[inline(always)] // docs/SPEED.md, "Hints on inlining"
 pub fn residual<S: EventSink>(battle: &mut Packed, side: Side, events: &mut S)
     requires room { HasRoom S.room 3 events.old }
-    ensures shown { Does battle.old (S.tells events.old) battle.new (S.tells events.new) false
-        (residual side) }
+    ensures shown { Does (scene S.tells battle events) false (residual side) }
     ensures room { AddsAtMost S.room 3 events.old events.new }
 {
     if !suffers(battle, side) {
@@ -66,8 +66,7 @@ fn is_living(battle: &Packed, side: Side) -> bool
 // The damage of a status. Only poison and a burn have any.
 fn suffer_status<S: EventSink>(battle: &mut Packed, side: Side, status: Status, events: &mut S)
     requires room { HasRoom S.room 1 events.old }
-    ensures shown { Does battle.old (S.tells events.old) battle.new (S.tells events.new) false
-        (suffer_status side status) }
+    ensures shown { Does (scene S.tells battle events) false (suffer_status side status) }
     ensures room { AddsAtMost S.room 1 events.old events.new }
 {
     match status {
@@ -83,8 +82,7 @@ fn suffer_status<S: EventSink>(battle: &mut Packed, side: Side, status: Status, 
 #[inline(never)] // docs/SPEED.md, "Hints on inlining"
 fn suffer<S: EventSink>(battle: &mut Packed, side: Side, source: DamageSource, events: &mut S)
     requires room { HasRoom S.room 1 events.old }
-    ensures shown { Does battle.old (S.tells events.old) battle.new (S.tells events.new) false
-        (suffer side source) }
+    ensures shown { Does (scene S.tells battle events) false (suffer side source) }
     ensures room { AddsAtMost S.room 1 events.old events.new }
 {
     worsen(battle, side);
@@ -95,8 +93,7 @@ fn suffer<S: EventSink>(battle: &mut Packed, side: Side, source: DamageSource, e
 // The foe heals by the full amount, even if the member had less HP left.
 fn suffer_seed<S: EventSink>(battle: &mut Packed, side: Side, events: &mut S)
     requires room { HasRoom S.room 2 events.old }
-    ensures shown { Does battle.old (S.tells events.old) battle.new (S.tells events.new) false
-        (suffer_seed side) }
+    ensures shown { Does (scene S.tells battle events) false (suffer_seed side) }
     ensures room { AddsAtMost S.room 2 events.old events.new }
 {
     worsen(battle, side);
@@ -107,7 +104,7 @@ fn suffer_seed<S: EventSink>(battle: &mut Packed, side: Side, events: &mut S)
 
 // The counter of bad poison rises, if there is one.
 fn worsen(battle: &mut Packed, side: Side)
-    ensures { (events : List Event) → Does battle.old (Told events) battle.new (Told events) false (worsen side) }
+    ensures { (told : List Event) → Does (quiet told battle) false (worsen side) }
 {
     let count = battle.bad_poison(side);
     battle.put_bad_poison(side, one_more(count));

@@ -1,6 +1,7 @@
 //! Stages that rise and fall in battle (docs/MECHANICS.md, "Stage shift").
 ghost use Rattle.std.specs.Prelude.{◌≤◌};
-ghost use Rattle.gen1_layout.specs.Words.{AddsAtMost, Does, Event, HasRoom, IsBetween, List, Told, false};
+ghost use Rattle.gen1_layout.specs.Operations.{Does, looking, quiet};
+ghost use Rattle.gen1_layout.specs.Words.{AddsAtMost, Event, HasRoom, IsBetween, List, false};
 ghost use Rattle.gen1_machine.specs.StageShift.{lower_stage, note_boost, note_unboost, raise_stage, shift_to};
 ghost use Rattle.gen1_status.specs.StageShift.{IsShift, Shifts, shift_stage};
 
@@ -128,8 +129,8 @@ pub fn lower_stage<S: EventSink>(
 
 // Recomputes a stat at its new stage. Then the user's foe takes its penalty once more.
 fn shift_to(battle: &mut Packed, user: Side, target: Side, stat: Stat, stage: u8)
-    ensures { (events : List Event) → stage ≤ 12
-        → Does battle.old (Told events) battle.new (Told events) false (shift_to user target stat stage) }
+    ensures { (told : List Event) → stage ≤ 12 → Does (quiet told battle) false
+        (shift_to user target stat stage) }
 {
     recompute(battle, target, stat, stage);
     let foe = user.other();
@@ -140,8 +141,7 @@ fn shift_to(battle: &mut Packed, user: Side, target: Side, stat: Stat, stage: u8
 // Writes by how much a stage rose, if it rose.
 fn note_boost<S: EventSink>(battle: &Packed, side: Side, stat: Stat, stages: u8, events: &mut S)
     requires room { HasRoom S.room 1 events.old }
-    ensures shown { stages ≤ 2
-        → Does battle.now (S.tells events.old) battle.now (S.tells events.new) false
+    ensures shown { stages ≤ 2 → Does (looking S.tells battle events) false
         (note_boost side stat stages) }
     ensures room { AddsAtMost S.room 1 events.old events.new }
 {
@@ -153,8 +153,7 @@ fn note_boost<S: EventSink>(battle: &Packed, side: Side, stat: Stat, stages: u8,
 // Writes by how much a stage fell, if it fell.
 fn note_unboost<S: EventSink>(battle: &Packed, side: Side, stat: Stat, stages: u8, events: &mut S)
     requires room { HasRoom S.room 1 events.old }
-    ensures shown { stages ≤ 2
-        → Does battle.now (S.tells events.old) battle.now (S.tells events.new) false
+    ensures shown { stages ≤ 2 → Does (looking S.tells battle events) false
         (note_unboost side stat stages) }
     ensures room { AddsAtMost S.room 1 events.old events.new }
 {

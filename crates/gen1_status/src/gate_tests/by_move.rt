@@ -1,9 +1,10 @@
 //! The tests that rule out the picked move: confusion, Disable, paralysis, and that nothing was picked.
 ghost use Rattle.std.specs.Prelude.{◌≡◌};
-ghost use Rattle.gen1_layout.specs.Words.{AddsAtMost, AddsNone, Does, DoesDrawing, HasRoom, Reads, false, is_paralysed};
+ghost use Rattle.gen1_layout.specs.Operations.{Does, Draws, anything, scene};
+ghost use Rattle.gen1_layout.specs.Words.{AddsAtMost, AddsNone, HasRoom, Reads, false, is_paralysed};
 ghost use Rattle.gen1_machine.specs.Picks.{bars, is_disabled_in, is_idle};
 ghost use Rattle.gen1_machine.specs.Gate.{disabled_test, gate_of_move, paralysis_test};
-ghost use Rattle.gen1_status.specs.GateAnswer.{DoesTelling};
+ghost use Rattle.gen1_status.specs.GateAnswer.{DrawsTelling};
 
 use super::cant;
 use super::confusion::confusion_test;
@@ -22,8 +23,8 @@ pub(super) fn gate_of_move<R: Rolls, S: EventSink>(
     events: &mut S,
 ) -> Gate
     requires room { HasRoom S.room 2 events.old }
-    ensures shown { DoesTelling R.drawing battle.old (S.tells events.old) random.old
-        battle.new (S.tells events.new) random.new result (gate_of_move side pick) }
+    ensures shown { DrawsTelling R.drawing random anything (scene S.tells battle events) result
+        (gate_of_move side pick) }
     ensures room { AddsAtMost S.room 2 events.old events.new }
 {
     let confused = confusion_test(battle, side, battle.confused(side), random, events);
@@ -45,8 +46,7 @@ pub(super) fn gate_of_move<R: Rolls, S: EventSink>(
 // A disabled move isn't used. If it was charging, the charge is lost.
 fn disabled_test<S: EventSink>(battle: &mut Packed, side: Side, pick: Pick, events: &mut S) -> bool
     requires room { HasRoom S.room 1 events.old }
-    ensures shown { Does battle.old (S.tells events.old) battle.new (S.tells events.new) result
-        (disabled_test side pick) }
+    ensures shown { Does (scene S.tells battle events) result (disabled_test side pick) }
     ensures room { AddsAtMost S.room 1 events.old events.new }
     ensures quiet { result ≡ false → AddsNone S.room events.old events.new }
 {
@@ -68,8 +68,7 @@ fn paralysis_test<R: Rolls, S: EventSink>(
     events: &mut S,
 ) -> bool
     requires room { HasRoom S.room 1 events.old }
-    ensures shown { DoesDrawing R.drawing battle.old (S.tells events.old) random.old
-        battle.new (S.tells events.new) random.new result (paralysis_test side) }
+    ensures shown { Draws R.drawing random (scene S.tells battle events) result (paralysis_test side) }
     ensures room { AddsAtMost S.room 1 events.old events.new }
     ensures quiet { result ≡ false → AddsNone S.room events.old events.new }
 {

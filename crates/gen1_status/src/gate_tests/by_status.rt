@@ -1,6 +1,7 @@
 //! The tests that rule out any action: sleep, freeze, and the foe's trapping.
 ghost use Rattle.std.specs.Prelude.{◌≡◌};
-ghost use Rattle.gen1_layout.specs.Words.{AddsAtMost, AddsNone, Does, DoesSeeing, HasRoom, false, is_frozen, status_of, true};
+ghost use Rattle.gen1_layout.specs.Operations.{Does, DoesWhere, holding, looking, scene};
+ghost use Rattle.gen1_layout.specs.Words.{AddsAtMost, AddsNone, HasRoom, false, is_frozen, status_of, true};
 ghost use Rattle.gen1_machine.specs.Gate.{frozen_test, gate_of_status, sleep_test, trapped_test};
 
 use super::cant;
@@ -12,8 +13,7 @@ use gen1_stats::Status;
 #[inline(always)] // docs/SPEED.md, "Hints on inlining"
 pub(super) fn gate_of_status<S: EventSink>(battle: &mut Packed, side: Side, events: &mut S) -> bool
     requires room { HasRoom S.room 1 events.old }
-    ensures shown { Does battle.old (S.tells events.old) battle.new (S.tells events.new) result
-        (gate_of_status side) }
+    ensures shown { Does (scene S.tells battle events) result (gate_of_status side) }
     ensures room { AddsAtMost S.room 1 events.old events.new }
     ensures quiet { result ≡ false → AddsNone S.room events.old events.new }
 {
@@ -28,8 +28,8 @@ pub(super) fn gate_of_status<S: EventSink>(battle: &mut Packed, side: Side, even
 
 fn sleep_test<S: EventSink>(battle: &mut Packed, side: Side, status: Status, events: &mut S) -> bool
     requires room { HasRoom S.room 1 events.old }
-    ensures shown { DoesSeeing (status_of side) status battle.old (S.tells events.old) battle.new
-        (S.tells events.new) result (sleep_test side status) }
+    ensures shown { DoesWhere (holding λ p. status_of side p ≡ status) (scene S.tells battle events)
+        result (λ r. sleep_test side status) }
     ensures room { AddsAtMost S.room 1 events.old events.new }
     ensures quiet { result ≡ false → AddsNone S.room events.old events.new }
 {
@@ -55,9 +55,8 @@ fn sleep_turn<S: EventSink>(
     events: &mut S,
 )
     requires room { HasRoom S.room 1 events.old }
-    ensures shown { DoesSeeing (status_of side) (Status.Asleep turns marked) battle.old
-        (S.tells events.old) battle.new (S.tells events.new) true
-        (sleep_test side (Status.Asleep turns marked)) }
+    ensures shown { DoesWhere (holding λ p. status_of side p ≡ Status.Asleep turns marked)
+        (scene S.tells battle events) true (λ r. sleep_test side (Status.Asleep turns marked)) }
     ensures room { AddsAtMost S.room 1 events.old events.new }
 {
     if turns <= 1 {
@@ -72,8 +71,7 @@ fn sleep_turn<S: EventSink>(
 
 fn frozen_test<S: EventSink>(battle: &Packed, side: Side, events: &mut S) -> bool
     requires room { HasRoom S.room 1 events.old }
-    ensures shown { Does battle.now (S.tells events.old) battle.now (S.tells events.new) result
-        (frozen_test side) }
+    ensures shown { Does (looking S.tells battle events) result (frozen_test side) }
     ensures room { AddsAtMost S.room 1 events.old events.new }
     ensures quiet { result ≡ false → AddsNone S.room events.old events.new }
 {
@@ -86,8 +84,7 @@ fn frozen_test<S: EventSink>(battle: &Packed, side: Side, events: &mut S) -> boo
 
 fn trapped_test<S: EventSink>(battle: &Packed, side: Side, events: &mut S) -> bool
     requires room { HasRoom S.room 1 events.old }
-    ensures shown { Does battle.now (S.tells events.old) battle.now (S.tells events.new) result
-        (trapped_test side) }
+    ensures shown { Does (looking S.tells battle events) result (trapped_test side) }
     ensures room { AddsAtMost S.room 1 events.old events.new }
     ensures quiet { result ≡ false → AddsNone S.room events.old events.new }
 {

@@ -1,6 +1,7 @@
 //! The tests of what has to pass first: flinching, recharging, and the count of Disable.
 ghost use Rattle.std.specs.Prelude.{◌≡◌};
-ghost use Rattle.gen1_layout.specs.Words.{AddsAtMost, AddsNone, Does, DoesSeeing, HasRoom, conditions, false};
+ghost use Rattle.gen1_layout.specs.Operations.{Does, DoesWhere, holding, scene};
+ghost use Rattle.gen1_layout.specs.Words.{AddsAtMost, AddsNone, HasRoom, conditions, false};
 ghost use Rattle.gen1_machine.specs.Gate.{disable_count, flinch_test, gate_of_turn, recharge_test};
 
 use super::cant;
@@ -11,8 +12,7 @@ use gen1_machine::{CantReason, DisabledSlot, Event, Side, Volatile};
 #[inline(always)] // docs/SPEED.md, "Hints on inlining"
 pub(super) fn gate_of_turn<S: EventSink>(battle: &mut Packed, side: Side, events: &mut S) -> bool
     requires room { HasRoom S.room 1 events.old }
-    ensures shown { Does battle.old (S.tells events.old) battle.new (S.tells events.new) result
-        (gate_of_turn side) }
+    ensures shown { Does (scene S.tells battle events) result (gate_of_turn side) }
     ensures room { AddsAtMost S.room 1 events.old events.new }
 {
     if flinch_test(battle, side, events) {
@@ -27,8 +27,7 @@ pub(super) fn gate_of_turn<S: EventSink>(battle: &mut Packed, side: Side, events
 
 fn flinch_test<S: EventSink>(battle: &mut Packed, side: Side, events: &mut S) -> bool
     requires room { HasRoom S.room 1 events.old }
-    ensures shown { Does battle.old (S.tells events.old) battle.new (S.tells events.new) result
-        (flinch_test side) }
+    ensures shown { Does (scene S.tells battle events) result (flinch_test side) }
     ensures room { AddsAtMost S.room 1 events.old events.new }
     ensures quiet { result ≡ false → AddsNone S.room events.old events.new }
 {
@@ -42,8 +41,7 @@ fn flinch_test<S: EventSink>(battle: &mut Packed, side: Side, events: &mut S) ->
 
 fn recharge_test<S: EventSink>(battle: &mut Packed, side: Side, events: &mut S) -> bool
     requires room { HasRoom S.room 1 events.old }
-    ensures shown { Does battle.old (S.tells events.old) battle.new (S.tells events.new) result
-        (recharge_test side) }
+    ensures shown { Does (scene S.tells battle events) result (recharge_test side) }
     ensures room { AddsAtMost S.room 1 events.old events.new }
     ensures quiet { result ≡ false → AddsNone S.room events.old events.new }
 {
@@ -63,8 +61,8 @@ fn disable_count<S: EventSink>(
     events: &mut S,
 )
     requires room { HasRoom S.room 1 events.old }
-    ensures shown { DoesSeeing (λ p. (conditions side p).disabled) disabled battle.old
-        (S.tells events.old) battle.new (S.tells events.new) false (disable_count side disabled) }
+    ensures shown { DoesWhere (holding λ p. (conditions side p).disabled ≡ disabled)
+        (scene S.tells battle events) false (λ r. disable_count side disabled) }
     ensures room { AddsAtMost S.room 1 events.old events.new }
 {
     let Some(DisabledSlot { slot, turns }) = disabled else {

@@ -1,11 +1,12 @@
 //! The test of confusion. Confusion counts down, and ends at 0. Until then the member may hit itself.
 ghost use Rattle.std.specs.Prelude.{◌≡◌};
-ghost use Rattle.gen1_layout.specs.Words.{AddsAtMost, Does, Frame, HasRoom, Progress, ShowsDrawn, Some, conditions, draw, false, ◌▸◌};
+ghost use Rattle.gen1_layout.specs.Operations.{Does, holding, scene};
+ghost use Rattle.gen1_layout.specs.Words.{AddsAtMost, HasRoom, Some, conditions, draw, false, ◌▸◌};
 ghost use Rattle.gen1_machine.specs.declared.event.Volatile.TheVariants as volatiles;
 ghost use Rattle.gen1_machine.specs.Conditions.{with_confusion_one_less, without_confusion};
 ghost use Rattle.gen1_machine.specs.Progress.{ends, lasts};
 ghost use Rattle.gen1_machine.specs.Gate.{confusion_test, may_hurt_itself};
-ghost use Rattle.gen1_status.specs.GateAnswer.{TellsDrawn};
+ghost use Rattle.gen1_status.specs.GateAnswer.{DrawsTelling};
 
 use crate::Gate;
 use crate::hit_on_itself::hurt_itself;
@@ -22,11 +23,9 @@ pub(super) fn confusion_test<R: Rolls, S: EventSink>(
     events: &mut S,
 ) -> Gate
     requires room { HasRoom S.room 2 events.old }
-    ensures shown { (origin : R) (g : Frame) (p : Progress)
-        → (conditions side p).confused ≡ confused
-        → ShowsDrawn R.drawing origin g battle.old (S.tells events.old) random.old false p
-        → TellsDrawn R.drawing origin g battle.new (S.tells events.new) random.new result p
-        (confusion_test side confused p) }
+    ensures shown { DrawsTelling R.drawing random
+        (holding λ p. (conditions side p).confused ≡ confused) (scene S.tells battle events) result
+        (confusion_test side confused) }
     ensures room { AddsAtMost S.room 2 events.old events.new }
     ensures quiet { result ≡ Gate.Go → AddsAtMost S.room 1 events.old events.new }
 {
@@ -42,7 +41,7 @@ pub(super) fn confusion_test<R: Rolls, S: EventSink>(
 
 fn confusion_ends<S: EventSink>(battle: &mut Packed, side: Side, events: &mut S)
     requires room { HasRoom S.room 1 events.old }
-    ensures shown { Does battle.old (S.tells events.old) battle.new (S.tells events.new) false
+    ensures shown { Does (scene S.tells battle events) false
         (ends side volatiles.Confusion without_confusion) }
     ensures room { AddsAtMost S.room 1 events.old events.new }
 {
@@ -61,11 +60,9 @@ fn confusion_lasts<R: Rolls, S: EventSink>(
     events: &mut S,
 ) -> Gate
     requires room { HasRoom S.room 2 events.old }
-    ensures shown { (origin : R) (g : Frame) (p : Progress)
-        → (conditions side p).confused ≡ Some turns
-        → ShowsDrawn R.drawing origin g battle.old (S.tells events.old) random.old false p
-        → TellsDrawn R.drawing origin g battle.new (S.tells events.new) random.new result p
-        ((lasts side volatiles.Confusion with_confusion_one_less ▸ draw (may_hurt_itself side)) p) }
+    ensures shown { DrawsTelling R.drawing random
+        (holding λ p. (conditions side p).confused ≡ Some turns) (scene S.tells battle events) result
+        (lasts side volatiles.Confusion with_confusion_one_less ▸ draw (may_hurt_itself side)) }
     ensures room { AddsAtMost S.room 2 events.old events.new }
     ensures quiet { result ≡ Gate.Go → AddsAtMost S.room 1 events.old events.new }
 {
