@@ -5,21 +5,21 @@ use Rattle.gen1_layout.proofs.Words.{Bool, Frame, Parts, Phase, Progress, Side, 
 use Rattle.gen1_rolls.specs.Draws.{Drawing}
 use Rattle.gen1_machine.specs.Progress.{on_action, unless_stopped}
 use Rattle.gen1_machine.specs.Action.{begin}
-use Rattle.gen1_layout.specs.Shows.{Does}
+use Rattle.gen1_layout.specs.Operations.{Does, between}
 use Rattle.gen1_action.specs.declared.known.Known.{Known}
-use Rattle.gen1_action.specs.Alone.{Leaves}
-use Rattle.gen1_action.specs.Knowing.{begun, knowing, DoesKnowing, ShowsKnown, ShowsOver}
+use Rattle.gen1_action.specs.Alone.{Remains}
+use Rattle.gen1_action.specs.Knowing.{begun, knowing, ShowsKnown, ShowsOver}
 
 module _ {A : Type 0} {d : Drawing A} {origin : A} where
   -- What code without draws does, with a generator that hasn't moved.
   pub does_still : {k k' : Known} (g : Frame) {parts parts' : Parts} {events events' : Telling} {now : A} {b : Bool} {p : Progress} (f : Phase)
-      → DoesKnowing parts events k parts' events' k' b f → ShowsKnown d origin k g parts events now false p
+      → Does (λ Then. Then parts events (knowing k) parts' events' (knowing k')) b f → ShowsKnown d origin k g parts events now false p
       → ShowsKnown d origin k' g parts' events' now b (f p)
   does_still {k' = k'} g {p = p} f does h = still {g' = knowing k' g} h (does (record g { drawn = p.drawn }) p h.shows) refl
 
   -- The same for code that learns nothing.
   pub plain_still : (k : Known) (g : Frame) {parts parts' : Parts} {events events' : Telling} {now : A} {b : Bool} {p : Progress} (f : Phase)
-      → Does parts events parts' events' b f → ShowsKnown d origin k g parts events now false p
+      → Does (between parts events parts' events') b f → ShowsKnown d origin k g parts events now false p
       → ShowsKnown d origin k g parts' events' now b (f p)
   plain_still k g f does h = does_still {k = k} {k' = k} g f (λ x p. does (knowing k x) p) h
 
@@ -34,7 +34,7 @@ module _ {A : Type 0} {d : Drawing A} {origin : A} where
 
   -- What is left if what is known doesn't matter.
   pub leaves : {k : Known} (g : Frame) {parts : Parts} {events : Telling} {now : A} {b : Bool} {p : Progress}
-      → ShowsKnown d origin k g parts events now b p → Leaves d origin g parts events now p
+      → ShowsKnown d origin k g parts events now b p → Remains d origin g parts events now p
   leaves g h = record { within = h.shows.within; written = h.shows.written; stands = h.stands }
 
   -- An action begins.

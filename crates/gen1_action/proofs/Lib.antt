@@ -9,3 +9,5 @@ pub mod Counted
 pub mod Six
 -- Draws until one passes a test.
 pub mod Searching
+-- The words of contracts, spelled out.
+mod Same

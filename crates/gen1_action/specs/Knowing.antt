@@ -3,9 +3,10 @@
 -- what was known before it, the result of the phase is shown with what is known after it.
 use Rattle.std.specs.Prelude.{◌≡◌}
 use Rattle.gen1_layout.specs.Words.{Bool, Frame, None, Phase, Progress, Shows, ShowsDrawn, Side, Telling, false, ℕ}
-use Rattle.gen1_rolls.specs.Draws.{Drawing}
+use Rattle.gen1_rolls.specs.Draws.{Drawing, Ref}
 use Rattle.gen1_machine.specs.declared.side.Side.TheVariants.{One}
 use Rattle.gen1_machine.specs.Progress.{Action}
+use Rattle.gen1_layout.specs.Operations.{Scene}
 use Rattle.gen1_layout.specs.Parts.{Parts}
 use Rattle.gen1_action.specs.declared.known.Known.{Known}
 
@@ -46,6 +47,14 @@ begun s k = record nothing_yet { side = s; skips = k.skips }
 -- A frame in which what is known replaces what it says about the action.
 abbrev pub knowing : Known → Frame → Frame
 knowing k g = record g { skips = k.skips; action = action_of k }
+
+-- a scene in which this is known of the action at the call, and that at the return
+abbrev pub aware : Ref Known → Scene → Scene
+aware known s Then = s λ parts events _ parts' events' _. Then parts events (knowing known.entry.now) parts' events' (knowing known.exit.now)
+
+-- a scene in which this is known throughout
+abbrev pub aware_of : Known → Scene → Scene
+aware_of known s Then = s λ parts events _ parts' events' _. Then parts events (knowing known) parts' events' (knowing known)
 
 -- Code without draws, from these parts, events and knowledge to those, does what a phase does.
 abbrev pub DoesKnowing : Parts → Telling → Known → Parts → Telling → Known → Bool → Phase → Type 0

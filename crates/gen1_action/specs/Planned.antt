@@ -9,6 +9,7 @@ use Rattle.gen1_machine.specs.declared.picks.Pick.TheVariants.{Use}
 use Rattle.gen1_machine.specs.State.{Terms}
 use Rattle.gen1_machine.specs.Ruling.{Ruling, ruling_of}
 use Rattle.gen1_machine.specs.Plans.{Doing, IsPlanned, Plan, Plans}
+use Rattle.gen1_layout.specs.Operations.{Premise}
 use Rattle.gen1_layout.specs.Parts.{Parts}
 use Rattle.gen1_action.specs.declared.known.Known.{Known}
 use Rattle.gen1_action.specs.Knowing.{ShowsKnown}
@@ -27,6 +28,13 @@ Takes _ e x = x ≡ Doing e
 abbrev pub Before : Pick → Terms → (Side → Plan) → Progress → Type 0
 Before (Use used) terms plan p = Follows terms plan p × (p.action.letting_go ≡ false)
 Before _ terms plan p = Follows terms plan p
+
+-- Premises of operations: the side is using a move with this effect, or its pick is about to take up such a move.
+abbrev pub using : Side → Effect → Premise
+using side effect g p Then = (plan : Side → Plan) → plan side ≡ Doing effect → Follows g.setting.terms plan p → Then
+
+abbrev pub taking : Side → Pick → Effect → Premise
+taking side pick effect g p Then = (plan : Side → Plan) → Takes pick effect (plan side) → Before pick g.setting.terms plan p → Then
 
 -- The code does what a phase does under the rules of the battle.
 abbrev pub DoesUnder : {A : Type 0} → Drawing A → Parts → Telling → A → Known → Parts → Telling → A → Known → Bool → (Ruling → Phase) → Type 0

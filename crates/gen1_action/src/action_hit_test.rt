@@ -1,9 +1,10 @@
 //! The hit test of an action, and how a miss is reported (docs/MECHANICS.md, "Hit test", "Action").
-ghost use Rattle.gen1_layout.specs.Words.{AddsAtMost, AddsNone, Does, Event, HasRoom, List, Reads, Told, active_in, false, move_at, true};
+ghost use Rattle.gen1_layout.specs.Operations.{Does, Draws, looking, quiet, scene};
+ghost use Rattle.gen1_layout.specs.Words.{AddsAtMost, AddsNone, Event, HasRoom, List, Reads, active_in, false, move_at, true};
 ghost use Rattle.std.specs.Prelude.{if◌then◌else◌, ◌≡◌};
 ghost use Rattle.gen1_machine.specs.Moves.{accuracy_byte};
 ghost use Rattle.gen1_machine.specs.HitTest.{hit_or_miss, miss_event, must_hit, note_miss};
-ghost use Rattle.gen1_action.specs.Knowing.{DoesKnowingDrawing, IsUncounted};
+ghost use Rattle.gen1_action.specs.Knowing.{IsUncounted, aware};
 
 use crate::Known;
 use crate::immunity::is_immune;
@@ -27,9 +28,8 @@ pub fn hit_or_miss<R: Rolls>(
     known: &mut Known,
     random: &mut R,
 )
-    ensures shown { (events : List Event)
-        → DoesKnowingDrawing R.drawing battle.old (Told events) random.old known.old battle.new
-        (Told events) random.new known.new false (hit_or_miss side (move_at id)) }
+    ensures shown { (told : List Event) → Draws R.drawing random (aware known (quiet told battle))
+        false (hit_or_miss side (move_at id)) }
     ensures counts { IsUncounted known.old → IsUncounted known.new }
 {
     let base = base_of(battle, side, id, known.going_on);
@@ -51,8 +51,7 @@ pub fn must_hit<R: Rolls, S: EventSink>(
     events: &mut S,
 ) -> bool
     requires room { HasRoom S.room 1 events.old }
-    ensures shown { DoesKnowingDrawing R.drawing battle.old (S.tells events.old) random.old
-        known.old battle.new (S.tells events.new) random.new known.new result
+    ensures shown { Draws R.drawing random (aware known (scene S.tells battle events)) result
         (must_hit side (move_at id)) }
     ensures counts { IsUncounted known.old → IsUncounted known.new }
     ensures room { AddsAtMost S.room 1 events.old events.new }
@@ -72,8 +71,7 @@ pub fn must_hit<R: Rolls, S: EventSink>(
 /// `Miss` of the user. It needs one free place in `events`. Nothing else changes.
 pub fn note_miss<S: EventSink>(battle: &Packed, side: Side, id: MoveId, events: &mut S)
     requires room { HasRoom S.room 1 events.old }
-    ensures shown { Does battle.now (S.tells events.old) battle.now (S.tells events.new) false
-        (note_miss side (move_at id)) }
+    ensures shown { Does (looking S.tells battle events) false (note_miss side (move_at id)) }
     ensures room { AddsAtMost S.room 1 events.old events.new }
 {
     events.push(miss_event(battle, side, id));

@@ -1,5 +1,6 @@
 //! Confusion that begins (docs/MECHANICS.md, "Early effects").
-ghost use Rattle.gen1_layout.specs.Words.{AddsAtMost, Does, DoesDrawing, HasRoom, false};
+ghost use Rattle.gen1_layout.specs.Operations.{Does, Draws, scene};
+ghost use Rattle.gen1_layout.specs.Words.{AddsAtMost, HasRoom, false};
 ghost use Rattle.gen1_machine.specs.EarlyEffects.{confuse, confused_by};
 
 use gen1_events::EventSink;
@@ -18,8 +19,7 @@ pub fn confuse<R: Rolls, S: EventSink>(
     events: &mut S,
 )
     requires room { HasRoom S.room 1 events.old }
-    ensures shown { DoesDrawing R.drawing battle.old (S.tells events.old) random.old
-        battle.new (S.tells events.new) random.new false (confuse side) }
+    ensures shown { Draws R.drawing random (scene S.tells battle events) false (confuse side) }
     ensures room { AddsAtMost S.room 1 events.old events.new }
 {
     let byte = random.draw();
@@ -28,8 +28,7 @@ pub fn confuse<R: Rolls, S: EventSink>(
 
 fn confuse_by<S: EventSink>(battle: &mut Packed, side: Side, byte: u8, events: &mut S)
     requires room { HasRoom S.room 1 events.old }
-    ensures shown { Does battle.old (S.tells events.old) battle.new (S.tells events.new) false
-        (confused_by side byte) }
+    ensures shown { Does (scene S.tells battle events) false (confused_by side byte) }
     ensures room { AddsAtMost S.room 1 events.old events.new }
 {
     battle.put_confused(side, Some(byte % 4 + 2));

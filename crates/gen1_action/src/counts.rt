@@ -8,7 +8,7 @@ use gen1_rolls::Rolls;
 ///
 /// 2 and 3 are rarer. It takes one draw, and a second if the first has 2 or 3 in its low bits.
 pub fn draw_count<R: Rolls>(random: &mut R) -> u8
-    ensures shown { DrawsCount R.drawing random.old random.new result }
+    ensures shown { DrawsCount R.drawing random result }
     ensures most { result ≤ 3 }
 {
     let first = random.draw() % 4;

@@ -1,5 +1,6 @@
 //! A move that fails (docs/MECHANICS.md, "Order of events").
-ghost use Rattle.gen1_layout.specs.Words.{AddsAtMost, Does, HasRoom, true};
+ghost use Rattle.gen1_layout.specs.Operations.{Does, looking};
+ghost use Rattle.gen1_layout.specs.Words.{AddsAtMost, HasRoom, true};
 ghost use Rattle.gen1_machine.specs.Progress.{fail};
 
 use gen1_events::EventSink;
@@ -10,7 +11,7 @@ use gen1_machine::{Event, Side};
 /// free place in `events`. Nothing else changes.
 pub fn fail<S: EventSink>(battle: &Packed, side: Side, events: &mut S)
     requires room { HasRoom S.room 1 events.old }
-    ensures shown { Does battle.now (S.tells events.old) battle.now (S.tells events.new) true (fail side) }
+    ensures shown { Does (looking S.tells battle events) true (fail side) }
     ensures room { AddsAtMost S.room 1 events.old events.new }
 {
     events.push(Event::Fail(battle.who(side)));
