@@ -3,7 +3,7 @@ use Rattle.std.proofs.Common.{◌≡◌}
 use Rattle.gen1_layout.proofs.Words.{Bool, Frame, Parts, Phase, Progress, Side, Telling, false, refl, stop, subst, then-goes, then-stops, true, ℕ, ◌▸◌}
 use Rattle.gen1_rolls.specs.Draws.{Drawing}
 use Rattle.gen1_action.specs.declared.known.Known.{Known}
-use Rattle.gen1_action.specs.Alone.{just_begun, Leaves}
+use Rattle.gen1_action.specs.Alone.{just_begun, Remains}
 use Rattle.gen1_action.specs.Knowing.{ShowsKnown}
 use Rattle.gen1_action.proofs.Knowledge.{leaves}
 
@@ -13,11 +13,11 @@ module _ {A : Type 0} {d : Drawing A} {origin : A} {parts : Parts} {events : Tel
   begun_alone k g s is h = rw is h
 
   pub left_unended : (k : Known) (g : Frame) (f : Phase) (p : Progress)
-      → ShowsKnown d origin k g parts events now b ((f ▸ stop) p) → Leaves d origin g parts events now (f p)
+      → ShowsKnown d origin k g parts events now b ((f ▸ stop) p) → Remains d origin g parts events now (f p)
   unfolding stop
   left_unended k g f p a = by (f p).stopped refl
     where
-      by : (stopped : Bool) → (f p).stopped ≡ stopped → Leaves d origin g parts events now (f p)
+      by : (stopped : Bool) → (f p).stopped ≡ stopped → Remains d origin g parts events now (f p)
       by true e = leaves {k = k} g (subst (λ (q : Progress). ShowsKnown d origin k g parts events now b q) (then-stops f stop p e) a)
       by false e =
           let h = subst (λ (q : Progress). ShowsKnown d origin k g parts events now b q) (then-goes f stop p e) a in

@@ -3,7 +3,7 @@ use Rattle.std.proofs.Common.{◌≡◌}
 use Rattle.gen1_layout.proofs.Words.{Bool, Frame, Parts, Phase, Progress, Shows, ShowsDrawn, Side, Telling, ap, choose, choose-false, choose-true, drawn_goes, drawn_if_so, drawn_stops, false, goes, halted, if_so, past, refl, stay, still, stop, stops, then-goes, true, ℕ, ◌∙◌, ◌▸◌}
 use Rattle.gen1_rolls.specs.Draws.{Drawing}
 use Rattle.gen1_machine.specs.Progress.{fail, fails_if}
-use Rattle.gen1_layout.specs.Shows.{Does}
+use Rattle.gen1_layout.specs.Operations.{Does, between}
 use Rattle.gen1_action.specs.declared.known.Known.{Known}
 use Rattle.gen1_action.specs.Knowing.{ShowsKnown}
 use Rattle.gen1_action.proofs.Knowledge.{plain_still}
@@ -13,12 +13,12 @@ module _ {g : Frame} {parts : Parts} {events : Telling} {p : Progress} where
   ended {b = true} f a = stops f stop a
   ended {b = false} f a = goes f stop a (halted a)
 
-  pub fails : {events' : Telling} (s : Side) (test : Progress → Bool) → test p ≡ true → Does parts events parts events' true (fail s)
+  pub fails : {events' : Telling} (s : Side) (test : Progress → Bool) → test p ≡ true → Does (between parts events parts events') true (fail s)
       → Shows g parts events false p → Shows g parts events' true (fails_if s test p)
   unfolding fails_if
   fails s test e does h = if_so test (fail s) stay e (does g p h)
 
-  pub fails_then : {events' : Telling} (s : Side) (test : Progress → Bool) (rest : Phase) → test p ≡ true → Does parts events parts events' true (fail s)
+  pub fails_then : {events' : Telling} (s : Side) (test : Progress → Bool) (rest : Phase) → test p ≡ true → Does (between parts events parts events') true (fail s)
       → Shows g parts events false p → Shows g parts events' true ((fails_if s test ▸ rest) p)
   fails_then s test rest e does h = stops (fails_if s test) rest (fails s test e does h)
 
@@ -44,7 +44,7 @@ module _ {A : Type 0} {d : Drawing A} {origin : A} where
   drawn_ended {b = false} f a = drawn_goes f stop a (still a (halted a.shows) refl)
 
   pub drawn_fails : (k : Known) (g : Frame) {parts : Parts} {events events' : Telling} {now : A} {p : Progress} (s : Side) (test : Progress → Bool) (rest : Phase)
-      → test p ≡ true → Does parts events parts events' true (fail s) → ShowsKnown d origin k g parts events now false p
+      → test p ≡ true → Does (between parts events parts events') true (fail s) → ShowsKnown d origin k g parts events now false p
       → ShowsKnown d origin k g parts events' now true ((fails_if s test ▸ rest) p)
   unfolding fails_if
   drawn_fails k g s test rest e does h = drawn_stops (fails_if s test) rest (drawn_if_so test (fail s) stay e (plain_still k g (fail s) does h))

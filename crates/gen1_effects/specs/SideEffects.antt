@@ -1,30 +1,20 @@
--- What a move may do in addition to its damage (docs/MECHANICS.md, "Side effects"): what code does under a battle's
--- rules, and the ways of effects.
-use Rattle.gen1_layout.specs.Words.{Bool, Frame, Phase, Progress, ShowsDrawn, Side, Telling, false, other, true, ℕ}
+-- What a move may do besides its damage (docs/MECHANICS.md, "Side effects"): the ways in which effects go.
+use Rattle.gen1_layout.specs.Words.{Bool, Phase, Side, false, other, true}
 use Rattle.gen1_tables.specs.declared.effect.Effect.{Effect}
 use Rattle.gen1_tables.specs.declared.effect.Effect.TheVariants as effects
-use Rattle.gen1_rolls.specs.Draws.{Drawing}
 use Rattle.gen1_stats.specs.declared.status.Status.TheVariants.{Burned, Paralysed}
 use Rattle.gen1_machine.specs.declared.health.Kind.{Kind}
 use Rattle.gen1_machine.specs.declared.health.Kind.TheVariants as kinds
 use Rattle.gen1_machine.specs.Moves.{Move}
 use Rattle.gen1_machine.specs.Progress.{given, draw_until, has_substitute, inflict, member, stay, unless}
-use Rattle.gen1_machine.specs.Ruling.{Ruling, ruling_of}
+use Rattle.gen1_machine.specs.Ruling.{Ruling}
 use Rattle.gen1_machine.specs.SideEffects.{by_chance, disable_slot, flinch, may_inflict, may_poison, names_slot}
 use Rattle.gen1_machine.specs.StageShift.{lower_stage}
-use Rattle.gen1_layout.specs.Parts.{Parts}
 use Rattle.gen1_status.specs.Infliction.{status_of_kind}
 use Rattle.gen1_effects.specs.declared.side_effects.Harm.{Harm}
 use Rattle.gen1_effects.specs.declared.side_effects.Harm.TheVariants as harm
 use Rattle.gen1_effects.specs.declared.side_effects.Way.{Way}
 use Rattle.gen1_effects.specs.declared.side_effects.Way.TheVariants as ways
-
--- Code with draws does what a phase does under the rules of the battle, for any generator that it is given, and
--- doesn't stop.
-abbrev pub DoesByRules : {A : Type 0} → Drawing A → Parts → Telling → A → Parts → Telling → A → (Ruling → Phase) → Type 0
-DoesByRules {A = A} d parts events old parts' events' new phase =
-    (origin : A) (g : Frame) (p : Progress) → ShowsDrawn d origin g parts events old false p
-    → ShowsDrawn d origin g parts' events' new false (phase (ruling_of g.setting.terms) p)
 
 -- A status of a kind for the foe. A freeze depends on the rules.
 abbrev pub is_freeze : Kind → Bool

@@ -1,10 +1,11 @@
 //! Moves that act after the damage step: they raise and lower stages, and put the foe to sleep
 //! (docs/MECHANICS.md, "Late effects"). Bide, which lasts, isn't one of these.
 ghost use Rattle.std.specs.Prelude.{◌≡◌};
+ghost use Rattle.gen1_layout.specs.Operations.{DrawsWhere, anything, scene};
 ghost use Rattle.gen1_layout.specs.Words.{AddsAtMost, HasRoom, move_at, stop, true, ◌▸◌};
 ghost use Rattle.gen1_machine.specs.LateEffects.{late_effect};
-ghost use Rattle.gen1_action.specs.Alone.{DoesAlone};
-ghost use Rattle.gen1_action.specs.Planned.{DoesUnder};
+ghost use Rattle.gen1_action.specs.Alone.{Leaves, beginning};
+ghost use Rattle.gen1_action.specs.Knowing.{aware};
 ghost use Rattle.gen1_effects.specs.LateEffects.{is_late_but_bide};
 
 use gen1_action::Known;
@@ -45,8 +46,7 @@ pub fn group_two<R: Rolls, S: EventSink>(
 )
     requires room { HasRoom S.room 2 events.old }
     requires tie { is_late_but_bide (move_at id).effect ≡ true }
-    ensures shown { DoesAlone R.drawing side battle.old (S.tells events.old) random.old
-        battle.new (S.tells events.new) random.new
+    ensures shown { Leaves R.drawing random anything (beginning side (scene S.tells battle events))
         (λ r. late_effect r side (move_at id) (move_at id).effect) }
     ensures room { AddsAtMost S.room 2 events.old events.new }
 {
@@ -66,9 +66,8 @@ pub fn group_two_knowing<R: Rolls, S: EventSink>(
 )
     requires room { HasRoom S.room 2 events.old }
     requires tie { is_late_but_bide (move_at id).effect ≡ true }
-    ensures shown { DoesUnder R.drawing battle.old (S.tells events.old) random.old known.old
-        battle.new (S.tells events.new) random.new known.new true
-        (λ r. late_effect r side (move_at id) (move_at id).effect ▸ stop) }
+    ensures shown { DrawsWhere R.drawing random anything (aware known (scene S.tells battle events))
+        true (λ r. late_effect r side (move_at id) (move_at id).effect ▸ stop) }
     ensures room { AddsAtMost S.room 2 events.old events.new }
 {
     match id.effect() {

@@ -1,11 +1,11 @@
 //! What a move may do in addition to its damage (docs/MECHANICS.md, "Side effects").
 ghost use Rattle.std.specs.Prelude.{◌≡◌};
-ghost use Rattle.gen1_layout.specs.Words.{AddsAtMost, HasRoom, move_at};
+ghost use Rattle.gen1_layout.specs.Operations.{DrawsWhere, anything, scene};
+ghost use Rattle.gen1_layout.specs.Words.{AddsAtMost, HasRoom, false, move_at};
 ghost use Rattle.gen1_machine.specs.SideEffects.{side_effect};
-ghost use Rattle.gen1_action.specs.Alone.{DoesAlone};
-ghost use Rattle.gen1_action.specs.Knowing.{IsUncounted};
-ghost use Rattle.gen1_action.specs.Planned.{DoesUnder};
-ghost use Rattle.gen1_effects.specs.SideEffects.{DoesByRules, harm_of, harms, harms_unless_away, way_of};
+ghost use Rattle.gen1_action.specs.Knowing.{IsUncounted, aware};
+ghost use Rattle.gen1_action.specs.Alone.{Leaves, beginning};
+ghost use Rattle.gen1_effects.specs.SideEffects.{harm_of, harms, harms_unless_away, way_of};
 
 mod chance;
 mod confusion_chance;
@@ -60,8 +60,7 @@ pub fn side_effect<R: Rolls, S: EventSink>(
     events: &mut S,
 )
     requires room { HasRoom S.room 1 events.old }
-    ensures shown { DoesAlone R.drawing side battle.old (S.tells events.old) random.old
-        battle.new (S.tells events.new) random.new
+    ensures shown { Leaves R.drawing random anything (beginning side (scene S.tells battle events))
         (λ r. side_effect r side (move_at id) (move_at id).effect) }
     ensures room { AddsAtMost S.room 1 events.old events.new }
 {
@@ -82,9 +81,8 @@ pub fn side_effect_knowing<R: Rolls, S: EventSink>(
     events: &mut S,
 ) -> bool
     requires room { HasRoom S.room 1 events.old }
-    ensures shown { DoesUnder R.drawing battle.old (S.tells events.old) random.old known.old
-        battle.new (S.tells events.new) random.new known.new result
-        (λ r. side_effect r side (move_at id) (move_at id).effect) }
+    ensures shown { DrawsWhere R.drawing random anything (aware known (scene S.tells battle events))
+        result (λ r. side_effect r side (move_at id) (move_at id).effect) }
     ensures counts { IsUncounted known.old → IsUncounted known.new }
     ensures room { AddsAtMost S.room 1 events.old events.new }
 {
@@ -115,8 +113,8 @@ fn harm_unless_away<R: Rolls, S: EventSink>(
     events: &mut S,
 )
     requires room { HasRoom S.room 1 events.old }
-    ensures shown { DoesByRules R.drawing battle.old (S.tells events.old) random.old
-        battle.new (S.tells events.new) random.new (λ r. harms_unless_away r side (move_at id) harm) }
+    ensures shown { DrawsWhere R.drawing random anything (scene S.tells battle events) false
+        (λ r. harms_unless_away r side (move_at id) harm) }
     ensures room { AddsAtMost S.room 1 events.old events.new }
 {
     if battle.is_on(side.other(), Conditions::SUBSTITUTE) {
@@ -134,8 +132,8 @@ fn do_harm<R: Rolls, S: EventSink>(
     events: &mut S,
 )
     requires room { HasRoom S.room 1 events.old }
-    ensures shown { DoesByRules R.drawing battle.old (S.tells events.old) random.old
-        battle.new (S.tells events.new) random.new (λ r. harms r side (move_at id) harm) }
+    ensures shown { DrawsWhere R.drawing random anything (scene S.tells battle events) false
+        (λ r. harms r side (move_at id) harm) }
     ensures room { AddsAtMost S.room 1 events.old events.new }
 {
     match harm {

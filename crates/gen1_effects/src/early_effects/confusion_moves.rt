@@ -1,7 +1,8 @@
 //! Supersonic and Confuse Ray (docs/MECHANICS.md, "Early effects").
+ghost use Rattle.gen1_layout.specs.Operations.{Draws, scene};
 ghost use Rattle.gen1_layout.specs.Words.{AddsAtMost, HasRoom, move_at, stop, true, ◌▸◌};
 ghost use Rattle.gen1_machine.specs.EarlyEffects.{confuse_foe};
-ghost use Rattle.gen1_action.specs.Knowing.{DoesKnowingDrawing, IsUncounted};
+ghost use Rattle.gen1_action.specs.Knowing.{IsUncounted, aware};
 
 use crate::targets::{has_substitute, is_confused};
 use gen1_action::{Known, confuse, fail, must_hit};
@@ -20,8 +21,7 @@ pub(super) fn confuse_foe<R: Rolls, S: EventSink>(
     events: &mut S,
 )
     requires room { HasRoom S.room 2 events.old }
-    ensures shown { DoesKnowingDrawing R.drawing battle.old (S.tells events.old) random.old
-        known.old battle.new (S.tells events.new) random.new known.new true
+    ensures shown { Draws R.drawing random (aware known (scene S.tells battle events)) true
         (confuse_foe side (move_at id) ▸ stop) }
     ensures counts { IsUncounted known.old → IsUncounted known.new }
     ensures room { AddsAtMost S.room 2 events.old events.new }

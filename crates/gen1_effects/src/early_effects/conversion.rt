@@ -1,5 +1,6 @@
 //! Conversion (docs/MECHANICS.md, "Early effects").
-ghost use Rattle.gen1_layout.specs.Words.{AddsAtMost, Does, HasRoom, stop, true, ◌▸◌};
+ghost use Rattle.gen1_layout.specs.Operations.{Does, scene};
+ghost use Rattle.gen1_layout.specs.Words.{AddsAtMost, HasRoom, stop, true, ◌▸◌};
 ghost use Rattle.gen1_machine.specs.EarlyEffects.{convert};
 
 use gen1_action::fail;
@@ -9,8 +10,7 @@ use gen1_machine::{Event, Side, Volatile};
 
 pub(super) fn convert<S: EventSink>(battle: &mut Packed, side: Side, events: &mut S)
     requires room { HasRoom S.room 1 events.old }
-    ensures shown { Does battle.old (S.tells events.old) battle.new (S.tells events.new) true
-        (convert side ▸ stop) }
+    ensures shown { Does (scene S.tells battle events) true (convert side ▸ stop) }
     ensures room { AddsAtMost S.room 1 events.old events.new }
 {
     let foe = side.other();

@@ -1,9 +1,10 @@
 //! An early effect, by the effect of the move (docs/MECHANICS.md, "Early effects").
 ghost use Rattle.std.specs.Prelude.{◌≡◌};
+ghost use Rattle.gen1_layout.specs.Operations.{Draws, anything, scene};
 ghost use Rattle.gen1_layout.specs.Words.{AddsAtMost, HasRoom, move_at, stop, true, ◌▸◌};
 ghost use Rattle.gen1_machine.specs.EarlyEffects.{early_effect};
-ghost use Rattle.gen1_action.specs.Alone.{DoesAlone};
-ghost use Rattle.gen1_action.specs.Knowing.{DoesKnowingDrawing, IsUncounted};
+ghost use Rattle.gen1_action.specs.Knowing.{IsUncounted, aware};
+ghost use Rattle.gen1_action.specs.Alone.{Leaves, beginning};
 ghost use Rattle.gen1_effects.specs.EarlyEffects.{is_early_but_substitute, way_of};
 
 use super::confusion_moves::confuse_foe;
@@ -60,8 +61,7 @@ pub fn group_one<R: Rolls, S: EventSink>(
 )
     requires room { HasRoom S.room 2 events.old }
     requires early { is_early_but_substitute (move_at id).effect ≡ true }
-    ensures shown { DoesAlone R.drawing side battle.old (S.tells events.old) random.old
-        battle.new (S.tells events.new) random.new
+    ensures shown { Leaves R.drawing random anything (beginning side (scene S.tells battle events))
         (λ rules. early_effect side (move_at id) (move_at id).effect ▸ stop) }
     ensures room { AddsAtMost S.room 2 events.old events.new }
 {
@@ -82,8 +82,7 @@ pub fn group_one_knowing<R: Rolls, S: EventSink>(
 )
     requires room { HasRoom S.room 2 events.old }
     requires early { is_early_but_substitute (move_at id).effect ≡ true }
-    ensures shown { DoesKnowingDrawing R.drawing battle.old (S.tells events.old) random.old
-        known.old battle.new (S.tells events.new) random.new known.new true
+    ensures shown { Draws R.drawing random (aware known (scene S.tells battle events)) true
         (early_effect side (move_at id) (move_at id).effect ▸ stop) }
     ensures counts { IsUncounted known.old → IsUncounted known.new }
     ensures room { AddsAtMost S.room 2 events.old events.new }

@@ -1,8 +1,9 @@
 //! Haze (docs/MECHANICS.md, "Early effects").
-ghost use Rattle.gen1_layout.specs.Words.{AddsAtMost, Does, Event, HasRoom, List, Told, false, status_of, stop, true, ◌▸◌};
+ghost use Rattle.gen1_layout.specs.Operations.{Does, quiet, scene};
+ghost use Rattle.gen1_layout.specs.Words.{AddsAtMost, Event, HasRoom, List, false, status_of, stop, true, ◌▸◌};
 ghost use Rattle.gen1_machine.specs.EarlyEffects.{clear_side, cure_kind, haze, haze_cures};
 ghost use Rattle.gen1_machine.specs.Progress.{given};
-ghost use Rattle.gen1_action.specs.Knowing.{DoesKnowing, IsUncounted};
+ghost use Rattle.gen1_action.specs.Knowing.{IsUncounted, aware};
 
 use super::stage_reset::reset_stages;
 use gen1_action::Known;
@@ -13,8 +14,7 @@ use gen1_stats::Status;
 
 pub(super) fn haze<S: EventSink>(battle: &mut Packed, side: Side, known: &mut Known, events: &mut S)
     requires room { HasRoom S.room 2 events.old }
-    ensures shown { DoesKnowing battle.old (S.tells events.old) known.old battle.new (S.tells events.new)
-        known.new true (haze side ▸ stop) }
+    ensures shown { Does (aware known (scene S.tells battle events)) true (haze side ▸ stop) }
     ensures counts { IsUncounted known.old → IsUncounted known.new }
     ensures room { AddsAtMost S.room 2 events.old events.new }
 {
@@ -25,8 +25,7 @@ pub(super) fn haze<S: EventSink>(battle: &mut Packed, side: Side, known: &mut Kn
 }
 
 fn clear_side(battle: &mut Packed, side: Side)
-    ensures { (events : List Event)
-        → Does battle.old (Told events) battle.new (Told events) false (clear_side side) }
+    ensures { (told : List Event) → Does (quiet told battle) false (clear_side side) }
 {
     reset_stages(battle, side);
     battle.clear_by_haze(side);
@@ -35,8 +34,8 @@ fn clear_side(battle: &mut Packed, side: Side)
 // Cures the member of `side`. It is skipped if it was asleep or frozen.
 fn cure<S: EventSink>(battle: &mut Packed, side: Side, known: &mut Known, events: &mut S)
     requires room { HasRoom S.room 1 events.old }
-    ensures shown { DoesKnowing battle.old (S.tells events.old) known.old battle.new (S.tells events.new)
-        known.new false (given (status_of side) (haze_cures side)) }
+    ensures shown { Does (aware known (scene S.tells battle events)) false
+        (given (status_of side) (haze_cures side)) }
     ensures counts { IsUncounted known.old → IsUncounted known.new }
     ensures room { AddsAtMost S.room 1 events.old events.new }
 {
@@ -46,8 +45,7 @@ fn cure<S: EventSink>(battle: &mut Packed, side: Side, known: &mut Known, events
 
 fn cure_kind<S: EventSink>(battle: &mut Packed, side: Side, kind: Option<Kind>, events: &mut S)
     requires room { HasRoom S.room 1 events.old }
-    ensures shown { Does battle.old (S.tells events.old) battle.new (S.tells events.new) false
-        (cure_kind side kind) }
+    ensures shown { Does (scene S.tells battle events) false (cure_kind side kind) }
     ensures room { AddsAtMost S.room 1 events.old events.new }
 {
     if let Some(kind) = kind {

@@ -1,10 +1,11 @@
 //! Leech Seed (docs/MECHANICS.md, "Early effects").
 ghost use Rattle.std.specs.Prelude.{◌||◌};
+ghost use Rattle.gen1_layout.specs.Operations.{Draws, scene};
 ghost use Rattle.gen1_layout.specs.Words.{AddsAtMost, HasRoom, Reads, active_in, conditions_in, move_at, stop, true, ◌▸◌};
 ghost use Rattle.gen1_machine.specs.EarlyEffects.{seed_foe};
 ghost use Rattle.gen1_machine.specs.State.{has_type};
 ghost use Rattle.gen1_tables.specs.declared.element.Element.TheVariants.{Grass};
-ghost use Rattle.gen1_action.specs.Knowing.{DoesKnowingDrawing, IsUncounted};
+ghost use Rattle.gen1_action.specs.Knowing.{IsUncounted, aware};
 
 use crate::targets::has_type;
 use gen1_action::{Known, fail, must_hit};
@@ -23,8 +24,7 @@ pub(super) fn seed_foe<R: Rolls, S: EventSink>(
     events: &mut S,
 )
     requires room { HasRoom S.room 2 events.old }
-    ensures shown { DoesKnowingDrawing R.drawing battle.old (S.tells events.old) random.old
-        known.old battle.new (S.tells events.new) random.new known.new true
+    ensures shown { Draws R.drawing random (aware known (scene S.tells battle events)) true
         (seed_foe side (move_at id) ▸ stop) }
     ensures counts { IsUncounted known.old → IsUncounted known.new }
     ensures room { AddsAtMost S.room 2 events.old events.new }

@@ -1,5 +1,6 @@
 //! Mist, Focus Energy and the screens, which fail if they are up already (docs/MECHANICS.md, "Early effects").
-ghost use Rattle.gen1_layout.specs.Words.{ActiveConditions, AddsAtMost, Does, HasRoom, conditions, false, move_at, slice_index_or, slice_set, stop, true, ℕ, ◌▸◌};
+ghost use Rattle.gen1_layout.specs.Operations.{Does, scene};
+ghost use Rattle.gen1_layout.specs.Words.{ActiveConditions, AddsAtMost, HasRoom, conditions, false, move_at, slice_index_or, slice_set, stop, true, ℕ, ◌▸◌};
 ghost use Rattle.std.specs.Prelude.{◌==◌, ◌<◌, ◌^◌, ◌≡◌};
 ghost use Rattle.gen1_machine.specs.EarlyEffects.{set_focus_energy, set_mist, set_screen};
 ghost use Rattle.gen1_machine.specs.Layout.{condition_bits};
@@ -15,8 +16,7 @@ use gen1_tables::MoveId;
 
 pub(super) fn set_mist<S: EventSink>(battle: &mut Packed, side: Side, events: &mut S)
     requires room { HasRoom S.room 1 events.old }
-    ensures shown { Does battle.old (S.tells events.old) battle.new (S.tells events.new) true
-        (set_mist side ▸ stop) }
+    ensures shown { Does (scene S.tells battle events) true (set_mist side ▸ stop) }
     ensures room { AddsAtMost S.room 1 events.old events.new }
 {
     put_up(battle, side, Conditions::MIST, Volatile::Mist, events);
@@ -24,8 +24,7 @@ pub(super) fn set_mist<S: EventSink>(battle: &mut Packed, side: Side, events: &m
 
 pub(super) fn set_focus_energy<S: EventSink>(battle: &mut Packed, side: Side, events: &mut S)
     requires room { HasRoom S.room 1 events.old }
-    ensures shown { Does battle.old (S.tells events.old) battle.new (S.tells events.new) true
-        (set_focus_energy side ▸ stop) }
+    ensures shown { Does (scene S.tells battle events) true (set_focus_energy side ▸ stop) }
     ensures room { AddsAtMost S.room 1 events.old events.new }
 {
     put_up(
@@ -40,8 +39,7 @@ pub(super) fn set_focus_energy<S: EventSink>(battle: &mut Packed, side: Side, ev
 // Light Screen or Reflect, by the move.
 pub(super) fn set_screen<S: EventSink>(battle: &mut Packed, side: Side, id: MoveId, events: &mut S)
     requires room { HasRoom S.room 1 events.old }
-    ensures shown { Does battle.old (S.tells events.old) battle.new (S.tells events.new) true
-        (set_screen side (move_at id) ▸ stop) }
+    ensures shown { Does (scene S.tells battle events) true (set_screen side (move_at id) ▸ stop) }
     ensures room { AddsAtMost S.room 1 events.old events.new }
 {
     if is_light_screen(id) {
@@ -74,13 +72,12 @@ fn put_up<S: EventSink>(
     events: &mut S,
 )
     requires room { HasRoom S.room 1 events.old }
-    ensures shown { (k : ℕ) → which.0 ≡ 2 ^ k → k < 17
-        → (change : ActiveConditions → ActiveConditions)
-        → ((c : ActiveConditions) → condition_bits (change c) ≡ slice_set (condition_bits c) k true)
-        → ((c : ActiveConditions) → SameNumbers (change c) c)
-        → Does battle.old (S.tells events.old) battle.new (S.tells events.new) true
-        ((fails_if side (λ p. slice_index_or (condition_bits (conditions side p)) k false)
-        ▸ starts side what change) ▸ stop) }
+    ensures shown { (k : ℕ) → which.0 ≡ 2 ^ k → k < 17 →
+        (change : ActiveConditions → ActiveConditions) →
+        ((c : ActiveConditions) → condition_bits (change c) ≡ slice_set (condition_bits c) k true) →
+        ((c : ActiveConditions) → SameNumbers (change c) c) → Does (scene S.tells battle events) true
+        ((fails_if side (λ p. slice_index_or (condition_bits (conditions side p)) k false) ▸ starts
+        side what change) ▸ stop) }
     ensures room { AddsAtMost S.room 1 events.old events.new }
 {
     if battle.is_on(side, which) {

@@ -1,5 +1,6 @@
 //! Poison Powder, Poison Gas and Toxic (docs/MECHANICS.md, "Early effects").
-ghost use Rattle.gen1_layout.specs.Words.{AddsAtMost, Does, HasRoom, false, move_at, stop, true, ◌▸◌};
+ghost use Rattle.gen1_layout.specs.Operations.{Does, Draws, scene};
+ghost use Rattle.gen1_layout.specs.Words.{AddsAtMost, HasRoom, false, move_at, stop, true, ◌▸◌};
 ghost use Rattle.std.specs.Prelude.{◌==◌, ◌≡◌};
 ghost use Rattle.gen1_machine.specs.EarlyEffects.{poison_foe};
 ghost use Rattle.gen1_machine.specs.Moves.{toxic};
@@ -7,7 +8,7 @@ ghost use Rattle.gen1_machine.specs.Progress.{inflict, on_conditions, only};
 ghost use Rattle.gen1_stats.specs.declared.status.Status.TheVariants.{Poisoned};
 ghost use Rattle.gen1_machine.specs.declared.health.Kind.TheVariants as kinds;
 ghost use Rattle.gen1_machine.specs.Conditions.{with_bad_poison};
-ghost use Rattle.gen1_action.specs.Knowing.{DoesKnowingDrawing, IsUncounted};
+ghost use Rattle.gen1_action.specs.Knowing.{IsUncounted, aware};
 
 use crate::targets::{has_status, has_substitute, has_type};
 use gen1_action::{Known, fail, must_hit};
@@ -27,8 +28,7 @@ pub(super) fn poison_foe<R: Rolls, S: EventSink>(
     events: &mut S,
 )
     requires room { HasRoom S.room 2 events.old }
-    ensures shown { DoesKnowingDrawing R.drawing battle.old (S.tells events.old) random.old
-        known.old battle.new (S.tells events.new) random.new known.new true
+    ensures shown { Draws R.drawing random (aware known (scene S.tells battle events)) true
         (poison_foe side (move_at id) ▸ stop) }
     ensures counts { IsUncounted known.old → IsUncounted known.new }
     ensures room { AddsAtMost S.room 2 events.old events.new }
@@ -54,9 +54,9 @@ pub(super) fn poison_foe<R: Rolls, S: EventSink>(
 
 fn poison<S: EventSink>(battle: &mut Packed, side: Side, id: MoveId, events: &mut S)
     requires room { HasRoom S.room 1 events.old }
-    ensures shown { Does battle.old (S.tells events.old) battle.new (S.tells events.new) false
-        (inflict side Poisoned kinds.Poison
-        ▸ only ((move_at id).number == toxic) (on_conditions side with_bad_poison)) }
+    ensures shown { Does (scene S.tells battle events) false
+        (inflict side Poisoned kinds.Poison ▸ only ((move_at id).number == toxic)
+        (on_conditions side with_bad_poison)) }
     ensures room { AddsAtMost S.room 1 events.old events.new }
 {
     inflict(battle, side, Kind::Poison, 0, events);

@@ -1,5 +1,6 @@
 //! Recover, Soft-Boiled and Rest (docs/MECHANICS.md, "Early effects").
-ghost use Rattle.gen1_layout.specs.Words.{AddsAtMost, Does, HasRoom, Reads, false, member_in, move_at, stop, true, ◌▸◌};
+ghost use Rattle.gen1_layout.specs.Operations.{Does, scene};
+ghost use Rattle.gen1_layout.specs.Words.{AddsAtMost, HasRoom, Reads, false, member_in, move_at, stop, true, ◌▸◌};
 ghost use Rattle.std.specs.Prelude.{◌==◌, ◌-◌, ◌≡◌};
 ghost use Rattle.gen1_machine.specs.EarlyEffects.{heal, recover, resists_healing, rest_up};
 ghost use Rattle.gen1_machine.specs.Moves.{rest};
@@ -15,8 +16,7 @@ use gen1_tables::MoveId;
 #[inline(always)] // docs/SPEED.md, "Hints on inlining"
 pub(super) fn heal<S: EventSink>(battle: &mut Packed, side: Side, id: MoveId, events: &mut S)
     requires room { HasRoom S.room 2 events.old }
-    ensures shown { Does battle.old (S.tells events.old) battle.new (S.tells events.new) true
-        (heal side (move_at id) ▸ stop) }
+    ensures shown { Does (scene S.tells battle events) true (heal side (move_at id) ▸ stop) }
     ensures room { AddsAtMost S.room 2 events.old events.new }
 {
     if cannot_heal(battle, side) {
@@ -55,8 +55,7 @@ fn is_rest(id: MoveId) -> bool
 // The penalties of the status that sleep replaces stay.
 fn rest_up<S: EventSink>(battle: &mut Packed, side: Side, events: &mut S)
     requires room { HasRoom S.room 2 events.old }
-    ensures shown { Does battle.old (S.tells events.old) battle.new (S.tells events.new) false
-        (rest_up side) }
+    ensures shown { Does (scene S.tells battle events) false (rest_up side) }
     ensures room { AddsAtMost S.room 2 events.old events.new }
 {
     let asleep = Status::Asleep {
@@ -71,8 +70,7 @@ fn rest_up<S: EventSink>(battle: &mut Packed, side: Side, events: &mut S)
 
 fn recover<S: EventSink>(battle: &mut Packed, side: Side, events: &mut S)
     requires room { HasRoom S.room 1 events.old }
-    ensures shown { Does battle.old (S.tells events.old) battle.new (S.tells events.new) false
-        (recover side) }
+    ensures shown { Does (scene S.tells battle events) false (recover side) }
     ensures room { AddsAtMost S.room 1 events.old events.new }
 {
     let half = battle.max_hp(side) / 2;

@@ -1,10 +1,10 @@
 //! Moves that put the foe to sleep (docs/MECHANICS.md, "Late effects", "Rules (sleep clause, freeze clause)").
 ghost use Rattle.std.specs.Prelude.{◌≡◌};
-ghost use Rattle.gen1_layout.specs.Words.{AddsAtMost, Frame, HasRoom, Progress, Shows, ShowsDrawn, false, move_at, true};
+ghost use Rattle.gen1_layout.specs.Operations.{DoesWhere, Draws, DrawsWhere, anything, scene, under};
+ghost use Rattle.gen1_layout.specs.Words.{AddsAtMost, HasRoom, false, move_at, true};
 ghost use Rattle.gen1_machine.specs.LateEffects.{put_to_sleep, ready_to_sleep};
-ghost use Rattle.gen1_machine.specs.Ruling.{fall_asleep, is_sleep_count, sleep_for, sleep_only_one, sleeps_under};
-ghost use Rattle.gen1_action.specs.Knowing.{DoesKnowingDrawing};
-ghost use Rattle.gen1_action.specs.Planned.{DoesUnder};
+ghost use Rattle.gen1_machine.specs.Ruling.{fall_asleep, is_sleep_count, sleep_for, sleep_only_one};
+ghost use Rattle.gen1_action.specs.Knowing.{aware};
 
 use gen1_action::{Known, fail, has_marked_sleeper, must_hit};
 use gen1_events::EventSink;
@@ -25,9 +25,8 @@ pub(super) fn put_to_sleep<R: Rolls, S: EventSink>(
     events: &mut S,
 ) -> bool
     requires room { HasRoom S.room 2 events.old }
-    ensures shown { DoesUnder R.drawing battle.old (S.tells events.old) random.old known.old
-        battle.new (S.tells events.new) random.new known.new result
-        (λ r. put_to_sleep r side (move_at id)) }
+    ensures shown { DrawsWhere R.drawing random anything (aware known (scene S.tells battle events))
+        result (λ r. put_to_sleep r side (move_at id)) }
     ensures room { AddsAtMost S.room 2 events.old events.new }
 {
     if ready_to_sleep(battle, side, id, known, random, events) {
@@ -46,8 +45,7 @@ fn ready_to_sleep<R: Rolls, S: EventSink>(
     events: &mut S,
 ) -> bool
     requires room { HasRoom S.room 1 events.old }
-    ensures shown { DoesKnowingDrawing R.drawing battle.old (S.tells events.old) random.old
-        known.old battle.new (S.tells events.new) random.new known.new result
+    ensures shown { Draws R.drawing random (aware known (scene S.tells battle events)) result
         (ready_to_sleep side (move_at id)) }
     ensures room { AddsAtMost S.room 1 events.old events.new }
 {
@@ -71,10 +69,8 @@ fn sleep_by_rules<R: Rolls, S: EventSink>(
     events: &mut S,
 ) -> bool
     requires room { HasRoom S.room 1 events.old }
-    ensures shown { (origin : R) (g : Frame) (p : Progress)
-        → ShowsDrawn R.drawing origin g battle.old (S.tells events.old) random.old false p
-        → ShowsDrawn R.drawing origin g battle.new (S.tells events.new) random.new result
-        (sleeps_under g.setting.terms.rules.sleep_clause side p) }
+    ensures shown { DrawsWhere R.drawing random anything (scene S.tells battle events) result
+        (λ r. r.sleeps side) }
     ensures room { AddsAtMost S.room 1 events.old events.new }
 {
     if battle.sleep_clause() {
@@ -92,11 +88,8 @@ fn sleep_only_one<R: Rolls, S: EventSink>(
     events: &mut S,
 ) -> bool
     requires room { HasRoom S.room 1 events.old }
-    ensures shown { (origin : R) (g : Frame) (p : Progress)
-        → g.setting.terms.rules.sleep_clause ≡ true
-        → ShowsDrawn R.drawing origin g battle.old (S.tells events.old) random.old false p
-        → ShowsDrawn R.drawing origin g battle.new (S.tells events.new) random.new result
-        (sleep_only_one side p) }
+    ensures shown { DrawsWhere R.drawing random (under λ t. t.rules.sleep_clause ≡ true)
+        (scene S.tells battle events) result (λ r. sleep_only_one side) }
     ensures room { AddsAtMost S.room 1 events.old events.new }
 {
     let foe = side.other();
@@ -118,11 +111,8 @@ fn fall_asleep<R: Rolls, S: EventSink>(
     events: &mut S,
 )
     requires room { HasRoom S.room 1 events.old }
-    ensures shown { (origin : R) (g : Frame) (p : Progress)
-        → g.setting.terms.rules.sleep_clause ≡ marked
-        → ShowsDrawn R.drawing origin g battle.old (S.tells events.old) random.old false p
-        → ShowsDrawn R.drawing origin g battle.new (S.tells events.new) random.new false
-        (fall_asleep marked side p) }
+    ensures shown { DrawsWhere R.drawing random (under λ t. t.rules.sleep_clause ≡ marked)
+        (scene S.tells battle events) false (λ r. fall_asleep marked side) }
     ensures room { AddsAtMost S.room 1 events.old events.new }
 {
     let Some(byte) = until(random, |byte| byte % 8 != 0) else {
@@ -134,10 +124,8 @@ fn fall_asleep<R: Rolls, S: EventSink>(
 // A sleep of 1 to 7 turns, by the drawn byte.
 fn sleep_for<S: EventSink>(battle: &mut Packed, side: Side, marked: bool, byte: u8, events: &mut S)
     requires room { HasRoom S.room 1 events.old }
-    ensures shown { (g : Frame) (p : Progress) → g.setting.terms.rules.sleep_clause ≡ marked
-        → is_sleep_count byte ≡ true
-        → Shows g battle.old (S.tells events.old) false p
-        → Shows g battle.new (S.tells events.new) false (sleep_for marked side byte p) }
+    ensures shown { is_sleep_count byte ≡ true → DoesWhere (under λ t. t.rules.sleep_clause ≡ marked)
+        (scene S.tells battle events) false (λ r. sleep_for marked side byte) }
     ensures room { AddsAtMost S.room 1 events.old events.new }
 {
     let turns = byte % 8;

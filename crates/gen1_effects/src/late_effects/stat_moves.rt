@@ -1,9 +1,10 @@
 //! Moves that raise a stat of the user or lower a stat of the foe (docs/MECHANICS.md, "Late effects", "Stage shift").
-ghost use Rattle.gen1_layout.specs.Words.{AddsAtMost, Does, HasRoom, IsBetween, move_at, other, ◌▸◌};
+ghost use Rattle.gen1_layout.specs.Operations.{Does, Draws, scene};
+ghost use Rattle.gen1_layout.specs.Words.{AddsAtMost, HasRoom, IsBetween, move_at, other, ◌▸◌};
 ghost use Rattle.gen1_machine.specs.LateEffects.{lower_foes_stat};
 ghost use Rattle.gen1_machine.specs.Progress.{fail, fails_if, is_invulnerable};
 ghost use Rattle.gen1_machine.specs.StageShift.{lower_stage, raise_stage};
-ghost use Rattle.gen1_action.specs.Knowing.{DoesKnowingDrawing};
+ghost use Rattle.gen1_action.specs.Knowing.{aware};
 
 use gen1_action::{Known, fail, must_hit};
 use gen1_events::EventSink;
@@ -22,8 +23,7 @@ pub(super) fn raise_own_stat<S: EventSink>(
     events: &mut S,
 ) -> bool
     requires room { HasRoom S.room 2 events.old }
-    ensures shown { IsBetween 1 2 by
-        → Does battle.old (S.tells events.old) battle.new (S.tells events.new) result
+    ensures shown { IsBetween 1 2 by → Does (scene S.tells battle events) result
         (raise_stage side side stat by (fail side)) }
     ensures room { AddsAtMost S.room 2 events.old events.new }
 {
@@ -46,10 +46,8 @@ pub(super) fn lower_foes_stat<R: Rolls, S: EventSink>(
     events: &mut S,
 ) -> bool
     requires room { HasRoom S.room 2 events.old }
-    ensures shown { IsBetween 1 2 by
-        → DoesKnowingDrawing R.drawing battle.old (S.tells events.old) random.old known.old
-        battle.new (S.tells events.new) random.new known.new result
-        (lower_foes_stat side (move_at id) stat by) }
+    ensures shown { IsBetween 1 2 by → Draws R.drawing random
+        (aware known (scene S.tells battle events)) result (lower_foes_stat side (move_at id) stat by) }
     ensures room { AddsAtMost S.room 2 events.old events.new }
 {
     let foe = side.other();
@@ -72,10 +70,9 @@ fn lower_unless_away<S: EventSink>(
     events: &mut S,
 ) -> bool
     requires room { HasRoom S.room 2 events.old }
-    ensures shown { IsBetween 1 2 by
-        → Does battle.old (S.tells events.old) battle.new (S.tells events.new) result
-        (fails_if side (is_invulnerable (other side))
-        ▸ lower_stage side (other side) stat by (fail side)) }
+    ensures shown { IsBetween 1 2 by → Does (scene S.tells battle events) result
+        (fails_if side (is_invulnerable (other side)) ▸ lower_stage side (other side) stat by
+        (fail side)) }
     ensures room { AddsAtMost S.room 2 events.old events.new }
 {
     let foe = side.other();

@@ -1,5 +1,6 @@
 //! Confusion by chance (docs/MECHANICS.md, "Side effects").
-ghost use Rattle.gen1_layout.specs.Words.{AddsAtMost, DoesDrawing, HasRoom, false};
+ghost use Rattle.gen1_layout.specs.Operations.{Draws, scene};
+ghost use Rattle.gen1_layout.specs.Words.{AddsAtMost, HasRoom, false};
 ghost use Rattle.gen1_machine.specs.SideEffects.{may_confuse};
 
 use super::chance::is_drawn_below;
@@ -18,8 +19,8 @@ pub(super) fn may_confuse<R: Rolls, S: EventSink>(
     events: &mut S,
 )
     requires room { HasRoom S.room 1 events.old }
-    ensures shown { DoesDrawing R.drawing battle.old (S.tells events.old) random.old
-        battle.new (S.tells events.new) random.new false (may_confuse side bound) }
+    ensures shown { Draws R.drawing random (scene S.tells battle events) false
+        (may_confuse side bound) }
     ensures room { AddsAtMost S.room 1 events.old events.new }
 {
     let foe = side.other();

@@ -1,9 +1,10 @@
 //! Disable, with its draws (docs/MECHANICS.md, "Side effects").
 ghost use Rattle.std.specs.Prelude.{◌≡◌};
-ghost use Rattle.gen1_layout.specs.Words.{AddsAtMost, DoesDrawing, DoesSeeing, Field, Frame, HasRoom, Progress, Reads, Setting, ShowsDrawn, Within, false, member_in, move_at, other, true};
+ghost use Rattle.gen1_layout.specs.Operations.{DoesWhere, Draws, DrawsWhere, holding, scene};
+ghost use Rattle.gen1_layout.specs.Words.{AddsAtMost, Field, HasRoom, Reads, Setting, Within, false, member_in, move_at, other, true};
 ghost use Rattle.gen1_machine.specs.Progress.{member};
 ghost use Rattle.gen1_machine.specs.SideEffects.{disable, disable_for, disable_slot, has_pp, names_slot};
-ghost use Rattle.gen1_action.specs.Knowing.{DoesKnowingDrawing, IsUncounted};
+ghost use Rattle.gen1_action.specs.Knowing.{IsUncounted, aware};
 ghost use Rattle.gen1_effects.specs.SideEffects.{draw_slot};
 
 use gen1_action::{Known, fail, must_hit};
@@ -22,8 +23,7 @@ pub(super) fn disable<R: Rolls, S: EventSink>(
     events: &mut S,
 ) -> bool
     requires room { HasRoom S.room 1 events.old }
-    ensures shown { DoesKnowingDrawing R.drawing battle.old (S.tells events.old) random.old
-        known.old battle.new (S.tells events.new) random.new known.new result
+    ensures shown { Draws R.drawing random (aware known (scene S.tells battle events)) result
         (disable side (move_at id)) }
     ensures counts { IsUncounted known.old → IsUncounted known.new }
     ensures room { AddsAtMost S.room 1 events.old events.new }
@@ -46,8 +46,7 @@ fn draw_slot<R: Rolls, S: EventSink>(
     events: &mut S,
 ) -> bool
     requires room { HasRoom S.room 1 events.old }
-    ensures shown { DoesDrawing R.drawing battle.old (S.tells events.old) random.old
-        battle.new (S.tells events.new) random.new result (draw_slot side) }
+    ensures shown { Draws R.drawing random (scene S.tells battle events) result (draw_slot side) }
     ensures room { AddsAtMost S.room 1 events.old events.new }
 {
     let foe = side.other();
@@ -71,12 +70,10 @@ fn disable_slot<R: Rolls, S: EventSink>(
     events: &mut S,
 ) -> bool
     requires room { HasRoom S.room 1 events.old }
-    ensures shown { (origin : R) (g : Frame) (p : Progress)
-        → any_pp ≡ has_pp (member (other side) p).moves
-        → names_slot (member (other side) p).moves byte ≡ true
-        → ShowsDrawn R.drawing origin g battle.old (S.tells events.old) random.old false p
-        → ShowsDrawn R.drawing origin g battle.new (S.tells events.new) random.new result
-        (disable_slot side (member (other side) p).moves byte p) }
+    ensures shown { DrawsWhere R.drawing random
+        (λ g p Then. any_pp ≡ has_pp (member (other side) p).moves → names_slot
+        (member (other side) p).moves byte ≡ true → Then) (scene S.tells battle events) result
+        (λ r p. disable_slot side (member (other side) p).moves byte p) }
     ensures room { AddsAtMost S.room 1 events.old events.new }
 {
     if !any_pp {
@@ -90,8 +87,8 @@ fn disable_slot<R: Rolls, S: EventSink>(
 
 fn disable_for<S: EventSink>(battle: &mut Packed, foe: Side, byte: u8, count: u8, events: &mut S)
     requires room { HasRoom S.room 1 events.old }
-    ensures shown { DoesSeeing (λ p. names_slot (member foe p).moves byte) true battle.old
-        (S.tells events.old) battle.new (S.tells events.new) false (disable_for foe byte count) }
+    ensures shown { DoesWhere (holding λ p. names_slot (member foe p).moves byte ≡ true)
+        (scene S.tells battle events) false (λ r. disable_for foe byte count) }
     ensures room { AddsAtMost S.room 1 events.old events.new }
 {
     let disabled = DisabledSlot {

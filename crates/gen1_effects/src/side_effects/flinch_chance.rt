@@ -1,5 +1,6 @@
 //! Flinching by chance (docs/MECHANICS.md, "Side effects").
-ghost use Rattle.gen1_layout.specs.Words.{Does, DoesDrawing, Event, List, Told, false, other};
+ghost use Rattle.gen1_layout.specs.Operations.{Does, Draws, quiet};
+ghost use Rattle.gen1_layout.specs.Words.{Event, List, false, other};
 ghost use Rattle.gen1_machine.specs.SideEffects.{by_chance, flinch};
 
 use super::chance::is_drawn_below;
@@ -8,9 +9,8 @@ use gen1_machine::Side;
 use gen1_rolls::Rolls;
 
 pub(super) fn may_flinch<R: Rolls>(battle: &mut Packed, side: Side, bound: u8, random: &mut R)
-    ensures shown { (events : List Event)
-        → DoesDrawing R.drawing battle.old (Told events) random.old battle.new (Told events) random.new
-        false (by_chance bound (flinch (other side))) }
+    ensures shown { (told : List Event) → Draws R.drawing random (quiet told battle) false
+        (by_chance bound (flinch (other side))) }
 {
     if !is_drawn_below(bound, random) {
         return;
@@ -20,8 +20,7 @@ pub(super) fn may_flinch<R: Rolls>(battle: &mut Packed, side: Side, bound: u8, r
 
 // A member that flinches also loses its recharging.
 fn flinch(battle: &mut Packed, side: Side)
-    ensures shown { (events : List Event)
-        → Does battle.old (Told events) battle.new (Told events) false (flinch side) }
+    ensures shown { (told : List Event) → Does (quiet told battle) false (flinch side) }
 {
     battle.put_flag(side, Conditions::FLINCH, true);
     battle.put_flag(side, Conditions::RECHARGE, false);

@@ -1,5 +1,6 @@
 //! Stages of the foe that fall by chance (docs/MECHANICS.md, "Side effects", "Stage shift").
-ghost use Rattle.gen1_layout.specs.Words.{AddsAtMost, DoesDrawing, HasRoom, false, other};
+ghost use Rattle.gen1_layout.specs.Operations.{Draws, scene};
+ghost use Rattle.gen1_layout.specs.Words.{AddsAtMost, HasRoom, false, other};
 ghost use Rattle.gen1_machine.specs.Progress.{stay};
 ghost use Rattle.gen1_machine.specs.SideEffects.{by_chance};
 ghost use Rattle.gen1_machine.specs.StageShift.{lower_stage};
@@ -21,8 +22,7 @@ pub(super) fn may_lower<R: Rolls, S: EventSink>(
     events: &mut S,
 )
     requires room { HasRoom S.room 1 events.old }
-    ensures shown { DoesDrawing R.drawing battle.old (S.tells events.old) random.old
-        battle.new (S.tells events.new) random.new false
+    ensures shown { Draws R.drawing random (scene S.tells battle events) false
         (by_chance 85 (lower_stage side (other side) stat 1 stay)) }
     ensures room { AddsAtMost S.room 1 events.old events.new }
 {

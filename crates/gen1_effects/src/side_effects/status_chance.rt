@@ -1,14 +1,14 @@
 //! Statuses by chance, and the thaw (docs/MECHANICS.md, "Side effects", "Rules (sleep clause, freeze clause)").
 ghost use Rattle.std.specs.Prelude.{◌&&◌, ◌||◌, ◌≡◌};
-ghost use Rattle.gen1_layout.specs.Words.{AddsAtMost, Does, DoesDrawing, Field, Frame, HasRoom, Progress, Reads, Setting, Shows, Within, active_in, false, is_frozen, move_at, not, party, status_in};
+ghost use Rattle.gen1_layout.specs.Operations.{Does, DoesWhere, Draws, DrawsWhere, anything, scene};
+ghost use Rattle.gen1_layout.specs.Words.{AddsAtMost, Field, HasRoom, Reads, Setting, Within, active_in, false, is_frozen, move_at, not, party, status_in};
 ghost use Rattle.gen1_tables.specs.declared.element.Element.TheVariants.{Fire, Poison};
 ghost use Rattle.gen1_tables.specs.Types.{same_type};
 ghost use Rattle.gen1_stats.specs.Members.{is_healthy};
-ghost use Rattle.gen1_machine.specs.Ruling.{freezes_under, ruling_of};
 ghost use Rattle.gen1_machine.specs.State.{any_living, has_type};
 ghost use Rattle.gen1_machine.specs.SideEffects.{may_inflict, may_poison, thaw};
 ghost use Rattle.gen1_status.specs.Infliction.{IsCountOf};
-ghost use Rattle.gen1_effects.specs.SideEffects.{DoesByRules, afflict, is_freeze};
+ghost use Rattle.gen1_effects.specs.SideEffects.{afflict, is_freeze};
 
 use super::chance::is_drawn_below;
 use crate::targets::{has_status, has_type};
@@ -30,8 +30,7 @@ pub(super) fn may_poison<R: Rolls, S: EventSink>(
     events: &mut S,
 )
     requires room { HasRoom S.room 1 events.old }
-    ensures shown { DoesDrawing R.drawing battle.old (S.tells events.old) random.old
-        battle.new (S.tells events.new) random.new false (may_poison side bound) }
+    ensures shown { Draws R.drawing random (scene S.tells battle events) false (may_poison side bound) }
     ensures room { AddsAtMost S.room 1 events.old events.new }
 {
     let foe = side.other();
@@ -66,9 +65,8 @@ pub(super) fn may_inflict<R: Rolls, S: EventSink>(
     events: &mut S,
 )
     requires room { HasRoom S.room 1 events.old }
-    ensures shown { IsCountOf kind 0
-        → DoesByRules R.drawing battle.old (S.tells events.old) random.old battle.new
-        (S.tells events.new) random.new
+    ensures shown { IsCountOf kind 0 → DrawsWhere R.drawing random anything
+        (scene S.tells battle events) false
         (λ r. may_inflict side (move_at id) bound (afflict r side kind)) }
     ensures room { AddsAtMost S.room 1 events.old events.new }
 {
@@ -88,8 +86,7 @@ pub(super) fn may_inflict<R: Rolls, S: EventSink>(
 
 fn thaw<S: EventSink>(battle: &mut Packed, side: Side, id: MoveId, events: &mut S)
     requires room { HasRoom S.room 1 events.old }
-    ensures shown { Does battle.old (S.tells events.old) battle.new (S.tells events.new) false
-        (thaw side (move_at id)) }
+    ensures shown { Does (scene S.tells battle events) false (thaw side (move_at id)) }
     ensures room { AddsAtMost S.room 1 events.old events.new }
 {
     let foe = side.other();
@@ -102,10 +99,8 @@ fn thaw<S: EventSink>(battle: &mut Packed, side: Side, id: MoveId, events: &mut 
 
 fn afflict<S: EventSink>(battle: &mut Packed, side: Side, kind: Kind, events: &mut S)
     requires room { HasRoom S.room 1 events.old }
-    ensures shown { (g : Frame) (p : Progress) → IsCountOf kind 0
-        → Shows g battle.old (S.tells events.old) false p
-        → Shows g battle.new (S.tells events.new) false
-        (afflict (ruling_of g.setting.terms) side kind p) }
+    ensures shown { IsCountOf kind 0 → DoesWhere anything (scene S.tells battle events) false
+        (λ r. afflict r side kind) }
     ensures room { AddsAtMost S.room 1 events.old events.new }
 {
     if is_freeze(kind) {
@@ -119,9 +114,7 @@ fn afflict<S: EventSink>(battle: &mut Packed, side: Side, kind: Kind, events: &m
 // recharging.
 fn freeze<S: EventSink>(battle: &mut Packed, side: Side, events: &mut S)
     requires room { HasRoom S.room 1 events.old }
-    ensures shown { (g : Frame) (p : Progress) → Shows g battle.old (S.tells events.old) false p
-        → Shows g battle.new (S.tells events.new) false
-        (freezes_under g.setting.terms.rules.freeze_clause side p) }
+    ensures shown { DoesWhere anything (scene S.tells battle events) false (λ r. r.freezes side) }
     ensures room { AddsAtMost S.room 1 events.old events.new }
 {
     let foe = side.other();

@@ -14,4 +14,4 @@ unfolding fall_asleep
 returns-clause-shown t c origin g p clause h =
     let finds = c.in-Some.ensures.found is_sleep_count (λ x answer lt post. grind (post, arith, nat_tests)) in
     drawn_until is_sleep_count (sleep_for c.args.marked c.args.side) h finds
-    (λ q a. still {g' = g} a (c.sleep_for.ensures.shown _ q clause (ap is_sleep_count finds.is ∙ finds.first.meets) a.shows) refl)
+    (λ q a. still {g' = g} a (c.sleep_for.ensures.shown (ap is_sleep_count finds.is ∙ finds.first.meets) _ q clause a.shows) refl)

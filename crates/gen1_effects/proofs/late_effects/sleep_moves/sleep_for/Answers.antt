@@ -8,4 +8,4 @@ counted byte e = (grind (arith, nat_tests), omega arith)
 
 pub returns-clause-shown : goal.returns-clause-shown
 unfolding sleep_for
-returns-clause-shown t c g p clause count h = c.inflict_status.ensures.shown g p (counted c.args.byte count, λ marked. clause ∙ marked) h
+returns-clause-shown t c count g p clause h = c.inflict_status.ensures.shown g p (counted c.args.byte count, λ marked. clause ∙ marked) h

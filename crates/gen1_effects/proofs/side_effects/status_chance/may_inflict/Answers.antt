@@ -33,4 +33,4 @@ returns-clause-shown t c count origin g p h =
     let own = rw (c.other-foe.ensures, c.kind.ensures) at (c.has_type.ensures.stands _ _ h.shows.within) in
     drawn_if_not _ _ _ (sym is ∙ c.if-has_status.false) (drawn_if_not _ _ _ (sym own ∙ c.if-has_type.false)
     (comes c.args.bound (afflict (ruling_of g.setting.terms) c.args.side c.args.kind) h c.is_drawn_below.ensures.drawn c.is_drawn_below.ensures.left c.if-not-is_drawn_below.false
-    (λ d. still d (c.afflict.ensures.shown _ _ count d.shows) refl)))
+    (λ d. still d (c.afflict.ensures.shown count _ _ d.shows) refl)))
