@@ -2,7 +2,7 @@
 -- (docs/MECHANICS.md, "Fixed damage and one-hit moves").
 use Rattle.std.specs.Prelude.{None, Option, Some, ℕ, ◌≡◌}
 use Rattle.gen1_layout.specs.Words.{Event, Frame, List, Phase, Progress, ShowsDrawn, Told, false}
-use Rattle.gen1_rolls.specs.Draws.{Drawing}
+use Rattle.gen1_rolls.specs.Draws.{Drawing, Ref}
 use Rattle.gen1_machine.specs.Progress.{fault, set_last_damage}
 use Rattle.gen1_layout.specs.Parts.{Parts}
 
@@ -11,7 +11,7 @@ deal (Some damage) = set_last_damage damage
 deal None = fault 2
 
 -- The generator has drawn up to n. The phase draws as far, and deals the result.
-abbrev pub DealsAs : {A : Type 0} → Drawing A → Parts → A → Option ℕ → A → Phase → Type 0
-DealsAs {A = A} d parts old result new phase =
-    (origin : A) (g : Frame) (events : List Event) (p : Progress) → ShowsDrawn d origin g parts (Told events) old false p
-    → (n : ℕ) × ShowsDrawn d origin g parts (Told events) new false (record p { drawn = n }) × (phase p ≡ deal result (record p { drawn = n }))
+abbrev pub DealsAs : {A : Type 0} → Drawing A → Ref A → Parts → Option ℕ → Phase → Type 0
+DealsAs {A = A} d random parts result phase =
+    (origin : A) (g : Frame) (events : List Event) (p : Progress) → ShowsDrawn d origin g parts (Told events) random.entry.now false p
+    → (n : ℕ) × ShowsDrawn d origin g parts (Told events) random.exit.now false (record p { drawn = n }) × (phase p ≡ deal result (record p { drawn = n }))

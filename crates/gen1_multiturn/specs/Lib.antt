@@ -2,8 +2,6 @@
 pub mod Bide
 -- A use of a trapping or a thrashing move.
 pub mod GoingOn
--- What a call by itself shows that draws nothing.
-pub mod Anyway
 -- The damage of Counter.
 pub mod Counter
 -- The damage of a move of fixed damage.

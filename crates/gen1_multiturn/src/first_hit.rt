@@ -1,11 +1,12 @@
 //! The reports before the first hit: whether it is critical, and its effectiveness (docs/MECHANICS.md, "Order of
 //! events").
 ghost use Rattle.std.specs.Prelude.{◌≡◌};
-ghost use Rattle.gen1_layout.specs.Words.{AddsAtMost, Does, HasRoom, false, move_at, other};
+ghost use Rattle.gen1_layout.specs.Operations.{Does, looking};
+ghost use Rattle.gen1_layout.specs.Words.{AddsAtMost, HasRoom, false, move_at, other};
 ghost use Rattle.gen1_machine.specs.Damage.{numbers};
 ghost use Rattle.gen1_machine.specs.ManyHits.{note_critical, note_effectiveness, note_first_hit};
 ghost use Rattle.gen1_machine.specs.Progress.{given};
-ghost use Rattle.gen1_action.specs.Knowing.{DoesKnowing};
+ghost use Rattle.gen1_action.specs.Knowing.{aware_of};
 ghost use Rattle.gen1_multiturn.specs.Effectiveness.{how_many};
 
 use gen1_action::Known;
@@ -23,8 +24,8 @@ pub(crate) fn note_first_hit<S: EventSink>(
     events: &mut S,
 )
     requires room { HasRoom S.room 2 events.old }
-    ensures shown { DoesKnowing battle.now (S.tells events.old) known.now battle.now (S.tells events.new)
-        known.now false (note_first_hit side (move_at id)) }
+    ensures shown { Does (aware_of known.now (looking S.tells battle events)) false
+        (note_first_hit side (move_at id)) }
     ensures room { AddsAtMost S.room 2 events.old events.new }
 {
     if !known.through_types {
@@ -36,8 +37,8 @@ pub(crate) fn note_first_hit<S: EventSink>(
 
 fn note_critical<S: EventSink>(battle: &Packed, target: Side, known: &Known, events: &mut S)
     requires room { HasRoom S.room 1 events.old }
-    ensures shown { DoesKnowing battle.now (S.tells events.old) known.now battle.now (S.tells events.new)
-        known.now false (note_critical target) }
+    ensures shown { Does (aware_of known.now (looking S.tells battle events)) false
+        (note_critical target) }
     ensures room { AddsAtMost S.room 1 events.old events.new }
 {
     if known.critical {
@@ -47,7 +48,7 @@ fn note_critical<S: EventSink>(battle: &Packed, target: Side, known: &Known, eve
 
 fn note_effectiveness<S: EventSink>(battle: &Packed, side: Side, id: MoveId, events: &mut S)
     requires room { HasRoom S.room 1 events.old }
-    ensures shown { Does battle.now (S.tells events.old) battle.now (S.tells events.new) false
+    ensures shown { Does (looking S.tells battle events) false
         (given (numbers side (move_at id)) (note_effectiveness (other side))) }
     ensures room { AddsAtMost S.room 1 events.old events.new }
 {

@@ -1,13 +1,14 @@
 //! How many hits a move makes (docs/MECHANICS.md, "Many hits").
 ghost use Rattle.std.specs.Prelude.{unwrap_or, ◌-◌, ◌≡◌, ◌≤◌};
-ghost use Rattle.gen1_layout.specs.Words.{AddsAtMost, Event as EventOf, HasRoom, List, Told, false, is_some, move_at, true};
+ghost use Rattle.gen1_layout.specs.Operations.{Does, Draws, at_rest, looking};
+ghost use Rattle.gen1_layout.specs.Words.{AddsAtMost, Event as EventOf, HasRoom, List, false, is_some, move_at, true};
 ghost use Rattle.gen1_machine.specs.HitEffects.{hit_effect, plan_hits};
 ghost use Rattle.gen1_machine.specs.ManyHits.{note_hit_count};
 ghost use Rattle.gen1_tables.specs.Effects.{hits_more};
 ghost use Rattle.gen1_machine.specs.Progress.{broke_substitute, given, unless, when};
 ghost use Rattle.gen1_machine.specs.Valid.{IsCount};
 ghost use Rattle.gen1_layout.specs.Parts.{Parts};
-ghost use Rattle.gen1_action.specs.Knowing.{DoesKnowing, DoesKnowingDrawing};
+ghost use Rattle.gen1_action.specs.Knowing.{aware, aware_of};
 ghost use Rattle.gen1_multiturn.specs.ManyHits.{IsFew, is_multi_hit};
 
 use gen1_action::{Known, draw_count};
@@ -25,9 +26,8 @@ pub(crate) fn plan_unless_broken<R: Rolls>(
     random: &mut R,
 )
     requires many { hits_more (move_at id).effect ≡ true }
-    ensures shown { (parts : Parts) (events : List EventOf)
-        → DoesKnowingDrawing R.drawing parts (Told events) random.old known.old parts (Told events)
-        random.new known.new false
+    ensures shown { (parts : Parts) (events : List EventOf) → Draws R.drawing random
+        (aware known (at_rest events parts)) false
         (unless broke_substitute (hit_effect side (move_at id) (move_at id).effect)) }
     ensures made { known.new.hits_made ≡ known.old.hits_made }
     ensures few { IsFew known.old → IsFew known.new }
@@ -40,9 +40,8 @@ pub(crate) fn plan_unless_broken<R: Rolls>(
 
 fn plan_more<R: Rolls>(side: Side, id: MoveId, known: &mut Known, random: &mut R)
     requires many { hits_more (move_at id).effect ≡ true }
-    ensures shown { (parts : Parts) (events : List EventOf)
-        → DoesKnowingDrawing R.drawing parts (Told events) random.old known.old parts (Told events)
-        random.new known.new false (hit_effect side (move_at id) (move_at id).effect) }
+    ensures shown { (parts : Parts) (events : List EventOf) → Draws R.drawing random
+        (aware known (at_rest events parts)) false (hit_effect side (move_at id) (move_at id).effect) }
     ensures made { known.new.hits_made ≡ known.old.hits_made }
     ensures few { IsFew known.old → IsFew known.new }
 {
@@ -61,9 +60,8 @@ fn is_multi_hit(effect: Effect) -> bool
 
 // Two to five hits, drawn after the first hit only.
 fn plan_hits<R: Rolls>(known: &mut Known, random: &mut R)
-    ensures shown { (parts : Parts) (events : List EventOf)
-        → DoesKnowingDrawing R.drawing parts (Told events) random.old known.old parts (Told events)
-        random.new known.new false plan_hits }
+    ensures shown { (parts : Parts) (events : List EventOf) → Draws R.drawing random
+        (aware known (at_rest events parts)) false plan_hits }
     ensures made { known.new.hits_made ≡ known.old.hits_made }
     ensures few { IsFew known.old → IsFew known.new }
 {
@@ -94,8 +92,7 @@ pub(crate) fn note_hit_count<S: EventSink>(
 )
     requires room { HasRoom S.room 1 events.old }
     requires made { (1 ≤ known.now.hits_made) × (known.now.hits_made ≤ 5) }
-    ensures shown { DoesKnowing battle.now (S.tells events.old) known.now battle.now (S.tells events.new)
-        known.now false
+    ensures shown { Does (aware_of known.now (looking S.tells battle events)) false
         (when (λ p. is_some p.action.hits_planned)
         (given (λ p. p.action.hits_made) (note_hit_count target))) }
     ensures room { AddsAtMost S.room 1 events.old events.new }

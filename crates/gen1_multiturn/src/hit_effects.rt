@@ -1,6 +1,7 @@
 //! What follows the hit of a move that makes one (docs/MECHANICS.md, "Recoil, drain and explosion").
 ghost use Rattle.std.specs.Prelude.{max, ◌/◌, ◌≡◌};
-ghost use Rattle.gen1_layout.specs.Words.{AddsAtMost, Does, Event as EventOf, HasRoom, List, Told, false, move_at};
+ghost use Rattle.gen1_layout.specs.Operations.{Does, quiet, scene};
+ghost use Rattle.gen1_layout.specs.Words.{AddsAtMost, Event as EventOf, HasRoom, List, false, move_at};
 ghost use Rattle.gen1_machine.specs.HitEffects.{drain, explode, hit_effect, recoil, recoil_of, start_rage};
 ghost use Rattle.gen1_tables.specs.Effects.{hits_more};
 ghost use Rattle.gen1_multiturn.specs.ManyHits.{consequence_of};
@@ -25,7 +26,7 @@ pub(crate) enum Consequence {
 pub(crate) fn hit_effect<S: EventSink>(battle: &mut Packed, side: Side, id: MoveId, events: &mut S)
     requires room { HasRoom S.room 1 events.old }
     requires one { hits_more (move_at id).effect ≡ false }
-    ensures shown { Does battle.old (S.tells events.old) battle.new (S.tells events.new) false
+    ensures shown { Does (scene S.tells battle events) false
         (hit_effect side (move_at id) (move_at id).effect) }
     ensures room { AddsAtMost S.room 1 events.old events.new }
 {
@@ -54,8 +55,7 @@ fn consequence_of(effect: Effect) -> Consequence
 // The recoil takes the user's HP even if it has a Substitute.
 fn recoil<S: EventSink>(battle: &mut Packed, side: Side, id: MoveId, events: &mut S)
     requires room { HasRoom S.room 1 events.old }
-    ensures shown { Does battle.old (S.tells events.old) battle.new (S.tells events.new) false
-        (recoil side (move_at id)) }
+    ensures shown { Does (scene S.tells battle events) false (recoil side (move_at id)) }
     ensures room { AddsAtMost S.room 1 events.old events.new }
 {
     let amount = recoil_of(id, battle.last_damage());
@@ -77,8 +77,7 @@ fn recoil_of(id: MoveId, damage: u16) -> u16
 // The user heals by half of the damage. That half becomes the last damage.
 fn drain<S: EventSink>(battle: &mut Packed, side: Side, events: &mut S)
     requires room { HasRoom S.room 1 events.old }
-    ensures shown { Does battle.old (S.tells events.old) battle.new (S.tells events.new) false
-        (drain side) }
+    ensures shown { Does (scene S.tells battle events) false (drain side) }
     ensures room { AddsAtMost S.room 1 events.old events.new }
 {
     let half = half_of(battle.last_damage());
@@ -95,8 +94,7 @@ fn half_of(damage: u16) -> u16
 // The user's own Rage, which never ends by itself.
 fn start_rage<S: EventSink>(battle: &mut Packed, side: Side, events: &mut S)
     requires room { HasRoom S.room 1 events.old }
-    ensures shown { Does battle.old (S.tells events.old) battle.new (S.tells events.new) false
-        (start_rage side) }
+    ensures shown { Does (scene S.tells battle events) false (start_rage side) }
     ensures room { AddsAtMost S.room 1 events.old events.new }
 {
     if battle.is_on(side, Conditions::RAGE) {
@@ -108,8 +106,7 @@ fn start_rage<S: EventSink>(battle: &mut Packed, side: Side, events: &mut S)
 
 // The user falls. No event reports that.
 pub(crate) fn explode(battle: &mut Packed, side: Side)
-    ensures shown { (events : List EventOf)
-        → Does battle.old (Told events) battle.new (Told events) false (explode side) }
+    ensures shown { (events : List EventOf) → Does (quiet events battle) false (explode side) }
 {
     battle.put_fallen(side);
     battle.put_flag(side, Conditions::SEEDED, false);

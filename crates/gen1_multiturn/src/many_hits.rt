@@ -1,6 +1,7 @@
 //! The hits of a move, one after another (docs/MECHANICS.md, "Many hits").
 ghost use Rattle.std.specs.Prelude.{◌*◌, ◌+◌, ◌||◌, ◌≡◌, ◌≤◌};
-ghost use Rattle.gen1_layout.specs.Words.{AddsAtMost, Does, HasRoom, Reads, false, move_at, other, true};
+ghost use Rattle.gen1_layout.specs.Operations.{Does, Draws, between, scene};
+ghost use Rattle.gen1_layout.specs.Words.{AddsAtMost, HasRoom, Reads, false, move_at, other, true};
 ghost use Rattle.gen1_machine.specs.State.{has_fallen_in};
 ghost use Rattle.gen1_machine.specs.declared.event.Event.TheVariants as told;
 ghost use Rattle.gen1_machine.specs.HitEffects.{hit_effect};
@@ -10,7 +11,7 @@ ghost use Rattle.gen1_tables.specs.Effects.{hits_more, knocks_out};
 ghost use Rattle.gen1_machine.specs.Progress.{broke_substitute, note, only, unless};
 ghost use Rattle.gen1_layout.specs.Parts.{Parts};
 ghost use Rattle.gen1_hits.specs.Landing.{has_broken};
-ghost use Rattle.gen1_action.specs.Knowing.{DoesKnowing, DoesKnowingDrawing, IsUncounted};
+ghost use Rattle.gen1_action.specs.Knowing.{IsUncounted, aware, aware_of};
 ghost use Rattle.gen1_multiturn.specs.ManyHits.{IsFew};
 
 use crate::first_hit::note_first_hit;
@@ -46,8 +47,8 @@ pub fn hits<R: Rolls, S: EventSink>(
 )
     requires room { HasRoom S.room 13 events.old }
     requires counts { IsUncounted known.old }
-    ensures shown { DoesKnowingDrawing R.drawing battle.old (S.tells events.old) random.old
-        known.old battle.new (S.tells events.new) random.new known.new false (hits side (move_at id)) }
+    ensures shown { Draws R.drawing random (aware known (scene S.tells battle events)) false
+        (hits side (move_at id)) }
     ensures room { AddsAtMost S.room 13 events.old events.new }
 {
     note_first_hit(battle, side, id, known, events);
@@ -80,8 +81,8 @@ fn hit_once<S: EventSink>(
     requires room { HasRoom S.room 4 events.old }
     requires one { hits_more (move_at id).effect ≡ false }
     requires made { known.old.hits_made ≤ 4 }
-    ensures shown { DoesKnowing battle.old (S.tells events.old) known.old battle.new (S.tells events.new)
-        known.new false (hit_once side (move_at id)) }
+    ensures shown { Does (aware known (scene S.tells battle events)) false
+        (hit_once side (move_at id)) }
     ensures room { AddsAtMost S.room 4 events.old events.new }
 {
     land_hit(battle, side, known, events);
@@ -103,8 +104,7 @@ fn hit_of_many<R: Rolls, S: EventSink>(
     requires room { HasRoom S.room 2 events.old }
     requires many { hits_more (move_at id).effect ≡ true }
     requires made { known.old.hits_made ≤ 4 }
-    ensures shown { DoesKnowingDrawing R.drawing battle.old (S.tells events.old) random.old
-        known.old battle.new (S.tells events.new) random.new known.new false
+    ensures shown { Draws R.drawing random (aware known (scene S.tells battle events)) false
         (hit_once side (move_at id)) }
     ensures room { AddsAtMost S.room 2 events.old events.new }
     ensures made { known.new.hits_made ≡ known.old.hits_made + 1 }
@@ -119,8 +119,7 @@ fn hit_of_many<R: Rolls, S: EventSink>(
 // The last damage lands on the foe.
 fn land_hit<S: EventSink>(battle: &mut Packed, side: Side, known: &mut Known, events: &mut S)
     requires room { HasRoom S.room 1 events.old }
-    ensures shown { DoesKnowing battle.old (S.tells events.old) known.old battle.new (S.tells events.new)
-        known.new false (land (other side)) }
+    ensures shown { Does (aware known (scene S.tells battle events)) false (land (other side)) }
     ensures room { AddsAtMost S.room 1 events.old events.new }
     ensures same { (known.new.hits_made ≡ known.old.hits_made)
         × (known.new.hits_planned ≡ known.old.hits_planned) }
@@ -140,7 +139,7 @@ fn has_broken(landed: Landed) -> bool
 fn note_knock_out<S: EventSink>(effect: Effect, events: &mut S)
     requires room { HasRoom S.room 1 events.old }
     ensures shown { (parts : Parts)
-        → Does parts (S.tells events.old) parts (S.tells events.new) false
+        → Does (between parts (S.tells events.old) parts (S.tells events.new)) false
         (only (knocks_out effect) (note λ f. told.OneHitKnockOut)) }
     ensures room { AddsAtMost S.room 1 events.old events.new }
 {
@@ -164,8 +163,7 @@ fn effect_unless_broken<S: EventSink>(
 )
     requires room { HasRoom S.room 1 events.old }
     requires one { hits_more (move_at id).effect ≡ false }
-    ensures shown { DoesKnowing battle.old (S.tells events.old) known.now battle.new (S.tells events.new)
-        known.now false
+    ensures shown { Does (aware_of known.now (scene S.tells battle events)) false
         (unless broke_substitute (hit_effect side (move_at id) (move_at id).effect)) }
     ensures room { AddsAtMost S.room 1 events.old events.new }
 {
@@ -187,8 +185,7 @@ fn other_hits<R: Rolls, S: EventSink>(
     requires many { hits_more (move_at id).effect ≡ true }
     requires made { known.old.hits_made ≡ 1 }
     requires few { IsFew known.old }
-    ensures shown { DoesKnowingDrawing R.drawing battle.old (S.tells events.old) random.old
-        known.old battle.new (S.tells events.new) random.new known.new false
+    ensures shown { Draws R.drawing random (aware known (scene S.tells battle events)) false
         (other_hits side (move_at id)) }
     ensures room { AddsAtMost S.room 9 events.old events.new }
 {
@@ -210,8 +207,7 @@ fn hit_again<R: Rolls, S: EventSink>(
     requires room { HasRoom S.room (2 * left) events.old }
     requires many { hits_more (move_at id).effect ≡ true }
     requires made { known.old.hits_made + left ≤ 5 }
-    ensures shown { DoesKnowingDrawing R.drawing battle.old (S.tells events.old) random.old
-        known.old battle.new (S.tells events.new) random.new known.new false
+    ensures shown { Draws R.drawing random (aware known (scene S.tells battle events)) false
         (hit_again left side (move_at id)) }
     ensures room { AddsAtMost S.room (2 * left) events.old events.new }
     ensures low { known.old.hits_made ≤ known.new.hits_made }

@@ -1,6 +1,7 @@
 //! What follows a miss: a crash, or an explosion (docs/MECHANICS.md, "Action", step 9).
 ghost use Rattle.std.specs.Prelude.{◌≡◌};
-ghost use Rattle.gen1_layout.specs.Words.{AddsAtMost, Does, Event, HasRoom, List, Told, false, move_at, true};
+ghost use Rattle.gen1_layout.specs.Operations.{Does, quiet, scene};
+ghost use Rattle.gen1_layout.specs.Words.{AddsAtMost, Event, HasRoom, List, false, move_at, true};
 ghost use Rattle.gen1_machine.specs.HitEffects.{explode};
 ghost use Rattle.gen1_machine.specs.ManyHits.{crash, missed_move};
 ghost use Rattle.gen1_tables.specs.Effects.{crashes, explodes};
@@ -22,8 +23,7 @@ use gen1_tables::{Effect, MoveId};
 #[inline(always)] // docs/SPEED.md, "Hints on inlining"
 pub fn missed_move<S: EventSink>(battle: &mut Packed, side: Side, id: MoveId, events: &mut S)
     requires room { HasRoom S.room 2 events.old }
-    ensures shown { Does battle.old (S.tells events.old) battle.new (S.tells events.new) true
-        (missed_move side (move_at id)) }
+    ensures shown { Does (scene S.tells battle events) true (missed_move side (move_at id)) }
     ensures room { AddsAtMost S.room 2 events.old events.new }
 {
     note_miss(battle, side, id, events);
@@ -34,8 +34,7 @@ pub fn missed_move<S: EventSink>(battle: &mut Packed, side: Side, id: MoveId, ev
 // A kick that misses costs its user 1 HP.
 fn crash<S: EventSink>(battle: &mut Packed, side: Side, effect: Effect, events: &mut S)
     requires room { HasRoom S.room 1 events.old }
-    ensures shown { Does battle.old (S.tells events.old) battle.new (S.tells events.new) false
-        (only (crashes effect) (crash side)) }
+    ensures shown { Does (scene S.tells battle events) false (only (crashes effect) (crash side)) }
     ensures room { AddsAtMost S.room 1 events.old events.new }
 {
     if !crashes(effect) {
@@ -52,8 +51,8 @@ fn crashes(effect: Effect) -> bool
 }
 
 fn explode_if(battle: &mut Packed, side: Side, effect: Effect)
-    ensures shown { (events : List Event)
-        → Does battle.old (Told events) battle.new (Told events) false (only (explodes effect) (explode side)) }
+    ensures shown { (told : List Event) → Does (quiet told battle) false
+        (only (explodes effect) (explode side)) }
 {
     if effect.explodes() {
         explode(battle, side);

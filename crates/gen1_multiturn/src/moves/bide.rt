@@ -1,6 +1,7 @@
 //! Bide, which begins, stores the last damage, and lets out twice the sum (docs/MECHANICS.md, "Going on").
 ghost use Rattle.std.specs.Prelude.{◌-◌, ◌≡◌};
-ghost use Rattle.gen1_layout.specs.Words.{AddsAtMost, Frame, HasRoom, None, Progress, Reads, Shows, Some, false, true, underway_in, ℕ};
+ghost use Rattle.gen1_layout.specs.Operations.{Does, DoesWhere, DrawsWhere, holding, scene};
+ghost use Rattle.gen1_layout.specs.Words.{AddsAtMost, HasRoom, None, Reads, Some, false, true, underway_in, ℕ};
 ghost use Rattle.gen1_tables.specs.declared.effect.Effect.{Effect};
 ghost use Rattle.gen1_tables.specs.declared.effect.Effect.TheVariants.{Bide};
 ghost use Rattle.gen1_machine.specs.Conditions.{Storing, energy_with};
@@ -8,10 +9,9 @@ ghost use Rattle.gen1_machine.specs.GoingOn.{bide_goes_on, let_energy_go, let_ou
 ghost use Rattle.gen1_machine.specs.LateEffects.{bide_for, start_bide};
 ghost use Rattle.gen1_tables.specs.Effects.{bides};
 ghost use Rattle.gen1_machine.specs.Progress.{underway};
-ghost use Rattle.gen1_action.specs.declared.known.Known.{Known as Knowledge};
-ghost use Rattle.gen1_action.specs.Alone.{DoesAloneAt};
-ghost use Rattle.gen1_action.specs.Knowing.{DoesKnowing, IsUncounted};
-ghost use Rattle.gen1_action.specs.Planned.{DoesAt};
+ghost use Rattle.gen1_action.specs.Knowing.{IsUncounted, aware, aware_of};
+ghost use Rattle.gen1_action.specs.Alone.{Leaves, beginning};
+ghost use Rattle.gen1_action.specs.Planned.{using};
 ghost use Rattle.gen1_multiturn.specs.Bide.{energy_let_out, use_bide};
 
 use gen1_action::Known;
@@ -35,8 +35,8 @@ pub fn bide<R: Rolls, S: EventSink>(
     events: &mut S,
 ) -> Option<u16>
     requires room { HasRoom S.room 1 events.old }
-    ensures left { DoesAloneAt R.drawing side Bide battle.old (S.tells events.old) random.old
-        battle.new (S.tells events.new) random.new (λ r. use_bide side) }
+    ensures left { Leaves R.drawing random (using side Bide)
+        (beginning side (scene S.tells battle events)) (λ r. use_bide side) }
     ensures energy { Reads battle.old result λ f. energy_let_out f.last_damage
         (underway_in side f).bide }
     ensures room { AddsAtMost S.room 1 events.old events.new }
@@ -62,8 +62,7 @@ pub fn bide_knowing<S: EventSink>(
     events: &mut S,
 ) -> bool
     requires room { HasRoom S.room 1 events.old }
-    ensures shown { DoesKnowing battle.old (S.tells events.old) known.old battle.new (S.tells events.new)
-        known.new result (bide_goes_on side) }
+    ensures shown { Does (aware known (scene S.tells battle events)) result (bide_goes_on side) }
     ensures counts { IsUncounted known.old → IsUncounted known.new }
     ensures room { AddsAtMost S.room 1 events.old events.new }
 {
@@ -90,9 +89,9 @@ pub fn start_bide<R: Rolls, S: EventSink>(
     events: &mut S,
 )
     requires room { HasRoom S.room 1 events.old }
-    ensures shown { (known : Knowledge) (effect : Effect) → bides effect ≡ true
-        → DoesAt R.drawing side effect battle.old (S.tells events.old) random.old known
-        battle.new (S.tells events.new) random.new known false (λ r. start_bide side) }
+    ensures shown { (known : Known) (effect : Effect) → bides effect ≡ true → DrawsWhere R.drawing
+        random (using side effect) (aware_of known (scene S.tells battle events)) false
+        (λ r. start_bide side) }
     ensures room { AddsAtMost S.room 1 events.old events.new }
 {
     let byte = random.draw();
@@ -102,10 +101,9 @@ pub fn start_bide<R: Rolls, S: EventSink>(
 // Thrashing and trapping are off.
 fn bide_for<S: EventSink>(battle: &mut Packed, side: Side, byte: u8, events: &mut S)
     requires room { HasRoom S.room 1 events.old }
-    ensures shown { (g : Frame) (p : Progress) → (underway side p).thrash ≡ None
-        → (underway side p).trapping ≡ None
-        → Shows g battle.old (S.tells events.old) false p
-        → Shows g battle.new (S.tells events.new) false (bide_for side byte p) }
+    ensures shown { DoesWhere (λ g p Then. (underway side p).thrash ≡ None →
+        (underway side p).trapping ≡ None → Then) (scene S.tells battle events) false
+        (λ r. bide_for side byte) }
     ensures room { AddsAtMost S.room 1 events.old events.new }
 {
     battle.put_bide(side, byte % 2 + 2, 0);
@@ -135,9 +133,8 @@ fn let_energy_go<S: EventSink>(
     events: &mut S,
 )
     requires room { HasRoom S.room 1 events.old }
-    ensures shown { (energy : ℕ) → damage ≡ let_out energy
-        → DoesKnowing battle.old (S.tells events.old) known.old battle.new (S.tells events.new) known.new
-        false (let_energy_go side energy) }
+    ensures shown { (energy : ℕ) → damage ≡ let_out energy → Does
+        (aware known (scene S.tells battle events)) false (let_energy_go side energy) }
     ensures counts { IsUncounted known.old → IsUncounted known.new }
     ensures room { AddsAtMost S.room 1 events.old events.new }
 {
@@ -156,10 +153,9 @@ fn store_energy<S: EventSink>(
     events: &mut S,
 )
     requires room { HasRoom S.room 1 events.old }
-    ensures shown { (g : Frame) (p : Progress) (damage : ℕ) (b : Storing)
-        → (underway side p).bide ≡ Some b → turns ≡ b.turns - 1 → energy ≡ energy_with damage b
-        → Shows g battle.old (S.tells events.old) false p
-        → Shows g battle.new (S.tells events.new) true (store_energy side damage p) }
+    ensures shown { (damage : ℕ) (b : Storing) → turns ≡ b.turns - 1 → energy ≡ energy_with damage b →
+        DoesWhere (holding λ p. (underway side p).bide ≡ Some b) (scene S.tells battle events) true
+        (λ r. store_energy side damage) }
     ensures room { AddsAtMost S.room 1 events.old events.new }
 {
     battle.put_bide(side, turns, energy);

@@ -1,14 +1,14 @@
 //! Moves that charge for a turn before they strike (docs/MECHANICS.md, "Charging").
 ghost use Rattle.std.specs.Prelude.{◌≡◌};
-ghost use Rattle.gen1_layout.specs.Words.{AddsAtMost, Does, Event, Frame, HasRoom, List, Progress, Shows, Told, active_in, false, length, member_in, move_at, true};
+ghost use Rattle.gen1_layout.specs.Operations.{Does, DoesWhere, holding, quiet, scene};
+ghost use Rattle.gen1_layout.specs.Words.{AddsAtMost, Event, HasRoom, List, false, move_at, true};
 ghost use Rattle.gen1_machine.specs.Charging.{begin_charge, charge, end_charge, make_current};
 ghost use Rattle.gen1_machine.specs.Conditions.{with_invulnerability};
 ghost use Rattle.gen1_tables.specs.Effects.{hides};
-ghost use Rattle.gen1_machine.specs.Picks.{used_by};
 ghost use Rattle.gen1_machine.specs.Progress.{on_conditions, only};
-ghost use Rattle.gen1_machine.specs.Valid.{IsUsedMove};
-ghost use Rattle.gen1_action.specs.Planned.{DoesTaking};
-ghost use Rattle.gen1_multiturn.specs.Charging.{charge_picked};
+ghost use Rattle.gen1_action.specs.Knowing.{aware_of};
+ghost use Rattle.gen1_action.specs.Planned.{taking};
+ghost use Rattle.gen1_multiturn.specs.Charging.{PicksMove, charge_picked};
 
 use gen1_action::Known;
 use gen1_events::EventSink;
@@ -25,8 +25,7 @@ use gen1_tables::{Effect, MoveId};
 /// conditions are cleared. It needs one free place in `events`. Nothing else changes.
 pub fn charge<S: EventSink>(battle: &mut Packed, side: Side, id: MoveId, events: &mut S) -> bool
     requires room { HasRoom S.room 1 events.old }
-    ensures shown { Does battle.old (S.tells events.old) battle.new (S.tells events.new) result
-        (charge_picked side (move_at id)) }
+    ensures shown { Does (scene S.tells battle events) result (charge_picked side (move_at id)) }
     ensures room { AddsAtMost S.room 1 events.old events.new }
 {
     let pick = Pick::Use(battle.picked_move(side));
@@ -47,9 +46,8 @@ pub fn charge_knowing<R: Rolls, S: EventSink>(
     events: &mut S,
 ) -> bool
     requires room { HasRoom S.room 1 events.old }
-    ensures shown { DoesTaking R.drawing side pick (move_at id).effect battle.old
-        (S.tells events.old) random.now known.now battle.new (S.tells events.new) random.now known.now
-        result (λ r. charge side pick (move_at id)) }
+    ensures shown { DoesWhere (taking side pick (move_at id).effect)
+        (aware_of known.now (scene S.tells battle events)) result (λ r. charge side pick (move_at id)) }
     ensures room { AddsAtMost S.room 1 events.old events.new }
 {
     charge_by(battle, side, pick, id, events)
@@ -58,11 +56,8 @@ pub fn charge_knowing<R: Rolls, S: EventSink>(
 /// Sets the current move of `side` to the move that a pick uses (docs/MECHANICS.md, "Charging"). Nothing else
 /// changes.
 pub fn make_current(battle: &mut Packed, side: Side, pick: Pick)
-    ensures shown { (g : Frame) (p : Progress) (events : List Event)
-        → IsUsedMove (length (member_in side p.field).moves)
-        (used_by pick (active_in side p.field).current_move)
-        → Shows g battle.old (Told events) false p
-        → Shows g battle.new (Told events) false (make_current side pick p) }
+    ensures shown { (told : List Event) → DoesWhere (holding (PicksMove side pick))
+        (quiet told battle) false (λ r. make_current side pick) }
 {
     let used = used_by(battle, side, pick);
     battle.put_current_move(side, used);
@@ -78,11 +73,8 @@ fn charge_by<S: EventSink>(
     events: &mut S,
 ) -> bool
     requires room { HasRoom S.room 1 events.old }
-    ensures shown { (g : Frame) (p : Progress)
-        → IsUsedMove (length (member_in side p.field).moves)
-        (used_by pick (active_in side p.field).current_move)
-        → Shows g battle.old (S.tells events.old) false p
-        → Shows g battle.new (S.tells events.new) result (charge side pick (move_at id) p) }
+    ensures shown { DoesWhere (holding (PicksMove side pick)) (scene S.tells battle events) result
+        (λ r. charge side pick (move_at id)) }
     ensures room { AddsAtMost S.room 1 events.old events.new }
 {
     if !id.effect().charges() {
@@ -105,11 +97,8 @@ fn begin_charge<S: EventSink>(
     events: &mut S,
 )
     requires room { HasRoom S.room 1 events.old }
-    ensures shown { (g : Frame) (p : Progress)
-        → IsUsedMove (length (member_in side p.field).moves)
-        (used_by pick (active_in side p.field).current_move)
-        → Shows g battle.old (S.tells events.old) false p
-        → Shows g battle.new (S.tells events.new) true (begin_charge side pick (move_at id) p) }
+    ensures shown { DoesWhere (holding (PicksMove side pick)) (scene S.tells battle events) true
+        (λ r. begin_charge side pick (move_at id)) }
     ensures room { AddsAtMost S.room 1 events.old events.new }
 {
     make_current(battle, side, pick);
@@ -120,8 +109,7 @@ fn begin_charge<S: EventSink>(
 
 // A user that flies up or digs in can't be hit until the second turn.
 fn hide(battle: &mut Packed, side: Side, effect: Effect)
-    ensures shown { (events : List Event)
-        → Does battle.old (Told events) battle.new (Told events) false
+    ensures shown { (told : List Event) → Does (quiet told battle) false
         (only (hides effect) (on_conditions side with_invulnerability)) }
 {
     if hides(effect) {
@@ -137,8 +125,7 @@ fn hides(effect: Effect) -> bool
 
 // The second turn.
 fn end_charge(battle: &mut Packed, side: Side)
-    ensures shown { (events : List Event)
-        → Does battle.old (Told events) battle.new (Told events) false (end_charge side) }
+    ensures shown { (told : List Event) → Does (quiet told battle) false (end_charge side) }
 {
     battle.put_flag(side, Conditions::CHARGING, false);
     battle.put_flag(side, Conditions::INVULNERABLE, false);

@@ -1,9 +1,10 @@
 //! Counter, which deals twice the last damage (docs/MECHANICS.md, "Counter").
 ghost use Rattle.std.specs.Prelude.{◌≡◌, ◌≤◌};
-ghost use Rattle.gen1_layout.specs.Words.{Event, List, Reads, Told, false, move_at};
+ghost use Rattle.gen1_layout.specs.Operations.{Draws, quiet};
+ghost use Rattle.gen1_layout.specs.Words.{Event, List, Reads, false, move_at};
 ghost use Rattle.gen1_machine.specs.Counter.{can_be_countered, counter};
 ghost use Rattle.gen1_machine.specs.Picks.{picked_move_in};
-ghost use Rattle.gen1_action.specs.Knowing.{DoesKnowingDrawing, IsUncounted};
+ghost use Rattle.gen1_action.specs.Knowing.{IsUncounted, aware};
 ghost use Rattle.gen1_multiturn.specs.Counter.{can_counter_in, countered};
 
 use gen1_action::{Known, hit_or_miss};
@@ -39,9 +40,8 @@ pub fn counter_knowing<R: Rolls>(
     known: &mut Known,
     random: &mut R,
 )
-    ensures shown { (events : List Event)
-        → DoesKnowingDrawing R.drawing battle.old (Told events) random.old known.old battle.new
-        (Told events) random.new known.new false (counter side (move_at id)) }
+    ensures shown { (told : List Event) → Draws R.drawing random (aware known (quiet told battle))
+        false (counter side (move_at id)) }
     ensures counts { IsUncounted known.old → IsUncounted known.new }
 {
     known.critical = critical(battle, side, id, random);

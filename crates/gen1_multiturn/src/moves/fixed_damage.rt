@@ -1,9 +1,10 @@
 //! Moves of fixed damage, Super Fang and Psywave (docs/MECHANICS.md, "Fixed damage and one-hit moves").
 ghost use Rattle.std.specs.Prelude.{◌≡◌};
-ghost use Rattle.gen1_layout.specs.Words.{Event, List, Reads, Told, false, member_in, move_at};
+ghost use Rattle.gen1_layout.specs.Operations.{Draws, quiet};
+ghost use Rattle.gen1_layout.specs.Words.{Event, List, Reads, false, member_in, move_at};
 ghost use Rattle.gen1_layout.specs.Parts.{Parts};
 ghost use Rattle.gen1_machine.specs.FixedDamage.{deal_fixed, fixed_damage, half_hp, is_psywave, psywave};
-ghost use Rattle.gen1_action.specs.Knowing.{DoesKnowingDrawing, IsUncounted};
+ghost use Rattle.gen1_action.specs.Knowing.{IsUncounted, aware};
 ghost use Rattle.gen1_multiturn.specs.FixedDamage.{DealsAs};
 
 use gen1_action::{Known, hit_or_miss};
@@ -26,8 +27,7 @@ const SUPER_FANG: u8 = 162;
 /// for Psywave. For Seismic Toss, Night Shade and every other move it is the user's level. `None` is the fault of
 /// Psywave at level 1, which draws nothing.
 pub fn fixed<R: Rolls>(battle: &Packed, side: Side, id: MoveId, random: &mut R) -> Option<u16>
-    ensures deals { DealsAs R.drawing battle.now random.old result random.new
-        (deal_fixed side id) }
+    ensures deals { DealsAs R.drawing random battle.now result (deal_fixed side id) }
 {
     let number = id.number();
     if number == SONIC_BOOM {
@@ -58,9 +58,8 @@ pub fn fixed_knowing<R: Rolls>(
     known: &mut Known,
     random: &mut R,
 ) -> bool
-    ensures shown { (events : List Event)
-        → DoesKnowingDrawing R.drawing battle.old (Told events) random.old known.old battle.new
-        (Told events) random.new known.new result (fixed_damage side (move_at id)) }
+    ensures shown { (told : List Event) → Draws R.drawing random (aware known (quiet told battle))
+        result (fixed_damage side (move_at id)) }
     ensures counts { IsUncounted known.old → IsUncounted known.new }
 {
     hit_or_miss(battle, side, id, known, random);
@@ -82,7 +81,7 @@ pub fn fixed_knowing<R: Rolls>(
 // A draw above 0 and below one and a half times the level.
 fn psywave<R: Rolls>(level: u8, random: &mut R) -> Option<u16>
     ensures deals { (parts : Parts)
-        → DealsAs R.drawing parts random.old result random.new (psywave level) }
+        → DealsAs R.drawing random parts result (psywave level) }
 {
     if level <= 1 {
         return None;

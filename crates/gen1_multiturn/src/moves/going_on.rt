@@ -1,9 +1,10 @@
 //! Whether the move of a side goes on, by its conditions (docs/MECHANICS.md, "Going on").
-ghost use Rattle.gen1_layout.specs.Words.{Event, List, Reads, Told, false, underway_in};
+ghost use Rattle.gen1_layout.specs.Operations.{Does, learns, unchanged};
+ghost use Rattle.gen1_layout.specs.Words.{Event, List, Reads, false, underway_in};
 ghost use Rattle.gen1_machine.specs.declared.picks.Pick.TheVariants.{Continue};
 ghost use Rattle.gen1_machine.specs.Action.{keeps_going, see_if_going_on};
-ghost use Rattle.gen1_action.specs.Alone.{just_begun};
-ghost use Rattle.gen1_action.specs.Knowing.{DoesKnowing};
+ghost use Rattle.gen1_action.specs.Alone.{beginning};
+ghost use Rattle.gen1_action.specs.Knowing.{knowing};
 
 use gen1_action::Known;
 use gen1_layout::{Conditions, Packed};
@@ -11,8 +12,8 @@ use gen1_machine::Side;
 
 // What is known of an action of `side` that has just begun, if the bytes alone say whether it goes on.
 pub(crate) fn seen_going_on(battle: &Packed, side: Side) -> Known
-    ensures shown { (events : List Event)
-        → DoesKnowing battle.now (Told events) (just_begun side) battle.now (Told events) result false
+    ensures shown { (told : List Event) → Does
+        (learns (knowing result) (beginning side (unchanged told battle))) false
         (see_if_going_on side Continue) }
 {
     Known {

@@ -1,10 +1,11 @@
 //! One-hit moves (docs/MECHANICS.md, "Fixed damage and one-hit moves").
-ghost use Rattle.gen1_layout.specs.Words.{DoesDrawing, Event, List, Reads, Told, false, move_at, nat_lt, now_in, other};
+ghost use Rattle.gen1_layout.specs.Operations.{Draws, quiet};
+ghost use Rattle.gen1_layout.specs.Words.{Event, List, Reads, false, move_at, nat_lt, now_in, other};
 ghost use Rattle.gen1_tables.specs.declared.effect.Stat.TheVariants.{Speed};
 ghost use Rattle.gen1_machine.specs.Damage.{is_factor};
 ghost use Rattle.gen1_machine.specs.FixedDamage.{deal_everything, knock_out, knock_out_by_type};
 ghost use Rattle.gen1_machine.specs.Progress.{draw_until};
-ghost use Rattle.gen1_action.specs.Knowing.{DoesKnowingDrawing, IsUncounted};
+ghost use Rattle.gen1_action.specs.Knowing.{IsUncounted, aware};
 
 use gen1_action::{Known, hit_or_miss, is_immune};
 use gen1_hits::{critical, is_factor};
@@ -28,9 +29,8 @@ pub fn knock_out<R: Rolls>(
     known: &mut Known,
     random: &mut R,
 )
-    ensures shown { (events : List Event)
-        → DoesKnowingDrawing R.drawing battle.old (Told events) random.old known.old battle.new
-        (Told events) random.new known.new false (knock_out side (move_at id)) }
+    ensures shown { (told : List Event) → Draws R.drawing random (aware known (quiet told battle))
+        false (knock_out side (move_at id)) }
     ensures counts { IsUncounted known.old → IsUncounted known.new }
 {
     battle.put_last_damage(0);
@@ -57,9 +57,8 @@ fn knock_out_by_type<R: Rolls>(
     known: &mut Known,
     random: &mut R,
 )
-    ensures shown { (events : List Event)
-        → DoesKnowingDrawing R.drawing battle.old (Told events) random.old known.old battle.new
-        (Told events) random.new known.new false (knock_out_by_type side (move_at id)) }
+    ensures shown { (told : List Event) → Draws R.drawing random (aware known (quiet told battle))
+        false (knock_out_by_type side (move_at id)) }
     ensures counts { IsUncounted known.old → IsUncounted known.new }
 {
     if is_immune(battle, side.other(), id.kind()) {
@@ -71,9 +70,8 @@ fn knock_out_by_type<R: Rolls>(
 
 // The draws of a factor, which isn't used.
 fn deal_everything<R: Rolls>(battle: &mut Packed, random: &mut R)
-    ensures shown { (events : List Event)
-        → DoesDrawing R.drawing battle.old (Told events) random.old battle.new (Told events) random.new
-        false (draw_until is_factor deal_everything) }
+    ensures shown { (told : List Event) → Draws R.drawing random (quiet told battle) false
+        (draw_until is_factor deal_everything) }
 {
     let Some(_) = until(random, |byte| is_factor(byte)) else {
         return;

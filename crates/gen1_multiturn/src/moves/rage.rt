@@ -1,5 +1,6 @@
 //! Rage, which builds each time damage lands on its user (docs/MECHANICS.md, "Going on").
-ghost use Rattle.gen1_layout.specs.Words.{AddsAtMost, Does, HasRoom, false, other};
+ghost use Rattle.gen1_layout.specs.Operations.{Does, scene};
+ghost use Rattle.gen1_layout.specs.Words.{AddsAtMost, HasRoom, false, other};
 ghost use Rattle.gen1_machine.specs.ManyHits.{build_rage};
 ghost use Rattle.gen1_machine.specs.Progress.{has_fallen, unless};
 
@@ -16,7 +17,7 @@ use gen1_tables::Stat;
 /// changes but what a shift changes.
 pub fn rage<S: EventSink>(battle: &mut Packed, side: Side, events: &mut S)
     requires room { HasRoom S.room 1 events.old }
-    ensures shown { Does battle.old (S.tells events.old) battle.new (S.tells events.new) false
+    ensures shown { Does (scene S.tells battle events) false
         (unless (has_fallen (other side)) (build_rage (other side))) }
     ensures room { AddsAtMost S.room 1 events.old events.new }
 {
@@ -29,8 +30,7 @@ pub fn rage<S: EventSink>(battle: &mut Packed, side: Side, events: &mut S)
 
 fn build_rage<S: EventSink>(battle: &mut Packed, side: Side, events: &mut S)
     requires room { HasRoom S.room 1 events.old }
-    ensures shown { Does battle.old (S.tells events.old) battle.new (S.tells events.new) false
-        (build_rage side) }
+    ensures shown { Does (scene S.tells battle events) false (build_rage side) }
     ensures room { AddsAtMost S.room 1 events.old events.new }
 {
     if !battle.is_on(side, Conditions::RAGE) {

@@ -1,8 +1,8 @@
 //! Making a substitute (docs/MECHANICS.md, "Early effects").
 ghost use Rattle.std.specs.Prelude.{◌/◌, ◌≤◌};
-ghost use Rattle.gen1_layout.specs.Words.{AddsAtMost, Does, HasRoom, Reads, false, member_in};
+ghost use Rattle.gen1_layout.specs.Operations.{Does, DoesAnyway, anything, scene};
+ghost use Rattle.gen1_layout.specs.Words.{AddsAtMost, HasRoom, Reads, false, member_in};
 ghost use Rattle.gen1_machine.specs.EarlyEffects.{make_substitute, pay_for_substitute};
-ghost use Rattle.gen1_multiturn.specs.Anyway.{DoesAnyway};
 
 use gen1_action::fail;
 use gen1_events::EventSink;
@@ -17,8 +17,7 @@ use gen1_machine::{DamageSource, Event, Side, Volatile};
 /// needs two free places in `events`. Nothing else changes.
 pub fn substitute<S: EventSink>(battle: &mut Packed, side: Side, events: &mut S)
     requires room { HasRoom S.room 2 events.old }
-    ensures shown { DoesAnyway battle.old (S.tells events.old) battle.new (S.tells events.new)
-        (make_substitute side) }
+    ensures shown { DoesAnyway anything (scene S.tells battle events) (λ r. make_substitute side) }
     ensures room { AddsAtMost S.room 2 events.old events.new }
 {
     make_substitute(battle, side, events);
@@ -28,8 +27,7 @@ pub fn substitute<S: EventSink>(battle: &mut Packed, side: Side, events: &mut S)
 /// effects").
 pub fn make_substitute<S: EventSink>(battle: &mut Packed, side: Side, events: &mut S) -> bool
     requires room { HasRoom S.room 2 events.old }
-    ensures shown { Does battle.old (S.tells events.old) battle.new (S.tells events.new) result
-        (make_substitute side) }
+    ensures shown { Does (scene S.tells battle events) result (make_substitute side) }
     ensures room { AddsAtMost S.room 2 events.old events.new }
 {
     if battle.is_on(side, Conditions::SUBSTITUTE) {
@@ -56,8 +54,7 @@ fn quarter(battle: &Packed, side: Side) -> u8
 fn pay_for_substitute<S: EventSink>(battle: &mut Packed, side: Side, cost: u8, events: &mut S)
     requires room { HasRoom S.room 2 events.old }
     requires most { cost ≤ 249 }
-    ensures shown { Does battle.old (S.tells events.old) battle.new (S.tells events.new) false
-        (pay_for_substitute side cost) }
+    ensures shown { Does (scene S.tells battle events) false (pay_for_substitute side cost) }
     ensures room { AddsAtMost S.room 2 events.old events.new }
 {
     battle.put_substitute(side, Some(cost));

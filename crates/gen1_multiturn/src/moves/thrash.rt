@@ -1,14 +1,16 @@
 //! Thrashing, which begins, goes on, and ends in confusion (docs/MECHANICS.md, "Going on").
 ghost use Rattle.std.specs.Prelude.{◌≡◌};
-ghost use Rattle.gen1_layout.specs.Words.{AddsAtMost, Event, Frame, HasRoom, List, None, Progress, ShowsDrawn, Told, draw, false, move_at, true};
+ghost use Rattle.gen1_layout.specs.Operations.{DrawsWhere, holding, quiet, scene};
+ghost use Rattle.gen1_layout.specs.Words.{AddsAtMost, Event, HasRoom, List, None, draw, false, move_at, true};
 ghost use Rattle.gen1_tables.specs.declared.effect.Effect.{Effect};
 ghost use Rattle.gen1_tables.specs.declared.effect.Effect.TheVariants.{Thrash};
 ghost use Rattle.gen1_tables.specs.Effects.{thrashes};
 ghost use Rattle.gen1_machine.specs.Moves.{Move, accuracy_byte};
 ghost use Rattle.gen1_machine.specs.GoingOn.{thrash_about, thrash_for, thrash_less};
 ghost use Rattle.gen1_machine.specs.Progress.{underway};
-ghost use Rattle.gen1_action.specs.Alone.{DoesAloneAt};
-ghost use Rattle.gen1_action.specs.Planned.{DoesAt};
+ghost use Rattle.gen1_action.specs.Alone.{Leaves, beginning};
+ghost use Rattle.gen1_action.specs.Knowing.{aware_of};
+ghost use Rattle.gen1_action.specs.Planned.{using};
 ghost use Rattle.gen1_multiturn.specs.GoingOn.{use_thrash};
 
 use crate::moves::going_on::seen_going_on;
@@ -34,9 +36,8 @@ pub fn thrash<R: Rolls, S: EventSink>(
     events: &mut S,
 )
     requires room { HasRoom S.room 1 events.old }
-    ensures left { (move : Move) → accuracy_byte move ≡ 255
-        → DoesAloneAt R.drawing side Thrash battle.old (S.tells events.old) random.old
-        battle.new (S.tells events.new) random.new (λ r. use_thrash side move) }
+    ensures left { (move : Move) → accuracy_byte move ≡ 255 → Leaves R.drawing random
+        (using side Thrash) (beginning side (scene S.tells battle events)) (λ r. use_thrash side move) }
     ensures room { AddsAtMost S.room 1 events.old events.new }
 {
     let known = seen_going_on(battle, side);
@@ -55,9 +56,8 @@ pub fn thrash_knowing<R: Rolls, S: EventSink>(
 )
     requires room { HasRoom S.room 1 events.old }
     requires tie { thrashes (move_at id).effect ≡ true }
-    ensures shown { DoesAt R.drawing side (move_at id).effect battle.old (S.tells events.old)
-        random.old known.now battle.new (S.tells events.new) random.new known.now false
-        (λ r. thrash_about side (move_at id)) }
+    ensures shown { DrawsWhere R.drawing random (using side (move_at id).effect)
+        (aware_of known.now (scene S.tells battle events)) false (λ r. thrash_about side (move_at id)) }
     ensures room { AddsAtMost S.room 1 events.old events.new }
 {
     thrash_with(battle, side, id.accuracy_byte(), known, random, events);
@@ -73,10 +73,8 @@ fn thrash_with<R: Rolls, S: EventSink>(
     events: &mut S,
 )
     requires room { HasRoom S.room 1 events.old }
-    ensures shown { (move : Move) (effect : Effect) → accuracy_byte move ≡ accuracy
-        → thrashes effect ≡ true
-        → DoesAt R.drawing side effect battle.old (S.tells events.old) random.old known.now
-        battle.new (S.tells events.new) random.new known.now false (λ r. thrash_about side move) }
+    ensures shown { (move : Move) (effect : Effect) → accuracy_byte move ≡ accuracy → thrashes effect
+        ≡ true → DrawsWhere R.drawing random (using side effect) (aware_of known.now (scene S.tells battle events)) false (λ r. thrash_about side move) }
     ensures room { AddsAtMost S.room 1 events.old events.new }
 {
     if known.going_on {
@@ -95,10 +93,8 @@ fn thrash_on<R: Rolls, S: EventSink>(
     events: &mut S,
 )
     requires room { HasRoom S.room 1 events.old }
-    ensures shown { (origin : R) (g : Frame) (p : Progress) → (underway side p).thrash ≡ left
-        → ShowsDrawn R.drawing origin g battle.old (S.tells events.old) random.old false p
-        → ShowsDrawn R.drawing origin g battle.new (S.tells events.new) random.new false
-        (thrash_less side left p) }
+    ensures shown { DrawsWhere R.drawing random (holding λ p. (underway side p).thrash ≡ left)
+        (scene S.tells battle events) false (λ r. thrash_less side left) }
     ensures room { AddsAtMost S.room 1 events.old events.new }
 {
     let Some(turns) = left else {
@@ -115,12 +111,9 @@ fn thrash_on<R: Rolls, S: EventSink>(
 // Bide and trapping are off. The accuracy is kept from here on, since a fault may come before the hit test
 // (docs/MECHANICS.md, "Going on", "Kept accuracy").
 fn begin_thrashing<R: Rolls>(battle: &mut Packed, side: Side, accuracy: u8, random: &mut R)
-    ensures shown { (events : List Event) (move : Move) (origin : R) (g : Frame) (p : Progress)
-        → accuracy_byte move ≡ accuracy
-        → (underway side p).bide ≡ None → (underway side p).trapping ≡ None
-        → ShowsDrawn R.drawing origin g battle.old (Told events) random.old false p
-        → ShowsDrawn R.drawing origin g battle.new (Told events) random.new false
-        (draw (thrash_for side move) p) }
+    ensures shown { (told : List Event) (move : Move) → accuracy_byte move ≡ accuracy → DrawsWhere
+        R.drawing random (λ g p Then. (underway side p).bide ≡ None → (underway side p).trapping ≡
+        None → Then) (quiet told battle) false (λ r. draw (thrash_for side move)) }
 {
     let byte = random.draw();
     battle.put_thrash(side, byte % 2 + 2);

@@ -1,14 +1,16 @@
 //! Trapping, which begins or goes on (docs/MECHANICS.md, "Going on").
 ghost use Rattle.std.specs.Prelude.{◌≡◌};
-ghost use Rattle.gen1_layout.specs.Words.{Does, Event, Frame, List, None, Progress, ShowsDrawn, Told, false, other, true, ◌▸◌};
+ghost use Rattle.gen1_layout.specs.Operations.{Does, DrawsWhere, quiet};
+ghost use Rattle.gen1_layout.specs.Words.{Event, List, None, false, other, true, ◌▸◌};
 ghost use Rattle.gen1_tables.specs.declared.effect.Effect.{Effect};
 ghost use Rattle.gen1_tables.specs.declared.effect.Effect.TheVariants.{Trapping};
 ghost use Rattle.gen1_machine.specs.Conditions.{with_trapping_one_less, without_recharge};
 ghost use Rattle.gen1_tables.specs.Effects.{traps};
 ghost use Rattle.gen1_machine.specs.GoingOn.{draw_count, trap, trap_for};
 ghost use Rattle.gen1_machine.specs.Progress.{on_conditions, underway};
-ghost use Rattle.gen1_action.specs.Alone.{DoesAloneAt};
-ghost use Rattle.gen1_action.specs.Planned.{DoesAt};
+ghost use Rattle.gen1_action.specs.Alone.{Leaves, beginning};
+ghost use Rattle.gen1_action.specs.Knowing.{aware_of};
+ghost use Rattle.gen1_action.specs.Planned.{using};
 ghost use Rattle.gen1_multiturn.specs.GoingOn.{use_trap};
 
 use crate::moves::going_on::seen_going_on;
@@ -23,9 +25,8 @@ use gen1_rolls::Rolls;
 /// or two draws. If it is trapping, its Trapping goes on with one turn less, and nothing is drawn. No event is
 /// written, and nothing else changes.
 pub fn trap<R: Rolls>(battle: &mut Packed, side: Side, random: &mut R)
-    ensures left { (events : List Event)
-        → DoesAloneAt R.drawing side Trapping battle.old (Told events) random.old battle.new
-        (Told events) random.new (λ r. use_trap side) }
+    ensures left { (told : List Event) → Leaves R.drawing random (using side Trapping)
+        (beginning side (quiet told battle)) (λ r. use_trap side) }
 {
     let known = seen_going_on(battle, side);
     trap_knowing(battle, side, &known, random);
@@ -34,9 +35,8 @@ pub fn trap<R: Rolls>(battle: &mut Packed, side: Side, random: &mut R)
 /// The same in an action of which something is known. `known` says whether it goes on (docs/MECHANICS.md, "Going
 /// on").
 pub fn trap_knowing<R: Rolls>(battle: &mut Packed, side: Side, known: &Known, random: &mut R)
-    ensures shown { (events : List Event) (effect : Effect) → traps effect ≡ true
-        → DoesAt R.drawing side effect battle.old (Told events) random.old known.now battle.new
-        (Told events) random.new known.now false (λ r. trap side) }
+    ensures shown { (told : List Event) (effect : Effect) → traps effect ≡ true → DrawsWhere R.drawing
+        random (using side effect) (aware_of known.now (quiet told battle)) false (λ r. trap side) }
 {
     if known.going_on {
         trap_one_turn_less(battle, side);
@@ -46,8 +46,7 @@ pub fn trap_knowing<R: Rolls>(battle: &mut Packed, side: Side, known: &Known, ra
 }
 
 fn trap_one_turn_less(battle: &mut Packed, side: Side)
-    ensures shown { (events : List Event)
-        → Does battle.old (Told events) battle.new (Told events) false
+    ensures shown { (told : List Event) → Does (quiet told battle) false
         (on_conditions side with_trapping_one_less) }
 {
     match battle.trapping(side) {
@@ -58,11 +57,10 @@ fn trap_one_turn_less(battle: &mut Packed, side: Side)
 
 // Bide and thrashing are off.
 fn begin_trapping<R: Rolls>(battle: &mut Packed, side: Side, random: &mut R)
-    ensures shown { (events : List Event) (origin : R) (g : Frame) (p : Progress)
-        → (underway side p).bide ≡ None → (underway side p).thrash ≡ None
-        → ShowsDrawn R.drawing origin g battle.old (Told events) random.old false p
-        → ShowsDrawn R.drawing origin g battle.new (Told events) random.new false
-        ((on_conditions (other side) without_recharge ▸ draw_count (trap_for side)) p) }
+    ensures shown { (told : List Event) → DrawsWhere R.drawing random
+        (λ g p Then. (underway side p).bide ≡ None → (underway side p).thrash ≡ None → Then)
+        (quiet told battle) false (λ r. on_conditions (other side) without_recharge ▸ draw_count
+        (trap_for side)) }
 {
     battle.put_flag(side.other(), Conditions::RECHARGE, false);
     let count = draw_count(random);

@@ -39,4 +39,4 @@ returns-clause-shown t c g p h =
     seeing _ (λ (x : Option Storing). given last_damage (bide_on s x)) (sym is)
     (seeing last_damage (bide_on s (Some b)) refl
     (if_not _ _ _ (not_at_most _ 1 c.if-turns-le1.false)
-    (c.store_energy.ensures.shown _ p p.field.last_damage b is c.saturating_sub.ensures (omega (arith, energy, last)) h)))
+    (c.store_energy.ensures.shown p.field.last_damage b c.saturating_sub.ensures (omega (arith, energy, last)) _ p is h)))

@@ -10,7 +10,7 @@ use Rattle.gen1_multiturn.proofs.moves.bide.store_energy.Goals as goal
 
 pub returns-clause-shown : goal.returns-clause-shown
 unfolding store_energy lasts
-returns-clause-shown t c g p damage b is few much h =
+returns-clause-shown t c damage b few much g p is h =
     let s = c.args.side in
     let now = conditions_in s p.field in
     let change = with_bide_storing damage in

@@ -12,7 +12,7 @@ pub returns-clause-shown : goal.returns-clause-shown
 unfolding begin_charge with_charging
 returns-clause-shown t c g p fits h =
     let s = c.args.side in
-    let a = quietly h (c.make_current.ensures.shown g p _ fits) in
+    let a = quietly h (c.make_current.ensures.shown _ g p fits) in
     let b = put_on_conditions a s with_charging (c.put_flag.ensures.stands 4 refl (lit< tt) _ _ with_charging a.within refl (charged-same _)) in
     let d = subst (λ (x : Effect). Shows g c.hide.new.battle (t.S.EventSink.tells c.args.events.now) false (only (hides x) (on_conditions s with_invulnerability) (on_conditions s with_charging (make_current s c.args.pick p))))
     c.effect.ensures (quietly b (c.hide.ensures.shown _ g _)) in

@@ -12,7 +12,7 @@ pub returns : goal.returns
 unfolding make_current with_current_move
 returns c =
     record {
-      shown = λ g p events fits h.
+      shown = λ told g p fits h.
           let same : c.used_by-used.result ≡ used_by c.args.pick (active_in c.args.side p.field).current_move = c.used_by-used.ensures.stands _ _ h.within in
           let used = subst (λ (u : UsedMove). IsUsedMove (length (member_in c.args.side p.field).moves) u) (sym same) fits in
           seeing (active c.args.side) (λ (a : Active). on_active c.args.side (with_current_move (used_by c.args.pick a.current_move))) refl

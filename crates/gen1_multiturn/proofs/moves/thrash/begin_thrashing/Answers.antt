@@ -9,7 +9,7 @@ use Rattle.gen1_multiturn.proofs.moves.thrash.begin_thrashing.Goals as goal
 pub returns : goal.returns
 unfolding thrash_for with_thrash with_kept_accuracy on_conditions on_field
 returns t c = record {
-  shown = λ events move origin g p is bide trapping h.
+  shown = λ told move is origin g p bide trapping h.
       let s = c.args.side in
       let byte = c.draw-byte.result in
       drawing (thrash_for s move) h c.draw-byte.ensures.drawn c.draw-byte.ensures.left (λ d.

@@ -16,4 +16,4 @@ unfolding thrash_about
 returns-clause-shown t c move effect is tie origin g p plan doing v h =
     let alone = alone-thrashing g.setting.terms plan c.args.side effect p doing tie v in
     drawn_if_not _ _ _ (ap (λ (a : Action). a.going_on) h.shows.action ∙ c.if-known.false)
-    (drawn_quietly h (c.begin_thrashing.ensures.shown _ move origin (knowing c.args.known.now g) p is alone.0 alone.1))
+    (drawn_quietly h (c.begin_thrashing.ensures.shown _ move is origin (knowing c.args.known.now g) p alone.0 alone.1))
