@@ -6,3 +6,5 @@ pub mod ByEffect
 pub mod Used
 -- How the parts of a turn follow one another.
 pub mod Turns
+-- The words of contracts, spelled out.
+mod Same

@@ -28,7 +28,7 @@ use Rattle.gen1_machine.proofs.SoundWalk.{conditions-spared}
 use Rattle.gen1_machine.proofs.Tame.{without_flinch-tame}
 use Rattle.gen1_machine.proofs.Turns.{part-suffers}
 use Rattle.gen1_machine.proofs.ValidTurns.{comes-kept, pick-plan, range-kept, room-free, sends-room, Picked}
-use Rattle.gen1_layout.specs.Shows.{Does}
+use Rattle.gen1_layout.specs.Operations.{Does, between}
 use Rattle.gen1_action.specs.declared.known.Known.{Known}
 use Rattle.gen1_action.specs.Knowing.{begun, knowing, with_broke, ShowsOver}
 use Rattle.gen1_action.specs.Planned.{Follows}
@@ -87,7 +87,7 @@ module _ {A : Type 0} {d : Drawing A} {origin : A} where
   ends_as k g q q' e a = rw e a
 
   pub ended : (k : Known) (g : Frame) {parts parts' : Parts} {events events' : Telling} {now : A} {p : Progress} (f : Phase)
-      → Does parts events parts' events' false f → ShowsOver d origin k g parts events now false p → Ends d origin k g parts' events' now (f p)
+      → Does (between parts events parts' events') false f → ShowsOver d origin k g parts events now false p → Ends d origin k g parts' events' now (f p)
   ended k g f does (broke, a) = (false, (broke, still {g' = knowing (with_broke broke k) g} a (does _ _ a.shows) refl))
 
   -- A draw

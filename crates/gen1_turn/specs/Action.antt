@@ -3,25 +3,48 @@
 -- exception, since it doesn't matter after an action is over.
 use Rattle.std.specs.Prelude.{◌≡◌}
 use Rattle.gen1_layout.specs.Words.{Bool, Frame, Phase, Progress, Side, Telling, false, ℕ}
-use Rattle.gen1_rolls.specs.Draws.{Drawing}
+use Rattle.gen1_rolls.specs.Draws.{Drawing, Ref}
 use Rattle.gen1_machine.specs.declared.picks.Pick.{Pick}
 use Rattle.gen1_machine.specs.Ruling.{Ruling, ruling_of}
 use Rattle.gen1_machine.specs.Plans.{FitsPick, Plan}
+use Rattle.gen1_layout.specs.Operations.{Premise, Scene}
 use Rattle.gen1_layout.specs.Parts.{Parts}
 use Rattle.gen1_action.specs.declared.known.Known.{Known}
-use Rattle.gen1_action.specs.Knowing.{ShowsKnown, ShowsOver}
+use Rattle.gen1_action.specs.Knowing.{ShowsKnown, ShowsOver, knowing, with_broke}
 use Rattle.gen1_action.specs.Planned.{Follows}
 
+-- A scene with what is known itself, since whether a substitute broke in it is open once an action is over.
+abbrev pub Acting : Type 1
+Acting = (Parts → Telling → Known → Parts → Telling → Known → Type 0) → Type 0
+
+abbrev pub acting : Ref Known → Scene → Acting
+acting known s Then = s λ parts events _ parts' events' _. Then parts events known.entry.now parts' events' known.exit.now
+
+-- a scene that begins with what is known of an action that is over
+abbrev pub aware_after : Bool → Ref Known → Scene → Scene
+aware_after broke known s Then = s λ parts events _ parts' events' _.
+    Then parts events (knowing (with_broke broke known.entry.now)) parts' events' (knowing known.exit.now)
+
+-- Premises: so much holds of what both sides plan; the side has planned what is picked; and no energy is let go yet.
+abbrev pub planning : ((Side → Plan) → Progress → Type 0) → Premise
+planning Holds g p Then = (plan : Side → Plan) → Holds plan p → Follows g.setting.terms plan p → Then
+
+abbrev pub picked : Side → Pick → Premise
+picked side pick g p Then = (plan : Side → Plan) → FitsPick pick (plan side) → Follows g.setting.terms plan p → Then
+
+abbrev pub ready : Side → Pick → Premise
+ready side pick g p Then = picked side pick g p (p.action.letting_go ≡ false → Then)
+
 -- The parts of an action that has begun.
-abbrev pub DoesParts : {A : Type 0} → Drawing A → Side → Pick → Parts → Telling → A → Known → Parts → Telling → A → Known → Bool → (Ruling → Phase) → Type 0
-DoesParts {A = A} d side pick parts events old k parts' events' new k' stopped phase =
-    (origin : A) (g : Frame) (p : Progress) (plan : Side → Plan) → FitsPick pick (plan side) → Follows g.setting.terms plan p → p.action.letting_go ≡ false
-    → ShowsKnown d origin k g parts events old false p
-    → ShowsOver d origin k' g parts' events' new stopped (phase (ruling_of g.setting.terms) p)
+abbrev pub DoesParts : {A : Type 0} → Drawing A → Ref A → Premise → Acting → Bool → (Ruling → Phase) → Type 0
+DoesParts {A = A} d random premise s stopped phase = s λ parts events k parts' events' k'.
+    (origin : A) (g : Frame) (p : Progress) → premise g p
+    (ShowsKnown d origin k g parts events random.entry.now false p
+    → ShowsOver d origin k' g parts' events' random.exit.now stopped (phase (ruling_of g.setting.terms) p))
 
 -- A whole action.
-abbrev pub Acts : {A : Type 0} → Drawing A → Side → Pick → Parts → Telling → A → Known → Parts → Telling → A → Known → Bool → (Ruling → Phase) → Type 0
-Acts {A = A} d side pick parts events old k parts' events' new k' stopped phase =
-    (origin : A) (g : Frame) (p : Progress) (plan : Side → Plan) → FitsPick pick (plan side) → Follows g.setting.terms plan p
-    → ShowsOver d origin k g parts events old false p
-    → ShowsOver d origin k' g parts' events' new stopped (phase (ruling_of g.setting.terms) p)
+abbrev pub Acts : {A : Type 0} → Drawing A → Ref A → Premise → Acting → Bool → (Ruling → Phase) → Type 0
+Acts {A = A} d random premise s stopped phase = s λ parts events k parts' events' k'.
+    (origin : A) (g : Frame) (p : Progress) → premise g p
+    (ShowsOver d origin k g parts events random.entry.now false p
+    → ShowsOver d origin k' g parts' events' random.exit.now stopped (phase (ruling_of g.setting.terms) p))

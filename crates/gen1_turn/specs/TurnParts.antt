@@ -1,7 +1,7 @@
 -- What the parts of a turn show, each with the residual damage of its side (docs/MECHANICS.md, "Order of a turn").
 use Rattle.std.specs.Prelude.{◌∷◌, ◌≡◌}
 use Rattle.gen1_layout.specs.Words.{Bool, Event, Frame, List, Phase, Progress, ShowsDrawn, Side, Telling, Told, [], false, other, true, ℕ, ◌▸◌}
-use Rattle.gen1_rolls.specs.Draws.{Drawing}
+use Rattle.gen1_rolls.specs.Draws.{Drawing, Ref}
 use Rattle.gen1_machine.specs.declared.choice.Choice.{Choice}
 use Rattle.gen1_machine.specs.declared.picks.Pick.{Pick}
 use Rattle.gen1_machine.specs.declared.side.Side.TheVariants.{One, Two}
@@ -9,17 +9,18 @@ use Rattle.gen1_machine.specs.Progress.{unless}
 use Rattle.gen1_machine.specs.Ruling.{Ruling, ruling_of}
 use Rattle.gen1_machine.specs.ResidualDamage.{residual}
 use Rattle.gen1_machine.specs.Turn.{do_part, is_cut, Acts, Part, Suffers}
-use Rattle.gen1_machine.specs.Plans.{Comes, FitsPick, Plan, PlanOf}
+use Rattle.gen1_machine.specs.Plans.{Comes, Plan, PlanOf}
+use Rattle.gen1_layout.specs.Operations.{Premise}
 use Rattle.gen1_layout.specs.Parts.{Parts}
 use Rattle.gen1_action.specs.declared.known.Known.{Known}
 use Rattle.gen1_action.specs.Knowing.{ShowsOver}
-use Rattle.gen1_action.specs.Planned.{Follows}
+use Rattle.gen1_turn.specs.Action.{Acting, picked}
 
 -- The side that begins. Nothing changes but the draws, and any phase that follows in the machine gets this side.
-abbrev pub Orders : {A : Type 0} → Drawing A → Parts → A → A → Side → ((Side → Phase) → Phase) → Type 0
-Orders {A = A} d parts old new result order =
-    (origin : A) (g : Frame) (events : List Event) (p : Progress) → ShowsDrawn d origin g parts (Told events) old false p
-    → (n : ℕ) × ShowsDrawn d origin g parts (Told events) new false (record p { drawn = n })
+abbrev pub Orders : {A : Type 0} → Drawing A → Ref A → Parts → Side → ((Side → Phase) → Phase) → Type 0
+Orders {A = A} d random parts result order =
+    (origin : A) (g : Frame) (events : List Event) (p : Progress) → ShowsDrawn d origin g parts (Told events) random.entry.now false p
+    → (n : ℕ) × ShowsDrawn d origin g parts (Told events) random.exit.now false (record p { drawn = n })
     × ((begins : Side → Phase) → order begins p ≡ begins result (record p { drawn = n }))
 
 -- What is shown when the rest of a turn may be skipped. If it is skipped, the whole turn is shown, whatever its rest
@@ -37,22 +38,22 @@ abbrev pub PartLeaves : (Bool → Progress → Type 0) → Bool → Phase → Si
 PartLeaves Shown falls part s = LeavesRest Shown falls (λ rest. part ▸ suffering s rest) (λ p. residual s (part p))
 
 -- A side's action by this pick, and its residual damage.
-abbrev pub ActsAndSuffers : {A : Type 0} → Drawing A → Side → Pick → Parts → Telling → A → Known → Parts → Telling → A → Known → Bool → Type 0
-ActsAndSuffers {A = A} d side pick parts events old k parts' events' new k' falls =
-    (origin : A) (g : Frame) (p : Progress) (plan : Side → Plan) → FitsPick pick (plan side) → Follows g.setting.terms plan p
-    → ShowsOver d origin k g parts events old false p
-    → PartLeaves (ShowsOver d origin k' g parts' events' new) falls (do_part (ruling_of g.setting.terms) (Acts side pick)) side p
+abbrev pub ActsAndSuffers : {A : Type 0} → Drawing A → Ref A → Side → Pick → Acting → Bool → Type 0
+ActsAndSuffers {A = A} d random side pick s falls = s λ parts events k parts' events' k'.
+    (origin : A) (g : Frame) (p : Progress) → picked side pick g p
+    (ShowsOver d origin k g parts events random.entry.now false p
+    → PartLeaves (ShowsOver d origin k' g parts' events' random.exit.now) falls (do_part (ruling_of g.setting.terms) (Acts side pick)) side p)
 
 -- Code of a turn, for callers to which it doesn't matter whether the rest is skipped.
 abbrev pub Ends : {A : Type 0} → Drawing A → A → Known → Frame → Parts → Telling → A → Progress → Type 0
 Ends d origin k g parts events now p = (stopped : Bool) × ShowsOver d origin k g parts events now stopped p
 
--- It does what a phase does under the rules of the battle, if the plans of both sides meet a premise.
-abbrev pub DoesTurn : {A : Type 0} → Drawing A → Parts → Telling → A → Known → Parts → Telling → A → Known → ((Side → Plan) → Progress → Type 0) → (Ruling → Phase) → Type 0
-DoesTurn {A = A} d parts events old k parts' events' new k' Asks phase =
-    (origin : A) (g : Frame) (p : Progress) (plan : Side → Plan) → Asks plan p → Follows g.setting.terms plan p
-    → ShowsOver d origin k g parts events old false p
-    → Ends d origin k' g parts' events' new (phase (ruling_of g.setting.terms) p)
+-- it does what a phase does under the rules of the battle, where a premise holds
+abbrev pub DoesTurn : {A : Type 0} → Drawing A → Ref A → Premise → Acting → (Ruling → Phase) → Type 0
+DoesTurn {A = A} d random premise s phase = s λ parts events k parts' events' k'.
+    (origin : A) (g : Frame) (p : Progress) → premise g p
+    (ShowsOver d origin k g parts events random.entry.now false p
+    → Ends d origin k' g parts' events' random.exit.now (phase (ruling_of g.setting.terms) p))
 
 -- The premise about the plans for these choices.
 abbrev pub Chooses : Choice → Choice → (Side → Plan) → Progress → Type 0

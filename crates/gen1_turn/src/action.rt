@@ -1,10 +1,11 @@
 //! One side's action (docs/MECHANICS.md, "Action").
 ghost use Rattle.std.specs.Prelude.{◌||◌, ◌≡◌};
+ghost use Rattle.gen1_layout.specs.Operations.{scene};
 ghost use Rattle.gen1_layout.specs.Words.{AddsAtMost, Bool, Event, Frame, HasRoom, List, Progress, Reads, Shows, Told, active_in, is_some, underway_in};
 ghost use Rattle.gen1_machine.specs.Action.{accuracy_after, act, action_parts, keep_accuracy};
 ghost use Rattle.gen1_machine.specs.State.{is_over};
 ghost use Rattle.gen1_action.specs.Knowing.{IsUncounted};
-ghost use Rattle.gen1_turn.specs.Action.{Acts, DoesParts};
+ghost use Rattle.gen1_turn.specs.Action.{Acts, DoesParts, acting, picked, ready};
 
 use crate::action_steps::carry_out;
 use crate::taken_move::{move_taken, see_if_going_on};
@@ -28,8 +29,8 @@ pub fn act<R: Rolls, S: EventSink>(
     events: &mut S,
 ) -> bool
     requires room { HasRoom S.room 21 events.old }
-    ensures shown { Acts R.drawing side pick battle.old (S.tells events.old) random.old
-        known.old battle.new (S.tells events.new) random.new known.new result (λ r. act r side pick) }
+    ensures shown { Acts R.drawing random (picked side pick)
+        (acting known (scene S.tells battle events)) result (λ r. act r side pick) }
     ensures room { AddsAtMost S.room 21 events.old events.new }
 {
     *known = known.begun(side);
@@ -48,9 +49,8 @@ fn action_parts<R: Rolls, S: EventSink>(
 ) -> bool
     requires room { HasRoom S.room 21 events.old }
     requires counts { IsUncounted known.old }
-    ensures shown { DoesParts R.drawing side pick battle.old (S.tells events.old) random.old
-        known.old battle.new (S.tells events.new) random.new known.new result
-        (λ r. action_parts r side pick) }
+    ensures shown { DoesParts R.drawing random (ready side pick)
+        (acting known (scene S.tells battle events)) result (λ r. action_parts r side pick) }
     ensures room { AddsAtMost S.room 21 events.old events.new }
 {
     if gate(battle, side, pick, random, events).stops() {

@@ -1,10 +1,11 @@
 //! The damage of an action (docs/MECHANICS.md, "Action", step 7).
 ghost use Rattle.std.specs.Prelude.{◌≡◌};
-ghost use Rattle.gen1_layout.specs.Words.{Event, List, Told, move_at, nat_lt};
+ghost use Rattle.gen1_layout.specs.Operations.{Draws, quiet};
+ghost use Rattle.gen1_layout.specs.Words.{Event, List, move_at, nat_lt};
 ghost use Rattle.gen1_machine.specs.Action.{damage_of, usual_damage};
 ghost use Rattle.gen1_machine.specs.Damage.{roll_damage};
 ghost use Rattle.gen1_machine.specs.Progress.{choose, set_last_damage};
-ghost use Rattle.gen1_action.specs.Knowing.{DoesKnowingDrawing, IsUncounted};
+ghost use Rattle.gen1_action.specs.Knowing.{IsUncounted, aware};
 ghost use Rattle.gen1_turn.specs.ByEffect.{way_of};
 
 use gen1_action::{Known, hit_or_miss};
@@ -43,9 +44,8 @@ pub(crate) fn damage_of<R: Rolls>(
     known: &mut Known,
     random: &mut R,
 ) -> bool
-    ensures shown { (events : List Event)
-        → DoesKnowingDrawing R.drawing battle.old (Told events) random.old known.old battle.new
-        (Told events) random.new known.new result (damage_of side (move_at id) (move_at id).effect) }
+    ensures shown { (told : List Event) → Draws R.drawing random (aware known (quiet told battle))
+        result (damage_of side (move_at id) (move_at id).effect) }
     ensures counts { IsUncounted known.old → IsUncounted known.new }
 {
     match way_of(id.effect()) {
@@ -69,10 +69,8 @@ fn damage_by_power<R: Rolls>(
     known: &mut Known,
     random: &mut R,
 ) -> bool
-    ensures shown { (events : List Event)
-        → DoesKnowingDrawing R.drawing battle.old (Told events) random.old known.old battle.new
-        (Told events) random.new known.new result
-        (choose (λ _. nat_lt 0 (move_at id).power) (usual_damage side (move_at id))
+    ensures shown { (told : List Event) → Draws R.drawing random (aware known (quiet told battle))
+        result (choose (λ _. nat_lt 0 (move_at id).power) (usual_damage side (move_at id))
         (set_last_damage 0)) }
     ensures counts { IsUncounted known.old → IsUncounted known.new }
 {
@@ -96,9 +94,8 @@ fn roll_damage<R: Rolls>(
     known: &mut Known,
     random: &mut R,
 ) -> bool
-    ensures shown { (events : List Event)
-        → DoesKnowingDrawing R.drawing battle.old (Told events) random.old known.old battle.new
-        (Told events) random.new known.new result (roll_damage side (move_at id)) }
+    ensures shown { (told : List Event) → Draws R.drawing random (aware known (quiet told battle))
+        result (roll_damage side (move_at id)) }
     ensures counts { IsUncounted known.old → IsUncounted known.new }
 {
     let numbers = numbers(battle, side, id, known.critical);

@@ -1,12 +1,13 @@
 //! An action after its move is settled (docs/MECHANICS.md, "Action", from step 2 on).
 ghost use Rattle.std.specs.Prelude.{◌&&◌, ◌||◌, ◌≡◌};
-ghost use Rattle.gen1_layout.specs.Words.{AddsAtMost, AddsNone, Event, HasRoom, List, Told, false, move_at, stop, ◌▸◌};
+ghost use Rattle.gen1_layout.specs.Operations.{Draws, DrawsWhere, quiet, scene};
+ghost use Rattle.gen1_layout.specs.Words.{AddsAtMost, AddsNone, Event, HasRoom, List, false, move_at, stop, ◌▸◌};
 ghost use Rattle.gen1_machine.specs.Action.{carry_out, damage_of, lands_at_once, lead_up, lets_energy_go};
 ghost use Rattle.gen1_machine.specs.LateEffects.{is_late, late_effect};
 ghost use Rattle.gen1_tables.specs.Effects.{traps};
 ghost use Rattle.gen1_machine.specs.Progress.{only, unless};
-ghost use Rattle.gen1_action.specs.Knowing.{DoesKnowingDrawing, IsUncounted};
-ghost use Rattle.gen1_action.specs.Planned.{DoesAt, DoesTaking};
+ghost use Rattle.gen1_action.specs.Knowing.{IsUncounted, aware};
+ghost use Rattle.gen1_action.specs.Planned.{taking, using};
 ghost use Rattle.gen1_turn.specs.ActionSteps.{late_part, damage_and_strike};
 
 use crate::action_damage::damage_of;
@@ -33,9 +34,8 @@ pub(crate) fn carry_out<R: Rolls, S: EventSink>(
 ) -> bool
     requires room { HasRoom S.room 18 events.old }
     requires counts { IsUncounted known.old }
-    ensures shown { DoesTaking R.drawing side pick (move_at id).effect battle.old
-        (S.tells events.old) random.old known.old battle.new (S.tells events.new) random.new known.new
-        result (λ r. carry_out r side pick (move_at id)) }
+    ensures shown { DrawsWhere R.drawing random (taking side pick (move_at id).effect)
+        (aware known (scene S.tells battle events)) result (λ r. carry_out r side pick (move_at id)) }
     ensures room { AddsAtMost S.room 18 events.old events.new }
 {
     if bide_knowing(battle, side, known, events) {
@@ -57,9 +57,9 @@ fn lead_up_unless_let_go<R: Rolls, S: EventSink>(
     events: &mut S,
 ) -> bool
     requires room { HasRoom S.room 4 events.old }
-    ensures shown { DoesTaking R.drawing side pick (move_at id).effect battle.old
-        (S.tells events.old) random.old known.old battle.new (S.tells events.new) random.new known.new
-        result (λ r. unless lets_energy_go (lead_up side pick (move_at id))) }
+    ensures shown { DrawsWhere R.drawing random (taking side pick (move_at id).effect)
+        (aware known (scene S.tells battle events)) result
+        (λ r. unless lets_energy_go (lead_up side pick (move_at id))) }
     ensures same { result ≡ false → known.new ≡ known.old }
     ensures room { AddsAtMost S.room 4 events.old events.new }
     ensures few { result ≡ false → AddsAtMost S.room 3 events.old events.new }
@@ -81,8 +81,8 @@ fn damage_and_strike<R: Rolls, S: EventSink>(
 ) -> bool
     requires room { HasRoom S.room 14 events.old }
     requires counts { IsUncounted known.old }
-    ensures shown { DoesAt R.drawing side (move_at id).effect battle.old (S.tells events.old)
-        random.old known.old battle.new (S.tells events.new) random.new known.new result
+    ensures shown { DrawsWhere R.drawing random (using side (move_at id).effect)
+        (aware known (scene S.tells battle events)) result
         (λ r. damage_and_strike r side (move_at id)) }
     ensures room { AddsAtMost S.room 14 events.old events.new }
 {
@@ -102,10 +102,8 @@ fn damage_unless_landing<R: Rolls>(
     known: &mut Known,
     random: &mut R,
 ) -> bool
-    ensures shown { (events : List Event)
-        → DoesKnowingDrawing R.drawing battle.old (Told events) random.old known.old battle.new
-        (Told events) random.new known.new result
-        (unless (lands_at_once (move_at id)) (damage_of side (move_at id) (move_at id).effect)) }
+    ensures shown { (told : List Event) → Draws R.drawing random (aware known (quiet told battle))
+        result (unless (lands_at_once (move_at id)) (damage_of side (move_at id) (move_at id).effect)) }
     ensures counts { IsUncounted known.old → IsUncounted known.new }
 {
     if lands_at_once(known, id.effect()) {
@@ -130,9 +128,8 @@ fn late_part<R: Rolls, S: EventSink>(
     events: &mut S,
 ) -> bool
     requires room { HasRoom S.room 2 events.old }
-    ensures shown { DoesAt R.drawing side (move_at id).effect battle.old (S.tells events.old)
-        random.old known.old battle.new (S.tells events.new) random.new known.new result
-        (λ r. late_part r side (move_at id)) }
+    ensures shown { DrawsWhere R.drawing random (using side (move_at id).effect)
+        (aware known (scene S.tells battle events)) result (λ r. late_part r side (move_at id)) }
     ensures same { result ≡ false → known.new ≡ known.old }
     ensures room { AddsAtMost S.room 2 events.old events.new }
     ensures quiet { result ≡ false → AddsNone S.room events.old events.new }
@@ -153,8 +150,8 @@ fn late_effect<R: Rolls, S: EventSink>(
     events: &mut S,
 ) -> bool
     requires room { HasRoom S.room 2 events.old }
-    ensures shown { DoesAt R.drawing side (move_at id).effect battle.old (S.tells events.old)
-        random.old known.old battle.new (S.tells events.new) random.new known.new result
+    ensures shown { DrawsWhere R.drawing random (using side (move_at id).effect)
+        (aware known (scene S.tells battle events)) result
         (λ r. only (is_late (move_at id).effect)
         (late_effect r side (move_at id) (move_at id).effect ▸ stop)) }
     ensures same { result ≡ false → known.new ≡ known.old }

@@ -1,12 +1,13 @@
 //! The lead-up, before any damage: charging, the use of the move, an early effect, and what trapping and thrashing do
 //! first (docs/MECHANICS.md, "Action", steps 3 to 6).
 ghost use Rattle.std.specs.Prelude.{◌≡◌};
+ghost use Rattle.gen1_layout.specs.Operations.{Draws, DrawsWhere, scene};
 ghost use Rattle.gen1_layout.specs.Words.{AddsAtMost, AddsNone, HasRoom, false, move_at, stop, ◌▸◌};
 ghost use Rattle.gen1_machine.specs.Action.{lead_up, prelude};
 ghost use Rattle.gen1_machine.specs.EarlyEffects.{early_effect, is_early};
 ghost use Rattle.gen1_machine.specs.Progress.{only};
-ghost use Rattle.gen1_action.specs.Knowing.{DoesKnowingDrawing};
-ghost use Rattle.gen1_action.specs.Planned.{DoesAt, DoesTaking};
+ghost use Rattle.gen1_action.specs.Knowing.{aware, aware_of};
+ghost use Rattle.gen1_action.specs.Planned.{taking, using};
 ghost use Rattle.gen1_turn.specs.ActionSteps.{begin_move};
 ghost use Rattle.gen1_turn.specs.ByEffect.{makes_substitute};
 
@@ -30,9 +31,8 @@ pub(crate) fn lead_up<R: Rolls, S: EventSink>(
     events: &mut S,
 ) -> bool
     requires room { HasRoom S.room 4 events.old }
-    ensures shown { DoesTaking R.drawing side pick (move_at id).effect battle.old
-        (S.tells events.old) random.old known.old battle.new (S.tells events.new) random.new known.new
-        result (λ r. lead_up side pick (move_at id)) }
+    ensures shown { DrawsWhere R.drawing random (taking side pick (move_at id).effect)
+        (aware known (scene S.tells battle events)) result (λ r. lead_up side pick (move_at id)) }
     ensures same { result ≡ false → known.new ≡ known.old }
     ensures room { AddsAtMost S.room 4 events.old events.new }
     ensures few { result ≡ false → AddsAtMost S.room 3 events.old events.new }
@@ -54,9 +54,8 @@ fn begin_move<R: Rolls, S: EventSink>(
     events: &mut S,
 ) -> bool
     requires room { HasRoom S.room 2 events.old }
-    ensures shown { DoesAt R.drawing side (move_at id).effect battle.old (S.tells events.old)
-        random.old known.old battle.new (S.tells events.new) random.new known.new result
-        (λ r. begin_move side (move_at id)) }
+    ensures shown { DrawsWhere R.drawing random (using side (move_at id).effect)
+        (aware known (scene S.tells battle events)) result (λ r. begin_move side (move_at id)) }
     ensures same { result ≡ false → known.new ≡ known.old }
     ensures room { AddsAtMost S.room 2 events.old events.new }
     ensures few { result ≡ false → AddsAtMost S.room 1 events.old events.new }
@@ -78,10 +77,9 @@ fn early_effect<R: Rolls, S: EventSink>(
     events: &mut S,
 ) -> bool
     requires room { HasRoom S.room 2 events.old }
-    ensures shown { DoesKnowingDrawing R.drawing battle.old (S.tells events.old) random.old
-        known.old battle.new (S.tells events.new) random.new known.new result
-        (only (is_early (move_at id).effect) (early_effect side (move_at id) (move_at id).effect
-        ▸ stop)) }
+    ensures shown { Draws R.drawing random (aware known (scene S.tells battle events)) result
+        (only (is_early (move_at id).effect)
+        (early_effect side (move_at id) (move_at id).effect ▸ stop)) }
     ensures early { result ≡ is_early (move_at id).effect }
     ensures same { result ≡ false → known.new ≡ known.old }
     ensures room { AddsAtMost S.room 2 events.old events.new }
@@ -108,9 +106,8 @@ fn prelude<R: Rolls, S: EventSink>(
     events: &mut S,
 )
     requires room { HasRoom S.room 1 events.old }
-    ensures shown { DoesAt R.drawing side (move_at id).effect battle.old (S.tells events.old)
-        random.old known.now battle.new (S.tells events.new) random.new known.now false
-        (λ r. prelude side (move_at id)) }
+    ensures shown { DrawsWhere R.drawing random (using side (move_at id).effect)
+        (aware_of known.now (scene S.tells battle events)) false (λ r. prelude side (move_at id)) }
     ensures room { AddsAtMost S.room 1 events.old events.new }
 {
     if id.effect().traps() {

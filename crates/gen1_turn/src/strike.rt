@@ -1,10 +1,10 @@
 //! A move that hits or misses, and its side effect (docs/MECHANICS.md, "Action", from step 9 on).
 ghost use Rattle.std.specs.Prelude.{◌||◌};
+ghost use Rattle.gen1_layout.specs.Operations.{DrawsWhere, anything, scene};
 ghost use Rattle.gen1_layout.specs.Words.{AddsAtMost, HasRoom, Reads, move_at, other};
 ghost use Rattle.gen1_machine.specs.Action.{strike};
 ghost use Rattle.gen1_machine.specs.State.{has_fallen_in};
-ghost use Rattle.gen1_action.specs.Knowing.{IsUncounted};
-ghost use Rattle.gen1_action.specs.Planned.{DoesUnder};
+ghost use Rattle.gen1_action.specs.Knowing.{IsUncounted, aware};
 ghost use Rattle.gen1_turn.specs.ActionSteps.{hits_with_effect};
 
 use gen1_action::Known;
@@ -26,8 +26,8 @@ pub(crate) fn strike<R: Rolls, S: EventSink>(
 ) -> bool
     requires room { HasRoom S.room 14 events.old }
     requires counts { IsUncounted known.old }
-    ensures shown { DoesUnder R.drawing battle.old (S.tells events.old) random.old known.old
-        battle.new (S.tells events.new) random.new known.new result (λ r. strike r side (move_at id)) }
+    ensures shown { DrawsWhere R.drawing random anything (aware known (scene S.tells battle events))
+        result (λ r. strike r side (move_at id)) }
     ensures room { AddsAtMost S.room 14 events.old events.new }
 {
     if known.missed {
@@ -48,9 +48,8 @@ fn hits_with_effect<R: Rolls, S: EventSink>(
 ) -> bool
     requires room { HasRoom S.room 14 events.old }
     requires counts { IsUncounted known.old }
-    ensures shown { DoesUnder R.drawing battle.old (S.tells events.old) random.old known.old
-        battle.new (S.tells events.new) random.new known.new result
-        (λ r. hits_with_effect r side (move_at id)) }
+    ensures shown { DrawsWhere R.drawing random anything (aware known (scene S.tells battle events))
+        result (λ r. hits_with_effect r side (move_at id)) }
     ensures room { AddsAtMost S.room 14 events.old events.new }
 {
     hits(battle, side, id, known, random, events);

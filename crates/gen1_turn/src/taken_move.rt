@@ -1,10 +1,11 @@
 //! The move that an action takes, and whether it goes on (docs/MECHANICS.md, "Picks", "Going on").
 ghost use Rattle.std.specs.Prelude.{◌&&◌, ◌≡◌, ◌≤◌};
-ghost use Rattle.gen1_layout.specs.Words.{Event, Field, IsBetween, List, Reads, Setting, Told, Within, active_in, false, length, member_in, not, underway_in};
+ghost use Rattle.gen1_layout.specs.Operations.{Does, unchanged};
+ghost use Rattle.gen1_layout.specs.Words.{Event, Field, IsBetween, List, Reads, Setting, Within, active_in, false, length, member_in, not, underway_in};
 ghost use Rattle.gen1_machine.specs.Action.{keeps_going, see_if_going_on};
 ghost use Rattle.gen1_machine.specs.Picks.{is_use, number_in, used_by};
 ghost use Rattle.gen1_machine.specs.Valid.{IsUsedMove};
-ghost use Rattle.gen1_action.specs.Knowing.{DoesKnowing, IsUncounted};
+ghost use Rattle.gen1_action.specs.Knowing.{IsUncounted, aware};
 
 use gen1_action::Known;
 use gen1_layout::{Conditions, Packed};
@@ -14,8 +15,7 @@ use gen1_tables::{MoveId, STRUGGLE};
 
 // A move that goes on costs no PP. If its condition has ended meanwhile, the move is used as a new one.
 pub(crate) fn see_if_going_on(battle: &Packed, side: Side, pick: Pick, known: &mut Known)
-    ensures shown { (events : List Event)
-        → DoesKnowing battle.now (Told events) known.old battle.now (Told events) known.new false
+    ensures shown { (told : List Event) → Does (aware known (unchanged told battle)) false
         (see_if_going_on side pick) }
     ensures counts { IsUncounted known.old → IsUncounted known.new }
 {

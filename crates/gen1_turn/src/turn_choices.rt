@@ -1,17 +1,17 @@
 //! A turn, by both choices (docs/MECHANICS.md, "Order of a turn").
 ghost use Rattle.std.specs.Prelude.{◌≡◌};
-ghost use Rattle.gen1_layout.specs.Words.{AddsAtMost, Bool, Does, Event, Frame, HasRoom, List, Progress, Shows, Told, false, length, member_in, other};
+ghost use Rattle.gen1_layout.specs.Operations.{Does, DoesAnyway, DoesWhere, holding, quiet, scene};
+ghost use Rattle.gen1_layout.specs.Words.{AddsAtMost, Bool, Event, HasRoom, List, false, length, member_in, other};
 ghost use Rattle.gen1_machine.specs.declared.side.Side.TheVariants as sides;
 ghost use Rattle.gen1_machine.specs.Conditions.{without_flinch};
 ghost use Rattle.gen1_machine.specs.State.{active_in};
 ghost use Rattle.gen1_machine.specs.Progress.{on_conditions};
 ghost use Rattle.gen1_machine.specs.Picks.{picked_after};
 ghost use Rattle.gen1_machine.specs.Plans.{Any, FitsPick, InRange};
-ghost use Rattle.gen1_machine.specs.Ruling.{ruling_of};
 ghost use Rattle.gen1_machine.specs.Turn.{both_pick, both_switch, do_parts, one_picks, play_turn, set_picked, turn};
 ghost use Rattle.gen1_machine.specs.Valid.{IsUsedMove};
-ghost use Rattle.gen1_action.specs.Knowing.{knowing, with_broke};
 ghost use Rattle.gen1_turn.specs.TurnParts.{Chooses, DoesTurn, acts_in_turn};
+ghost use Rattle.gen1_turn.specs.Action.{acting, aware_after, planning};
 
 use crate::by_side::BySide;
 use crate::turn_order::first_side;
@@ -33,8 +33,8 @@ pub(crate) fn take_turn<R: Rolls, S: EventSink>(
     events: &mut S,
 )
     requires room { HasRoom S.room 48 events.old }
-    ensures shown { DoesTurn R.drawing battle.old (S.tells events.old) random.old known.old
-        battle.new (S.tells events.new) random.new known.new (Chooses one two) (λ r. turn r one two) }
+    ensures shown { DoesTurn R.drawing random (planning (Chooses one two))
+        (acting known (scene S.tells battle events)) (λ r. turn r one two) }
     ensures room { AddsAtMost S.room 48 events.old events.new }
 {
     end_flinch(battle, Side::One);
@@ -43,8 +43,8 @@ pub(crate) fn take_turn<R: Rolls, S: EventSink>(
 }
 
 fn end_flinch(battle: &mut Packed, side: Side)
-    ensures shown { (events : List Event)
-        → Does battle.old (Told events) battle.new (Told events) false (on_conditions side without_flinch) }
+    ensures shown { (told : List Event) → Does (quiet told battle) false
+        (on_conditions side without_flinch) }
 {
     battle.put_flag(side, Conditions::FLINCH, false);
 }
@@ -58,9 +58,8 @@ fn act_on_choices<R: Rolls, S: EventSink>(
     events: &mut S,
 )
     requires room { HasRoom S.room 48 events.old }
-    ensures shown { DoesTurn R.drawing battle.old (S.tells events.old) random.old known.old
-        battle.new (S.tells events.new) random.new known.new (Chooses one two)
-        (λ r. play_turn r one two) }
+    ensures shown { DoesTurn R.drawing random (planning (Chooses one two))
+        (acting known (scene S.tells battle events)) (λ r. play_turn r one two) }
     ensures room { AddsAtMost S.room 48 events.old events.new }
 {
     match one {
@@ -97,10 +96,9 @@ fn both_pick<R: Rolls, S: EventSink>(
     events: &mut S,
 )
     requires room { HasRoom S.room 48 events.old }
-    ensures shown { DoesTurn R.drawing battle.old (S.tells events.old) random.old known.old
-        battle.new (S.tells events.new) random.new known.new
-        (λ plan p. FitsPick one (plan sides.One) × FitsPick two (plan sides.Two))
-        (λ r. both_pick r one two) }
+    ensures shown { DoesTurn R.drawing random
+        (planning (λ plan p. FitsPick one (plan sides.One) × FitsPick two (plan sides.Two)))
+        (acting known (scene S.tells battle events)) (λ r. both_pick r one two) }
     ensures room { AddsAtMost S.room 48 events.old events.new }
 {
     set_picked(battle, Side::One, one);
@@ -112,11 +110,10 @@ fn both_pick<R: Rolls, S: EventSink>(
 }
 
 fn set_picked(battle: &mut Packed, side: Side, pick: Pick)
-    ensures shown { (g : Frame) (p : Progress) (events : List Event)
-        → IsUsedMove (length (member_in side p.field).moves)
-        (picked_after pick (active_in side p.field).picked_move)
-        → Shows g battle.old (Told events) false p
-        → Shows g battle.new (Told events) false (set_picked side pick p) }
+    ensures shown { (told : List Event) → DoesWhere
+        (holding λ p. IsUsedMove (length (member_in side p.field).moves)
+        (picked_after pick (active_in side p.field).picked_move)) (quiet told battle) false
+        (λ r. set_picked side pick) }
 {
     match pick {
         Pick::Use(used) => battle.put_picked_move(side, used),
@@ -137,10 +134,9 @@ fn both_act<R: Rolls, S: EventSink>(
     events: &mut S,
 )
     requires room { HasRoom S.room 48 events.old }
-    ensures shown { DoesTurn R.drawing battle.old (S.tells events.old) random.old known.old
-        battle.new (S.tells events.new) random.new known.new
-        (λ plan p. FitsPick mine (plan side) × FitsPick others (plan (other side)))
-        (λ r. do_parts r (acts_in_turn side mine others)) }
+    ensures shown { DoesTurn R.drawing random
+        (planning (λ plan p. FitsPick mine (plan side) × FitsPick others (plan (other side))))
+        (acting known (scene S.tells battle events)) (λ r. do_parts r (acts_in_turn side mine others)) }
     ensures room { AddsAtMost S.room 48 events.old events.new }
 {
     if act_and_suffer(battle, side, mine, known, random, events) {
@@ -164,10 +160,10 @@ fn one_picks<R: Rolls, S: EventSink>(
     events: &mut S,
 )
     requires room { HasRoom S.room 48 events.old }
-    ensures shown { DoesTurn R.drawing battle.old (S.tells events.old) random.old known.old
-        battle.new (S.tells events.new) random.new known.new
-        (λ plan p. FitsPick pick (plan side) × (plan (other side) ≡ Any)
-        × InRange (other side) place p.field) (λ r. one_picks r side pick place) }
+    ensures shown { DoesTurn R.drawing random
+        (planning (λ plan p. FitsPick pick (plan side) × (plan (other side) ≡ Any)
+        × InRange (other side) place p.field)) (acting known (scene S.tells battle events))
+        (λ r. one_picks r side pick place) }
     ensures room { AddsAtMost S.room 48 events.old events.new }
 {
     set_picked(battle, side, pick);
@@ -189,12 +185,10 @@ fn both_switch<S: EventSink>(
     events: &mut S,
 )
     requires room { HasRoom S.room 48 events.old }
-    ensures shown { (g : Frame) (p : Progress) (broke : Bool) → InRange sides.One one p.field
-        → InRange sides.Two two p.field
-        → Shows (knowing (with_broke broke known.old) g) battle.old (S.tells events.old) false p
-        → (stopped : Bool)
-        × Shows (knowing known.new g) battle.new (S.tells events.new) stopped
-        (do_parts (ruling_of g.setting.terms) (both_switch one two) p) }
+    ensures shown { (broke : Bool) → DoesAnyway
+        (λ g p Then. InRange sides.One one p.field → InRange sides.Two two p.field → Then)
+        (aware_after broke known (scene S.tells battle events))
+        (λ r. do_parts r (both_switch one two)) }
     ensures room { AddsAtMost S.room 48 events.old events.new }
 {
     if sends_and_suffers(battle, Side::One, one, known, events) {

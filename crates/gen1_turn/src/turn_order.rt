@@ -18,7 +18,7 @@ const SIDE_1_BELOW: u8 = 128;
 // The side that acts first: by the picked moves, then by Speed, then by a draw.
 #[inline(always)] // docs/SPEED.md, "Hints on inlining"
 pub(crate) fn first_side<R: Rolls>(battle: &Packed, random: &mut R) -> Side
-    ensures shown { Orders R.drawing battle.now random.old random.new result in_order }
+    ensures shown { Orders R.drawing random battle.now result in_order }
 {
     let one = rank_of(battle, Side::One);
     let two = rank_of(battle, Side::Two);
@@ -32,8 +32,7 @@ pub(crate) fn first_side<R: Rolls>(battle: &Packed, random: &mut R) -> Side
 }
 
 fn faster_side<R: Rolls>(battle: &Packed, random: &mut R) -> Side
-    ensures shown { Orders R.drawing battle.now random.old random.new result
-        in_order_of_speed }
+    ensures shown { Orders R.drawing random battle.now result in_order_of_speed }
 {
     let one = battle.current_stat(Side::One, Stat::Speed);
     let two = battle.current_stat(Side::Two, Stat::Speed);

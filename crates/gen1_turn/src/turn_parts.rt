@@ -1,6 +1,7 @@
 //! The parts of a turn, each with the residual damage of its side (docs/MECHANICS.md, "Order of a turn").
 ghost use Rattle.std.specs.Prelude.{◌||◌, ◌≡◌};
-ghost use Rattle.gen1_layout.specs.Words.{AddsAtMost, Bool, Does, Event, Frame, HasRoom, List, Progress, Reads, Shows, Told, false};
+ghost use Rattle.gen1_layout.specs.Operations.{Does, quiet, scene};
+ghost use Rattle.gen1_layout.specs.Words.{AddsAtMost, Bool, Event, Frame, HasRoom, List, Progress, Reads, Shows, false};
 ghost use Rattle.gen1_machine.specs.declared.side.Side.TheVariants as sides;
 ghost use Rattle.gen1_machine.specs.State.{has_fallen_in, is_over};
 ghost use Rattle.gen1_machine.specs.Plans.{InRange};
@@ -8,7 +9,7 @@ ghost use Rattle.gen1_machine.specs.ResidualDamage.{residual};
 ghost use Rattle.gen1_machine.specs.Ruling.{Ruling};
 ghost use Rattle.gen1_machine.specs.Turn.{Acts as ActsPart, Sends, do_part, end_spent_trapping, end_turn, is_spent};
 ghost use Rattle.gen1_action.specs.Knowing.{knowing, with_broke};
-ghost use Rattle.gen1_turn.specs.Action.{Acts};
+ghost use Rattle.gen1_turn.specs.Action.{Acts, acting, picked};
 ghost use Rattle.gen1_turn.specs.TurnParts.{ActsAndSuffers, LeavesRest, PartLeaves, suffering};
 
 use crate::act;
@@ -32,8 +33,8 @@ pub(crate) fn act_and_suffer<R: Rolls, S: EventSink>(
     events: &mut S,
 ) -> bool
     requires room { HasRoom S.room 24 events.old }
-    ensures shown { ActsAndSuffers R.drawing side pick battle.old (S.tells events.old)
-        random.old known.old battle.new (S.tells events.new) random.new known.new result }
+    ensures shown { ActsAndSuffers R.drawing random side pick
+        (acting known (scene S.tells battle events)) result }
     ensures room { AddsAtMost S.room 24 events.old events.new }
 {
     match side {
@@ -53,8 +54,8 @@ fn act_and_suffer_as<R: Rolls, S: EventSink>(
     events: &mut S,
 ) -> bool
     requires room { HasRoom S.room 24 events.old }
-    ensures shown { ActsAndSuffers R.drawing side pick battle.old (S.tells events.old)
-        random.old known.old battle.new (S.tells events.new) random.new known.new result }
+    ensures shown { ActsAndSuffers R.drawing random side pick
+        (acting known (scene S.tells battle events)) result }
     ensures room { AddsAtMost S.room 24 events.old events.new }
 {
     if act_unless_skipped(battle, side, pick, known, random, events) {
@@ -73,9 +74,8 @@ fn act_unless_skipped<R: Rolls, S: EventSink>(
     events: &mut S,
 ) -> bool
     requires room { HasRoom S.room 21 events.old }
-    ensures shown { Acts R.drawing side pick battle.old (S.tells events.old) random.old
-        known.old battle.new (S.tells events.new) random.new known.new result
-        (λ r. do_part r (ActsPart side pick)) }
+    ensures shown { Acts R.drawing random (picked side pick)
+        (acting known (scene S.tells battle events)) result (λ r. do_part r (ActsPart side pick)) }
     ensures room { AddsAtMost S.room 21 events.old events.new }
 {
     *known = known.begun(side);
@@ -137,16 +137,14 @@ fn is_cut(battle: &Packed) -> bool
 
 // Trapping with a count of 0 ends when a turn is played to its end.
 pub(crate) fn end_turn(battle: &mut Packed)
-    ensures shown { (events : List Event)
-        → Does battle.old (Told events) battle.new (Told events) false end_turn }
+    ensures shown { (told : List Event) → Does (quiet told battle) false end_turn }
 {
     end_spent_trapping(battle, Side::One);
     end_spent_trapping(battle, Side::Two);
 }
 
 fn end_spent_trapping(battle: &mut Packed, side: Side)
-    ensures shown { (events : List Event)
-        → Does battle.old (Told events) battle.new (Told events) false (end_spent_trapping side) }
+    ensures shown { (told : List Event) → Does (quiet told battle) false (end_spent_trapping side) }
 {
     if is_spent(battle.trapping(side)) {
         battle.end_trapping(side);

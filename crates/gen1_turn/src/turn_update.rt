@@ -1,15 +1,14 @@
 //! The update of a battle that asks both sides for a move: a turn, and its close (docs/MECHANICS.md, "Order of a
 //! turn", "Falls and requests").
+ghost use Rattle.gen1_layout.specs.Operations.{scene};
 ghost use Rattle.gen1_layout.specs.Words.{AddsAtMost, HasRoom, [], ℕ};
-ghost use Rattle.gen1_rolls.specs.Draws.{StandsAt};
-ghost use Rattle.gen1_rolls.specs.Streams.{IsStream, Stream};
 ghost use Rattle.gen1_machine.specs.declared.terms.Request.TheVariants.{Move};
 ghost use Rattle.gen1_machine.specs.State.{State};
 ghost use Rattle.gen1_machine.specs.Ruling.{ruling_of};
 ghost use Rattle.gen1_machine.specs.Turn.{turn};
 ghost use Rattle.gen1_machine.specs.Step.{close_update};
 ghost use Rattle.gen1_layout.specs.Within.{Stands, setting_of};
-ghost use Rattle.gen1_requests.specs.Updates.{Plays, UpdatedDrawing, drawing_on};
+ghost use Rattle.gen1_requests.specs.Updates.{Plays, UpdatesDrawing, drawing_on};
 
 use crate::by_side::BySide;
 use crate::turn_choices::take_turn;
@@ -36,12 +35,9 @@ pub fn turn<R: Rolls, S: EventSink>(
 ) -> R
     requires empty { S.tells events.old [] }
     requires room { HasRoom S.room 51 events.old }
-    ensures updated { (s : State) (origin : R) (stream : Stream) (drawn : ℕ) → Stands battle.old s
-        → Plays s Move one two
-        → IsStream stream → StandsAt R.drawing origin stream drawn random
-        → UpdatedDrawing R.drawing origin stream (setting_of s) battle.new
-        (S.tells events.new) result
-        (close_update (ruling_of s.terms)
+    ensures updated { (s : State) → Stands battle.old s → Plays s Move one two
+        → UpdatesDrawing R.drawing random result (setting_of s) (scene S.tells battle events)
+        (λ stream drawn. close_update (ruling_of s.terms)
         (turn (ruling_of s.terms) one two (drawing_on stream drawn s))) }
     ensures room { AddsAtMost S.room 51 events.old events.new }
 {

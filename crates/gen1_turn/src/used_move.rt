@@ -1,14 +1,14 @@
 //! The use of a move: it becomes the current one, and costs PP (docs/MECHANICS.md, "Action", step 4).
 ghost use Rattle.std.specs.Prelude.{if◌then◌else◌, ◌-◌, ◌==◌, ◌≡◌, ◌≤◌};
-ghost use Rattle.gen1_layout.specs.Words.{AddsAtMost, Does, Event, Frame, HasRoom, IsBetween, List, Progress, Shows, Told, active_in, false, length, member_in, move_at, not, other, who_in};
+ghost use Rattle.gen1_layout.specs.Operations.{Does, DoesWhere, holding, looking, quiet, scene};
+ghost use Rattle.gen1_layout.specs.Words.{AddsAtMost, Event, HasRoom, IsBetween, List, active_in, false, length, member_in, move_at, not, other, who_in};
 ghost use Rattle.gen1_machine.specs.Charging.{make_current};
 ghost use Rattle.gen1_machine.specs.Action.{spend_pp, use_move};
 ghost use Rattle.gen1_tables.specs.Effects.{bides};
-ghost use Rattle.gen1_machine.specs.Picks.{used_by};
 ghost use Rattle.gen1_machine.specs.Progress.{goes_on_now, note, on_member, only, unless};
 ghost use Rattle.gen1_machine.specs.State.{with_pp_spent};
-ghost use Rattle.gen1_machine.specs.Valid.{IsUsedMove};
-ghost use Rattle.gen1_action.specs.Knowing.{DoesKnowing, knowing};
+ghost use Rattle.gen1_action.specs.Knowing.{aware_of};
+ghost use Rattle.gen1_multiturn.specs.Charging.{PicksMove};
 
 use crate::taken_move::among_slots;
 use gen1_action::Known;
@@ -29,12 +29,9 @@ pub(crate) fn use_move<S: EventSink>(
     events: &mut S,
 )
     requires room { HasRoom S.room 1 events.old }
-    ensures shown { (g : Frame) (p : Progress)
-        → IsUsedMove (length (member_in side p.field).moves)
-        (used_by pick (active_in side p.field).current_move)
-        → Shows (knowing known.now g) battle.old (S.tells events.old) false p
-        → Shows (knowing known.now g) battle.new (S.tells events.new) false
-        (use_move side pick (move_at id) p) }
+    ensures shown { DoesWhere (holding (PicksMove side pick))
+        (aware_of known.now (scene S.tells battle events)) false
+        (λ r. use_move side pick (move_at id)) }
     ensures room { AddsAtMost S.room 1 events.old events.new }
 {
     take_up(battle, side, pick);
@@ -44,11 +41,8 @@ pub(crate) fn use_move<S: EventSink>(
 
 // A picked move becomes the current one. A move that goes on is that already.
 fn take_up(battle: &mut Packed, side: Side, pick: Pick)
-    ensures shown { (g : Frame) (p : Progress) (events : List Event)
-        → IsUsedMove (length (member_in side p.field).moves)
-        (used_by pick (active_in side p.field).current_move)
-        → Shows g battle.old (Told events) false p
-        → Shows g battle.new (Told events) false (make_current side pick p) }
+    ensures shown { (told : List Event) → DoesWhere (holding (PicksMove side pick))
+        (quiet told battle) false (λ r. make_current side pick) }
 {
     match pick {
         Pick::Use(_) => make_current(battle, side, pick),
@@ -59,8 +53,7 @@ fn take_up(battle: &mut Packed, side: Side, pick: Pick)
 }
 
 fn spend_pp_unless_going(battle: &mut Packed, side: Side, known: &Known)
-    ensures shown { (events : List Event)
-        → DoesKnowing battle.old (Told events) known.now battle.new (Told events) known.now false
+    ensures shown { (told : List Event) → Does (aware_of known.now (quiet told battle)) false
         (unless goes_on_now (spend_pp side)) }
 {
     if known.going_on {
@@ -70,10 +63,9 @@ fn spend_pp_unless_going(battle: &mut Packed, side: Side, known: &Known)
 }
 
 fn spend_pp(battle: &mut Packed, side: Side, used: UsedMove)
-    ensures shown { (g : Frame) (p : Progress) (events : List Event)
-        → (active_in side p.field).current_move ≡ used
-        → Shows g battle.old (Told events) false p
-        → Shows g battle.new (Told events) false (on_member side (with_pp_spent used) p) }
+    ensures shown { (told : List Event) → DoesWhere
+        (holding λ p. (active_in side p.field).current_move ≡ used) (quiet told battle) false
+        (λ r. on_member side (with_pp_spent used)) }
 {
     match used {
         UsedMove::Nothing => {}
@@ -83,10 +75,9 @@ fn spend_pp(battle: &mut Packed, side: Side, used: UsedMove)
 }
 
 fn spend_pp_of(battle: &mut Packed, side: Side, slot: u8)
-    ensures shown { (g : Frame) (p : Progress) (events : List Event)
-        → IsBetween 1 (length (member_in side p.field).moves) slot
-        → Shows g battle.old (Told events) false p
-        → Shows g battle.new (Told events) false (on_member side (with_pp_spent (UsedMove.Slot slot)) p) }
+    ensures shown { (told : List Event) → DoesWhere
+        (holding λ p. IsBetween 1 (length (member_in side p.field).moves) slot) (quiet told battle)
+        false (λ r. on_member side (with_pp_spent (UsedMove.Slot slot))) }
 {
     let slot = among_slots(slot);
     let left = less_pp(battle.pp(side, slot));
@@ -106,7 +97,7 @@ fn less_pp(pp: u8) -> u8
 
 fn note_move<S: EventSink>(battle: &Packed, side: Side, id: MoveId, events: &mut S)
     requires room { HasRoom S.room 1 events.old }
-    ensures shown { Does battle.now (S.tells events.old) battle.now (S.tells events.new) false
+    ensures shown { Does (looking S.tells battle events) false
         (only (not (bides (move_at id).effect))
         (note (λ f. Event.Move (who_in side f) id (who_in (other side) f)))) }
     ensures room { AddsAtMost S.room 1 events.old events.new }

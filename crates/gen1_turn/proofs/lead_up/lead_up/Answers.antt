@@ -3,13 +3,14 @@ use Rattle.gen1_machine.specs.Action.{lead_up}
 use Rattle.gen1_machine.specs.Charging.{charge}
 use Rattle.gen1_machine.specs.Moves.{move_at}
 use Rattle.gen1_machine.proofs.SoundFacts.{is-move}
+use Rattle.gen1_action.specs.Knowing.{knowing}
 use Rattle.gen1_action.proofs.Planning.{before-valid, charge-passes, doing, next, use_move-leads, used-fits, went-on}
 use Rattle.gen1_turn.proofs.lead_up.lead_up.Goals as goal
 
 pub returns-then-charge_knowing-clause-shown : goal.returns-then-charge_knowing-clause-shown
 unfolding lead_up
 returns-then-charge_knowing-clause-shown t c origin g p plan taking v h =
-    drawn_stops _ _ (drawn_settled c.if-charge_knowing.true (c.charge_knowing.ensures.shown origin g p plan taking v h))
+    drawn_stops _ _ (drawn_settled c.if-charge_knowing.true (still {g' = knowing c.args.known.now g} h (c.charge_knowing.ensures.shown (record g { drawn = p.drawn }) p plan taking v h.shows) refl))
 
 pub returns-clause-shown : goal.returns-clause-shown
 unfolding lead_up
@@ -19,7 +20,7 @@ returns-clause-shown t c origin g p plan taking v h =
     let pick = c.args.pick in
     let move = move_at c.args.id in
     let is = is-move c.args.id in
-    let a = drawn_settled c.if-charge_knowing.false (c.charge_knowing.ensures.shown origin g p plan taking v h) in
+    let a = drawn_settled c.if-charge_knowing.false (still {g' = knowing c.args.known.now g} h (c.charge_knowing.ensures.shown (record g { drawn = p.drawn }) p plan taking v h.shows) refl) in
     let valid = went-on _ p (charge-passes terms plan s move is pick) a.shows.ends (before-valid pick p v) in
     let used = used-fits terms plan s pick move.effect _ _ _ taking valid in
     let b = still a (c.use_move.ensures.shown (record g { drawn = (charge s pick move p).drawn }) _ used a.shows) refl in

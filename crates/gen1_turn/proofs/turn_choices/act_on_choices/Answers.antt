@@ -33,7 +33,7 @@ pub returns-in-Switch-two-2-clause-shown : goal.returns-in-Switch-two-2-clause-s
 returns-in-Switch-two-2-clause-shown t c origin g p plan (one, two, x, y) v h =
     ends_as c.both_switch.new.known g _ _ (play-switches _ _ _ c.in-Switch.place c.in-Switch-two-2.other p c.in-Switch.is c.in-Switch-two-2.is)
     (ends_still c.args.known.now c.both_switch.new.known g h.1
-    (c.both_switch.ensures.shown (record g { drawn = p.drawn }) p h.0 (rw c.in-Switch.is at x) (rw c.in-Switch-two-2.is at y) h.1.shows))
+    (c.both_switch.ensures.shown h.0 (record g { drawn = p.drawn }) p (rw c.in-Switch.is at x) (rw c.in-Switch-two-2.is at y) h.1.shows))
 
 pub returns-in-Pass-two-2-clause-shown : goal.returns-in-Pass-two-2-clause-shown
 returns-in-Pass-two-2-clause-shown t c origin g p plan asks v h =

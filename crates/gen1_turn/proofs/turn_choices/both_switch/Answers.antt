@@ -8,13 +8,13 @@ use Rattle.gen1_turn.proofs.turn_choices.both_switch.Goals as goal
 
 pub returns-then-sends_and_suffers-clause-shown : goal.returns-then-sends_and_suffers-clause-shown
 unfolding do_parts do_part
-returns-then-sends_and_suffers-clause-shown t c g p broke x y h =
+returns-then-sends_and_suffers-clause-shown t c broke g p x y h =
     let r = ruling_of g.setting.terms in
     (rw c.if-sends_and_suffers.true at (c.sends_and_suffers.ensures.shown g p broke r x h)) (do_parts r (Sends Two c.args.two ∷ Suffers Two ∷ []))
 
 pub returns-then-sends_and_suffers-2-clause-shown : goal.returns-then-sends_and_suffers-2-clause-shown
 unfolding do_parts do_part
-returns-then-sends_and_suffers-2-clause-shown t c g p broke x y h =
+returns-then-sends_and_suffers-2-clause-shown t c broke g p x y h =
     let r = ruling_of g.setting.terms in
     let rest : Phase = do_parts r (Sends Two c.args.two ∷ Suffers Two ∷ []) in
     let a = rw c.if-sends_and_suffers.false at (c.sends_and_suffers.ensures.shown g p broke r x h) in
@@ -24,7 +24,7 @@ returns-then-sends_and_suffers-2-clause-shown t c g p broke x y h =
 
 pub returns-clause-shown : goal.returns-clause-shown
 unfolding do_parts do_part
-returns-clause-shown t c g p broke x y h =
+returns-clause-shown t c broke g p x y h =
     let r = ruling_of g.setting.terms in
     let rest : Phase = do_parts r (Sends Two c.args.two ∷ Suffers Two ∷ []) in
     let a = rw c.if-sends_and_suffers.false at (c.sends_and_suffers.ensures.shown g p broke r x h) in

@@ -12,7 +12,7 @@ use Rattle.gen1_turn.proofs.turn_choices.set_picked.Goals as goal
 pub returns-in-Use : goal.returns-in-Use
 unfolding set_picked with_picked_move
 returns-in-Use c = record {
-  shown = λ g p events fits h.
+  shown = λ told g p fits h.
       let s = c.args.side in
       let used = c.in-Use.used in
       let there = subst (λ (k : Pick). IsUsedMove (length (member_in s p.field).moves) (picked_after k (active_in s p.field).picked_move)) c.in-Use.is fits in
@@ -23,7 +23,7 @@ returns-in-Use c = record {
 pub returns-in-Held : goal.returns-in-Held
 unfolding set_picked with_picked_move
 returns-in-Held c = record {
-  shown = λ g p events fits h.
+  shown = λ told g p fits h.
       let s = c.args.side in
       rw (c.in-Held.is) (seeing (active s) (λ (a : Active). on_active s (with_picked_move Nothing)) refl
       (put_on_active h s (with_picked_move Nothing) (c.put_picked_move-in-Held.ensures.stands _ _ (with_picked_move Nothing) h.within refl tt)));
@@ -31,8 +31,8 @@ returns-in-Held c = record {
 
 pub returns-in-Continue : goal.returns-in-Continue
 unfolding set_picked
-returns-in-Continue c = record { shown = λ g p events fits h. rw (c.in-Continue.is) (still_picked c.args.side p h) }
+returns-in-Continue c = record { shown = λ told g p fits h. rw (c.in-Continue.is) (still_picked c.args.side p h) }
 
 pub returns-in-Idle : goal.returns-in-Idle
 unfolding set_picked
-returns-in-Idle c = record { shown = λ g p events fits h. rw (c.in-Idle.is) (still_picked c.args.side p h) }
+returns-in-Idle c = record { shown = λ told g p fits h. rw (c.in-Idle.is) (still_picked c.args.side p h) }

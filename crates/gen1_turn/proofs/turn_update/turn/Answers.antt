@@ -18,7 +18,7 @@ use Rattle.gen1_turn.proofs.turn_update.turn.Goals as goal
 
 pub returns-clause-updated : goal.returns-clause-updated
 unfolding close_update
-returns-clause-updated t c s origin stream drawn stands plays w at =
+returns-clause-updated t c s stands plays origin stream drawn w at =
     let one = c.args.one in let two = c.args.two in
     let apart : (requests.Pass ≡ requests.Move → ⊥) = λ e. cc in
     let v = started s requests.Move one two stands.valid apart plays in

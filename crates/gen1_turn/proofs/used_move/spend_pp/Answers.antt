@@ -9,7 +9,7 @@ use Rattle.gen1_turn.proofs.used_move.spend_pp.Goals as goal
 pub returns-in-Nothing : goal.returns-in-Nothing
 unfolding with_pp_spent
 returns-in-Nothing c = record {
-  shown = λ g p events is h.
+  shown = λ told g p is h.
       let s = c.args.side in
       rw c.in-Nothing.is
       (put_on_member h s (with_pp_spent Nothing) (subst (λ (f : Field). Within g.setting c.args.battle.now f) (sym (unchanged-member s (with_pp_spent Nothing) p.field refl)) h.within));
@@ -18,7 +18,7 @@ returns-in-Nothing c = record {
 pub returns-in-Struggle : goal.returns-in-Struggle
 unfolding with_pp_spent
 returns-in-Struggle c = record {
-  shown = λ g p events is h.
+  shown = λ told g p is h.
       let s = c.args.side in
       rw c.in-Struggle.is
       (put_on_member h s (with_pp_spent Struggle) (subst (λ (f : Field). Within g.setting c.args.battle.now f) (sym (unchanged-member s (with_pp_spent Struggle) p.field refl)) h.within));
@@ -26,8 +26,8 @@ returns-in-Struggle c = record {
 
 pub returns-in-Slot : goal.returns-in-Slot
 returns-in-Slot c = record {
-  shown = λ g p events is h.
+  shown = λ told g p is h.
       let s = c.args.side in
       let fits = subst (λ (u : UsedMove). IsUsedMove (length (member_in s p.field).moves) u) (is ∙ c.in-Slot.is) (active_ok s h.within).current_move in
-      rw c.in-Slot.is (c.spend_pp_of.ensures.shown g p events fits h);
+      rw c.in-Slot.is (c.spend_pp_of.ensures.shown told g p fits h);
 }

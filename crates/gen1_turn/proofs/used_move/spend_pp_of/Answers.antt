@@ -8,7 +8,7 @@ use Rattle.gen1_turn.proofs.used_move.spend_pp_of.Goals as goal
 pub returns : goal.returns
 unfolding with_pp_spent
 returns c = record {
-  shown = λ g p events fits h.
+  shown = λ told g p fits h.
       let m = member_in c.args.side p.field in
       let ok = (member_ok c.args.side h.within).numbers in
       let slot = c.among_slots-slot.ensures.same (fits.0, omega (arith, ok.slots, fits.1)) in

@@ -13,5 +13,5 @@ returns c = record {
   shown = λ events g p h.
       let used = c.current_move.ensures.stands _ _ h.within in
       if_not _ _ _ (ap (λ (a : Action). a.going_on) h.action ∙ c.if-known.false)
-      (seeing _ (λ (u : UsedMove). on_member c.args.side (with_pp_spent u)) used (c.spend_pp.ensures.shown _ p events (sym used) h));
+      (seeing _ (λ (u : UsedMove). on_member c.args.side (with_pp_spent u)) used (c.spend_pp.ensures.shown events _ p (sym used) h));
 }
