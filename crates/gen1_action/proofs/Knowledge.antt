@@ -1,7 +1,7 @@
 -- How shown facts, with what is known of the action, pass through phases. The lemmas of gen1_layout's Chain about a
 -- frame hold for `knowing k g`: a change of what is known is, by computation, a change of that frame.
 use Rattle.std.proofs.Common.{◌≡◌}
-use Rattle.gen1_layout.proofs.Words.{Bool, Frame, Parts, Phase, Progress, Side, Telling, drawn_stops, false, refl, still, true, ℕ, ◌▸◌}
+use Rattle.gen1_layout.proofs.Words.{Bool, Frame, Parts, Phase, Progress, Side, Telling, drawn_stops, false, refl, still, true, ◌▸◌}
 use Rattle.gen1_rolls.specs.Draws.{Drawing}
 use Rattle.gen1_machine.specs.Progress.{on_action, unless_stopped}
 use Rattle.gen1_machine.specs.Action.{begin}

@@ -1,16 +1,12 @@
 -- What a call by itself shows: an operation of an action that has just begun, of which nothing is known yet. Its
 -- bytes, events and generator are those of its phase. What the phase learns in addition doesn't matter.
-use Rattle.std.specs.Prelude.{◌≡◌}
-use Rattle.gen1_layout.specs.Words.{Frame, Phase, Progress, ShowsDrawn, Side, Telling, Within, false, ℕ}
-use Rattle.gen1_tables.specs.declared.effect.Effect.{Effect}
+use Rattle.gen1_layout.specs.Words.{Frame, Phase, Progress, ShowsDrawn, Side, Telling, Within, false}
 use Rattle.gen1_rolls.specs.Draws.{Drawing, Ref, StandsAt}
 use Rattle.gen1_machine.specs.Ruling.{Ruling, ruling_of}
-use Rattle.gen1_machine.specs.Plans.{Doing, Plan}
 use Rattle.gen1_layout.specs.Operations.{Premise, Scene}
 use Rattle.gen1_layout.specs.Parts.{Parts}
 use Rattle.gen1_action.specs.declared.known.Known.{Known}
-use Rattle.gen1_action.specs.Knowing.{begun, knowing, nothing_yet, ShowsKnown}
-use Rattle.gen1_action.specs.Planned.{Follows}
+use Rattle.gen1_action.specs.Knowing.{begun, knowing, nothing_yet}
 
 -- What is known when a side's action, the first of its update, begins.
 abbrev pub just_begun : Side → Known
@@ -32,16 +28,3 @@ Leaves {A = A} d random premise s phase = s λ parts events knows parts' events'
     (origin : A) (g : Frame) (p : Progress) → premise g p
     (ShowsDrawn d origin (knows g) parts events random.entry.now false p
     → Remains d origin g parts' events' random.exit.now (phase (ruling_of g.setting.terms) p))
-
--- The code leaves what a phase makes of an action that has just begun, under the rules of the battle.
-abbrev pub DoesAlone : {A : Type 0} → Drawing A → Side → Parts → Telling → A → Parts → Telling → A → (Ruling → Phase) → Type 0
-DoesAlone {A = A} d side parts events old parts' events' new phase =
-    (origin : A) (g : Frame) (p : Progress) → ShowsKnown d origin (just_begun side) g parts events old false p
-    → Remains d origin g parts' events' new (phase (ruling_of g.setting.terms) p)
-
--- The same for a side that is using a move with this effect.
-abbrev pub DoesAloneAt : {A : Type 0} → Drawing A → Side → Effect → Parts → Telling → A → Parts → Telling → A → (Ruling → Phase) → Type 0
-DoesAloneAt {A = A} d side effect parts events old parts' events' new phase =
-    (origin : A) (g : Frame) (p : Progress) (plan : Side → Plan) → plan side ≡ Doing effect → Follows g.setting.terms plan p
-    → ShowsKnown d origin (just_begun side) g parts events old false p
-    → Remains d origin g parts' events' new (phase (ruling_of g.setting.terms) p)

@@ -2,7 +2,7 @@
 -- sleeper. An operation that learns something is described by its phase like any other. If something is shown with
 -- what was known before it, the result of the phase is shown with what is known after it.
 use Rattle.std.specs.Prelude.{◌≡◌}
-use Rattle.gen1_layout.specs.Words.{Bool, Frame, None, Phase, Progress, Shows, ShowsDrawn, Side, Telling, false, ℕ}
+use Rattle.gen1_layout.specs.Words.{Bool, Frame, None, Progress, ShowsDrawn, Side, Telling, false}
 use Rattle.gen1_rolls.specs.Draws.{Drawing, Ref}
 use Rattle.gen1_machine.specs.declared.side.Side.TheVariants.{One}
 use Rattle.gen1_machine.specs.Progress.{Action}
@@ -56,19 +56,9 @@ aware known s Then = s λ parts events _ parts' events' _. Then parts events (kn
 abbrev pub aware_of : Known → Scene → Scene
 aware_of known s Then = s λ parts events _ parts' events' _. Then parts events (knowing known) parts' events' (knowing known)
 
--- Code without draws, from these parts, events and knowledge to those, does what a phase does.
-abbrev pub DoesKnowing : Parts → Telling → Known → Parts → Telling → Known → Bool → Phase → Type 0
-DoesKnowing parts events k parts' events' k' stopped phase =
-    (g : Frame) (p : Progress) → Shows (knowing k g) parts events false p → Shows (knowing k' g) parts' events' stopped (phase p)
-
 -- Code with draws, for any generator that it is given.
 abbrev pub ShowsKnown : {A : Type 0} → Drawing A → A → Known → Frame → Parts → Telling → A → Bool → Progress → Type 0
 ShowsKnown d origin k g parts events now stopped p = ShowsDrawn d origin (knowing k g) parts events now stopped p
-
-abbrev pub DoesKnowingDrawing : {A : Type 0} → Drawing A → Parts → Telling → A → Known → Parts → Telling → A → Known → Bool → Phase → Type 0
-DoesKnowingDrawing {A = A} d parts events old k parts' events' new k' stopped phase =
-    (origin : A) (g : Frame) (p : Progress) → ShowsKnown d origin k g parts events old false p
-    → ShowsKnown d origin k' g parts' events' new stopped (phase p)
 
 -- After an action is over, it no longer matters whether a substitute broke in it.
 abbrev pub with_broke : Bool → Known → Known

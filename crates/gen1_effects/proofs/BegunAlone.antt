@@ -1,6 +1,6 @@
 -- An operation by itself, from an action that has just begun. It doesn't matter that its action then ends.
 use Rattle.std.proofs.Common.{◌≡◌}
-use Rattle.gen1_layout.proofs.Words.{Bool, Frame, Parts, Phase, Progress, Side, Telling, false, refl, stop, subst, then-goes, then-stops, true, ℕ, ◌▸◌}
+use Rattle.gen1_layout.proofs.Words.{Bool, Frame, Parts, Phase, Progress, Side, Telling, false, refl, stop, subst, then-goes, then-stops, true, ◌▸◌}
 use Rattle.gen1_rolls.specs.Draws.{Drawing}
 use Rattle.gen1_action.specs.declared.known.Known.{Known}
 use Rattle.gen1_action.specs.Alone.{just_begun, Remains}

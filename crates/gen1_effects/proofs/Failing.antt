@@ -1,6 +1,6 @@
 -- A move that fails by a test, or passes it, and an action that ends with its effect.
 use Rattle.std.proofs.Common.{◌≡◌}
-use Rattle.gen1_layout.proofs.Words.{Bool, Frame, Parts, Phase, Progress, Shows, ShowsDrawn, Side, Telling, ap, choose, choose-false, choose-true, drawn_goes, drawn_if_so, drawn_stops, false, goes, halted, if_so, past, refl, stay, still, stop, stops, then-goes, true, ℕ, ◌∙◌, ◌▸◌}
+use Rattle.gen1_layout.proofs.Words.{Bool, Frame, Parts, Phase, Progress, Shows, ShowsDrawn, Side, Telling, ap, choose, choose-false, choose-true, drawn_goes, drawn_if_so, drawn_stops, false, goes, halted, if_so, past, refl, stay, still, stop, stops, then-goes, true, ◌∙◌, ◌▸◌}
 use Rattle.gen1_rolls.specs.Draws.{Drawing}
 use Rattle.gen1_machine.specs.Progress.{fail, fails_if}
 use Rattle.gen1_layout.specs.Operations.{Does, between}

@@ -4,7 +4,7 @@ use Rattle.std.specs.Prelude.{Bool, List, false, ℕ, ◌≡◌}
 use Rattle.gen1_rolls.specs.Draws.{Drawing, StandsAt}
 use Rattle.gen1_rolls.specs.Streams.{Stream}
 use Rattle.gen1_machine.specs.declared.event.Event.{Event}
-use Rattle.gen1_machine.specs.Progress.{Action, Phase, Progress}
+use Rattle.gen1_machine.specs.Progress.{Action, Progress}
 use Rattle.gen1_layout.specs.Parts.{Parts}
 use Rattle.gen1_layout.specs.Within.{Packs, Setting, Within}
 
@@ -50,14 +50,3 @@ pub record ShowsPacked (g : Frame) (parts : Parts) (events : Telling) (p : Progr
 pub record ShowsDrawn {A : Type 0} (d : Drawing A) (origin : A) (g : Frame) (parts : Parts) (events : Telling) (now : A) (stopped : Bool) (p : Progress) : Type 0 where
   pub shows : Shows (record g { drawn = p.drawn }) parts events stopped p
   pub stands : StandsAt d origin g.stream p.drawn now
-
--- Code without draws, from these parts and events to those, does what a phase does.
-abbrev pub Does : Parts → Telling → Parts → Telling → Bool → Phase → Type 0
-Does parts events parts' events' stopped phase =
-    (g : Frame) (p : Progress) → Shows g parts events false p → Shows g parts' events' stopped (phase p)
-
--- Code with draws does what a phase does, for any generator that it is given.
-abbrev pub DoesDrawing : {A : Type 0} → Drawing A → Parts → Telling → A → Parts → Telling → A → Bool → Phase → Type 0
-DoesDrawing {A = A} d parts events old parts' events' new stopped phase =
-    (origin : A) (g : Frame) (p : Progress) → ShowsDrawn d origin g parts events old false p
-    → ShowsDrawn d origin g parts' events' new stopped (phase p)

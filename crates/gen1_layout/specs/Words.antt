@@ -12,7 +12,7 @@ pub use Rattle.gen1_machine.specs.CurrentStats.{has_number, now, now_in, stage_o
 pub use Rattle.gen1_machine.specs.Moves.{move_at}
 pub use Rattle.gen1_machine.specs.Progress.{Phase, Progress, conditions, draw, status_of, stop, ◌▸◌}
 pub use Rattle.gen1_layout.specs.Within.{Packs, Setting, Within}
-pub use Rattle.gen1_layout.specs.Shows.{Does, DoesDrawing, Frame, Shows, ShowsDrawn, Telling, Told}
+pub use Rattle.gen1_layout.specs.Shows.{Frame, Shows, ShowsDrawn, Telling, Told}
 
 -- Reading: whenever the parts represent a field, a value is this value of the field
 
@@ -70,12 +70,6 @@ abbrev pub WritesConditionsIf : Side → Parts → Parts → (ActiveConditions �
 WritesConditionsIf s old new written fits =
     (g : Setting) (f : Field) (change : ActiveConditions → ActiveConditions) → Within g old f
     → change (conditions_in s f) ≡ written (conditions_in s f) → fits g f → Within g new (changed_conditions s change f)
-
--- Doing: what a phase does that depends on a value of the battle, for code that was given that value
-
-abbrev pub DoesSeeing : {A : Type 0} → (Progress → A) → A → Parts → Telling → Parts → Telling → Bool → Phase → Type 0
-DoesSeeing read value parts events parts' events' stopped phase =
-    (g : Frame) (p : Progress) → read p ≡ value → Shows g parts events false p → Shows g parts' events' stopped (phase p)
 
 -- Events: there is room for n more, at most n were added, or none were
 

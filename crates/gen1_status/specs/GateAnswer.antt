@@ -1,7 +1,7 @@
 -- What the gate's result says about its phase (docs/MECHANICS.md, "Gate"): whether the phase stopped, and the outcome
 -- after it.
 use Rattle.std.specs.Prelude.{◌≡◌}
-use Rattle.gen1_layout.specs.Words.{Bool, Frame, Phase, Progress, Shows, ShowsDrawn, Telling, false, true, ℕ}
+use Rattle.gen1_layout.specs.Words.{Bool, Frame, Phase, Progress, Shows, ShowsDrawn, Telling, false, true}
 use Rattle.gen1_rolls.specs.Draws.{Drawing, Ref}
 use Rattle.gen1_machine.specs.declared.terms.Outcome.{Outcome}
 use Rattle.gen1_machine.specs.declared.terms.Outcome.TheVariants as outcomes

@@ -1,6 +1,6 @@
 -- An action after the gate, and its end.
 use Rattle.std.proofs.Common.{◌≡◌}
-use Rattle.gen1_layout.proofs.Words.{Bool, Frame, Parts, Progress, ShowsDrawn, Telling, sym, true, ℕ}
+use Rattle.gen1_layout.proofs.Words.{Bool, Frame, Parts, Progress, ShowsDrawn, Telling, sym, true}
 use Rattle.gen1_rolls.specs.Draws.{Drawing}
 use Rattle.gen1_machine.specs.State.{is_over}
 use Rattle.gen1_machine.specs.Action.{resume}

@@ -2,7 +2,7 @@
 -- what is known of the last action, the result is shown with what is known after it. A broken substitute is an
 -- exception, since it doesn't matter after an action is over.
 use Rattle.std.specs.Prelude.{◌≡◌}
-use Rattle.gen1_layout.specs.Words.{Bool, Frame, Phase, Progress, Side, Telling, false, ℕ}
+use Rattle.gen1_layout.specs.Words.{Bool, Frame, Phase, Progress, Side, Telling, false}
 use Rattle.gen1_rolls.specs.Draws.{Drawing, Ref}
 use Rattle.gen1_machine.specs.declared.picks.Pick.{Pick}
 use Rattle.gen1_machine.specs.Ruling.{Ruling, ruling_of}

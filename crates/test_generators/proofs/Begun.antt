@@ -1,5 +1,5 @@
 -- What is shown when an operation begins on a field: any generator, at the beginning of its own stream.
-use Rattle.gen1_layout.proofs.Words.{Event, Field, Frame, List, Parts, Progress, Setting, ShowsDrawn, Side, Told, Within, false, refl, ℕ}
+use Rattle.gen1_layout.proofs.Words.{Event, Field, Frame, List, Parts, Progress, Setting, ShowsDrawn, Side, Told, Within, false, refl}
 use Rattle.gen1_rolls.specs.Draws.{Drawing, stream_of}
 use Rattle.gen1_rolls.specs.Streams.{Stream}
 use Rattle.gen1_rolls.proofs.Standing.{stands_at_itself}
