@@ -18,11 +18,12 @@ pub record Remains {A : Type 0} (d : Drawing A) (origin : A) (g : Frame) (parts 
   pub written : events p.events
   pub stands : StandsAt d origin g.stream p.drawn now
 
--- a scene in which the action of a side has just begun
+-- A scene at whose beginning the action of a side has just begun.
 abbrev pub beginning : Side → Scene → Scene
 beginning side s Then = s λ parts events _ parts' events' knows'. Then parts events (knowing (just_begun side)) parts' events' knows'
 
--- code with draws leaves the bytes, the events and the generator of a phase under the rules of the battle, where a premise holds
+-- Code with draws leaves the bytes, the events and the generator of a phase under the rules of the battle, if a premise
+-- holds.
 abbrev pub Leaves : {A : Type 0} → Drawing A → Ref A → Premise → Scene → (Ruling → Phase) → Type 0
 Leaves {A = A} d random premise s phase = s λ parts events knows parts' events' _.
     (origin : A) (g : Frame) (p : Progress) → premise g p

@@ -48,11 +48,11 @@ begun s k = record nothing_yet { side = s; skips = k.skips }
 abbrev pub knowing : Known → Frame → Frame
 knowing k g = record g { skips = k.skips; action = action_of k }
 
--- a scene in which this is known of the action at the call, and that at the return
+-- A scene with what is known of the action at the call and at the return.
 abbrev pub aware : Ref Known → Scene → Scene
 aware known s Then = s λ parts events _ parts' events' _. Then parts events (knowing known.entry.now) parts' events' (knowing known.exit.now)
 
--- a scene in which this is known throughout
+-- A scene in which this is known of the action throughout.
 abbrev pub aware_of : Known → Scene → Scene
 aware_of known s Then = s λ parts events _ parts' events' _. Then parts events (knowing known) parts' events' (knowing known)
 

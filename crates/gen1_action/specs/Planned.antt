@@ -24,7 +24,7 @@ abbrev pub Before : Pick → Terms → (Side → Plan) → Progress → Type 0
 Before (Use used) terms plan p = Follows terms plan p × (p.action.letting_go ≡ false)
 Before _ terms plan p = Follows terms plan p
 
--- Premises of operations: the side is using a move with this effect, or its pick is about to take up such a move.
+-- Premises of operations: the side is using a move with this effect, or its pick is about to take such a move.
 abbrev pub using : Side → Effect → Premise
 using side effect g p Then = (plan : Side → Plan) → plan side ≡ Doing effect → Follows g.setting.terms plan p → Then
 

@@ -1,4 +1,4 @@
--- What a move may do besides its damage (docs/MECHANICS.md, "Side effects"): the ways in which effects go.
+-- What a move may do in addition to its damage (docs/MECHANICS.md, "Side effects"): the ways of effects.
 use Rattle.gen1_layout.specs.Words.{Bool, Phase, Side, false, other, true}
 use Rattle.gen1_tables.specs.declared.effect.Effect.{Effect}
 use Rattle.gen1_tables.specs.declared.effect.Effect.TheVariants as effects

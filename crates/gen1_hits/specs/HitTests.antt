@@ -2,7 +2,7 @@
 use Rattle.std.specs.Prelude.{Bool, Some, if◌then◌else◌, true, ℕ}
 use Rattle.gen1_layout.specs.Shows.{Frame}
 
--- whether the hit is critical
+-- Whether the hit is critical.
 abbrev pub with_critical : Bool → Frame → Frame
 with_critical critical g = record g { action = record g.action { critical = critical } }
 

@@ -1,6 +1,6 @@
--- The words of an operation's contract, which is stated by its phase: if a battle is shown before the call, then what the phase
--- makes of it is shown after. The words take the function's parameters by name. In an `ensures` the name of a reference is the
--- pair of the value at the call and the value at the return.
+-- The words of an operation's contract. It is stated by the operation's phase: if a battle is shown before the call,
+-- then what the phase makes of it is shown after. The words take the function's parameters by name. In an `ensures`
+-- the name of a reference is the pair of its value at the call and its value at the return.
 use Rattle.std.specs.Prelude.{Bool, List, false}
 use Rattle.std.specs.Borrow.{Bor}
 use denote.Triple.Both.{Both}
@@ -12,46 +12,47 @@ use Rattle.gen1_machine.specs.State.{Terms}
 use Rattle.gen1_layout.specs.Parts.{Parts}
 use Rattle.gen1_layout.specs.Shows.{Frame, Shows, ShowsDrawn, Telling, Told}
 
--- a parameter `&T`
+-- A parameter `&T`.
 abbrev pub Look : Type 0 → Type 0
 Look T = Both (Bor T) (Bor T)
 
--- A scene: the bytes, the events, and what is known of the action, each at the call and at the return. It is a function that
--- passes these six on.
+-- A scene: the bytes, the events, and what is known of the action, each at the call and at the return. It is a
+-- function that passes these six on.
 abbrev pub Scene : Type 1
 Scene = (Parts → Telling → (Frame → Frame) → Parts → Telling → (Frame → Frame) → Type 0) → Type 0
 
--- the function changes a battle and writes events
+-- The function changes a battle and writes events.
 abbrev pub scene : {S : Type 0} → (S → Telling) → Ref Parts → Ref S → Scene
 scene tells battle events Then =
     Then battle.entry.now (tells events.entry.now) (λ g. g) battle.exit.now (tells events.exit.now) (λ g. g)
 
--- it changes a battle and writes no events; these were written before
+-- It changes a battle and writes no events. These were written before.
 abbrev pub quiet : List Event → Ref Parts → Scene
 quiet told battle Then = Then battle.entry.now (Told told) (λ g. g) battle.exit.now (Told told) (λ g. g)
 
--- it reads a battle and writes events
+-- It reads a battle and writes events.
 abbrev pub looking : {S : Type 0} → (S → Telling) → Look Parts → Ref S → Scene
 looking tells battle events Then =
     Then battle.entry.now (tells events.entry.now) (λ g. g) battle.exit.now (tells events.exit.now) (λ g. g)
 
--- it reads a battle and writes no events
+-- It reads a battle and writes no events.
 abbrev pub unchanged : List Event → Look Parts → Scene
 unchanged told battle Then = Then battle.entry.now (Told told) (λ g. g) battle.exit.now (Told told) (λ g. g)
 
--- the same of values, for lemmas and for code that holds no battle: from these parts and events to those; or nothing changes
+-- The same for values, for lemmas and for code that holds no battle: from these parts and events to those, or with no
+-- change.
 abbrev pub between : Parts → Telling → Parts → Telling → Scene
 between parts events parts' events' Then = Then parts events (λ g. g) parts' events' (λ g. g)
 
 abbrev pub at_rest : List Event → Parts → Scene
 at_rest told parts Then = Then parts (Told told) (λ g. g) parts (Told told) (λ g. g)
 
--- a scene at whose end this is known of the action
+-- A scene at whose end this is known of the action.
 abbrev pub learns : (Frame → Frame) → Scene → Scene
 learns learned s Then = s λ parts events knows parts' events' _. Then parts events knows parts' events' learned
 
--- A premise on the battle and its frame, put before what follows from it: none; one on the battle alone; or one on its terms
--- alone. Others are written where they are used, as `λ g p Then. A → B → Then`.
+-- A premise is put before what follows from it, and may be about the battle and its frame. It is none, or about the
+-- battle alone, or about its terms alone. Others are written where they are used, as `λ g p Then. A → B → Then`.
 abbrev pub Premise : Type 1
 Premise = Frame → Progress → Type 0 → Type 0
 
@@ -64,31 +65,31 @@ holding Holds g p Then = Holds p → Then
 abbrev pub under : (Terms → Type 0) → Premise
 under Holds g p Then = Holds g.setting.terms → Then
 
--- code without draws does what a phase does
+-- Code without draws does what a phase does.
 abbrev pub Does : Scene → Bool → Phase → Type 0
 Does s stopped phase = s λ parts events knows parts' events' knows'.
     (g : Frame) (p : Progress) → Shows (knows g) parts events false p → Shows (knows' g) parts' events' stopped (phase p)
 
--- it does so under the rules of the battle, where a premise holds
+-- It does so under the rules of the battle, if a premise holds.
 abbrev pub DoesWhere : Premise → Scene → Bool → (Ruling → Phase) → Type 0
 DoesWhere premise s stopped phase = s λ parts events knows parts' events' knows'.
     (g : Frame) (p : Progress) → premise g p
     (Shows (knows g) parts events false p → Shows (knows' g) parts' events' stopped (phase (ruling_of g.setting.terms) p))
 
--- code with draws does what a phase does, for every generator
+-- Code with draws does what a phase does, for every generator.
 abbrev pub Draws : {A : Type 0} → Drawing A → Ref A → Scene → Bool → Phase → Type 0
 Draws {A = A} d random s stopped phase = s λ parts events knows parts' events' knows'.
     (origin : A) (g : Frame) (p : Progress) → ShowsDrawn d origin (knows g) parts events random.entry.now false p
     → ShowsDrawn d origin (knows' g) parts' events' random.exit.now stopped (phase p)
 
--- it does so under the rules of the battle, where a premise holds
+-- It does so under the rules of the battle, if a premise holds.
 abbrev pub DrawsWhere : {A : Type 0} → Drawing A → Ref A → Premise → Scene → Bool → (Ruling → Phase) → Type 0
 DrawsWhere {A = A} d random premise s stopped phase = s λ parts events knows parts' events' knows'.
     (origin : A) (g : Frame) (p : Progress) → premise g p
     (ShowsDrawn d origin (knows g) parts events random.entry.now false p
     → ShowsDrawn d origin (knows' g) parts' events' random.exit.now stopped (phase (ruling_of g.setting.terms) p))
 
--- code without draws does what a phase does, and its caller need not know whether that stopped
+-- Code without draws does what a phase does. It does not say whether the phase stopped.
 abbrev pub DoesAnyway : Premise → Scene → (Ruling → Phase) → Type 0
 DoesAnyway premise s phase = s λ parts events knows parts' events' knows'.
     (g : Frame) (p : Progress) → premise g p

@@ -13,6 +13,6 @@ use Rattle.gen1_machine.specs.Valid.{IsUsedMove}
 abbrev pub charge_picked : Side → Move → Phase
 charge_picked s move = given (λ p. (active s p).picked_move) λ used. charge s (Use used) move
 
--- the move that a pick uses is one that the member has
+-- The move that a pick uses is one that the member has.
 abbrev pub PicksMove : Side → Pick → Progress → Type 0
 PicksMove s pick p = IsUsedMove (length (member_in s p.field).moves) (used_by pick (active_in s p.field).current_move)

@@ -19,7 +19,7 @@ fault_in _ = None
 abbrev pub ask_next : Phase
 ask_next = choose (λ p. has_fallen One p || has_fallen Two p) ask_for_switches ask_for_moves
 
--- a premise: the turn limit is not reached
+-- A premise: the turn limit isn't reached.
 abbrev pub turns_left : Premise
 turns_left g p Then = p.field.turn < g.setting.terms.limit → Then
 

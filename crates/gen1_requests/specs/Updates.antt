@@ -48,8 +48,8 @@ pub record UpdatedDrawing {A : Type 0} (d : Drawing A) (origin : A) (stream : St
   pub written : events q.events
   pub stands : StandsAt d origin stream q.drawn now
 
--- code with draws makes such an update, wherever on a stream its generator stands: from the generator that it was passed to the
--- one that it returns
+-- Code with draws makes such an update, from the generator that it is given to the one that it returns, at any place of
+-- any stream.
 abbrev pub UpdatesDrawing : {A : Type 0} → Drawing A → A → A → Setting → Scene → (Stream → ℕ → Progress) → Type 0
 UpdatesDrawing {A = A} d old new g s after = s λ _ _ _ parts' events' _.
     (origin : A) (stream : Stream) (drawn : ℕ) → IsStream stream → StandsAt d origin stream drawn old

@@ -7,11 +7,11 @@ use Rattle.std.specs.Borrow.{MutBor}
 use denote.Triple.Both.{Both}
 use Rattle.gen1_rolls.specs.Streams.{iterate, Stream, byte_at, span, IsFirstOf, Drawn}
 
--- a parameter `&mut T`, as an `ensures` has it: as the call began, and at the return
+-- A parameter `&mut T`, as an `ensures` has it: its value at the call and its value at the return.
 abbrev pub Ref : Type 0 → Type 0
 Ref T = Both (MutBor T) (MutBor T)
 
--- the byte that a generator draws next, what a draw leaves of it, and how many draws in a row hold every byte
+-- The byte that a generator draws next, the generator after a draw, and how many draws in a row hold every byte.
 pub record Drawing (A : Type 0) : Type 0 where
   pub byte : A → ℕ
   pub next : A → A
@@ -71,7 +71,7 @@ pub record StandsAt {A : Type 0} (d : Drawing A) (origin : A) (s : Stream) (n : 
   pub bytes : (k : ℕ) → draws_of d origin k ≡ byte_at s k
   pub spans : d.width ≡ span s
 
--- the same of parameters, as a clause names them: a search that was handed a generator finds this byte, or none
+-- The same for a parameter, as a clause names it: a search with this generator finds this byte, or none.
 abbrev pub Finds : {A : Type 0} → Drawing A → (ℕ → Bool) → Ref A → ℕ → Type 0
 Finds d test r b = FindsDraw d test r.entry.now b r.exit.now
 

@@ -23,7 +23,7 @@ after_draw ring =
     then record { index = ring.index + 1; numbers = ring.numbers }
     else record { index = 0; numbers = turned 1 ring.numbers }
 
--- how it draws: any 2304 draws in a row hold every byte
+-- How it draws: any 2304 draws in a row hold every byte.
 abbrev pub link : Drawing Ring
 link = record { byte = byte_of; next = after_draw; width = 2304 }
 

@@ -6,6 +6,6 @@ use Rattle.gen1_rolls.specs.Draws.{Drawing}
 abbrev pub one_up : ℕ → ℕ
 one_up x = (x + 1) % 256
 
--- how it draws: any 256 draws in a row hold every byte
+-- How it draws: any 256 draws in a row hold every byte.
 abbrev pub sweep : Drawing ℕ
 sweep = record { byte = λ n. n; next = one_up; width = 256 }

@@ -38,12 +38,12 @@ pub record TellsDrawn {A : Type 0} (d : Drawing A) (origin : A) (g : Frame) (par
   pub shows : ShowsDrawn d origin (frame_after answer after g) parts events now (stopped_by answer) after
   pub outcome : after.field.outcome ≡ outcome_after answer before.field.outcome
 
--- code without draws does what a phase does, and its result says how that ended
+-- Code without draws does what a phase does, and its result says how that ended.
 abbrev pub DoesTelling : Scene → Gate → Phase → Type 0
 DoesTelling s answer phase = s λ parts events knows parts' events' knows'.
     (g : Frame) (p : Progress) → Shows (knows g) parts events false p → Tells (knows' g) parts' events' answer p (phase p)
 
--- the same with draws, where a premise holds
+-- The same with draws, if a premise holds.
 abbrev pub DrawsTelling : {A : Type 0} → Drawing A → Ref A → Premise → Scene → Gate → Phase → Type 0
 DrawsTelling {A = A} d random premise s answer phase = s λ parts events knows parts' events' knows'.
     (origin : A) (g : Frame) (p : Progress) → premise g p

@@ -13,19 +13,19 @@ use Rattle.gen1_action.specs.declared.known.Known.{Known}
 use Rattle.gen1_action.specs.Knowing.{ShowsKnown, ShowsOver, knowing, with_broke}
 use Rattle.gen1_action.specs.Planned.{Follows}
 
--- A scene with what is known itself, since whether a substitute broke in it is open once an action is over.
+-- A scene with the value of what is known. Once an action is over, whether a substitute broke in it is left open.
 abbrev pub Acting : Type 1
 Acting = (Parts → Telling → Known → Parts → Telling → Known → Type 0) → Type 0
 
 abbrev pub acting : Ref Known → Scene → Acting
 acting known s Then = s λ parts events _ parts' events' _. Then parts events known.entry.now parts' events' known.exit.now
 
--- a scene that begins with what is known of an action that is over
+-- A scene that begins with what is known of an action that is over.
 abbrev pub aware_after : Bool → Ref Known → Scene → Scene
 aware_after broke known s Then = s λ parts events _ parts' events' _.
     Then parts events (knowing (with_broke broke known.entry.now)) parts' events' (knowing known.exit.now)
 
--- Premises: so much holds of what both sides plan; the side has planned what is picked; and no energy is let go yet.
+-- Premises: this holds of the plans of both sides; the plan of a side fits its pick; and no energy is let go yet.
 abbrev pub planning : ((Side → Plan) → Progress → Type 0) → Premise
 planning Holds g p Then = (plan : Side → Plan) → Holds plan p → Follows g.setting.terms plan p → Then
 

@@ -48,7 +48,7 @@ ActsAndSuffers {A = A} d random side pick s falls = s λ parts events k parts' e
 abbrev pub Ends : {A : Type 0} → Drawing A → A → Known → Frame → Parts → Telling → A → Progress → Type 0
 Ends d origin k g parts events now p = (stopped : Bool) × ShowsOver d origin k g parts events now stopped p
 
--- it does what a phase does under the rules of the battle, where a premise holds
+-- It does what a phase does under the rules of the battle, if a premise holds.
 abbrev pub DoesTurn : {A : Type 0} → Drawing A → Ref A → Premise → Acting → (Ruling → Phase) → Type 0
 DoesTurn {A = A} d random premise s phase = s λ parts events k parts' events' k'.
     (origin : A) (g : Frame) (p : Progress) → premise g p

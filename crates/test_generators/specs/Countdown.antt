@@ -6,6 +6,6 @@ use Rattle.gen1_rolls.specs.Draws.{Drawing}
 abbrev pub one_down : ℕ → ℕ
 one_down x = (x + 255) % 256
 
--- how it draws: any 1,000 draws in a row hold every byte
+-- How it draws: any 1,000 draws in a row hold every byte.
 abbrev pub countdown : Drawing ℕ
 countdown = record { byte = λ n. n; next = one_down; width = 1000 }
