@@ -113,7 +113,7 @@ mod rolls {
         /// at most this many.
         const SPAN: usize;
 
-        // The byte that is drawn next, and the generator after a draw.
+        // The byte that is drawn next, the generator after a draw, and how many draws in a row hold every byte.
 
         /// Draws the next byte.
         ///
