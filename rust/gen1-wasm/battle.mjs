@@ -113,10 +113,10 @@ export class Battle {
 
   #refused(code, pair) {
     const sentence = this.#library.sentence(CODES.ABOUT_UPDATE, code);
-    if (code === CODES.OVER) return new RefusedError(`${sentence}: ${this.result.outcome}`, code);
+    if (code === CODES.OVER) return new RefusedError(`${sentence}: ${this.result.outcome}`, code, { reason: sentence });
     const side = code === CODES.NOT_OFFERED_ONE ? 1 : 2;
     const [choice, offered] = [pair[side - 1], this.choices(side)];
-    return new RefusedError(notOffered(sentence, choice, offered), code, { side, choice, offered });
+    return new RefusedError(notOffered(sentence, choice, offered), code, { side, choice, offered, reason: sentence });
   }
 
   /** Replaces the numbers to draw: ten bytes, and the index, 0 to 8, of the one that is drawn next. */
@@ -187,20 +187,22 @@ function seedOf(value) {
 
 /** Why there are no damage numbers of a move. */
 export function damageError(library, code, move) {
-  return new DamageError(`no damage of ${shown(move)}: ${library.sentence(CODES.ABOUT_DAMAGE, code)}`, code);
+  const sentence = library.sentence(CODES.ABOUT_DAMAGE, code);
+  return new DamageError(`no damage of ${shown(move)}: ${sentence}`, code, sentence);
 }
 
 /** Why `count` bytes are not a battle. */
 export function loadError(library, code, count) {
   const was = code === CODES.LOAD_LENGTH ? `: there are ${count}` : "";
-  const test = `test ${code} of 7 fails: ${library.sentence(CODES.ABOUT_LOAD, code)}${was}`;
-  return new LoadError(`the bytes are not a battle: ${test} (docs/LAYOUT.md, "Loading")`, code);
+  const sentence = library.sentence(CODES.ABOUT_LOAD, code);
+  return new LoadError(`the bytes are not a battle: test ${code} of 7 fails: ${sentence}${was} (docs/LAYOUT.md, "Loading")`, code, sentence);
 }
 
 /** Why bytes are not a log. The wrong event begins at byte `at` of these, or, below 0, in the bytes before them. */
 export function logError(library, code, at) {
   const where = at < 0 ? `${-at} bytes before these` : `byte ${at}`;
-  return new LogError(`${where}: ${library.sentence(CODES.ABOUT_LOG, code)}`, code, at);
+  const sentence = library.sentence(CODES.ABOUT_LOG, code);
+  return new LogError(`${where}: ${sentence}`, code, at, sentence);
 }
 
 // Reads each event of a log, which is put into memory once. `reader` is passed the first arguments of the call, and returns a function
@@ -217,11 +219,18 @@ function told(library, log, reader) {
   }
 }
 
-/** The events of log bytes, with their numbers. */
+/** The events of log bytes, with their numbers and sizes. */
 export function eventsOf(library, log) {
-  return told(library, log, (...given) => {
+  return told(library, log, (bytes, count, at) => {
+    const given = [bytes, count, at];
     const event = library.roomOf("gen1_event");
-    const next = () => library.readStruct("gen1_event", event);
+    let begun = 0;
+    const next = () => {
+      const [read, end] = [library.readStruct("gen1_event", event), library.sizeAt(at)];
+      read.size = end - begun;
+      begun = end;
+      return read;
+    };
     return () => [library.calls.gen1_next_event(...given, event), next];
   });
 }

@@ -193,7 +193,7 @@ function loadCase(gen1, [fault, hex = ""]) {
   } catch (error) {
     code = error.code;
   }
-  equal(code, Number(fault));
+  equal([code, gen1.testBytes(bytesOfHex(hex))], [Number(fault), Number(fault)]);
 }
 
 const KINDS = {

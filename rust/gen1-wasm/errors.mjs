@@ -1,11 +1,12 @@
 // The library's errors. A call that throws one of them has changed nothing.
 
-/** The library refused a call. `code` is the number in include/gen1.h. */
+/** The library refused a call. `code` is the number in include/gen1.h, and `reason` what it means, without the place and the values. */
 export class Gen1Error extends Error {
-  constructor(message, code = 0) {
+  constructor(message, code = 0, reason = message) {
     super(message);
     this.name = new.target.name;
     this.code = code;
+    this.reason = reason;
   }
 }
 
@@ -32,8 +33,8 @@ export class ModuleError extends Gen1Error {}
 
 /** Teams, rules or limit are refused: the side (0 if neither team is wrong), the place of the member, and the field. */
 export class TeamError extends Gen1Error {
-  constructor(message, code, { side = 0, place = 0, field = "" } = {}) {
-    super(message, code);
+  constructor(message, code, { side = 0, place = 0, field = "", reason } = {}) {
+    super(message, code, reason);
     this.side = side;
     this.place = place;
     this.field = field;
@@ -42,8 +43,8 @@ export class TeamError extends Gen1Error {
 
 /** A text is not a team. Places are from 1, or 0 for none. With code 14 `rule` is the code of a TeamError. */
 export class TextError extends Gen1Error {
-  constructor(message, { code, line, member, field, rule }) {
-    super(message, code);
+  constructor(message, { code, line, member, field, rule }, reason) {
+    super(message, code, reason);
     Object.assign(this, { line, member, field, rule });
   }
 }
@@ -53,8 +54,8 @@ export class LoadError extends Gen1Error {}
 
 /** A choice was refused: the side (0 if the battle is over), the byte of the choice, and what is offered. */
 export class RefusedError extends Gen1Error {
-  constructor(message, code, { side = 0, choice = null, offered = [] } = {}) {
-    super(message, code);
+  constructor(message, code, { side = 0, choice = null, offered = [], reason } = {}) {
+    super(message, code, reason);
     this.side = side;
     this.choice = choice;
     this.offered = offered;
@@ -72,8 +73,8 @@ export class RoomError extends RefusedError {
 
 /** Bytes are not a log. `at` is the offset of the wrong event; below 0 if it began in bytes that a spectator was fed before. */
 export class LogError extends Gen1Error {
-  constructor(message, code, at) {
-    super(message, code);
+  constructor(message, code, at, reason) {
+    super(message, code, reason);
     this.at = at;
   }
 }

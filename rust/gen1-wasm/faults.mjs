@@ -97,8 +97,9 @@ function bytes(gen1, check) {
     for (const count of [0, 383, 385])
       equal(thrown(() => gen1.load(new Uint8Array(count)), LoadError, new RegExp(`test 1 of 7 fails: there are not 384 bytes: there are ${count} `)).code, 1);
     equal(thrown(() => gen1.load(new Uint8Array(384)), LoadError, /test 2 of 7 fails: the version, byte 0, is not 1, 2 or 3/).code, 2);
+    equal([0, 383, 384].map((count) => gen1.testBytes(new Uint8Array(count))), [1, 1, 2]);
     for (const it of [undefined, null, "a battle", 384, Array(384).fill(0), new Uint16Array(192)])
-      for (const call of [gen1.load, gen1.lines, gen1.events])
+      for (const call of [gen1.load, gen1.testBytes, gen1.lines, gen1.events])
         wrong(() => call.call(gen1, it), /^(bytes|log) is .*, not bytes, as a Uint8Array$/);
   });
   check("logs", () => {
@@ -209,6 +210,23 @@ function seeds(battle, check) {
   });
 }
 
+// What each code means, without the place and the values.
+function reasons(gen1, check) {
+  const battle = gen1.battle(TERMS);
+  const room = gen1.room(battle);
+  const reasonOf = (call) => thrown(call, Error, /./).reason;
+  check("reasons", () => {
+    equal(reasonOf(() => gen1.battle({ ...TERMS, one: [] })), "the team has no member: it has 1 to 6");
+    equal(reasonOf(() => gen1.load(new Uint8Array(1))), "there are not 384 bytes");
+    equal(reasonOf(() => gen1.odds(TAUROS, TAUROS, 166)), "the move is not 1 to 165");
+    equal(reasonOf(() => battle.update("move 1", "pass")), "the choice of side 1 was not offered");
+    equal(reasonOf(() => room.submit(1, 7, 17)), "the number is not that of the current pair of choices");
+    equal(reasonOf(() => gen1.teamFromText("Tauros\n- Body Slm\n")), "the name of a move of the first generation");
+    equal(reasonOf(() => gen1.teamFromText("Tauros\n- Pound\n- Pound\n")), "a move is there twice");
+    equal(/^the bytes end within an event/.test(reasonOf(() => gen1.events(Uint8Array.of(26)))), true);
+  });
+}
+
 // Calls on a battle that has begun.
 function calls(gen1, check) {
   const battle = gen1.battle(TERMS);
@@ -278,5 +296,5 @@ export async function badSources(check) {
 
 /** Runs all checks of bad input. */
 export function badInput(gen1, check) {
-  for (const part of [members, terms, bytes, calls, rows, rooms]) part(gen1, check);
+  for (const part of [members, terms, bytes, reasons, calls, rows, rooms]) part(gen1, check);
 }

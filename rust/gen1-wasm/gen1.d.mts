@@ -56,10 +56,13 @@ export interface Result {
   requests: [Request, Request];
 }
 
-/** An event with its numbers as in log bytes (include/gen1.h, gen1_event). A field that the event doesn't have is 0. */
+/**
+ * An event with its numbers as in log bytes (include/gen1.h, gen1_event). A field that the event doesn't have is 0. `size` is how many
+ * bytes of the log it takes.
+ */
 export interface GameEvent {
   tag: number; side: number; species: number; move: number; targetSide: number; targetSpecies: number; place: number; level: number;
-  status: number; detail: number; amount: number; hp: number; maxHp: number; turn: number;
+  status: number; detail: number; amount: number; hp: number; maxHp: number; turn: number; size: number;
 }
 
 /** The state of a member. */
@@ -192,6 +195,8 @@ export interface MoveData {
   accuracy: number;
   /** Without PP ups. */
   pp: number;
+  /** As the table writes it: "Recoil", "StatUp(Attack, 2)". */
+  effect: string;
 }
 
 /** The counts of how playouts ended. */
@@ -216,6 +221,8 @@ export class ArgumentError extends RangeError {
 export class Gen1Error extends Error {
   /** The number in include/gen1.h. */
   readonly code: number;
+  /** What the code means, without the place and the values: "a move is there twice". Of a text, what was expected. */
+  readonly reason: string;
 }
 /** The module was not found, cannot run here, or is not the C library's. `cause` is the host's error, if there was one. */
 export class ModuleError extends Gen1Error {}
@@ -345,6 +352,8 @@ export class Gen1 {
   battle(terms: Terms): Battle;
   /** Loads a battle from its 384 bytes. Throws LoadError. */
   load(bytes: Uint8Array | ArrayBuffer): Battle;
+  /** The number of the first of the seven tests of loading that bytes fail, or 0 if they are a battle. Costs less than a `load` that throws. */
+  testBytes(bytes: Uint8Array | ArrayBuffer): number;
   /** Creates a room with a copy of the battle, which is started at once if it has not begun. */
   room(battle: Battle): Room;
   /** Creates a spectator of a battle of two teams, before its start. Throws TeamError. */

@@ -60,13 +60,22 @@ export class Gen1 {
 
   /** Loads a battle from its 384 bytes, of any of the three versions. */
   load(bytes) {
+    const [code, battle] = this.#loaded(bytes);
+    if (code) throw loadError(this.#library, code, bytes.byteLength);
+    return new Battle(this.#library, this.#library.read(battle, BATTLE_SIZE));
+  }
+
+  /** The number of the first test of loading that bytes fail, or 0 if they are a battle. Costs less than a `load` that throws. */
+  testBytes(bytes) {
+    return this.#loaded(bytes)[0];
+  }
+
+  #loaded(bytes) {
     const given = octets(bytes, "bytes");
     const library = this.#library;
     library.begin();
     const [battle, from] = [library.room(BATTLE_SIZE), library.put(given)];
-    const code = library.calls.gen1_load(battle, from, library.size(given.length));
-    if (code) throw loadError(library, code, given.length);
-    return new Battle(library, library.read(battle, BATTLE_SIZE));
+    return [library.calls.gen1_load(battle, from, library.size(given.length)), battle];
   }
 
   /** Creates a room with a copy of a battle, which is started at once if it has not begun. */
@@ -116,12 +125,12 @@ export class Gen1 {
     return baseOf(this.#library, species);
   }
 
-  /** The type, power, accuracy and PP of a move. */
+  /** The type, power, accuracy, PP and effect of a move. */
   moveData(move) {
     return moveDataOf(this.#library, move);
   }
 
-  /** The events of log bytes, as objects. */
+  /** The events of log bytes, as objects with their numbers and sizes. */
   events(log) {
     return eventsOf(this.#library, octets(log, "log"));
   }

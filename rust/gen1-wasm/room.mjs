@@ -84,6 +84,6 @@ export class Room {
       [CODES.ROOM_CHOSEN]: () => `${sentence}: side ${side} can submit nothing more for pair ${number}`,
       [CODES.ROOM_NOT_OFFERED]: () => `side ${side}: ${notOffered(sentence, choice, offered)}`,
     }[code]();
-    return new RoomError(said, code, { side, choice, offered, number, current });
+    return new RoomError(said, code, { side, choice, offered, number, current, reason: sentence });
   }
 }

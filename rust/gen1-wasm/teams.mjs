@@ -50,8 +50,8 @@ export function baseOf(library, value) {
 
 /** The row of a move in docs/TABLES.md. */
 export function moveDataOf(library, value) {
-  const [type, power, accuracy, pp] = rowOf(library, value, MOVE_KIND, "move");
-  return { type: TYPES[type], power, accuracy, pp };
+  const [type, power, accuracy, pp, effect] = rowOf(library, value, MOVE_KIND, "move");
+  return { type: TYPES[type], power, accuracy, pp, effect };
 }
 
 function pairOf(library, value, what) {
@@ -101,7 +101,8 @@ export function teamError(library, answer, teams, terms = {}, where = ofTeams) {
   const [code, place, side] = [answer & 255, (answer >> 8) & 255, answer >> 16];
   const [field, team] = [FIELDS[code] ?? "moves", teams[side - 1]];
   const was = field === "members" ? `there are ${team.length}` : `${field} is ${shown(place ? team[place - 1][field] : terms[field])}`;
-  return new TeamError(`${where(side, place)}${library.sentence(CODES.ABOUT_NEW, code)}: ${was}`, code, { side, place, field });
+  const reason = library.sentence(CODES.ABOUT_NEW, code);
+  return new TeamError(`${where(side, place)}${reason}: ${was}`, code, { side, place, field, reason });
 }
 
 // A member as `battle` takes it, from the library's form.
@@ -113,8 +114,9 @@ function memberFrom(of) {
 function textError(library, of) {
   const places = Object.entries({ line: of.line, member: of.member, field: of.field }).filter(([, number]) => number);
   const where = places.map(([name, number]) => `${name} ${number}`).join(", ");
-  const said = of.rule ? library.sentence(CODES.ABOUT_NEW, of.rule) : `expected: ${TEXT_FAULTS[of.code]}`;
-  return new TextError(where ? `${where}: ${said}` : said, of);
+  const reason = of.rule ? library.sentence(CODES.ABOUT_NEW, of.rule) : TEXT_FAULTS[of.code];
+  const said = of.rule ? reason : `expected: ${reason}`;
+  return new TextError(where ? `${where}: ${said}` : said, of, reason);
 }
 
 /** The members in a text. `call` reads the text: gen1_team_from_text or gen1_team_from_packed. */

@@ -15,7 +15,7 @@ const EXPORTS = {
 };
 /** @type {Record<keyof Gen1, true>} */
 const OF_GEN1 = {
-  is64: true, build: true, version: true, battle: true, load: true, room: true, spectator: true, teamFromText: true, teamFromPacked: true, odds: true,
+  is64: true, build: true, version: true, battle: true, load: true, testBytes: true, room: true, spectator: true, teamFromText: true, teamFromPacked: true, odds: true,
   damage: true, base: true, moveData: true, events: true, lines: true,
 };
 /** @type {Record<keyof import("./gen1.mjs").Battle, true>} */
@@ -47,7 +47,7 @@ const OF_ODDS = { usual: true, critical: true, criticalChance: true, hitChance: 
 /** @type {Record<keyof import("./gen1.mjs").Base, true>} */
 const OF_BASE = { hp: true, attack: true, defense: true, speed: true, special: true, types: true };
 /** @type {Record<keyof import("./gen1.mjs").MoveData, true>} */
-const OF_MOVE_DATA = { type: true, power: true, accuracy: true, pp: true };
+const OF_MOVE_DATA = { type: true, power: true, accuracy: true, pp: true, effect: true };
 /** @type {Record<keyof import("./gen1.mjs").Playouts, true>} */
 const OF_PLAYOUTS = { winsOne: true, winsTwo: true, ties: true, faults: true };
 /** @type {Record<keyof import("./gen1.mjs").WholeMember, true>} */
@@ -55,7 +55,7 @@ const OF_WHOLE_MEMBER = { species: true, level: true, dvs: true, exp: true, move
 /** @type {Record<keyof import("./gen1.mjs").GameEvent, true>} */
 const OF_EVENT = {
   tag: true, side: true, species: true, move: true, targetSide: true, targetSpecies: true, place: true, level: true, status: true, detail: true,
-  amount: true, hp: true, maxHp: true, turn: true,
+  amount: true, hp: true, maxHp: true, turn: true, size: true,
 };
 // The names in docs/MECHANICS.md and docs/LAYOUT.md, in the order of their numbers and bits.
 /** @type {Record<import("./gen1.mjs").Condition, true>} */

@@ -42,13 +42,14 @@ function logs(gen1, check) {
     const [many, times] = [new Uint8Array(3000 * LOG.length), 3000];
     for (let at = 0; at < many.length; at += LOG.length) many.set(LOG, at);
     const [lines, events] = [gen1.lines(many), gen1.events(many)];
-    equal([lines.length, events.length, events[13]], [times * LINES.length, times * LINES.length, { ...events[13], tag: 26, side: 1 }]);
+    equal([lines.length, events.length, events[13]], [times * LINES.length, times * LINES.length, { ...events[13], tag: 26, side: 1, size: 2 }]);
     holds(lines.every((line, at) => line === LINES[at % LINES.length]), "a line is another one");
     equal(thrown(() => gen1.lines(Uint8Array.of(...LOG, 26)), library.LogError, /the bytes end within an event/).at, LOG.length);
   });
   check("an event", () => {
     const wanted = { tag: 5, side: 2, species: 128, move: 0, targetSide: 0, targetSpecies: 0, place: 0, level: 0, status: 0, detail: 0, amount: 0 };
-    equal(gen1.events(LOG)[5], { ...wanted, hp: 149, maxHp: 353, turn: 0 });
+    equal(gen1.events(LOG)[5], { ...wanted, hp: 149, maxHp: 353, turn: 0, size: 9 });
+    equal(gen1.events(LOG).map(({ size }) => size), [10, 10, 3, 6, 3, 9, 6, 9, 3, 6, 3, 9, 3, 2]);
   });
 }
 
@@ -71,6 +72,14 @@ function odds(gen1, check) {
     const tested = ["Swift", "Toxic", "Growl", "Counter", "Roar", "Rest", "Bide", "Amnesia"].map((move) => chances(move).takesHitTest);
     equal(tested, [true, true, true, true, false, false, false, false]);
   });
+  check("moves with a hit test miss, and no others", () => {
+    for (const move of library.MOVES.slice(0, -1)) {
+      const { effect } = gen1.moveData(move);
+      if (effect === "LeftOut" || effect === "Explode") continue;
+      const isMissing = [1, 20, 77, 130, 163, 201, 240, 254].some((byte) => misses(gen1, move, Array(10).fill(byte)));
+      holds(isMissing === (chances(move).takesHitTest && effect !== "NeverMisses"), `${move}: ${isMissing}`);
+    }
+  });
   check("moves without the usual damage", () => {
     for (const move of ["Splash", "Seismic Toss", "Super Fang"]) {
       const none = { numbers: [], code: CODES.DAMAGE_UNUSUAL };
@@ -80,6 +89,23 @@ function odds(gen1, check) {
     equal(chances("Strength").usual, { numbers: Array(39).fill(0), code: 0 });
   });
   check("each draw of a move", () => everyDraw(gen1));
+}
+
+// Whether a move misses in the first two updates, with the lowest accuracy against the highest evasion. Vaporeon is not immune to any type.
+function misses(gen1, move, seed) {
+  const team = (species, known) => [{ species, moves: [[known, 3]] }];
+  const battle = gen1.battle({ one: team("Tauros", move), two: team("Vaporeon", "Splash"), seed });
+  battle.updateSilent("pass", "pass");
+  const { bytes } = battle;
+  // The stages of accuracy and evasion (docs/LAYOUT.md, "Active block").
+  [bytes[168 + 7], bytes[348 + 8]] = [0, 12];
+  const changed = gen1.load(bytes);
+  let isMissing = false;
+  for (let update = 0; update < 2 && !changed.isOver; update++) {
+    const { events } = changed.update(changed.choices(1)[0], changed.choices(2)[0]);
+    isMissing ||= events.some(({ tag, side }) => tag === CODES.MISS && side === 1);
+  }
+  return isMissing;
 }
 
 // Thunder with each byte as the deciding draw: as many are critical, and as many hit, as `odds` returns.
@@ -219,8 +245,9 @@ function rows(gen1, check) {
   check("rows of the tables", () => {
     equal(gen1.base("Starmie"), { hp: 60, attack: 75, defense: 85, speed: 115, special: 100, types: ["Water", "Psychic"] });
     equal(gen1.base(128).types, ["Normal", "Normal"]);
-    equal(gen1.moveData("Blizzard"), { type: "Ice", power: 120, accuracy: 90, pp: 5 });
-    equal(gen1.moveData(165), gen1.moveData("Struggle"));
+    equal(gen1.moveData("Blizzard"), { type: "Ice", power: 120, accuracy: 90, pp: 5, effect: "FreezeChance" });
+    equal([gen1.moveData(165), gen1.moveData("Sharpen").effect], [gen1.moveData("Struggle"), "StatUp(Attack, 1)"]);
+    equal(library.MOVES.filter((move) => gen1.moveData(move).effect === "OneHitKnockOut"), ["Guillotine", "Horn Drill", "Fissure"]);
   });
 }
 
@@ -241,6 +268,16 @@ function searching(gen1, check) {
     copy.reseed([9, 8, 7, 6, 5, 4, 3, 2, 1, 0], 8);
     equal(copy.state, { ...battle.state, index: 8, numbers: [9, 8, 7, 6, 5, 4, 3, 2, 1, 0] });
     equal(hexOf(gen1.load(battle.bytes).bytes), hexOf(battle.bytes));
+  });
+  check("the tests of loading", () => {
+    // docs/LAYOUT.md, "Loading": index, a member's HP, current Speed (318 quartered is 79) and request of side 1.
+    const changed = (at, byte) => {
+      const { bytes } = battle;
+      bytes[at] = byte;
+      return gen1.testBytes(bytes);
+    };
+    const places = [[5, 8], [0, 4], [5, 9], [24 + 5, 255], [168 + 22, 1], [168 + 9, 1], [17, 2]];
+    equal(places.map((it) => changed(...it)), [0, 2, 3, 4, 5, 6, 7]);
   });
   check("playouts", () => {
     for (const seed of [0n, 7n, 2n ** 64n - 1n]) equal(battle.playout(seed, 5), playedOut(battle, seed, 5));
