@@ -49,7 +49,7 @@ def sources():
     """The files whose comments may cite a document."""
     patterns = ("crates/*/src/**/*.rt", "crates/*/specs/*.antt", "crates/*/proofs/**/*.antt", "tools/*", "include/*.h", "bench/*",
                 "examples/**/*", "tests/c/**/*", "packaging/*", "rust/gen1/src/*", "rust/gen1/src/*/*",
-                "rust/gen1-page/**/*", "rust/gen1-cli/**/*", "rust/gen1-wasm/*", "rust/gen1-ffi/src/*", "fuzz/src/*", "fuzz/run", ".ci/run")
+                "rust/gen1-cli/**/*", "rust/gen1-wasm/*", "rust/gen1-ffi/src/*", "fuzz/src/*", "fuzz/run", ".ci/run")
     return [file for where in patterns for file in sorted(ROOT.glob(where)) if file.is_file()]
 
 

@@ -1,10 +1,11 @@
 // The calculator: the moves of two members against each other, with the engine's damage numbers and chances.
+import { MOVES } from "gen1";
 import { blame, find, guarded, make, Problem } from "./dom.js";
 import { setAddress } from "./address.js";
-import { joined } from "./engine.js";
-import { decoded, encoded } from "./inputs.js";
+import { decoded, encoded, joined } from "./bytes.js";
 import { MemberForm, moveCalled } from "./member_form.js";
 import { badge } from "./sides.js";
+import { STANDING, standingBytes, standingOf } from "./standing.js";
 import { hitWords, shares, span } from "./words.js";
 
 /**
@@ -48,16 +49,17 @@ export class Calculator {
   constructor(engine) {
     this.engine = engine;
     const { tables } = engine;
+    const example = (/** @type {number} */ side, /** @type {string} */ text) => this.forms[side - 1].setMember(engine.team(text, "The example", side)[0]);
     const changed = (/** @type {Event} */ event) => this.calculate(event.type === "input" ? PAUSE : 0);
     this.forms = [1, 2].map((side) => new MemberForm(side, engine, changed));
-    this.forms[0].set(engine.team("Tauros\n- Body Slam\n- Hyper Beam\n- Blizzard\n- Earthquake")[0]);
-    this.forms[1].set(engine.team("Alakazam\n- Psychic\n- Seismic Toss\n- Thunder Wave\n- Recover")[0]);
+    example(1, "Tauros\n- Body Slam\n- Hyper Beam\n- Blizzard\n- Earthquake");
+    example(2, "Alakazam\n- Psychic\n- Seismic Toss\n- Thunder Wave\n- Recover");
     this.extra = find("calc-extra", HTMLInputElement);
     for (const type of ["input", "change"]) this.extra.addEventListener(type, changed);
     find("calc-swap", HTMLButtonElement).addEventListener("click", () => void guarded(() => this.swap()));
     find("calc-members", HTMLElement).replaceChildren(...this.forms.map((form) => form.element));
-    find("species-names", HTMLDataListElement).replaceChildren(...tables.species.map((it) => make("option", { value: it.name })));
-    find("move-names", HTMLDataListElement).replaceChildren(...tables.moves.map((it) => make("option", { value: it.name })));
+    find("species-names", HTMLDataListElement).replaceChildren(...Object.keys(tables.species).map((value) => make("option", { value })));
+    find("move-names", HTMLDataListElement).replaceChildren(...Object.keys(tables.moves).map((value) => make("option", { value })));
     this.code = "";
     this.isShown = false;
     this.timer = 0;
@@ -73,17 +75,17 @@ export class Calculator {
     const code = values.get("c") ?? "";
     if (code && code !== this.code) {
       const bytes = decoded(code);
-      if (bytes.length !== 69) throw new Problem("The address is damaged: it does not have two members.");
-      this.forms.forEach((form, at) => form.setBytes(bytes.subarray(34 * at, 34 * at + 34)));
-      this.extra.value = this.engine.tables.moves[bytes[68] - 1]?.name ?? "";
+      if (bytes.length !== 2 * STANDING + 1) throw new Problem("The address is damaged: it does not have two members.");
+      this.forms.forEach((form, at) => form.set(standingOf(bytes.subarray(STANDING * at, STANDING * (at + 1)))));
+      this.extra.value = MOVES[bytes[2 * STANDING] - 1] ?? "";
     }
     this.calculate();
   }
 
   swap() {
-    const [one, two] = this.forms.map((form) => form.bytes());
-    this.forms[0].setBytes(two);
-    this.forms[1].setBytes(one);
+    const [one, two] = this.forms.map((form) => form.standing());
+    this.forms[0].set(two);
+    this.forms[1].set(one);
     this.calculate();
   }
 
@@ -95,12 +97,12 @@ export class Calculator {
     if (!this.isShown) return;
     window.clearTimeout(this.timer);
     try {
-      const asked = this.asked();
-      const { sides } = this.engine.calculate(asked);
+      const { both, extra } = this.asked();
+      const sides = this.engine.calculate(both, extra);
       this.numbers.replaceChildren(...sides.map((_, at) => this.results(sides, at)));
       this.numbers.removeAttribute("data-stale");
       this.say("");
-      this.code = encoded(asked);
+      this.code = encoded(joined(...both.map(standingBytes), [MOVES.indexOf(extra) + 1]));
       setAddress("calculator", { c: this.code });
     } catch (error) {
       if (!(error instanceof Problem)) throw error;
@@ -112,15 +114,12 @@ export class Calculator {
     }
   }
 
-  /** The input of the fields, as bytes. */
+  /** The members and their states in the fields, and the further move. */
   asked() {
-    const extra = this.extra.value.trim() ? moveCalled(this.engine.tables, this.extra, 1) : 0;
-    const asked = joined(...this.forms.map((form) => form.bytes()), [extra]);
-    if (this.forms.every((form) => !form.hp.value)) return asked;
-    // The engine computes the maximum HP of a member, so it is first called with full HP, which is never refused.
-    const { sides } = this.engine.calculate(joined(...this.forms.map((form) => form.bytes().fill(0, 32)), [0]));
-    this.forms.forEach((form, at) => form.testHp(sides[at].max));
-    return asked;
+    const extra = this.extra.value.trim() ? moveCalled(this.engine.tables, this.extra, 1) : "";
+    const both = this.forms.map((form) => form.standing());
+    if (both.some(({ hp }) => hp)) this.engine.maxHp(both.map(({ member }) => member)).forEach((most, at) => this.forms[at].testHp(most));
+    return { both, extra };
   }
 
   /**
@@ -149,10 +148,9 @@ export class Calculator {
 
   /** @param {Odds} odds @param {Calculated} foe @param {number} side @param {boolean} isOpen */
   rows(odds, foe, side, isOpen) {
-    const { tables } = this.engine;
-    const move = tables.moves[odds.move - 1];
+    const move = this.engine.tables.moves[odds.move];
     const share = odds.damage ? shares(odds.damage, foe.hp) : "—";
-    const id = `calc-all-${side}-${odds.slot}-${odds.move}`;
+    const id = `calc-all-${side}-${odds.slot}`;
     const all = make("tr", { class: "all", id, hidden: !isOpen }, make("td", { colspan: HEADS.length },
       make("p", {}, make("strong", {}, "At the factors 217 to 255: "), odds.damage?.join(" ") ?? ""),
       make("p", {}, make("strong", {}, "Critical: "), odds.critical?.join(" ") ?? "")));
@@ -167,7 +165,7 @@ export class Calculator {
       ? [damageText(odds.damage), share, hitsText(odds.damage, foe.hp), damageText(odds.critical), hitsText(odds.critical, foe.hp)]
       : [move.power || move.effect === "FixedDamage" || move.effect === "SuperFang" || move.effect === "OneHitKnockOut" ? "not by the formula" : "none", "—", "—", "—", "—"];
     const row = make("tr", { "data-move": move.name },
-      make("th", { scope: "row" }, move.name, " ", badge(tables, move.type)), ...cells.map((text) => make("td", {}, text)),
+      make("th", { scope: "row" }, move.name, " ", badge(move.type)), ...cells.map((text) => make("td", {}, text)),
       make("td", {}, hitWords(odds, move, chance)), make("td", {}, odds.bound === null ? "—" : chance(odds.bound)), make("td", {}, odds.damage ? button : "—"));
     return odds.damage ? [row, all] : [row];
   }

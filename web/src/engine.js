@@ -1,125 +1,86 @@
-// The engine: the WebAssembly module of rust/gen1-page, and the objects that it returns. A battle is 384 bytes. The module keeps nothing
-// between calls except what a spectator knows.
+// The engine: the JavaScript package (rust/gen1-wasm), with states, odds and errors in the form that the page shows. A battle is 384 bytes.
+import { byteOf, load, LogError, MOVES, RefusedError, SPECIES, TeamError, TextError } from "gen1";
 import { Problem } from "./dom.js";
+import { standing } from "./standing.js";
 
 /**
- * @typedef {{ name: string, types: number[], base: number[] }} Species
- * @typedef {{ name: string, type: number, power: number, accuracy: number, pp: number, usual: number, known: number, effect: string }} Move
- * @typedef {{ types: string[], species: Species[], moves: Move[] }} Tables
- * @typedef {{ species: number, level: number, dvs: number[], exp: number[], moves: number[][] }} Member
+ * @typedef {import("gen1").Gen1} Gen1
+ * @typedef {import("gen1").MoveData & { name: string, isKnown: boolean }} Move a row of docs/TABLES.md, and whether a member may know it
+ * @typedef {{ species: Record<string, readonly [string, string]>, moves: Record<string, Move> }} Tables the types of each species, and the moves
+ * @typedef {{ species: string | number, level: number, dvs: number[], exp: number[], moves: [string | number, number][] }} Member
  * @typedef {{ seed: number[], one: Member[], two: Member[], rules: number, limit: number }} Terms
- * @typedef {{ tag: number, side: number, place: number, length: number, line: string }} GameEvent
- * @typedef {{ species: number, level: number, hp: number, max: number, status: string, sleep?: number, stats: number[], moves: number[][] }} MemberState
- * @typedef {{ active: number, types?: number[], stages?: number[], stats?: number[], going?: number, conditions?: [string, number][],
- *   choices: number[], members: MemberState[] }} SideState
- * @typedef {{ turn: number, limit: number, rules: number, lastDamage: number, outcome: string, requests: string[], index: number,
- *   numbers: number[], sides: SideState[] }} State
- * @typedef {{ active: number, stages: number[], conditions: [string, number][], members: { hp: number, status: string }[] }} SideView
- * @typedef {{ turn: number, outcome: string, sides: SideView[] }} View
- * @typedef {{ slot: number, move: number, damage: number[] | null, critical: number[] | null, bound: number | null,
- *   hit: number[] | null }} Odds
+ * @typedef {{ tag: number, side: number, place: number, size: number, line: string }} GameEvent
+ * @typedef {import("gen1").SideState & { choices: number[] }} SideState
+ * @typedef {import("gen1").State & { sides: SideState[] }} State
+ * @typedef {import("gen1").ShownState & { sides: import("gen1").ShownSide[] }} View
+ * @typedef {{ slot: number, move: string, damage: number[] | null, critical: number[] | null, bound: number | null,
+ *   hit: [number, boolean] | null }} Odds of how many bytes a critical hit or a hit is drawn; and whether the hit is drawn at all
  * @typedef {{ hp: number, max: number, own: number[], stats: number[], moves: Odds[] }} Calculated
- * @typedef {{ fault: string, side: number, place: number, number: number }} Fault
  */
 
-export const BATTLE = 384;
-const TEAM = 146;
-const MEMBER = 24;
-const TOLD = BATTLE + 2 + 512;
+/** The most bytes of a log or of a team's text, as the program reads them (docs/PROGRAM.md). */
+export const MOST = 1_048_576;
+/** Codes of include/gen1.h. */
+const [EMPTY, UNUSUAL] = [1, 3];
+const SEED = Array(10).fill(0);
 
 /**
- * The bytes of a member, as C passes them.
- * @param {Member} member
+ * Refuses what is too long to be read at once.
+ * @param {ArrayLike<number>} bytes
+ * @param {string} what they are, as a message names them
  */
-export function memberBytes(member) {
-  const bytes = new Uint8Array(MEMBER);
-  bytes.set([member.species, member.level, ...member.dvs]);
-  member.moves.slice(0, 4).forEach(([id, ups], slot) => {
-    bytes[6 + slot] = id;
-    bytes[10 + slot] = ups;
-  });
-  const view = new DataView(bytes.buffer);
-  member.exp.forEach((value, stat) => view.setUint16(14 + 2 * stat, value, true));
-  return bytes;
+function testLength(bytes, what) {
+  if (bytes.length > MOST) throw new Problem(`${what} has ${bytes.length.toLocaleString("en")} bytes; at most ${MOST.toLocaleString("en")} are read.`);
 }
 
 /**
- * The bytes of a team.
- * @param {Member[]} members
+ * Calls the engine, and turns its refusal of teams into a message.
+ * @template T
+ * @param {() => T} call
  */
-export function teamBytes(members) {
-  const bytes = new Uint8Array(TEAM);
-  members.slice(0, 6).forEach((member, place) => bytes.set(memberBytes(member), MEMBER * place));
-  bytes[144] = Math.min(members.length, 255);
-  return bytes;
-}
-
-/**
- * Concatenated bytes.
- * @param {...ArrayLike<number>} parts
- */
-export function joined(...parts) {
-  const bytes = new Uint8Array(parts.reduce((sum, part) => sum + part.length, 0));
-  let at = 0;
-  for (const part of parts) {
-    bytes.set(part, at);
-    at += part.length;
+function testingTeams(call) {
+  try {
+    return call();
+  } catch (error) {
+    if (!(error instanceof TeamError)) throw error;
+    throw refused(error.side, error.place, error.reason);
   }
-  return bytes;
 }
 
-/** @param {Fault} fault */
-function sentence(fault) {
-  const where = [fault.side ? `side ${fault.side}` : "", fault.place ? `member ${fault.place}` : ""].filter(Boolean).join(", ");
-  return `The ${fault.side ? "team" : "battle"} is refused: ${where ? `${where}: ` : ""}${fault.fault}.`;
+/** @param {number} side @param {number} place @param {string} reason */
+function refused(side, place, reason) {
+  const where = [side ? `side ${side}` : "", place ? `member ${place}` : ""].filter(Boolean).join(", ");
+  return new Problem(`The ${side ? "team" : "battle"} is refused: ${where ? `${where}: ` : ""}${reason}.`, { side });
 }
 
-/** The calls of the module. */
+/** @param {Gen1} gen1 @returns {Tables} */
+function tablesOf(gen1) {
+  const isKnown = (/** @type {string} */ move) => {
+    const team = [{ species: SPECIES[0], moves: /** @type {[string, number][]} */ ([[move, 0]]) }];
+    try {
+      return Boolean(gen1.spectator(team, team));
+    } catch (error) {
+      if (error instanceof TeamError) return false;
+      throw error;
+    }
+  };
+  return {
+    species: Object.fromEntries(SPECIES.map((name) => [name, gen1.base(name).types])),
+    moves: Object.fromEntries(MOVES.map((name) => [name, { name, ...gen1.moveData(name), isKnown: isKnown(name) }])),
+  };
+}
+
+/** The calls of the engine. */
 export class Engine {
-  /** @param {any} calls the exports of the module */
-  constructor(calls) {
-    this.calls = calls;
-    /** @type {Tables} */
-    this.tables = this.json(calls.page_tables());
-    this.most = calls.page_room();
+  /** @param {Gen1} gen1 */
+  constructor(gen1) {
+    this.gen1 = gen1;
+    this.tables = tablesOf(gen1);
   }
 
-  /** @param {BufferSource} bytes */
+  /** @param {BufferSource} bytes of the module */
   static async of(bytes) {
-    const { instance } = await WebAssembly.instantiate(bytes, {});
-    return new Engine(instance.exports);
-  }
-
-  /**
-   * Writes the input of a call.
-   * @param {ArrayLike<number>} bytes
-   * @param {string} what they are, as a message names them
-   */
-  put(bytes, what = "The battle") {
-    if (bytes.length > this.most)
-      throw new Problem(`${what} has ${bytes.length.toLocaleString("en")} bytes; at most ${this.most.toLocaleString("en")} are read.`);
-    new Uint8Array(this.calls.memory.buffer).set(bytes, this.calls.page_input());
-  }
-
-  /** @param {number} length */
-  got(length) {
-    const begin = this.calls.page_output();
-    return new Uint8Array(this.calls.memory.buffer).slice(begin, begin + length);
-  }
-
-  /** @param {number} length */
-  json(length) {
-    return JSON.parse(new TextDecoder().decode(this.got(length)));
-  }
-
-  /**
-   * Throws the reason why teams are refused.
-   * @param {number} length of the answer
-   * @returns {never}
-   */
-  refuse(length) {
-    const fault = this.json(length);
-    throw new Problem(sentence(fault), { side: fault.side });
+    return new Engine(await load(bytes));
   }
 
   /**
@@ -127,10 +88,7 @@ export class Engine {
    * @param {Terms} terms
    */
   begin(terms) {
-    this.put(joined(teamBytes(terms.one), teamBytes(terms.two), terms.seed, [terms.rules, terms.limit & 255, terms.limit >> 8]));
-    const length = this.calls.page_begin();
-    if (length) this.refuse(length);
-    return this.got(BATTLE);
+    return testingTeams(() => this.gen1.battle(terms)).bytes;
   }
 
   /**
@@ -140,12 +98,14 @@ export class Engine {
    * @param {number} two
    */
   update(battle, one, two) {
-    this.put(battle);
-    const refused = this.calls.page_update(one, two);
-    if (refused) return { refused, battle, log: new Uint8Array() };
-    const told = this.got(TOLD);
-    const length = told[BATTLE] + 256 * told[BATTLE + 1];
-    return { refused: 0, battle: told.slice(0, BATTLE), log: told.slice(BATTLE + 2, BATTLE + 2 + length) };
+    const next = this.gen1.load(battle);
+    try {
+      const { log } = next.update(one, two);
+      return { refused: 0, battle: next.bytes, log };
+    } catch (error) {
+      if (error instanceof RefusedError) return { refused: error.code, battle, log: new Uint8Array() };
+      throw error;
+    }
   }
 
   /**
@@ -154,103 +114,120 @@ export class Engine {
    * @returns {GameEvent[]}
    */
   events(log) {
-    this.put(log, "The log");
-    /** @type {GameEvent[]} */
-    const events = [];
-    for (let at = 0; at < log.length; ) {
-      const told = this.json(this.calls.page_events(at, log.length));
-      for (const [tag, side, place, length, line] of told.events) events.push({ tag, side, place, length, line });
-      if (told.fault) throw new Problem(`This is not the log of a battle: ${told.fault.text} at byte ${told.next}.`);
-      if (told.next <= at) throw new Error(`the module cannot read an event at byte ${at}`);
-      at = told.next;
+    testLength(log, "The log");
+    try {
+      const lines = this.gen1.lines(log);
+      return this.gen1.events(log).map(({ tag, side, place, size }, at) => ({ tag, side, place, size, line: lines[at] }));
+    } catch (error) {
+      if (error instanceof LogError) throw new Problem(`This is not the log of a battle: ${error.reason} (at byte ${error.at}).`);
+      throw error;
     }
-    return events;
   }
 
   /**
-   * The state of a battle.
+   * The state of a battle, with the choices that each side is offered.
    * @param {Uint8Array} battle
    * @returns {State}
    */
   state(battle) {
-    this.put(battle);
-    return this.json(this.calls.page_state());
+    const it = this.gen1.load(battle);
+    const { state } = it;
+    return {
+      ...state,
+      sides: [{ ...state.one, choices: it.choices(1).map(byteOf) }, { ...state.two, choices: it.choices(2).map(byteOf) }],
+    };
   }
 
   /**
-   * The odds of the moves of a side's member that is out.
+   * The odds of the moves of a side's member that is out; none before one is.
    * @param {Uint8Array} battle
-   * @param {number} side
-   * @returns {Odds[]}
+   * @param {1 | 2} side
    */
   odds(battle, side) {
-    this.put(battle);
-    return this.json(this.calls.page_odds(side));
+    return this.oddsOf(this.gen1.load(battle), side);
+  }
+
+  /** @param {import("gen1").Battle} battle @param {1 | 2} side @returns {Odds[]} */
+  oddsOf(battle, side) {
+    const { members, active } = battle.state[side === 1 ? "one" : "two"];
+    return active ? members[active.place - 1].moves.map((move, at) => this.oddsWith(battle, side, at + 1, move)) : [];
+  }
+
+  /** @param {import("gen1").Battle} battle @param {1 | 2} side @param {number} slot 0 if it is not known @param {string} move @returns {Odds} */
+  oddsWith(battle, side, slot, move) {
+    const { usual, critical, criticalChance, hitChance, takesHitTest } = battle.odds(side, move);
+    return {
+      slot, move,
+      damage: usual.numbers.length ? usual.numbers : null,
+      critical: critical.numbers.length ? critical.numbers : null,
+      bound: usual.code === UNUSUAL ? null : 256 * criticalChance,
+      hit: takesHitTest ? [256 * hitChance, hitChance > 0 && hitChance < 1] : null,
+    };
   }
 
   /**
-   * The members in a team builder's text.
+   * The members in a team builder's text: a packed line if it has a bar, else an export text.
    * @param {string} text
    * @param {string} whose text it is, as a message names it
+   * @param {number} side
    * @returns {Member[]}
    */
-  team(text, whose = "The team's text") {
-    const bytes = new TextEncoder().encode(text);
-    this.put(bytes, whose);
-    const told = this.json(this.calls.page_team(bytes.length));
-    if (told.fault) throw new Problem(`${whose}: ${told.fault}.`);
-    return told.members;
+  team(text, whose, side) {
+    testLength(new TextEncoder().encode(text), whose);
+    try {
+      return text.includes("|") ? this.gen1.teamFromPacked(text) : this.gen1.teamFromText(text);
+    } catch (error) {
+      if (!(error instanceof TextError)) throw error;
+      if (error.rule === EMPTY) return [];
+      if (error.rule) throw refused(side, error.member, error.reason);
+      throw new Problem(`${whose}: ${error.message.replace(/expected: (packed: )?/, "expected ")}.`);
+    }
   }
 
   /**
-   * Starts a spectator of a battle.
+   * A spectator of a battle.
    * @param {Member[]} one
    * @param {Member[]} two
    */
-  watchBegin(one, two) {
-    this.put(joined(teamBytes(one), teamBytes(two)));
-    const length = this.calls.page_watch_begin();
-    if (length) this.refuse(length);
+  spectator(one, two) {
+    return testingTeams(() => this.gen1.spectator(one, two));
   }
 
   /**
-   * What the spectator knows after more log bytes.
+   * What a spectator knows after more log bytes.
+   * @param {import("gen1").Spectator} spectator
    * @param {Uint8Array} log
    * @returns {View}
    */
-  watch(log) {
-    this.put(log);
-    return this.json(this.calls.page_watch(log.length));
+  watch(spectator, log) {
+    spectator.feed(log);
+    const { state } = spectator;
+    return { ...state, sides: [state.one, state.two] };
   }
 
   /**
-   * The odds of the moves of two members in a given state.
-   * @param {Uint8Array} asked
-   * @returns {{ sides: Calculated[] }}
+   * The maximum HP of a member of each side.
+   * @param {Member[]} members
    */
-  calculate(asked) {
-    this.put(asked);
-    const told = this.json(this.calls.page_calculate());
-    if (told.fault) throw new Problem(told.number || told.side ? sentence(told) : `The calculation is refused: ${told.fault}.`);
-    return told;
+  maxHp(members) {
+    const [one, two] = members.map((member) => [member]);
+    const { state } = testingTeams(() => this.gen1.battle({ one, two, seed: SEED }));
+    return [state.one, state.two].map((side) => side.members[0].maxHp);
   }
 
   /**
-   * A choice of the computer, as its byte.
-   * @param {Uint8Array} battle
-   * @param {number} side
-   * @param {string} player "random", "greedy" or "playouts"
-   * @param {number} seed
+   * The odds of the moves of two members in a given state, and of a further move of the first, which it need not know.
+   * @param {import("./standing.js").Standing[]} both
+   * @param {string} extra empty for none
+   * @returns {Calculated[]}
    */
-  choice(battle, side, player, seed) {
-    const offered = this.state(battle).sides[side - 1].choices;
-    if (player === "random" || offered.length < 2) return offered[seed % offered.length];
-    this.put(battle);
-    if (player === "greedy") return this.calls.page_greedy(side);
-    const count = this.calls.page_playouts(side, 200, seed);
-    const told = new DataView(this.got(5 * count).buffer);
-    const places = Array.from({ length: count }, (_, place) => place);
-    const best = places.reduce((one, two) => (told.getUint32(5 * two + 1, true) > told.getUint32(5 * one + 1, true) ? two : one), 0);
-    return told.getUint8(5 * best);
+  calculate(both, extra) {
+    const battle = testingTeams(() => standing(this.gen1, both));
+    const { state } = battle;
+    const more = extra ? [this.oddsWith(battle, 1, 0, extra)] : [];
+    return [state.one, state.two].map(({ members: [member], active }, at) => ({
+      hp: member.hp, max: member.maxHp, own: member.stats, stats: active?.stats ?? [],
+      moves: at ? this.oddsOf(battle, 2) : [...this.oddsOf(battle, 1), ...more],
+    }));
   }
 }

@@ -1,6 +1,8 @@
 // Battles from files, and as files: the input of battle_tool (docs/PROGRAM.md), log bytes, and pages that hold one of these.
+import { MOVES, SPECIES } from "gen1";
+import { decoded, digits, encoded, joined, MEMBER, memberBytes, memberOf, ofDigits } from "./bytes.js";
 import { Problem } from "./dom.js";
-import { joined, memberBytes } from "./engine.js";
+import { MOST } from "./engine.js";
 
 /**
  * @typedef {import("./engine.js").Member} Member
@@ -28,25 +30,24 @@ function numbers(value, what, length, most) {
   return list(value, what, length).map((item, place) => whole(item, `${what}[${place}]`, most));
 }
 
-/** @param {unknown} value @param {string[]} names @param {string} what the value is, as a message names it */
-function numbered(value, names, what) {
-  const found = typeof value === "string" ? names.indexOf(value) + 1 : 0;
-  if (!found) throw new Problem(`${what} is ${JSON.stringify(value) ?? "missing"}, which is not a name in docs/TABLES.md.`);
-  return found;
+/** @param {unknown} value @param {readonly string[]} names @param {string} what a name is to be of */
+function named(value, names, what) {
+  if (typeof value !== "string" || !names.includes(value))
+    throw new Problem(`${what} is ${JSON.stringify(value) ?? "missing"}, which is not a name in docs/TABLES.md.`);
+  return value;
 }
 
 /** White space, and the byte order mark with which some editors begin a text. */
 const BLANKS = [9, 10, 13, 32, 0xef, 0xbb, 0xbf];
 
-/** Reads and writes inputs, with the names of some tables. */
+/** The most bytes of a file: as hexadecimal digits in a page, the longest log takes twice its length and that of the page. */
+const MOST_FILE = 4 * MOST;
+
+/** Reads and writes inputs. */
 export class Inputs {
   /** @param {import("./engine.js").Engine} engine */
   constructor(engine) {
     this.engine = engine;
-    this.species = engine.tables.species.map((it) => it.name);
-    this.moves = engine.tables.moves.map((it) => it.name);
-    /** The most bytes of a file: as hexadecimal digits in a page, the longest log takes twice its length and that of the page. */
-    this.most = 4 * engine.most;
   }
 
   /**
@@ -54,7 +55,7 @@ export class Inputs {
    * @param {File} file
    */
   async readFile(file) {
-    if (file.size > this.most) throw new Problem(`The file has ${file.size.toLocaleString("en")} bytes; at most ${this.most.toLocaleString("en")} are read.`);
+    if (file.size > MOST_FILE) throw new Problem(`The file has ${file.size.toLocaleString("en")} bytes; at most ${MOST_FILE.toLocaleString("en")} are read.`);
     return this.read(new Uint8Array(await file.arrayBuffer()));
   }
 
@@ -121,13 +122,13 @@ export class Inputs {
     const moves = list(value?.moves, `${what}.moves`);
     if (moves.length > 4) throw new Problem(`${what}.moves has ${moves.length} moves, not at most 4.`);
     return {
-      species: numbered(value.species, this.species, `${what}.species`),
+      species: named(value.species, SPECIES, `${what}.species`),
       level: whole(value.level, `${what}.level`, 255),
       dvs: numbers(value.dvs, `${what}.dvs`, 4, 255),
       exp: numbers(value.exp, `${what}.exp`, 5, 65535),
       moves: moves.map((item, slot) => {
         const [name, ups] = list(item, `${what}.moves[${slot}]`, 2);
-        return [numbered(name, this.moves, `${what}.moves[${slot}]`), whole(ups, `${what}.moves[${slot}][1]`, 255)];
+        return [named(name, MOVES, `${what}.moves[${slot}]`), whole(ups, `${what}.moves[${slot}][1]`, 255)];
       }),
     };
   }
@@ -139,41 +140,7 @@ export class Inputs {
   text(recorded) {
     if ("log" in recorded) return JSON.stringify({ log: digits(recorded.log) });
     const { seed, one, two, rules, limit, choices } = recorded.input;
-    const members = (/** @type {Member[]} */ team) => team.map((it) => ({
-      species: this.species[it.species - 1], level: it.level, dvs: it.dvs, exp: it.exp,
-      moves: it.moves.map(([id, ups]) => [this.moves[id - 1], ups]),
-    }));
-    return JSON.stringify({ seed, one: members(one), two: members(two), rules, limit, choices });
-  }
-}
-
-/** @param {ArrayLike<number>} bytes */
-export function digits(bytes) {
-  return Array.from(bytes, (byte) => byte.toString(16).padStart(2, "0")).join("");
-}
-
-/** @param {string} text hexadecimal digits */
-function ofDigits(text) {
-  if (text.length % 2 || /[^0-9a-f]/i.test(text)) throw new Problem("The log does not consist of hexadecimal digits.");
-  return Uint8Array.from({ length: text.length / 2 }, (_, place) => parseInt(text.slice(2 * place, 2 * place + 2), 16));
-}
-
-/**
- * Bytes as text for an address (base64 with - and _).
- * @param {Uint8Array} bytes
- */
-export function encoded(bytes) {
-  let text = "";
-  for (const byte of bytes) text += String.fromCharCode(byte);
-  return btoa(text).replaceAll("+", "-").replaceAll("/", "_").replaceAll("=", "");
-}
-
-/** @param {string} text */
-export function decoded(text) {
-  try {
-    return Uint8Array.from(atob(text.replaceAll("-", "+").replaceAll("_", "/")), (letter) => letter.charCodeAt(0));
-  } catch {
-    throw new Problem("The address is damaged: it cannot be read.");
+    return JSON.stringify({ seed, one, two, rules, limit, choices });
   }
 }
 
@@ -203,33 +170,18 @@ export function toAddress(recorded) {
 export function ofAddress(text, inputs) {
   const bytes = decoded(text.slice(1));
   if (text[0] === "l") return inputs.log(bytes);
+  const damaged = () => new Problem("The address is damaged: it does not hold a battle.");
   let at = 13;
   const teams = [0, 1].map(() => {
     const count = bytes[at];
-    const members = Array.from({ length: count }, (_, place) => memberOf(bytes.subarray(at + 1 + 24 * place, at + 25 + 24 * place)));
-    at += 1 + 24 * count;
+    if (count === undefined) throw damaged();
+    const members = Array.from({ length: count }, (_, place) => memberOf(bytes.subarray(at + 1 + MEMBER * place, at + 1 + MEMBER * (place + 1))));
+    at += 1 + MEMBER * count;
     return members;
   });
   const pairs = bytes.subarray(at);
-  if (text[0] !== "i" || pairs.length % 2) throw new Problem("The address is damaged: it does not hold a battle.");
+  if (text[0] !== "i" || pairs.length % 2) throw damaged();
   const choices = Array.from({ length: pairs.length / 2 }, (_, place) => [pairs[2 * place], pairs[2 * place + 1]]);
   const [rules, low, high] = bytes.subarray(10, 13);
   return { input: { seed: [...bytes.subarray(0, 10)], rules, limit: low + 256 * high, one: teams[0], two: teams[1], choices } };
-}
-
-/**
- * The member of 24 bytes.
- * @param {Uint8Array} bytes
- * @returns {Member}
- */
-export function memberOf(bytes) {
-  if (bytes.length !== 24) throw new Problem("The address is damaged: a member is cut off.");
-  const view = new DataView(bytes.buffer, bytes.byteOffset, 24);
-  return {
-    species: bytes[0],
-    level: bytes[1],
-    dvs: [...bytes.subarray(2, 6)],
-    exp: [0, 1, 2, 3, 4].map((stat) => view.getUint16(14 + 2 * stat, true)),
-    moves: [0, 1, 2, 3].filter((slot) => bytes[6 + slot]).map((slot) => [bytes[6 + slot], bytes[10 + slot]]),
-  };
 }

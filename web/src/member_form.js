@@ -1,7 +1,6 @@
 // The form for a member in the calculator: from a text or by search, and its state.
 import { guarded, inField, make, Problem } from "./dom.js";
-import { joined, memberBytes } from "./engine.js";
-import { memberOf } from "./inputs.js";
+import { CONDITION_NAMES } from "./standing.js";
 
 const DVS = ["Attack", "Defense", "Speed", "Special"];
 const EXP = ["HP", ...DVS];
@@ -11,7 +10,6 @@ const STAGES = [...DVS, "Accuracy", "Evasion"];
  * @type {[number, string][]}
  */
 const STATUSES = [[0, "none"], [1, "asleep"], [8, "poisoned"], [16, "burned"], [32, "frozen"], [64, "paralysed"]];
-const CONDITIONS = ["Reflect", "Light Screen", "Focus Energy", "Mist", "Out of reach"];
 
 /** @param {string} label @param {HTMLElement} field */
 function labelled(label, field) {
@@ -43,7 +41,7 @@ export class MemberForm {
       ...[6, 5, 4, 3, 2, 1, 0, -1, -2, -3, -4, -5, -6].map((stage) => make("option", { value: stage, selected: stage === 0 }, stage > 0 ? `+${stage}` : String(stage)))));
     this.status = make("select", { name: "status" }, ...STATUSES.map(([byte, name]) => make("option", { value: byte }, name)));
     this.hp = make("input", { type: "number", name: "hp", min: 1, max: 999, placeholder: "all", inputmode: "numeric" });
-    this.conditions = CONDITIONS.map((name) => make("input", { type: "checkbox", name }));
+    this.conditions = CONDITION_NAMES.map((name) => make("input", { type: "checkbox", name }));
     this.element = this.drawn();
     for (const type of ["input", "change"]) this.element.addEventListener(type, (event) => event.target !== this.text && changed(event));
   }
@@ -56,7 +54,7 @@ export class MemberForm {
       make("div", { class: "grid" }, labelled("Species", this.species), labelled("Level", this.level), labelled("Status", this.status), labelled("HP", this.hp)),
       group("Moves", this.moves.map((field, at) => labelled(`Move ${at + 1}`, field))),
       group("Stages", this.stages.map((field, at) => labelled(STAGES[at], field))),
-      make("fieldset", { class: "checks" }, make("legend", {}, "Conditions"), ...this.conditions.map((field, at) => make("label", {}, field, ` ${CONDITIONS[at]}`))),
+      make("fieldset", { class: "checks" }, make("legend", {}, "Conditions"), ...this.conditions.map((field, at) => make("label", {}, field, ` ${CONDITION_NAMES[at]}`))),
       make("details", {}, make("summary", {}, "DVs and stat experience"),
         group("DVs, 0 to 15", this.dvs.map((field, at) => labelled(DVS[at], field))),
         group("Stat experience, 0 to 65535", this.exp.map((field, at) => labelled(EXP[at], field)))));
@@ -64,19 +62,20 @@ export class MemberForm {
 
   /** Takes the first member of the text. */
   read() {
-    const members = this.engine.team(this.text.value, `The text of side ${this.side}'s member`);
+    const members = this.engine.team(this.text.value, `The text of side ${this.side}'s member`, this.side);
     if (!members.length) throw new Problem(`The text of side ${this.side}'s member has no member.`);
-    this.set(members[0]);
+    this.setMember(members[0]);
     this.species.dispatchEvent(new Event("change", { bubbles: true }));
   }
 
-  /** @param {import("./engine.js").Member} member */
-  set(member) {
-    this.species.value = this.engine.tables.species[member.species - 1]?.name ?? "";
+  /** @param {import("./engine.js").Member} member one of an address may have a species or a move without a name */
+  setMember(member) {
+    const named = (/** @type {string | number | undefined} */ value) => (typeof value === "string" ? value : "");
+    this.species.value = named(member.species);
     this.level.value = String(member.level);
     member.dvs.forEach((value, at) => (this.dvs[at].value = String(value)));
     member.exp.forEach((value, at) => (this.exp[at].value = String(value)));
-    this.moves.forEach((field, at) => (field.value = this.engine.tables.moves[(member.moves[at]?.[0] ?? 0) - 1]?.name ?? ""));
+    this.moves.forEach((field, at) => (field.value = named(member.moves[at]?.[0])));
   }
 
   /**
@@ -100,28 +99,35 @@ export class MemberForm {
       throw new Problem(`Side ${this.side}: ${this.hp.value} HP are above the maximum of ${this.species.value}, which is ${most}.`, { field: this.hp });
   }
 
-  /** The member, and how it stands: 34 bytes (rust/gen1-page, "calculator"). */
-  bytes() {
+  /**
+   * The member and its state.
+   * @returns {import("./standing.js").Standing}
+   */
+  standing() {
     const { tables } = this.engine;
-    const species = tables.species.findIndex((it) => same(it.name, this.species.value)) + 1;
+    const species = Object.keys(tables.species).find((name) => same(name, this.species.value));
     if (!species)
       throw new Problem(`Side ${this.side}: ${this.species.value ? `there is no species "${this.species.value}"` : "choose a species"}.`, { field: this.species });
-    const moves = this.moves.filter((field) => field.value.trim()).map((field) => [moveCalled(tables, field, this.side), 3]);
+    const moves = this.moves.filter((field) => field.value.trim())
+      .map((field) => /** @type {[string, number]} */ ([moveCalled(tables, field, this.side), 3]));
     const hp = this.hp.value ? this.whole(this.hp, "HP") : 0;
-    return joined(memberBytes({
+    const member = {
       species, moves, level: this.whole(this.level, "the level"), dvs: this.dvs.map((field, at) => this.whole(field, `the DV of ${DVS[at]}`)),
       exp: this.exp.map((field, at) => this.whole(field, `the experience of ${EXP[at]}`)),
-    }), this.stages.map((field) => Number(field.value) + 6), [Number(this.status.value), this.conditions.reduce((sum, field, bit) => sum + (field.checked ? 1 << bit : 0), 0), hp & 255, hp >> 8]);
+    };
+    return {
+      member, stages: this.stages.map((field) => Number(field.value) + 6), status: Number(this.status.value),
+      conditions: this.conditions.reduce((sum, field, bit) => sum + (field.checked ? 1 << bit : 0), 0), hp,
+    };
   }
 
-  /** @param {Uint8Array} bytes as `bytes` gives them */
-  setBytes(bytes) {
-    if (bytes.length !== 34) throw new Problem("The address is damaged: a member is cut off.");
-    this.set(memberOf(bytes.subarray(0, 24)));
-    this.stages.forEach((field, at) => (field.value = String(bytes[24 + at] - 6)));
-    this.status.value = String(bytes[30]);
-    this.conditions.forEach((field, bit) => (field.checked = Boolean((bytes[31] >> bit) & 1)));
-    this.hp.value = bytes[32] + bytes[33] ? String(bytes[32] + 256 * bytes[33]) : "";
+  /** @param {import("./standing.js").Standing} it */
+  set({ member, stages, status, conditions, hp }) {
+    this.setMember(member);
+    this.stages.forEach((field, at) => (field.value = String(stages[at] - 6)));
+    this.status.value = String(status);
+    this.conditions.forEach((field, bit) => (field.checked = Boolean((conditions >> bit) & 1)));
+    this.hp.value = hp ? String(hp) : "";
   }
 }
 
@@ -136,13 +142,13 @@ export function same(one, two) {
 }
 
 /**
- * The number of the move that a field names.
+ * The name of the move that a field names.
  * @param {import("./engine.js").Tables} tables
  * @param {HTMLInputElement} field
  * @param {number} side
  */
 export function moveCalled(tables, field, side) {
-  const found = tables.moves.findIndex((it) => same(it.name, field.value)) + 1;
+  const found = Object.keys(tables.moves).find((name) => same(name, field.value));
   if (!found) throw new Problem(`Side ${side}: there is no move "${field.value}".`, { field });
   return found;
 }

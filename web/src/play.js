@@ -1,13 +1,13 @@
 // Play: two persons at one screen, or against the computer. The buttons are the choices that the engine offers.
 import { find, guarded, inField, keepingFocus, make, Problem } from "./dom.js";
 import { link, setAddress } from "./address.js";
-import { joined } from "./engine.js";
+import { joined } from "./bytes.js";
 import { ofAddress, toAddress } from "./inputs.js";
 import { lineItems } from "./replay.js";
 import { randomSeed, randomTeam } from "./random.js";
 import { shareButtons } from "./share.js";
 import { badge, showSide, whole } from "./sides.js";
-import { hitWords, OUTCOMES, shares, span } from "./words.js";
+import { hitWords, OUTCOMES, shares, span, STATUS_TAGS } from "./words.js";
 
 /**
  * @typedef {import("./engine.js").State} State
@@ -15,7 +15,10 @@ import { hitWords, OUTCOMES, shares, span } from "./words.js";
  *   after a pair of choices
  */
 
+/** @type {(1 | 2)[]} */
 const SIDES = [1, 2];
+/** The conditions during which a member is in the middle of its current move (docs/LAYOUT.md, "Condition bits"). */
+const GOING = ["bide", "thrash", "trapping", "charging", "recharge", "rage"];
 const KEYS = ["123456789", "qwertyuio"];
 const PLAYERS = ["person", "random", "greedy", "playouts"];
 
@@ -101,7 +104,7 @@ export class Play {
   /** @param {number} side */
   team(side) {
     const field = find(`play-team-${side}`, HTMLTextAreaElement);
-    const members = inField(field, () => this.engine.team(field.value, `Side ${side}'s team`));
+    const members = inField(field, () => this.engine.team(field.value, `Side ${side}'s team`, side));
     if (!members.length) throw new Problem(`Side ${side}'s team has no member.`, { field });
     return members;
   }
@@ -304,7 +307,7 @@ export class Play {
   choiceItems(state, at) {
     if (state.outcome !== "ongoing") return [make("p", { class: "quiet" }, "The battle is over.")];
     if (!this.isAsked(state, at)) return [make("p", { class: "quiet" }, state.requests[at] === "pass" ? "It waits." : `The computer (${this.who[at]}) chooses.`)];
-    const odds = this.engine.odds(this.battle, at + 1);
+    const odds = this.engine.odds(this.battle, SIDES[at]);
     const hasKeys = find("keys", HTMLInputElement).checked;
     return state.sides[at].choices.map((choice, place) => {
       const key = this.keysOf(at)[place];
@@ -325,22 +328,23 @@ export class Play {
 
   /** @param {State} state @param {number} at @param {number} choice @param {import("./engine.js").Odds[]} odds */
   choiceWords(state, at, choice, odds) {
-    const side = state.sides[at];
-    const { tables } = this.engine;
+    const { members, active } = state.sides[at];
     if (choice > 0x20) {
-      const member = side.members[choice - 0x21];
-      return [make("strong", {}, `Switch to ${tables.species[member.species - 1].name}`), make("span", { class: "quiet" }, `${member.hp}/${member.max} HP ${member.status}`)];
+      const { species, hp, maxHp, status } = members[choice - 0x21];
+      return [make("strong", {}, `Switch to ${species}`), make("span", { class: "quiet" }, `${hp}/${maxHp} HP ${STATUS_TAGS[status]}`)];
     }
-    if (choice === 0x10) return [make("strong", {}, side.going ? `Continue ${tables.moves[side.going - 1].name}` : "Use the only possible action")];
-    const [id, pp] = side.members[side.active - 1].moves[choice - 0x11];
+    const { moves, pp } = members[(active?.place ?? 1) - 1];
+    const going = active?.conditions.some((it) => GOING.includes(it)) && moves[active.currentMove - 1];
+    if (choice === 0x10) return [make("strong", {}, going ? `Continue ${going}` : "Use the only possible action")];
+    const move = this.engine.tables.moves[moves[choice - 0x11]];
     const found = odds.find((it) => it.slot === choice - 0x10);
     const foe = state.sides[1 - at];
-    const hp = foe.active ? foe.members[foe.active - 1].hp : 0;
+    const hp = foe.active ? foe.members[foe.active.place - 1].hp : 0;
     const damage = found?.damage ? `damage ${damageText(found.damage, hp)}` : "no damage by the formula";
-    const hit = found ? hitWords(found, tables.moves[id - 1], (bytes) => `hits with ${bytes} of 256 bytes`) : "";
+    const hit = found ? hitWords(found, move, (bytes) => `hits with ${bytes} of 256 bytes`) : "";
     const critical = found?.bound === null || found?.bound === undefined ? "" : `; critical with ${found.bound} of 256`;
-    return [make("strong", {}, tables.moves[id - 1].name), badge(tables, tables.moves[id - 1].type),
-      make("span", { class: "quiet" }, `${pp} PP`), make("span", { class: "odds" }, `${damage}; ${hit}${critical}`)];
+    return [make("strong", {}, move.name), badge(move.type),
+      make("span", { class: "quiet" }, `${pp[choice - 0x11]} PP`), make("span", { class: "odds" }, `${damage}; ${hit}${critical}`)];
   }
 
   /** What stands here, as an address holds it. */

@@ -1,7 +1,8 @@
 // The computer's choices, in a worker, so that the page stays responsive.
+import { choose } from "./computer.js";
 import { find } from "./dom.js";
 
-/** @typedef {{ battle: Uint8Array, side: number, player: string, seed: number }} Asked */
+/** @typedef {{ battle: Uint8Array, side: 1 | 2, player: string, seed: number }} Asked */
 
 /** Asks a worker for choices; without one, or where it fails, the page's own engine answers. */
 export class Players {
@@ -58,13 +59,13 @@ export class Players {
    * @param {Asked} asked
    */
   async own({ battle, side, player, seed }) {
-    return this.engine.choice(battle, side, player, seed);
+    return choose(this.engine, battle, side, player, seed);
   }
 
   /**
    * The byte of a player's choice.
    * @param {Uint8Array} battle
-   * @param {number} side
+   * @param {1 | 2} side
    * @param {string} player
    * @param {number} seed
    * @returns {Promise<number>}

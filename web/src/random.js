@@ -19,11 +19,12 @@ export function randomSeed() {
  * @param {number} count
  */
 export function randomTeam(tables, count) {
-  const moves = tables.moves.filter((it) => it.known);
+  const species = Object.keys(tables.species);
+  const moves = Object.values(tables.moves).filter((it) => it.isKnown);
   const members = Array.from({ length: count }, () => {
     const chosen = new Set();
     while (chosen.size < 4) chosen.add(moves[below(moves.length)].name);
-    return [tables.species[below(tables.species.length)].name, ...[...chosen].map((name) => `- ${name}`)].join("\n");
+    return [species[below(species.length)], ...[...chosen].map((name) => `- ${name}`)].join("\n");
   });
   return members.join("\n\n");
 }

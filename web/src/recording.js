@@ -16,6 +16,11 @@ const TURN = 1;
 const SWITCH = 2;
 const FAINT = 0x19;
 const ENDS = [TURN, 0x1a, 0x1b, 0x1c];
+/**
+ * A log doesn't have the teams, so these take their places until a member comes out.
+ * @type {Member[]}
+ */
+const PLACEHOLDERS = Array(6).fill({ species: 1, level: 100, dvs: [0, 0, 0, 0], exp: [0, 0, 0, 0, 0], moves: [[1, 0]] });
 
 /**
  * The events of each update of a log: an update ends with a turn, an outcome, or faints.
@@ -60,6 +65,8 @@ export class Recording {
     this.fault = "";
     /** @type {Map<string, Known>} the members that a switch has shown, by "side place" */
     this.told = new Map();
+    const { one, two } = "log" in recorded ? { one: PLACEHOLDERS, two: PLACEHOLDERS } : recorded.input;
+    this.spectator = engine.spectator(one, two);
     if ("log" in recorded) this.follow(recorded.log);
     else this.play(recorded.input);
   }
@@ -71,8 +78,7 @@ export class Recording {
   /** @param {import("./inputs.js").Input} input */
   play(input) {
     let battle = this.engine.begin(input);
-    this.engine.watchBegin(input.one, input.two);
-    this.frames.push({ log: new Uint8Array(), events: [], battle, view: this.engine.watch(new Uint8Array()) });
+    this.add(new Uint8Array(), [], battle);
     for (const [number, [one, two]] of input.choices.entries()) {
       const update = this.engine.update(battle, one, two);
       if (update.refused) {
@@ -88,13 +94,10 @@ export class Recording {
   /** @param {Uint8Array} log */
   follow(log) {
     const updates = updatesOf(this.engine.events(log));
-    // A log doesn't have the teams, so placeholders are used until a member comes out.
-    const some = Array.from({ length: 6 }, () => ({ species: 1, level: 100, dvs: [0, 0, 0, 0], exp: [0, 0, 0, 0, 0], moves: [[1, 0]] }));
-    this.engine.watchBegin(some, some);
-    this.frames.push({ log: new Uint8Array(), events: [], battle: null, view: this.engine.watch(new Uint8Array()) });
+    this.add(new Uint8Array(), [], null);
     let at = 0;
     for (const events of updates) {
-      const length = events.reduce((sum, event) => sum + event.length, 0);
+      const length = events.reduce((sum, event) => sum + event.size, 0);
       this.add(log.slice(at, at + length), events, null);
       at += length;
     }
@@ -107,7 +110,7 @@ export class Recording {
       const key = `${event.side} ${event.place}`;
       if (event.tag === SWITCH && !this.told.has(key)) this.told.set(key, toldBy(event.line, this.frames.length));
     }
-    this.frames.push({ log, events, battle, view: this.engine.watch(log) });
+    this.frames.push({ log, events, battle, view: this.engine.watch(this.spectator, log) });
   }
 
   /**

@@ -161,8 +161,8 @@ export class Replay {
     if (battle && this.see.value === "all") return whole(tables, this.engine.state(battle).sides[side - 1]);
     if ("input" in recorded && frames[0].battle) {
       // A spectator knows both teams from the beginning.
-      const members = this.engine.state(frames[0].battle).sides[side - 1].members;
-      return watched(tables, view.sides[side - 1], members.map((it) => ({ species: tables.species[it.species - 1].name, level: it.level, max: it.max })));
+      const { members } = this.engine.state(frames[0].battle).sides[side - 1];
+      return watched(tables, view.sides[side - 1], members.map(({ species, level, maxHp }) => ({ species, level, max: maxHp })));
     }
     const places = Math.max(0, ...[...told.keys()].filter((key) => key[0] === String(side)).map((key) => Number(key[2])));
     return watched(tables, view.sides[side - 1], Array.from({ length: places }, (_, place) => {

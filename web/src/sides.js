@@ -1,36 +1,40 @@
 // Showing a side: the member that is out, with an HP bar, status, stages and conditions, and all members of the team.
 import { make } from "./dom.js";
-import { STATUS_WORDS } from "./words.js";
+import { STATUS_TAGS, STATUS_WORDS } from "./words.js";
 
 /**
  * @typedef {import("./engine.js").Tables} Tables
- * @typedef {{ species: string, types: number[], level: number, hp: number, max: number, status: string, sleep?: number,
- *   moves: number[][], isKnown: boolean }} ShownMember
- * @typedef {{ active: number, members: ShownMember[], types: number[], stages: number[], stats: number[] | null,
- *   own: number[] | null, conditions: [string, number][] }} Shown
+ * @typedef {{ species: string, types: readonly string[], level: number, hp: number, max: number, status: string, sleep?: number,
+ *   moves: [string, number][], isKnown: boolean }} ShownMember of a move its name and PP
+ * @typedef {{ active: number, members: ShownMember[], types: readonly string[], stages: number[], stats: number[] | null,
+ *   own: number[] | null, conditions: string[] }} Shown
  */
 
 const STAGES = ["Attack", "Defense", "Speed", "Special", "Accuracy", "Evasion"];
-/** @type {Record<string, (number: number) => string>} */
+/** @type {Record<import("gen1").Condition, (active: import("gen1").ActiveState) => string>} */
 const CONDITIONS = {
-  Bide: (turns) => `Bide, ${turns} more`,
-  Thrash: (turns) => `Thrashing, ${turns} more`,
-  Trapping: (turns) => `Trapping, ${turns} more`,
-  Flinch: () => "Flinches",
-  Charging: () => "Charging",
-  Invulnerable: () => "Out of reach",
-  Confused: (turns) => (turns ? `Confused, ${turns} more` : "Confused"),
-  Mist: () => "Mist",
-  FocusEnergy: () => "Focus Energy",
-  Substitute: (hp) => (hp ? `Substitute, ${hp} HP` : "Substitute"),
-  Recharge: () => "Has to recharge",
-  Rage: () => "Rage",
-  Seeded: () => "Seeded",
-  BadPoison: (count) => `Bad poison, ${count}`,
-  LightScreen: () => "Light Screen",
-  Reflect: () => "Reflect",
-  Disabled: (slot) => `Move ${slot} disabled`,
+  bide: ({ turns }) => `Bide, ${turns} more`,
+  thrash: ({ turns }) => `Thrashing, ${turns} more`,
+  trapping: ({ turns }) => `Trapping, ${turns} more`,
+  flinch: () => "Flinches",
+  charging: () => "Charging",
+  invulnerable: () => "Out of reach",
+  confused: ({ confusion }) => `Confused, ${confusion} more`,
+  mist: () => "Mist",
+  "focus energy": () => "Focus Energy",
+  substitute: ({ substitute }) => (substitute ? `Substitute, ${substitute} HP` : "Substitute"),
+  recharge: () => "Has to recharge",
+  rage: () => "Rage",
+  seeded: () => "Seeded",
+  "bad poison": ({ badPoison }) => `Bad poison, ${badPoison}`,
+  "light screen": () => "Light Screen",
+  reflect: () => "Reflect",
+  disabled: ({ disabledSlot }) => `Move ${disabledSlot} disabled`,
 };
+/** @param {import("gen1").ActiveState} active */
+export function conditionWords(active) {
+  return active.conditions.map((condition) => CONDITIONS[condition](active));
+}
 
 /**
  * What is shown of a side if everything is known.
@@ -38,41 +42,46 @@ const CONDITIONS = {
  * @param {import("./engine.js").SideState} side
  * @returns {Shown}
  */
-export function whole(tables, side) {
-  const members = side.members.map((it) => ({
-    ...it, species: tables.species[it.species - 1].name, types: tables.species[it.species - 1].types, isKnown: true,
+export function whole(tables, { members, active }) {
+  const shown = members.map(({ species, level, hp, maxHp, status, sleep, moves, pp }) => ({
+    species, types: tables.species[species], level, hp, max: maxHp, status: STATUS_TAGS[status], sleep, isKnown: true,
+    moves: moves.map((move, slot) => /** @type {[string, number]} */ ([move, pp[slot]])),
   }));
-  return {
-    active: side.active, members, types: side.types ?? [], stages: side.stages ?? [], stats: side.stats ?? null,
-    own: side.active ? side.members[side.active - 1].stats : null, conditions: side.conditions ?? [],
-  };
+  if (!active) return { active: 0, members: shown, types: [], stages: [], stats: null, own: null, conditions: [] };
+  const { place, types, stages, stats } = active;
+  return { active: place, members: shown, types, stages, stats, own: members[place - 1].stats, conditions: conditionWords(active) };
 }
 
 /**
  * What is shown of a side to a spectator.
  * @param {Tables} tables
- * @param {import("./engine.js").SideView} view
+ * @param {import("gen1").ShownSide} view
  * @param {({ species: string, level: number, max: number } | null)[]} known the members that the spectator knows of, by place
  * @returns {Shown}
  */
 export function watched(tables, view, known) {
   const members = known.map((it, place) => {
-    const types = tables.species.find((species) => species.name === it?.species)?.types ?? [];
+    const types = it ? tables.species[it.species] : [];
     const { hp, status } = view.members[place];
-    return { species: it?.species ?? "Not seen yet", types, level: it?.level ?? 0, hp, max: it?.max ?? 0, status, moves: [], isKnown: it !== null };
+    return {
+      species: it?.species ?? "Not seen yet", types, level: it?.level ?? 0, hp, max: it?.max ?? 0, status: STATUS_TAGS[status], moves: [],
+      isKnown: it !== null,
+    };
   });
-  const types = members[view.active - 1]?.types ?? [];
-  return { active: view.active, members, types, stages: view.stages, stats: null, own: null, conditions: view.conditions };
+  const { place, stages, substitute, confused, lightScreen, reflect } = view;
+  const conditions = Object.entries({ "Substitute": substitute, "Confused": confused, "Light Screen": lightScreen, "Reflect": reflect });
+  return {
+    active: place, members, types: members[place - 1]?.types ?? [], stages, stats: null, own: null,
+    conditions: conditions.flatMap(([name, isOn]) => (isOn ? [name] : [])),
+  };
 }
 
 /**
  * A type as a badge.
- * @param {Tables} tables
- * @param {number} type
+ * @param {string} type
  */
-export function badge(tables, type) {
-  const name = tables.types[type];
-  return make("span", { class: `type type-${name.toLowerCase()}` }, name);
+export function badge(type) {
+  return make("span", { class: `type type-${type.toLowerCase()}` }, type);
 }
 
 /** @param {ShownMember} member */
@@ -102,7 +111,7 @@ function hp(member) {
 
 /** @param {Tables} tables @param {ShownMember} member */
 function moves(tables, member) {
-  const items = member.moves.map(([id, pp]) => make("li", {}, badge(tables, tables.moves[id - 1].type), ` ${tables.moves[id - 1].name} `,
+  const items = member.moves.map(([move, pp]) => make("li", {}, badge(tables.moves[move].type), ` ${move} `,
     make("span", { class: "quiet" }, `${pp} PP`)));
   return items.length ? make("ul", { class: "moves", "aria-label": `Moves of ${member.species}` }, ...items) : null;
 }
@@ -110,8 +119,7 @@ function moves(tables, member) {
 /** @param {Shown} shown */
 function chips(shown) {
   const stages = shown.stages.flatMap((stage, place) => (stage ? [`${STAGES[place]} ${stage > 0 ? "+" : "−"}${Math.abs(stage)}`] : []));
-  const conditions = shown.conditions.map(([name, number]) => CONDITIONS[name]?.(number) ?? name);
-  const items = [...stages, ...conditions].map((text) => make("li", {}, text));
+  const items = [...stages, ...shown.conditions].map((text) => make("li", {}, text));
   return make("ul", { class: "chips", "aria-label": "Stages and conditions" }, ...(items.length ? items : [make("li", { class: "quiet" }, "no stage, no condition")]));
 }
 
@@ -123,11 +131,11 @@ function stats(shown) {
   return make("p", { class: "quiet stats" }, texts.join(" · "));
 }
 
-/** @param {Tables} tables @param {Shown} shown */
-function out(tables, shown) {
+/** @param {Shown} shown */
+function out(shown) {
   const member = shown.members[shown.active - 1];
   if (!member) return make("div", { class: "out" }, make("p", {}, "No member is out yet."));
-  const types = [...new Set(shown.types)].map((type) => badge(tables, type));
+  const types = [...new Set(shown.types)].map(badge);
   return make("div", { class: "out" },
     make("p", { class: "head" }, make("strong", {}, member.species), ` level ${member.level} `, ...types, " ", status(member)),
     make("p", { class: "health" }, bar(member), hp(member)), chips(shown));
@@ -167,7 +175,7 @@ export function showSide(place, number, tables, shown) {
   const before = new Map([...place.querySelectorAll("details")].map((it) => [it.dataset.of, it.open]));
   const focused = place.contains(document.activeElement) ? document.activeElement?.closest("details")?.dataset.of : undefined;
   if (!before.size) before.set("side", window.matchMedia("(min-width: 44.01rem)").matches);
-  place.replaceChildren(make("h3", {}, `Side ${number}`), out(tables, shown), more(number, tables, shown));
+  place.replaceChildren(make("h3", {}, `Side ${number}`), out(shown), more(number, tables, shown));
   for (const it of place.querySelectorAll("details")) it.open = before.get(it.dataset.of) ?? false;
   /** @type {HTMLElement | null} */
   const summary = focused ? place.querySelector(`[data-of="${focused}"] > summary`) ?? place.querySelector("summary") : null;

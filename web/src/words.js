@@ -1,5 +1,10 @@
 // The lines of a battle in words (docs/MECHANICS.md, "Lines").
 
+/**
+ * The statuses as the lines write them.
+ * @type {Record<import("gen1").Status, string>}
+ */
+export const STATUS_TAGS = { none: "", sleep: "slp", poison: "psn", burn: "brn", freeze: "frz", paralysis: "par" };
 /** @type {Record<string, string>} */
 export const STATUS_WORDS = { slp: "asleep", psn: "poisoned", brn: "burned", frz: "frozen", par: "paralysed" };
 /** @type {Record<string, string>} */

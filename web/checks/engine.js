@@ -1,0 +1,131 @@
+// What the page takes from the engine, without a browser: states, odds, messages, the calculator's battles and the computer's choices. Run
+// by web/test, which bundles it: node FILE MODULE. The values are those of docs/MECHANICS.md and docs/PROGRAM.md.
+import { readFileSync } from "node:fs";
+import { choose, scores } from "../src/computer.js";
+import { Engine } from "../src/engine.js";
+import { conditionWords, whole } from "../src/sides.js";
+
+const engine = await Engine.of(readFileSync(process.argv[2]));
+const SEED = [1, 36, 255, 7, 31, 100, 179, 254, 127, 10];
+const MOVE = 17;
+let [passed, failed] = [0, 0];
+
+function check(name, test) {
+  try {
+    test();
+    passed++;
+  } catch (fault) {
+    failed++;
+    console.log(`${name}: ${fault.stack}`);
+  }
+}
+
+function equal(found, wanted) {
+  const [one, two] = [found, wanted].map((value) => JSON.stringify(value));
+  if (one !== two) throw new Error(`found ${one}, not ${two}`);
+}
+
+function message(call) {
+  try {
+    call();
+  } catch (problem) {
+    return problem.message;
+  }
+  throw new Error("there was no error");
+}
+
+const tauros = (...moves) => ({ species: "Tauros", level: 100, dvs: [15, 15, 15, 15], exp: Array(5).fill(65535), moves: moves.map((move) => [move, 3]) });
+const terms = (one, two) => ({ one, two, seed: SEED, rules: 0, limit: 1000 });
+const begun = (...moves) => engine.update(engine.begin(terms([tauros(...moves)], [tauros(...moves)])), 0, 0);
+
+check("a battle has the lines of the documents", () => {
+  const first = begun("Strength");
+  const events = engine.events(first.log);
+  equal(events.map(({ size, line }) => [size, line]), [[10, "|switch|p1a: Tauros|Tauros|353/353"], [10, "|switch|p2a: Tauros|Tauros|353/353"], [3, "|turn|1"]]);
+  equal([events[1].side, events[1].place], [2, 1]);
+  equal(engine.events(engine.update(first.battle, MOVE, MOVE).log).some(({ line }) => line === "|-damage|p2a: Tauros|149/353"), true);
+});
+
+check("errors are explained", () => {
+  const one = tauros("Strength");
+  equal(message(() => engine.begin(terms([], [one]))), "The team is refused: side 1: the team has no member: it has 1 to 6.");
+  equal(message(() => engine.begin(terms([one], [one, { ...one, level: 101 }]))), "The team is refused: side 2, member 2: the level is not 1 to 100.");
+  equal(message(() => engine.begin({ ...terms([one], [one]), rules: 4 })), "The battle is refused: the rules are not 0 to 3.");
+  equal(message(() => engine.team("Tauros\n- Body Slap", "The text", 1)), "The text: line 2: expected the name of a move of the first generation.");
+  equal(message(() => engine.team("Tauros||||pond|||||||", "The text", 1)), "The text: member 1, field 5: expected the name of a move of the first generation.");
+  equal(message(() => engine.team("Mew\n- Mimic", "The text", 2)).startsWith("The team is refused: side 2, member 1: a move is left out"), true);
+  equal(engine.team("", "The text", 1), []);
+  equal(/^This is not the log of a battle: .* \(at byte 2\)\.$/.test(message(() => engine.events(Uint8Array.of(26, 1, 99)))), true);
+  equal([[MOVE, 18], [18, MOVE]].map((pair) => engine.update(begun("Strength").battle, ...pair).refused), [3, 2]);
+});
+
+check("a spectator knows what the log shows", () => {
+  const team = [tauros("Strength")];
+  const spectator = engine.spectator(team, team);
+  const first = begun("Strength");
+  engine.watch(spectator, first.log);
+  const { turn, outcome, sides } = engine.watch(spectator, engine.update(first.battle, MOVE, MOVE).log);
+  equal([turn, outcome, sides.map(({ place, members }) => [place, members])], [2, "ongoing", [[1, [{ hp: 263, status: "none" }]], [1, [{ hp: 149, status: "none" }]]]]);
+});
+
+check("a status is shown as the lines write it", () => {
+  // The status of side 1's first member (docs/LAYOUT.md, "Member").
+  for (const [byte, word] of [[0, ""], [1, "slp"], [8, "psn"], [16, "brn"], [32, "frz"], [64, "par"]]) {
+    const { battle } = begun("Strength");
+    battle[24 + 14] = byte;
+    equal(whole(engine.tables, engine.state(battle).sides[0]).members[0].status, word);
+  }
+});
+
+check("conditions are shown with their numbers", () => {
+  const { battle } = begun("Strength");
+  // Side 1's condition bits that don't depend on a move, and their numbers (docs/LAYOUT.md, "Active block").
+  battle.set([0xe8, 0xf3, 1], 168 + 17);
+  battle.set([30, 3, 1, 2, 5], 168 + 21);
+  equal(conditionWords(engine.state(battle).sides[0].active), ["Flinches", "Out of reach", "Confused, 3 more", "Mist", "Focus Energy", "Substitute, 30 HP",
+    "Seeded", "Bad poison, 5", "Light Screen", "Reflect", "Move 1 disabled"]);
+});
+
+// Two Tauros that know Strength, in these states, with Body Slam as a further move of the first.
+function calculated(one, two = {}) {
+  const both = [one, two].map((it) => ({ member: tauros("Strength"), stages: Array(6).fill(6), status: 0, conditions: 0, hp: 0, ...it }));
+  return engine.calculate(both, "Body Slam");
+}
+
+check("members have the state that is asked for", () => {
+  const [user] = calculated({});
+  const slam = user.moves.find(({ move }) => move === "Body Slam");
+  equal([slam.slot, slam.damage.slice(0, 3), slam.damage.slice(36), slam.hit, slam.bound], [0, [95, 95, 96], [111, 111, 112], [255, true], 55]);
+  const OWN = [298, 288, 318, 238];
+  const stats = (...asked) => calculated(...asked).map(({ own, stats: now }) => [own, now]);
+  equal(stats({ status: 16 })[0], [OWN, [149, 288, 318, 238]]);
+  equal(stats({ stages: [8, 6, 6, 6, 6, 6] }, { status: 64, conditions: 1 }), [[OWN, [596, 288, 318, 238]], [OWN, [298, 288, 79, 238]]]);
+  // 318 at stage 2 is 636, and a quarter of that 159; 298 at stage -1 is 196, and half of that 98.
+  equal(stats({ stages: [6, 6, 8, 6, 6, 6], status: 64 }, { stages: [5, 6, 6, 6, 6, 6], status: 16 }).map(([, now]) => now), [[298, 288, 159, 238], [98, 288, 318, 238]]);
+  equal(calculated({ hp: 100 }).map(({ hp, max }) => [hp, max]), [[100, 353], [353, 353]]);
+  equal(message(() => calculated({ stages: [13, 6, 6, 6, 6, 6] })), "The calculation is refused: the members cannot be in this state.");
+  equal(message(() => calculated({ hp: 354 })), "The calculation is refused: the members cannot be in this state.");
+});
+
+check("the computer chooses the offered choice with the most damage", () => {
+  equal([["Strength"], ["Strength", "Body Slam"], ["Body Slam", "Strength"]].map((moves) => choose(engine, begun(...moves).battle, 1, "greedy", 1)), [17, 18, 17]);
+});
+
+check("playouts do not know what the battle will draw", () => {
+  const { battle } = begun("Strength", "Body Slam");
+  const found = [Array(10).fill(0), Array(10).fill(255), [9, 200, 31, 4, 77, 128, 3, 250, 66, 5]].map((numbers) => {
+    const copy = engine.gen1.load(battle);
+    copy.reseed(numbers, numbers[9] % 9);
+    return scores(copy, 1, 50, 7);
+  });
+  equal([found[0].length, found[1], found[2]], [2, found[0], found[0]]);
+});
+
+check("playouts differ from each other", () => {
+  // With one move a side, two battles differ only in their draws.
+  const [score] = scores(engine.gen1.load(begun("Strength").battle), 1, 50, 7);
+  equal(score >= 20 && score <= 80, true);
+});
+
+console.log(`${passed} passed, ${failed} failed`);
+process.exit(failed ? 1 : 0);

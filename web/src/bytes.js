@@ -1,0 +1,90 @@
+// Bytes: joined, as text, and members as bytes in an address.
+import { MOVES, SPECIES } from "gen1";
+import { Problem } from "./dom.js";
+
+/** @typedef {import("./engine.js").Member} Member */
+
+/** How many bytes a member has in an address. */
+export const MEMBER = 24;
+
+/**
+ * Concatenated bytes.
+ * @param {...ArrayLike<number>} parts
+ */
+export function joined(...parts) {
+  const bytes = new Uint8Array(parts.reduce((sum, part) => sum + part.length, 0));
+  let at = 0;
+  for (const part of parts) {
+    bytes.set(part, at);
+    at += part.length;
+  }
+  return bytes;
+}
+
+/** @param {ArrayLike<number>} bytes */
+export function digits(bytes) {
+  return Array.from(bytes, (byte) => byte.toString(16).padStart(2, "0")).join("");
+}
+
+/** @param {string} text hexadecimal digits */
+export function ofDigits(text) {
+  if (text.length % 2 || /[^0-9a-f]/i.test(text)) throw new Problem("The log does not consist of hexadecimal digits.");
+  return Uint8Array.from({ length: text.length / 2 }, (_, place) => parseInt(text.slice(2 * place, 2 * place + 2), 16));
+}
+
+/**
+ * Bytes as text for an address (base64 with - and _).
+ * @param {Uint8Array} bytes
+ */
+export function encoded(bytes) {
+  let text = "";
+  for (const byte of bytes) text += String.fromCharCode(byte);
+  return btoa(text).replaceAll("+", "-").replaceAll("/", "_").replaceAll("=", "");
+}
+
+/** @param {string} text */
+export function decoded(text) {
+  try {
+    return Uint8Array.from(atob(text.replaceAll("-", "+").replaceAll("_", "/")), (letter) => letter.charCodeAt(0));
+  } catch {
+    throw new Problem("The address is damaged: it cannot be read.");
+  }
+}
+
+/** @param {string | number} value @param {readonly string[]} names */
+function numberOf(value, names) {
+  return typeof value === "number" ? value : names.indexOf(value) + 1;
+}
+
+/**
+ * The 24 bytes of a member: species, level, DVs, moves, PP ups, experience.
+ * @param {Member} member
+ */
+export function memberBytes(member) {
+  const bytes = new Uint8Array(MEMBER);
+  bytes.set([numberOf(member.species, SPECIES), member.level, ...member.dvs]);
+  member.moves.slice(0, 4).forEach(([move, ups], slot) => {
+    bytes[6 + slot] = numberOf(move, MOVES);
+    bytes[10 + slot] = ups;
+  });
+  const view = new DataView(bytes.buffer);
+  member.exp.forEach((value, stat) => view.setUint16(14 + 2 * stat, value, true));
+  return bytes;
+}
+
+/**
+ * The member of 24 bytes. A species or move that has no name stays a number, which the engine refuses.
+ * @param {Uint8Array} bytes
+ * @returns {Member}
+ */
+export function memberOf(bytes) {
+  if (bytes.length !== MEMBER) throw new Problem("The address is damaged: a member is cut off.");
+  const view = new DataView(bytes.buffer, bytes.byteOffset, MEMBER);
+  return {
+    species: SPECIES[bytes[0] - 1] ?? bytes[0],
+    level: bytes[1],
+    dvs: [...bytes.subarray(2, 6)],
+    exp: [0, 1, 2, 3, 4].map((stat) => view.getUint16(14 + 2 * stat, true)),
+    moves: [0, 1, 2, 3].filter((slot) => bytes[6 + slot]).map((slot) => [MOVES[bytes[6 + slot] - 1] ?? bytes[6 + slot], bytes[10 + slot]]),
+  };
+}
