@@ -1,5 +1,5 @@
 //! The offered choices, as bytes (include/gen1.h, "playing").
-ghost use Rattle.std.specs.Prelude.{List, [], drop, if◌then◌else◌, length, map, ℕ, ◌++◌, ◌<◌, ◌≡◌, ◌≤◌, ◌∷◌};
+ghost use Rattle.std.specs.Prelude.{List, [], drop, if◌then◌else◌, length, map, ℕ, ◌++◌, ◌<◌, ◌≡◌, ◌≢◌, ◌≤◌, ◌∷◌};
 ghost use Rattle.gen1_machine.specs.Choices.{byte_of_choice};
 ghost use Rattle.gen1_machine.specs.Numbers.{side_number};
 ghost use Rattle.gen1_machine.specs.OfferedChoices.{offered};
@@ -29,6 +29,8 @@ pub extern "C" fn gen1_choices(battle: &Packed, side: u8, choices: &mut [u8; 9])
     ensures offers { (s : State) (which : Side) → Stands battle.now s → side ≡ side_number which
         → Offers (offered which s.field) choices.old choices.new result }
     ensures no_side { IsNoSide side → (result ≡ 255) × (choices.new ≡ choices.old) }
+    // For any bytes of the battle, valid or not.
+    ensures few { result ≢ 255 → result ≤ 9 }
 {
     match Side::from_number(side) {
         Some(side) => put_offered(battle, side, choices),
@@ -38,8 +40,9 @@ pub extern "C" fn gen1_choices(battle: &Packed, side: u8, choices: &mut [u8; 9])
 
 #[inline(always)]
 fn put_offered(battle: &Packed, side: Side, choices: &mut [u8; 9]) -> u8
-    ensures { (s : State) → Stands battle.now s
+    ensures offers { (s : State) → Stands battle.now s
         → Offers (offered side s.field) choices.old choices.new result }
+    ensures few { result ≤ 9 }
 {
     put_choices(offered_mask(battle, side), choices)
 }
@@ -47,8 +50,9 @@ fn put_offered(battle: &Packed, side: Side, choices: &mut [u8; 9]) -> u8
 // Writes the choices of a mask. A battle never offers more than nine.
 #[inline(always)]
 fn put_choices(mask: u16, choices: &mut [u8; 9]) -> u8
-    ensures { length (choices_in mask) ≤ 9
+    ensures offers { length (choices_in mask) ≤ 9
         → Offers (choices_in mask) choices.old choices.new result }
+    ensures few { result ≤ 9 }
 {
     // Usually all four moves can be chosen, and take one write.
     if mask % 64 == 0x3c {

@@ -1,5 +1,5 @@
 //! The offered choices as a mask (include/gen1.h, "playing").
-ghost use Rattle.std.specs.Prelude.{◌≡◌};
+ghost use Rattle.std.specs.Prelude.{◌<◌, ◌≡◌, ◌≢◌};
 ghost use Rattle.gen1_machine.specs.Numbers.{side_number};
 ghost use Rattle.gen1_machine.specs.State.{State};
 ghost use Rattle.gen1_machine.specs.declared.side.Side.{Side};
@@ -20,6 +20,8 @@ pub extern "C" fn gen1_offered(battle: &Packed, side: u8) -> u16
     ensures offers { (s : State) (which : Side) → Stands battle.now s → side ≡ side_number which
         → result ≡ offered_mask s which }
     ensures no_side { IsNoSide side → result ≡ 65535 }
+    // For any bytes of the battle, valid or not.
+    ensures twelve { result ≢ 65535 → result < 4096 }
 {
     match Side::from_number(side) {
         Some(side) => offered_mask(battle, side),

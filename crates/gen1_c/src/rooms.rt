@@ -1,5 +1,5 @@
 //! Rooms, whose two players submit their choices separately (include/gen1.h, "rooms"; docs/MECHANICS.md, "Rooms").
-ghost use Rattle.std.specs.Prelude.{◌≡◌, ◌≢◌};
+ghost use Rattle.std.specs.Prelude.{drop, ◌≡◌, ◌≢◌, ◌≤◌};
 ghost use Rattle.gen1_machine.specs.Numbers.{side_number};
 ghost use Rattle.gen1_machine.specs.Room.{Course, after, reply_to, room_of};
 ghost use Rattle.gen1_machine.specs.State.{State};
@@ -22,6 +22,8 @@ pub extern "C" fn gen1_room_begin(room: &mut PlainRoom)
     ensures keeps { (s : State) → Stands room.old.battle s → Keeps room.new (room_of s) }
     // For any bytes of the battle, valid or not.
     ensures marked { IsMarked room.new }
+    ensures short { room.new.log_length ≤ 512 }
+    ensures rest { drop room.new.log_length room.new.log ≡ drop room.new.log_length room.old.log }
 {
     begin(room);
 }
@@ -33,6 +35,8 @@ pub extern "C" fn gen1_room_choices(room: &PlainRoom, side: u8, front: &mut [u8;
     ensures offers { (c : Course) (which : Side) → Keeps room.now c → side ≡ side_number which
         → Offers (due which c) front.old front.new result }
     ensures no_side { IsNoSide side → (result ≡ 255) × (front.new ≡ front.old) }
+    // For any bytes of the room, valid or not.
+    ensures few { result ≢ 255 → result ≤ 9 }
 {
     let Some(side) = Side::from_number(side) else {
         return NO_SIDE;
@@ -52,6 +56,8 @@ pub extern "C" fn gen1_room_submit(room: &mut PlainRoom, side: u8, number: u32, 
     ensures marked { IsMarked room.old → IsMarked room.new }
     // For any bytes, valid or not.
     ensures kept { result ≢ 0 → room.new ≡ room.old }
+    ensures short { room.old.log_length ≤ 512 → room.new.log_length ≤ 512 }
+    ensures rest { drop room.new.log_length room.new.log ≡ drop room.new.log_length room.old.log }
 {
     let Some(side) = Side::from_number(side) else {
         return NO_SIDE;

@@ -6,7 +6,7 @@ ghost use Rattle.gen1_events.specs.Faults.{number_of};
 ghost use Rattle.gen1_events.specs.Reader.{Reading, part};
 ghost use Rattle.gen1_events.specs.declared.fault.LogFault.{LogFault};
 ghost use Rattle.gen1_spectator.specs.Following.{Follows};
-ghost use Rattle.gen1_spectator.specs.Plain.{IsExact, IsPlainSpectator, reading_of, view_of};
+ghost use Rattle.gen1_spectator.specs.Plain.{IsExact, IsInRange, IsPlainSpectator, reading_of, view_of};
 ghost use Rattle.gen1_c.specs.Battle.{teams_fault};
 ghost use Rattle.gen1_c.specs.Teams.{sheets_of, team_fault};
 
@@ -23,7 +23,8 @@ pub extern "C" fn gen1_spectator_begin(
     ensures fault { result ≡ teams_fault (team_fault one.now) (team_fault two.now) }
     ensures begun { result ≡ 0
         → (view_of watch.new ≡ first_view (team_of (sheets_of one.now)) (team_of (sheets_of two.now)))
-        × (reading_of watch.new ≡ part []) × IsPlainSpectator watch.new × IsExact watch.new }
+        × (reading_of watch.new ≡ part []) × IsPlainSpectator watch.new × IsExact watch.new
+        × IsInRange watch.new }
     ensures kept { result ≢ 0 → watch.new ≡ watch.old }
 {
     match teams_of(one, two) {
@@ -46,6 +47,7 @@ pub extern "C" fn gen1_spectator_feed(watch: &mut PlainSpectator, log: &[u8]) ->
         × Follows (reading_of watch.old) log.now (view_of watch.old) (Err fault) last view }
     ensures valid { IsPlainSpectator watch.old → IsPlainSpectator watch.new }
     ensures exact { IsPlainSpectator watch.old → result ≡ 0 → IsExact watch.new }
+    ensures ranges { IsPlainSpectator watch.old → IsInRange watch.old → IsInRange watch.new }
     // For any bytes, valid or not.
     ensures kept { result ≢ 0 → watch.new ≡ watch.old }
 {

@@ -5,9 +5,9 @@ use Rattle.gen1_c.specs.Update.{Offers}
 use Rattle.gen1_c.proofs.WrittenChoices.{four, four_first, four_written, offers_of}
 use Rattle.gen1_c.proofs.choices.put_choices.Goals as goal
 
-pub returns-then-mask-eq60 : goal.returns-then-mask-eq60
+pub returns-then-mask-eq60-clause-offers : goal.returns-then-mask-eq60-clause-offers
 unfolding choices_in
-returns-then-mask-eq60 c few =
+returns-then-mask-eq60-clause-offers c few =
     let nine : length c.args.choices.now ≡ 9 = omega arith in
     let list : chosen_by c.args.mask all_choices ≡ four ++ chosen_by (c.args.mask / 64) (drop 6 all_choices) = four_first c.args.mask c.if-mask-eq60.true in
     let short = subst (λ (l : List Choice). length l ≤ 9) list few in
@@ -15,9 +15,9 @@ returns-then-mask-eq60 c few =
     (offers_of (four ++ chosen_by (c.args.mask / 64) (drop 6 all_choices)) c.args.choices.now c.put_digits.new.choices c.put_digits.result
     (c.put_digits.ensures.written c.args.choices.now four (four_written c.args.choices.now nine) nine short))
 
-pub returns : goal.returns
+pub returns-clause-offers : goal.returns-clause-offers
 unfolding choices_in
-returns c few =
+returns-clause-offers c few =
     let nine : length c.args.choices.now ≡ 9 = omega arith in
     offers_of (chosen_by c.args.mask all_choices) c.args.choices.now c.put_digits-2.new.choices c.put_digits-2.result
     (c.put_digits-2.ensures.written c.args.choices.now [] (refl, refl) nine few)
