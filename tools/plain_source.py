@@ -11,6 +11,17 @@ ATTRIBUTES = {"inline", "repr", "test", "cfg", "unsafe", "default", "error", "mu
 MACROS = {"assert", "assert_eq", "assert_ne", "debug_assert", "format_in", "macro_rules", "matches", "unreachable", "write"}
 PRELUDE = ("Vec", "String")
 
+# The public types of which any value is valid, so that serde's data may be derived. All others have it in additions/.
+WITH_SERDE = {
+    "gen1_engine": {"BattleResult"},
+    "gen1_machine": {"CantReason", "DamageSource", "DisabledSlot", "Event", "Kind", "Outcome", "Request", "UsedMove", "Volatile", "Who"},
+    "gen1_stats": {"KnownMove"},
+    "gen1_tables": {"Element", "Stat"},
+}
+SERDE = '#[cfg_attr(feature = "serde", derive(serde::Serialize, serde::Deserialize))]'
+# Public functions of these names may be called where a constant is made.
+CONSTANT = {"gen1_machine": ("new", "number", "bits", "byte"), "gen1_tables": ("new", "number")}
+
 # What replaces a path of the kit's std: the same in core, an item of the adapter, or nothing (a trait only for proofs).
 SAME_IN_CORE = ("array", "cell", "cmp", "convert", "error", "fmt", "hash", "iter", "mem", "num", "ops", "slice", "str")
 IN_ADAPTER = {
@@ -177,13 +188,18 @@ def take_attributes(source):
 
 def take_derives(source, place, opening, closing):
     names = [token.text for token in source.code[opening + 3 : closing - 1] if token.text != ","]
-    kept = [name for name in names if name not in ("Drop", "Error")]
+    item = next(at for at in range(closing, len(source.code)) if source.code[at].text in ("struct", "enum"))
+    owner = source.code[item + 1].text
+    own = {"Debug"} if re.search(rf"\bDebug for {owner}\b", source.crate.added) else set()
+    kept = [name for name in names if name not in {"Drop", "Error"} | own]
     for name in set(kept) - DERIVES:
         source.fail(source.code[place], f"an unknown derive, {name}")
     if "Error" in names:
         source.after.append(error_impls(source, closing + 1))
     if not kept:
         source.drop(place, closing)
+    elif owner in WITH_SERDE.get(source.crate.name, ()):
+        source.put(place, closing, f"#[derive({', '.join(kept)})] {SERDE}")
     elif kept != names:
         source.put(place, closing, f"#[derive({', '.join(kept)})]")
 
@@ -274,6 +290,19 @@ def take_formatters(source):
     for place in source.find("fn fmt < W : fmt :: Write > ( & self , f : & mut fmt :: Formatter < W > )"):
         source.put(place + 21, place + 21, "'_")
         source.drop(place + 2, place + 8)
+    source.refresh()
+
+
+def take_constants(source):
+    """Numbers are made and read in constants, where a range has no method: it becomes two comparisons."""
+    for name in CONSTANT.get(source.crate.name, ()):
+        for place in source.find(f"pub fn {name} ("):
+            source.code[place].text = "pub const"
+            opening = source.next_at(source.ends[place + 3], "{")
+            for at in source.find(") . contains ( &"):
+                if opening < at < source.ends[opening]:
+                    low, high, number = (source.code[other].text for other in (at - 3, at - 1, at + 5))
+                    source.put(at - 4, at + 6, f"{low} <= {number} && {number} <= {high}")
     source.refresh()
 
 
@@ -497,6 +526,7 @@ PASSES = (
     take_exports,
     take_clones,
     take_formatters,
+    take_constants,
     take_proved,
     take_labels,
     take_drop_bounds,

@@ -125,7 +125,7 @@ pub use crate::generated::spectator::View as Spectator;
 pub use crate::generated::stats::{KnownMove, Member, MemberSpec, Status, Team, TeamRefusal};
 #[doc(inline)]
 pub use crate::generated::tables::{Effect, Element, MoveId, Species, Stat};
-pub use additions::{UnknownName, UnknownText};
+pub use additions::{OutOfRange, UnknownName, UnknownText};
 pub use lines::{Events, Line, Lines, events_of};
 pub use mask::OfferedMask;
 pub use odds::{DamageRefusal, Odds};

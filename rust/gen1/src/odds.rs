@@ -6,6 +6,7 @@ use crate::generated::odds::Damages;
 
 /// Why there are no damage numbers.
 #[derive(Clone, Copy, Debug, PartialEq, Eq)]
+#[cfg_attr(feature = "serde", derive(serde::Serialize, serde::Deserialize))]
 #[non_exhaustive]
 pub enum DamageRefusal {
     /// The move doesn't use the usual damage formula: it has no power, a fixed damage, or rules of its own.
@@ -32,11 +33,14 @@ impl core::error::Error for DamageRefusal {}
 ///
 /// Chances are exact. They are given as how many of the 256 numbers that may be drawn have that result.
 #[derive(Clone, Debug, PartialEq, Eq)]
+#[cfg_attr(feature = "serde", derive(serde::Serialize, serde::Deserialize))]
 #[non_exhaustive]
 pub struct Odds {
     /// The damage of a hit that is not critical, at each factor from 217 to 255, which are equally likely; or why there is none.
+    #[cfg_attr(feature = "serde", serde(with = "crate::serde_impls::damages"))]
     pub usual: Result<[u16; 39], DamageRefusal>,
     /// The damage of a critical hit, in the same form.
+    #[cfg_attr(feature = "serde", serde(with = "crate::serde_impls::damages"))]
     pub critical: Result<[u16; 39], DamageRefusal>,
     /// How many of 256 draws make the hit critical, from 0 to 255; 0 for a move without the usual damage.
     pub critical_draws: u16,

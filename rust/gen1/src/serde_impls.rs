@@ -49,3 +49,30 @@ impl Serialize for Line {
         serializer.serialize_str(self)
     }
 }
+
+/// The damages of [`Odds`](crate::Odds): serde has no arrays of 39 items.
+pub(crate) mod damages {
+    use crate::DamageRefusal;
+    use arrayvec::ArrayVec;
+    use serde::de::Error;
+    use serde::{Deserialize, Deserializer, Serialize, Serializer};
+
+    type Damages = Result<[u16; 39], DamageRefusal>;
+
+    pub(crate) fn serialize<S: Serializer>(damages: &Damages, serializer: S) -> Result<S::Ok, S::Error> {
+        let listed = damages.as_ref().map(|list| list.as_slice());
+        listed.serialize(serializer)
+    }
+
+    pub(crate) fn deserialize<'de, D: Deserializer<'de>>(deserializer: D) -> Result<Damages, D::Error> {
+        let listed = Result::<ArrayVec<u16, 39>, DamageRefusal>::deserialize(deserializer)?;
+        listed.map_or_else(
+            |refusal| Ok(Err(refusal)),
+            |list| {
+                let length = list.len();
+                let whole = list.into_inner().map(Ok);
+                whole.map_err(|_| D::Error::invalid_length(length, &"39 damages"))
+            },
+        )
+    }
+}

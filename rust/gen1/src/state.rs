@@ -12,6 +12,7 @@ use crate::generated::stats::Status;
 /// It includes both teams and the numbers still to be drawn, so it must not be shown to the players. What a spectator may know is in
 /// [`Spectator`](crate::Spectator).
 #[derive(Clone, Debug, PartialEq, Eq)]
+#[cfg_attr(feature = "serde", derive(serde::Serialize, serde::Deserialize))]
 #[non_exhaustive]
 pub struct State {
     /// The turn, from 0 (no member is out yet) to the turn limit.
@@ -47,6 +48,7 @@ impl State {
 
 /// A side of a battle.
 #[derive(Clone, Debug, PartialEq, Eq)]
+#[cfg_attr(feature = "serde", derive(serde::Serialize, serde::Deserialize))]
 #[non_exhaustive]
 pub struct SideState {
     /// The member that is out, with the state that lasts only while it is; `None` before the first update.
@@ -66,6 +68,7 @@ impl SideState {
 
 /// The member of a side that is out, and the state that lasts only while it is.
 #[derive(Clone, Debug, PartialEq, Eq)]
+#[cfg_attr(feature = "serde", derive(serde::Serialize, serde::Deserialize))]
 #[non_exhaustive]
 pub struct ActiveState {
     /// Which member it is.
@@ -116,6 +119,7 @@ impl ActiveState {
 
 /// A member of a side.
 #[derive(Clone, Debug, PartialEq, Eq)]
+#[cfg_attr(feature = "serde", derive(serde::Serialize, serde::Deserialize))]
 #[non_exhaustive]
 pub struct MemberState {
     /// Its species.

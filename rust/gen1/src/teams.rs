@@ -1,5 +1,5 @@
 //! Members of teams, from names.
-use crate::{MemberSpec, MoveId, Species};
+use crate::{MemberSpec, UnknownName};
 use arrayvec::ArrayVec;
 use core::fmt;
 
@@ -7,10 +7,10 @@ use core::fmt;
 #[derive(Clone, Copy, Debug, PartialEq, Eq)]
 #[non_exhaustive]
 pub enum NameFault {
-    /// No species in docs/TABLES.md has exactly this name.
-    NoSuchSpecies,
+    /// No species has the name.
+    NoSuchSpecies(UnknownName),
     /// No move has the name at this place, counted from 1.
-    NoSuchMove(usize),
+    NoSuchMove(usize, UnknownName),
     /// There are more than four moves.
     TooManyMoves,
 }
@@ -18,8 +18,8 @@ pub enum NameFault {
 impl fmt::Display for NameFault {
     fn fmt(&self, f: &mut fmt::Formatter<'_>) -> fmt::Result {
         match self {
-            NameFault::NoSuchSpecies => f.write_str("no species has this name"),
-            NameFault::NoSuchMove(place) => write!(f, "move {place}: no move has this name"),
+            NameFault::NoSuchSpecies(name) => name.fmt(f),
+            NameFault::NoSuchMove(place, name) => write!(f, "move {place}: {name}"),
             NameFault::TooManyMoves => f.write_str("there are more than four moves"),
         }
     }
@@ -29,24 +29,28 @@ impl core::error::Error for NameFault {}
 
 /// A member at level 100 with maximum DVs, experience and PP, as in most competitive rules.
 ///
-/// Its fields may be changed before it goes into a [`Team`](crate::Team), which checks all of them.
+/// In names only letters and digits are compared, in either case. The fields of the member may be changed before it goes into a
+/// [`Team`](crate::Team), which checks all of them.
 ///
 /// ```
-/// use gen1::{NameFault, member};
+/// use gen1::member;
 ///
-/// let mut tauros = member("Tauros", &["Body Slam", "Earthquake"]).unwrap();
+/// let mut tauros = member("Tauros", &["body slam", "Earthquake"]).unwrap();
 /// tauros.level = 50;
-/// assert_eq!(member("Missingno.", &[]), Err(NameFault::NoSuchSpecies));
+/// let fault = member("Tauros", &["Body Slam", "Earthquack"]).unwrap_err();
+/// assert_eq!(fault.to_string(), "move 2: no move is called 'Earthquack'; did you mean Earthquake?");
 /// ```
 ///
 /// # Errors
 ///
 /// An unknown name, or more than four moves.
 pub fn member(species: &str, moves: &[&str]) -> Result<MemberSpec, NameFault> {
-    let species = Species::from_name(species).ok_or(NameFault::NoSuchSpecies)?;
+    let species = species.parse().map_err(NameFault::NoSuchSpecies)?;
     let mut chosen = ArrayVec::new();
     for (place, name) in moves.iter().enumerate() {
-        let id = MoveId::from_name(name).ok_or(NameFault::NoSuchMove(place + 1))?;
+        let id = name
+            .parse()
+            .map_err(|fault| NameFault::NoSuchMove(place + 1, fault))?;
         chosen
             .try_push((id, 3))
             .map_err(|_| NameFault::TooManyMoves)?;

@@ -1,7 +1,7 @@
 //! Bad input: each gets a named error that says what was wrong, and nothing changes.
 use gen1::{
-    Battle, Choice, DamageRefusal, LogFault, MoveSlot, NameFault, Place, Refusal, Side, Team,
-    TeamRefusal, TurnLimit, events_of, member,
+    Battle, Choice, DamageRefusal, LogFault, MoveId, NameFault, OutOfRange, Refusal, Rules, Side,
+    Species, Team, TeamRefusal, TurnLimit, events_of, member,
 };
 
 fn team() -> Team {
@@ -20,26 +20,38 @@ fn started() -> Battle {
 
 #[test]
 fn names() {
-    assert_eq!(member("tauros", &[]), Err(NameFault::NoSuchSpecies));
+    let fault = |species, moves: &[&str]| member(species, moves).unwrap_err().to_string();
     assert_eq!(
-        member("Tauros", &["Strength", "Fly Away"]),
-        Err(NameFault::NoSuchMove(2))
+        fault("Taurus", &[]),
+        "no species is called 'Taurus'; did you mean Tauros?"
+    );
+    assert_eq!(
+        fault("Tauros", &["Strength", "Body Slap"]),
+        "move 2: no move is called 'Body Slap'; did you mean Body Slam?"
     );
     assert_eq!(
         member("Tauros", &["Cut", "Fly", "Surf", "Strength", "Flash"]),
         Err(NameFault::TooManyMoves)
     );
+    // Nothing is near to these, and only the first 32 bytes of a text are shown.
+    let unknown = |text: &str| text.parse::<MoveId>().unwrap_err().to_string();
+    assert_eq!(unknown(""), "no move is called ''");
+    assert_eq!(unknown("Dynamax Cannon"), "no move is called 'Dynamax Cannon'");
     assert_eq!(
-        member("Tauros", &["Fly Away"]).unwrap_err().to_string(),
-        "move 1: no move has this name"
+        unknown(&"ab".repeat(50)),
+        format!("no move is called '{}'", "ab".repeat(16))
     );
-    assert!(
-        "Missingno."
-            .parse::<gen1::Species>()
-            .unwrap_err()
-            .to_string()
-            .contains("to the letter")
-    );
+    assert_eq!(unknown("\u{e9}".repeat(17).as_str()).len(), "no move is called ''".len() + 32);
+}
+
+#[test]
+fn numbers() {
+    assert_eq!(Species::try_from(0), Err(OutOfRange));
+    assert_eq!(Species::try_from(152), Err(OutOfRange));
+    assert_eq!(MoveId::try_from(166), Err(OutOfRange));
+    assert_eq!(Choice::try_from(0x15), Err(OutOfRange));
+    assert_eq!(Rules::try_from(4), Err(OutOfRange));
+    assert_eq!(TurnLimit::try_from(10_000), Err(OutOfRange));
 }
 
 #[test]
@@ -69,8 +81,7 @@ fn teams() {
 fn choices() {
     let mut battle = started();
     let before = battle.clone();
-    let strength = Choice::Move(MoveSlot::new(1).unwrap());
-    let switch = Choice::Switch(Place::new(2).unwrap());
+    let (strength, switch) = (Choice::MOVE_1, Choice::SWITCH_2);
     assert_eq!(
         battle.update(switch, switch).unwrap_err(),
         Refusal::NotOffered(Side::One)
@@ -150,5 +161,6 @@ fn serde() {
             .number(),
         128
     );
-    assert!(serde_json::from_str::<gen1::Species>("\"tauros\"").is_err());
+    let fault = serde_json::from_str::<gen1::Species>("\"taurus\"").unwrap_err();
+    assert!(fault.to_string().contains("did you mean Tauros?"));
 }

@@ -1,7 +1,7 @@
 //! Traits that Rust users expect of values: keys of maps, order, text, and serde.
 use gen1::{
     ArrayVec, Battle, Choice, Element, Event, Kind, MoveId, Outcome, Place, Request, Room,
-    RoomRefusal, Side, Species, Stat, Submitted, Team, TurnNumber, member,
+    RoomRefusal, Rules, Side, Species, Stat, Submitted, Team, TurnNumber, member,
 };
 use std::collections::{BTreeMap, BTreeSet, HashMap, HashSet};
 
@@ -41,6 +41,46 @@ fn values_are_keys_and_are_in_the_order_of_their_numbers() {
         (Outcome::Fault(2), 1),
     ];
     assert!(ends.into_iter().eq(counted));
+}
+
+/// docs/TABLES.md, "Species" and "Moves".
+#[test]
+fn species_and_moves_are_constants() {
+    const LEAD: Species = Species::TAUROS;
+    assert_eq!((LEAD.number(), LEAD.name()), (128, "Tauros"));
+    assert_eq!((Species::MR_MIME.number(), Species::NIDORAN_F.number()), (122, 29));
+    assert_eq!((MoveId::BODY_SLAM.number(), MoveId::SOFT_BOILED.number()), (34, 135));
+    assert!(Species::all().map(u8::from).eq(1..=151));
+    assert!(MoveId::all().map(u8::from).eq(1..=165));
+    assert_eq!(Species::all().len(), 151);
+    assert_eq!(Species::try_from(128), Ok(LEAD));
+    let clauses = Rules::SLEEP_CLAUSE | Rules::FREEZE_CLAUSE;
+    assert!(clauses.sleep_clause() && clauses.freeze_clause());
+    assert_eq!((Rules::NONE, Rules::FREEZE_CLAUSE.bits()), (Rules::default(), 2));
+    const PLACE: Option<Place> = Place::new(6);
+    assert_eq!(PLACE.map(Choice::Switch), Some(Choice::SWITCH_6));
+    assert_eq!(Choice::MOVE_0.to_string(), "move 0");
+}
+
+#[test]
+fn names_in_any_spelling() {
+    for text in ["Mr. Mime", "mr mime", "MRMIME", "Mr-Mime"] {
+        assert_eq!(text.parse(), Ok(Species::MR_MIME));
+    }
+    for text in ["High Jump Kick", "hi jump kick", "HighJumpKick"] {
+        assert_eq!(text.parse(), Ok(MoveId::HIGH_JUMP_KICK));
+    }
+    assert!(Species::all().all(|it| it.name().parse() == Ok(it)));
+    assert!(MoveId::all().all(|it| it.name().parse() == Ok(it)));
+}
+
+#[test]
+fn debug_shows_names() {
+    let shown = format!("{:?}", (MoveId::BODY_SLAM, Species::MR_MIME, Choice::MOVE_1));
+    assert_eq!(shown, "(BodySlam, MrMime, Move(1))");
+    let update = battle().update(Choice::Pass, Choice::Pass).unwrap();
+    let last = update.events().last();
+    assert_eq!(format!("{last:?}"), "Some(Turn(1))");
 }
 
 #[test]
@@ -150,12 +190,8 @@ fn a_member_is_the_object_of_the_document() {
     assert_eq!(read(text).unwrap(), spec);
     assert_eq!(serde_json::to_string(&spec).unwrap(), text);
     for (old, new, why) in [
-        (
-            "Mr. Mime",
-            "mr mime",
-            "nothing has this name; names are compared to the letter",
-        ),
-        ("Psychic", "Psychic!", "nothing has this name"),
+        ("Mr. Mime", "Mr. Nime", "did you mean Mr. Mime?"),
+        ("Psychic", "Psyche!", "no move is called 'Psyche!'"),
         ("\"level\":100", "\"lvl\":100", "missing field `level`"),
         ("100", "256", "invalid value: integer `256`, expected u8"),
         ("[1,2,3,4,65535]", "[1,2,3,4]", "invalid length 4"),
@@ -170,6 +206,7 @@ fn a_member_is_the_object_of_the_document() {
         let fault = read(&text.replace(old, new)).unwrap_err().to_string();
         assert!(fault.contains(why), "{fault}");
     }
-    // Other keys are ignored, as in the program.
+    // Names are compared as in a team builder's text, and other keys are ignored, as in the program.
+    assert_eq!(read(&text.replace("Mr. Mime", "mr mime")).unwrap(), spec);
     assert_eq!(read(&text.replace('{', r#"{"name":"Joe","#)).unwrap(), spec);
 }

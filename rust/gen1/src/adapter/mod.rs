@@ -11,4 +11,4 @@ pub mod prelude;
 #[cfg(feature = "serde")]
 mod serde_text;
 #[cfg(feature = "serde")]
-pub(crate) use serde_text::serde_as_text;
+pub(crate) use serde_text::{serde_as_number, serde_as_text};

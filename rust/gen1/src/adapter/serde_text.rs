@@ -1,4 +1,4 @@
-//! Types that serde writes as their text, and reads from it.
+//! Types that serde writes as their text or their number, and reads from it.
 
 /// Implements `Serialize` through `Display`, and `Deserialize` through `FromStr`.
 macro_rules! serde_as_text {
@@ -31,4 +31,22 @@ macro_rules! serde_as_text {
     )*};
 }
 
-pub(crate) use serde_as_text;
+/// Implements `Serialize` and `Deserialize` through the number of a value.
+macro_rules! serde_as_number {
+    ($([$($generics:tt)*] $name:ty, $number:ty;)*) => {$(
+        impl<$($generics)*> serde::Serialize for $name {
+            fn serialize<S: serde::Serializer>(&self, serializer: S) -> Result<S::Ok, S::Error> {
+                serde::Serialize::serialize(&<$number>::from(*self), serializer)
+            }
+        }
+
+        impl<'de, $($generics)*> serde::Deserialize<'de> for $name {
+            fn deserialize<D: serde::Deserializer<'de>>(deserializer: D) -> Result<Self, D::Error> {
+                let number = <$number as serde::Deserialize>::deserialize(deserializer)?;
+                number.try_into().map_err(serde::de::Error::custom)
+            }
+        }
+    )*};
+}
+
+pub(crate) use {serde_as_number, serde_as_text};

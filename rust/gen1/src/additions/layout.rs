@@ -1,7 +1,9 @@
 //! Added to the sources (docs/PLAIN.md, "What is added"): conditions as names and bits.
+use crate::adapter::bitflags::Flags;
+use crate::additions::UnknownText;
 use crate::generated::layout::Conditions;
 use core::fmt;
-use crate::adapter::bitflags::Flags;
+use core::str::FromStr;
 
 impl Conditions {
     /// The 17 bits (docs/LAYOUT.md, "Condition bits").
@@ -34,6 +36,24 @@ impl fmt::Display for Conditions {
         Ok(())
     }
 }
+
+impl FromStr for Conditions {
+    type Err = UnknownText;
+
+    /// Reads what `Display` writes: names with blanks between them, in any order.
+    fn from_str(text: &str) -> Result<Self, UnknownText> {
+        let mut conditions = <Conditions as Flags>::from_bits_retain(0);
+        for name in text.split_whitespace() {
+            let flag = Conditions::flags().iter().find(|flag| flag.name() == name);
+            let flag = flag.ok_or(UnknownText("no condition has this name"))?;
+            Flags::insert(&mut conditions, *flag.value());
+        }
+        Ok(conditions)
+    }
+}
+
+#[cfg(feature = "serde")]
+crate::adapter::serde_as_text!(Conditions);
 
 crate::additions::ordered_by_key! {
     [] Conditions, |it| it.bits();

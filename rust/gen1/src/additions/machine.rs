@@ -1,14 +1,15 @@
 //! Added to the sources (docs/PLAIN.md, "What is added"): choices, sides and outcomes as text, and types that can be keys of
 //! maps and be sorted.
 use crate::generated::machine::{
-    Choice, Kind, MoveSlot, Outcome, Place, Ranged, Request, Rules, Side, TurnLimit, TurnNumber,
+    CantReason, Choice, DamageSource, Health, Kind, MoveSlot, Outcome, Place, Ranged, Request, Rules,
+    Side, TurnLimit, TurnNumber, Volatile, Who,
 };
 use core::fmt;
 use core::str::FromStr;
 
-/// A text that is not a choice, or not a side.
+/// A text that is not a choice, not a side, or not the names of conditions.
 #[derive(Clone, Copy, Debug, PartialEq, Eq)]
-pub struct UnknownText(&'static str);
+pub struct UnknownText(pub(super) &'static str);
 
 impl fmt::Display for UnknownText {
     fn fmt(&self, f: &mut fmt::Formatter<'_>) -> fmt::Result {
@@ -106,28 +107,160 @@ impl fmt::Display for Kind {
 }
 
 /// The number.
+impl<const LOW: u8, const HIGH: u8> fmt::Debug for Ranged<LOW, HIGH> {
+    fn fmt(&self, f: &mut fmt::Formatter<'_>) -> fmt::Result {
+        fmt::Debug::fmt(&self.number(), f)
+    }
+}
+
+/// The number.
 impl<const LOW: u8, const HIGH: u8> fmt::Display for Ranged<LOW, HIGH> {
     fn fmt(&self, f: &mut fmt::Formatter<'_>) -> fmt::Result {
-        self.number().fmt(f)
+        fmt::Display::fmt(&self.number(), f)
+    }
+}
+
+/// The number.
+impl fmt::Debug for TurnNumber {
+    fn fmt(&self, f: &mut fmt::Formatter<'_>) -> fmt::Result {
+        fmt::Debug::fmt(&self.number(), f)
     }
 }
 
 /// The number.
 impl fmt::Display for TurnNumber {
     fn fmt(&self, f: &mut fmt::Formatter<'_>) -> fmt::Result {
-        self.number().fmt(f)
+        fmt::Display::fmt(&self.number(), f)
+    }
+}
+
+/// The number.
+impl fmt::Debug for TurnLimit {
+    fn fmt(&self, f: &mut fmt::Formatter<'_>) -> fmt::Result {
+        fmt::Debug::fmt(&self.number(), f)
     }
 }
 
 /// The number.
 impl fmt::Display for TurnLimit {
     fn fmt(&self, f: &mut fmt::Formatter<'_>) -> fmt::Result {
-        self.number().fmt(f)
+        fmt::Display::fmt(&self.number(), f)
     }
 }
 
 #[cfg(feature = "serde")]
-crate::adapter::serde_as_text!(Choice, Side);
+mod serde_impls {
+    use crate::generated::machine::{Choice, Health, Kind, Ranged, Rules, Side, TurnLimit, TurnNumber};
+    use serde::de::Error;
+    use serde::{Deserialize, Deserializer, Serialize, Serializer};
+
+    crate::adapter::serde_as_text!(Choice, Side);
+
+    crate::adapter::serde_as_number! {
+        [] Rules, u8;
+        [] TurnLimit, u16;
+        [] TurnNumber, u16;
+        [const LOW: u8, const HIGH: u8] Ranged<LOW, HIGH>, u8;
+    }
+
+    /// The values of a health, with the names of their methods.
+    #[derive(Serialize, Deserialize)]
+    struct HealthObject {
+        hp: u16,
+        max: u16,
+        kind: Option<Kind>,
+    }
+
+    impl Serialize for Health {
+        fn serialize<S: Serializer>(&self, serializer: S) -> Result<S::Ok, S::Error> {
+            let (hp, max, kind) = (self.hp(), self.max(), self.kind());
+            HealthObject { hp, max, kind }.serialize(serializer)
+        }
+    }
+
+    impl<'de> Deserialize<'de> for Health {
+        fn deserialize<D: Deserializer<'de>>(deserializer: D) -> Result<Self, D::Error> {
+            let HealthObject { hp, max, kind } = HealthObject::deserialize(deserializer)?;
+            Health::new(hp, max, kind).ok_or_else(|| D::Error::custom("HP that are out of range"))
+        }
+    }
+}
+
+/// The choice of a move.
+const fn move_at(slot: u8) -> Choice {
+    match MoveSlot::new(slot) {
+        Some(slot) => Choice::Move(slot),
+        None => panic!(),
+    }
+}
+
+/// The choice of a switch.
+const fn switch_to(place: u8) -> Choice {
+    match Place::new(place) {
+        Some(place) => Choice::Switch(place),
+        None => panic!(),
+    }
+}
+
+impl Choice {
+    /// The one move that is left if no slot can be chosen.
+    pub const MOVE_0: Choice = move_at(0);
+    /// The move in slot 1.
+    pub const MOVE_1: Choice = move_at(1);
+    /// The move in slot 2.
+    pub const MOVE_2: Choice = move_at(2);
+    /// The move in slot 3.
+    pub const MOVE_3: Choice = move_at(3);
+    /// The move in slot 4.
+    pub const MOVE_4: Choice = move_at(4);
+    /// The member at place 1 comes out.
+    pub const SWITCH_1: Choice = switch_to(1);
+    /// The member at place 2 comes out.
+    pub const SWITCH_2: Choice = switch_to(2);
+    /// The member at place 3 comes out.
+    pub const SWITCH_3: Choice = switch_to(3);
+    /// The member at place 4 comes out.
+    pub const SWITCH_4: Choice = switch_to(4);
+    /// The member at place 5 comes out.
+    pub const SWITCH_5: Choice = switch_to(5);
+    /// The member at place 6 comes out.
+    pub const SWITCH_6: Choice = switch_to(6);
+}
+
+/// The rules with these bits.
+const fn rules(bits: u8) -> Rules {
+    match Rules::new(bits) {
+        Some(rules) => rules,
+        None => panic!(),
+    }
+}
+
+impl Rules {
+    /// Neither clause, as by default.
+    pub const NONE: Rules = rules(0);
+    /// The sleep clause alone.
+    pub const SLEEP_CLAUSE: Rules = rules(1);
+    /// The freeze clause alone.
+    pub const FREEZE_CLAUSE: Rules = rules(2);
+}
+
+/// The clauses of both, as `Rules::SLEEP_CLAUSE | Rules::FREEZE_CLAUSE`.
+impl core::ops::BitOr for Rules {
+    type Output = Rules;
+
+    fn bitor(self, other: Rules) -> Rules {
+        rules(self.bits() | other.bits())
+    }
+}
+
+crate::additions::as_number! {
+    [] Choice, u8, from_byte, byte;
+    [] Rules, u8, new, bits;
+    [] Side, u8, from_number, number;
+    [] TurnLimit, u16, new, number;
+    [] TurnNumber, u16, new, number;
+    [const LOW: u8, const HIGH: u8] Ranged<LOW, HIGH>, u8, new, number;
+}
 
 impl Side {
     /// Side 1, and side 2.
@@ -157,8 +290,17 @@ impl Outcome {
     }
 }
 
+/// A health has no order, whose `max` would hide the maximum HP.
+impl core::hash::Hash for Health {
+    fn hash<H: core::hash::Hasher>(&self, state: &mut H) {
+        (self.hp(), self.max(), self.kind()).hash(state);
+    }
+}
+
 crate::additions::ordered_by_key! {
+    [] CantReason, |it| it.number();
     [] Choice, |it| it.byte();
+    [] DamageSource, |it| it.number();
     [] Kind, |it| it.number();
     [] Outcome, |it| it.key();
     [] Request, |it| *it as u8;
@@ -166,5 +308,7 @@ crate::additions::ordered_by_key! {
     [] Side, |it| it.number();
     [] TurnLimit, |it| it.number();
     [] TurnNumber, |it| it.number();
+    [] Volatile, |it| it.number();
+    [] Who, |it| (it.side, it.species);
     [const LOW: u8, const HIGH: u8] Ranged<LOW, HIGH>, |it| it.number();
 }

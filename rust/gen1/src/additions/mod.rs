@@ -10,5 +10,5 @@ mod stats;
 mod tables;
 
 pub use machine::UnknownText;
-pub use tables::UnknownName;
-pub(crate) use tables::ordered_by_key;
+pub use tables::{OutOfRange, UnknownName};
+pub(crate) use tables::{as_number, ordered_by_key};

@@ -1,9 +1,10 @@
-//! Added to the sources (docs/PLAIN.md, "What is added"): serde for members.
+//! Added to the sources (docs/PLAIN.md, "What is added"): serde for members and teams.
 #[cfg(feature = "serde")]
 mod serde_impls {
-    use crate::generated::stats::MemberSpec;
-    use arrayvec::ArrayVec;
+    use crate::generated::stats::{MemberSpec, Team};
     use crate::generated::tables::{MoveId, Species};
+    use arrayvec::ArrayVec;
+    use serde::de::Error;
     use serde::{Deserialize, Deserializer, Serialize, Serializer};
 
     /// The object of docs/PROGRAM.md, "Input". Each key is required; other keys are ignored, as in the program.
@@ -26,6 +27,15 @@ mod serde_impls {
     impl<'de> Deserialize<'de> for MemberSpec {
         fn deserialize<D: Deserializer<'de>>(deserializer: D) -> Result<Self, D::Error> {
             MemberObject::deserialize(deserializer)
+        }
+    }
+
+    /// Reads a list of members, and checks it as `Team::new` does. A team is not written: it has the stats of its members, and not the
+    /// DVs and experience that they come from.
+    impl<'de> Deserialize<'de> for Team {
+        fn deserialize<D: Deserializer<'de>>(deserializer: D) -> Result<Self, D::Error> {
+            let members = ArrayVec::<MemberSpec, 6>::deserialize(deserializer)?;
+            Team::new(&members).map_err(D::Error::custom)
         }
     }
 }

@@ -1,45 +1,140 @@
-//! Added to the sources (docs/PLAIN.md, "What is added"): names as text, and types that can be keys of maps and be sorted.
+//! Added to the sources (docs/PLAIN.md, "What is added"): names as text, numbers, and types that can be keys of maps and be sorted.
 use crate::generated::tables::{Element, MoveId, Species, Stat};
+use crate::generated::text::{move_called, species_called};
+use arrayvec::{ArrayString, ArrayVec};
 use core::fmt;
 use core::str::FromStr;
 
-/// A text that names no species, or no move. Names are compared exactly (docs/TABLES.md).
+/// How many letters and digits of a text are compared with names. No name has more.
+const LETTERS: usize = 24;
+
+/// A text that names no species, or no move, with the name that is nearest to it.
+///
+/// In names only ASCII letters and digits are compared, in either case: `body slam`, `BodySlam` and `Body-Slam` name the same move.
+///
+/// ```
+/// let fault = "Body Slap".parse::<gen1::MoveId>().unwrap_err();
+/// assert_eq!(fault.to_string(), "no move is called 'Body Slap'; did you mean Body Slam?");
+/// ```
 #[derive(Clone, Copy, Debug, PartialEq, Eq)]
-pub struct UnknownName;
+pub struct UnknownName {
+    kind: &'static str,
+    text: ArrayString<32>,
+    nearest: Option<&'static str>,
+}
+
+impl UnknownName {
+    fn new(kind: &'static str, text: &str, names: impl Iterator<Item = &'static str>) -> Self {
+        let mut shown = ArrayString::new();
+        for letter in text.chars() {
+            if shown.try_push(letter).is_err() {
+                break;
+            }
+        }
+        let wanted = letters(text);
+        let distances = names.map(|name| (distance(&wanted, &letters(name)), name));
+        let nearest = distances.min_by_key(|(distance, _)| *distance);
+        UnknownName {
+            kind,
+            text: shown,
+            nearest: nearest
+                .filter(|(distance, _)| distance * 3 <= wanted.len())
+                .map(|(_, name)| name),
+        }
+    }
+
+    /// The name that is nearest to the text; `None` if a third of its letters differ from every name.
+    #[must_use]
+    pub fn suggestion(&self) -> Option<&'static str> {
+        self.nearest
+    }
+}
 
 impl fmt::Display for UnknownName {
     fn fmt(&self, f: &mut fmt::Formatter<'_>) -> fmt::Result {
-        f.write_str("nothing has this name; names are compared to the letter, as \"Mr. Mime\" and \"Body Slam\"")
+        write!(f, "no {} is called '{}'", self.kind, self.text)?;
+        match self.nearest {
+            Some(name) => write!(f, "; did you mean {name}?"),
+            None => Ok(()),
+        }
     }
 }
 
 impl core::error::Error for UnknownName {}
 
+/// The letters and digits of a text that are compared.
+fn letters(text: &str) -> ArrayVec<u8, LETTERS> {
+    let bytes = text.bytes().filter(u8::is_ascii_alphanumeric);
+    bytes.take(LETTERS).map(|byte| byte.to_ascii_lowercase()).collect()
+}
+
+/// How many letters have to be put in, taken out or replaced to make one text of the other.
+fn distance(one: &[u8], two: &[u8]) -> usize {
+    let mut row: [usize; LETTERS + 1] = core::array::from_fn(|place| place);
+    for (place, letter) in one.iter().enumerate() {
+        let mut diagonal = row[0];
+        row[0] = place + 1;
+        for (at, other) in two.iter().enumerate() {
+            let replaced = diagonal + usize::from(letter != other);
+            diagonal = row[at + 1];
+            row[at + 1] = replaced.min(diagonal + 1).min(row[at] + 1);
+        }
+    }
+    row[two.len()]
+}
+
+/// The name without blanks and punctuation, as `BodySlam`.
+fn debug_name(name: &str, f: &mut fmt::Formatter<'_>) -> fmt::Result {
+    let mut parts = name.split(|letter: char| !letter.is_ascii_alphanumeric());
+    parts.try_for_each(|part| f.write_str(part))
+}
+
+/// The name.
 impl fmt::Display for Species {
     fn fmt(&self, f: &mut fmt::Formatter<'_>) -> fmt::Result {
         f.pad(self.name())
     }
 }
 
-impl FromStr for Species {
-    type Err = UnknownName;
-
-    fn from_str(text: &str) -> Result<Self, UnknownName> {
-        Species::from_name(text).ok_or(UnknownName)
+/// The name without blanks and punctuation, as `MrMime`.
+impl fmt::Debug for Species {
+    fn fmt(&self, f: &mut fmt::Formatter<'_>) -> fmt::Result {
+        debug_name(self.name(), f)
     }
 }
 
+impl FromStr for Species {
+    type Err = UnknownName;
+
+    /// Reads a name, of which only letters and digits are compared, in either case.
+    fn from_str(text: &str) -> Result<Self, UnknownName> {
+        let unknown = || UnknownName::new("species", text, Species::all().map(Species::name));
+        species_called(text.as_bytes()).ok_or_else(unknown)
+    }
+}
+
+/// The name.
 impl fmt::Display for MoveId {
     fn fmt(&self, f: &mut fmt::Formatter<'_>) -> fmt::Result {
         f.pad(self.name())
     }
 }
 
+/// The name without blanks and punctuation, as `BodySlam`.
+impl fmt::Debug for MoveId {
+    fn fmt(&self, f: &mut fmt::Formatter<'_>) -> fmt::Result {
+        debug_name(self.name(), f)
+    }
+}
+
 impl FromStr for MoveId {
     type Err = UnknownName;
 
+    /// Reads a name, of which only letters and digits are compared, in either case. `Vise Grip` and `Hi Jump Kick`, the names that two
+    /// moves have in other generations, are accepted too.
     fn from_str(text: &str) -> Result<Self, UnknownName> {
-        MoveId::from_name(text).ok_or(UnknownName)
+        let unknown = || UnknownName::new("move", text, MoveId::all().map(MoveId::name));
+        move_called(text.as_bytes()).ok_or_else(unknown)
     }
 }
 
@@ -114,3 +209,41 @@ ordered_by_key! {
 }
 
 pub(crate) use ordered_by_key;
+
+/// A number that is out of a type's range.
+#[derive(Clone, Copy, Debug, PartialEq, Eq)]
+pub struct OutOfRange;
+
+impl fmt::Display for OutOfRange {
+    fn fmt(&self, f: &mut fmt::Formatter<'_>) -> fmt::Result {
+        f.write_str("the number is out of range")
+    }
+}
+
+impl core::error::Error for OutOfRange {}
+
+/// Converts values to their numbers, and numbers that are in range to values.
+macro_rules! as_number {
+    ($([$($generics:tt)*] $name:ty, $number:ty, $from:ident, $to:ident;)*) => {$(
+        impl<$($generics)*> TryFrom<$number> for $name {
+            type Error = crate::OutOfRange;
+
+            fn try_from(number: $number) -> Result<Self, crate::OutOfRange> {
+                <$name>::$from(number).ok_or(crate::OutOfRange)
+            }
+        }
+
+        impl<$($generics)*> From<$name> for $number {
+            fn from(value: $name) -> $number {
+                value.$to()
+            }
+        }
+    )*};
+}
+
+pub(crate) use as_number;
+
+as_number! {
+    [] MoveId, u8, new, number;
+    [] Species, u8, new, number;
+}

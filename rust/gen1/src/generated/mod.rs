@@ -11,6 +11,7 @@ pub mod hits;
 pub mod layout;
 pub mod machine;
 pub mod multiturn;
+pub mod names;
 pub mod odds;
 pub mod printer;
 pub mod requests;

@@ -14,7 +14,7 @@ mod known_move {
     use crate::generated::tables::MoveId;
 
     /// A move that a member knows, with its remaining PP, at most 63 (docs/MECHANICS.md, "Teams").
-    #[derive(Debug, Clone, Copy, Default, PartialEq, Eq)]
+    #[derive(Debug, Clone, Copy, Default, PartialEq, Eq)] #[cfg_attr(feature = "serde", derive(serde::Serialize, serde::Deserialize))]
     pub struct KnownMove {
         pub id: MoveId,
         pub pp: u8,

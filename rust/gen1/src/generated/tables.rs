@@ -12,7 +12,7 @@ mod effect {
     //! The stats that have stages, and the effects of moves (docs/TABLES.md, "Effects").
 
     /// A stat that has a stage.
-    #[derive(Clone, Copy, PartialEq, Eq, Debug)]
+    #[derive(Clone, Copy, PartialEq, Eq, Debug)] #[cfg_attr(feature = "serde", derive(serde::Serialize, serde::Deserialize))]
     pub enum Stat {
         Attack,
         Defense,
@@ -166,7 +166,7 @@ mod element {
 
     /// A type of a species or a move. The first eight are physical, the other seven special
     /// (docs/TABLES.md, "Types").
-    #[derive(Clone, Copy, PartialEq, Eq, Debug)]
+    #[derive(Clone, Copy, PartialEq, Eq, Debug)] #[cfg_attr(feature = "serde", derive(serde::Serialize, serde::Deserialize))]
     pub enum Element {
         Normal,
         Fighting,
@@ -187,7 +187,7 @@ mod element {
 
     impl Element {
         /// The number of the type, 0 for Normal to 14 for Dragon.
-        pub fn number(self) -> u8 {
+        pub const fn number(self) -> u8 {
             self as u8
         }
 
@@ -394,7 +394,7 @@ mod moves {
     pub const STRUGGLE: u8 = 165;
 
     /// A move, by its number from 1 to 165 (docs/TABLES.md, "Moves").
-    #[derive(Clone, Copy, PartialEq, Eq, Debug)]
+    #[derive(Clone, Copy, PartialEq, Eq)]
     pub struct MoveId {
         number: u8,
     }
@@ -408,8 +408,8 @@ mod moves {
 
     impl MoveId {
         /// The move with a number. Returns `None` outside 1 to 165.
-        pub fn new(number: u8) -> Option<Self> {
-            if (1..=165).contains(&number) {
+        pub const fn new(number: u8) -> Option<Self> {
+            if 1 <= number && number <= 165 {
                 Some(MoveId { number })
             } else {
                 None
@@ -422,7 +422,7 @@ mod moves {
         }
 
         /// The move's number, 1 to 165.
-        pub fn number(self) -> u8 {
+        pub const fn number(self) -> u8 {
             self.number
         }
 
@@ -980,7 +980,7 @@ mod species {
     ];
 
     /// A species, by its number from 1 to 151 (docs/TABLES.md, "Species").
-    #[derive(Clone, Copy, PartialEq, Eq, Debug)]
+    #[derive(Clone, Copy, PartialEq, Eq)]
     pub struct Species {
         number: u8,
     }
@@ -994,8 +994,8 @@ mod species {
 
     impl Species {
         /// The species with a number. Returns `None` outside 1 to 151.
-        pub fn new(number: u8) -> Option<Self> {
-            if (1..=151).contains(&number) {
+        pub const fn new(number: u8) -> Option<Self> {
+            if 1 <= number && number <= 151 {
                 Some(Species { number })
             } else {
                 None
@@ -1008,7 +1008,7 @@ mod species {
         }
 
         /// The species' number, 1 to 151.
-        pub fn number(self) -> u8 {
+        pub const fn number(self) -> u8 {
             self.number
         }
 
