@@ -49,7 +49,7 @@ fn load(bytes: &[u8]) {
         let told: Vec<Event> = events_of(&update.log())
             .collect::<Result<_, _>>()
             .expect("a log is read");
-        assert!(update.events().eq(told));
+        assert_eq!(update.events(), told);
         Battle::load(battle.bytes()).expect("a battle stays one");
     }
 }

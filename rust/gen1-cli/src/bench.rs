@@ -117,7 +117,7 @@ fn listed(
     let (mut battle, mut updates) = (game.start.clone(), 0);
     let mut choose = |battle: &Battle, side| random.pick(&battle.choices(side)).copied();
     while let (Some(one), Some(two)) = (choose(&battle, Side::One), choose(&battle, Side::Two)) {
-        if battle.update_events(one, two, events).is_err() {
+        if battle.update_with(one, two, events).is_err() {
             break;
         }
         then(events);

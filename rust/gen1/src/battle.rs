@@ -1,21 +1,24 @@
-//! Battles, and the result of an update.
-use crate::lines::Lines;
+//! Battles.
+use crate::generated::engine::packed;
+use crate::generated::layout::Packed;
+use crate::generated::requests;
+use crate::generated::rolls::LinkRandom;
+use crate::update::{Chosen, EventSink, Pushed, Silent, Update};
 use crate::{
-    BattleResult, Choice, Choices, Event, EventList, LoadFault, LogBuf, OfferedMask, Outcome,
-    Refusal, Rules, Side, Team, TurnLimit,
+    BattleResult, Choice, Choices, LoadFault, OfferedMask, Outcome, Refusal, Rules, Side, Team,
+    TurnLimit,
 };
 use core::fmt;
-use crate::generated::events::Silent;
-use crate::generated::rolls::LinkRandom;
+use core::hash::{Hash, Hasher};
 
 /// A battle of two teams: 384 bytes, changed in place.
 ///
 /// Two battles that were created and updated in the same way are equal, byte for byte. A clone is independent. A battle is aligned
 /// to 64 bytes, so it occupies exactly six cache lines, also in an array.
-#[derive(Clone, PartialEq, Eq, Hash)]
+#[derive(Clone)]
 #[repr(align(64))]
 pub struct Battle {
-    pub(crate) inner: crate::generated::engine::Battle,
+    pub(crate) packed: Packed,
 }
 
 impl Battle {
@@ -25,7 +28,7 @@ impl Battle {
     #[must_use]
     pub fn new(one: &Team, two: &Team, seed: [u8; 10]) -> Self {
         Battle {
-            inner: crate::generated::engine::Battle::new(one, two, seed),
+            packed: Packed::new(one, two, seed),
         }
     }
 
@@ -39,44 +42,90 @@ impl Battle {
         limit: TurnLimit,
     ) -> Self {
         Battle {
-            inner: crate::generated::engine::Battle::with_limit(one, two, seed, rules, limit),
+            packed: Packed::with_limit(one, two, seed, rules, limit),
         }
     }
 
-    /// Loads a battle from bytes, as [`Battle::bytes`] returns them.
+    /// Loads a battle from its 384 bytes ([docs/LAYOUT.md][layout]).
+    ///
+    /// [layout]: https://github.com/hibsuloy/gen1/blob/main/docs/LAYOUT.md
     ///
     /// # Errors
     ///
-    /// The first of seven tests that the bytes fail (docs/LAYOUT.md, "Loading"). Bytes that pass all of them are a valid battle.
+    /// The first test of the bytes that fails ([docs/LAYOUT.md, "Loading"][loading]). Bytes that pass all of them are a valid battle.
+    ///
+    /// [loading]: https://github.com/hibsuloy/gen1/blob/main/docs/LAYOUT.md#loading
+    pub fn from_bytes(bytes: &[u8; 384]) -> Result<Self, LoadFault> {
+        Battle::load(bytes)
+    }
+
+    /// As [`Battle::from_bytes`], for bytes of any length. Any length but 384 is an error.
+    ///
+    /// # Errors
+    ///
+    /// As for [`Battle::from_bytes`].
     pub fn load(bytes: &[u8]) -> Result<Self, LoadFault> {
         Ok(Battle {
-            inner: crate::generated::engine::Battle::load(bytes)?,
+            packed: Packed::read(bytes)?,
         })
     }
 
-    /// The 384 bytes of the battle (docs/LAYOUT.md), which are its whole state.
+    /// The 384 bytes of the battle, which are its whole state ([docs/LAYOUT.md][layout]).
+    ///
+    /// [layout]: https://github.com/hibsuloy/gen1/blob/main/docs/LAYOUT.md
+    ///
+    /// # Panics
+    ///
+    /// Never: a battle has 384 bytes.
+    #[must_use]
+    pub fn as_bytes(&self) -> &[u8; 384] {
+        let bytes = self.packed.as_bytes();
+        bytes.try_into().expect("a battle has 384 bytes")
+    }
+
+    /// As [`Battle::as_bytes`], as a slice.
     #[must_use]
     pub fn bytes(&self) -> &[u8] {
-        self.inner.bytes()
+        self.packed.as_bytes()
+    }
+
+    /// The bytes of the battle without the numbers to be drawn: a key for tables of positions.
+    ///
+    /// It leaves out only the ten numbers and which of them is next: bytes 5 to 15 are 0. Two battles with the same key go on in the same
+    /// way once they are reseeded alike. The turn, the turn limit, the last damage, PP and hidden counts (sleep, confusion) are in the key,
+    /// because what follows depends on them. So the same position in another turn has another key.
+    ///
+    /// ```
+    /// # use gen1::{Battle, Team, member};
+    /// # let team = Team::new(&[member("Mew", &["Psychic"]).unwrap()]).unwrap();
+    /// let [one, two] = [7, 8].map(|number| Battle::new(&team, &team, [number; 10]));
+    /// assert_ne!(one, two);
+    /// assert_eq!(one.key(), two.key());
+    /// ```
+    #[must_use]
+    pub fn key(&self) -> [u8; 384] {
+        let mut key = *self.as_bytes();
+        key[5..16].fill(0);
+        key
     }
 
     /// The choices that a side is offered now, in the order of their bytes: one to nine while the battle goes on, none once it is
     /// over.
     #[must_use]
     pub fn choices(&self, side: Side) -> Choices {
-        self.inner.choices(side)
+        requests::offered(&self.packed, side)
     }
 
-    /// The offered choices as twelve bits, which takes a fraction of the time of [`Battle::choices`].
+    /// The offered choices as twelve bits, which takes a fraction of the time of [`Battle::choices`]. Updates don't check them again.
     #[must_use]
     pub fn offered_mask(&self, side: Side) -> OfferedMask {
-        OfferedMask(self.inner.offered_mask(side))
+        OfferedMask(packed::offered_mask(&self.packed, side))
     }
 
     /// The outcome so far, and what is asked of each side.
     #[must_use]
     pub fn result(&self) -> BattleResult {
-        self.inner.result()
+        packed::result(&self.packed)
     }
 
     /// The outcome so far.
@@ -94,13 +143,13 @@ impl Battle {
     /// The rules of the battle.
     #[must_use]
     pub fn rules(&self) -> Rules {
-        self.inner.rules()
+        self.packed.rules()
     }
 
     /// The last turn, from 1 to 9,999.
     #[must_use]
     pub fn limit(&self) -> u16 {
-        self.inner.limit()
+        self.packed.limit()
     }
 
     /// Replaces the ten random numbers, of which the first is drawn next, and changes nothing else.
@@ -116,7 +165,7 @@ impl Battle {
     /// assert_eq!(other, Battle::new(&team, &team, [8; 10]));
     /// ```
     pub fn reseed(&mut self, seed: [u8; 10]) {
-        self.inner.reseed(&LinkRandom::new(seed));
+        packed::reseed(&mut self.packed, &LinkRandom::new(seed));
     }
 
     /// Updates the battle with a choice of each side, and returns what happened.
@@ -127,7 +176,7 @@ impl Battle {
     /// let mut battle = Battle::new(&team, &team, [7; 10]);
     /// battle.update(Choice::Pass, Choice::Pass)?;
     /// let before = battle.clone();
-    /// let refused = battle.update("switch 2".parse().unwrap(), "move 1".parse().unwrap());
+    /// let refused = battle.update(Choice::SWITCH_2, Choice::MOVE_1);
     /// assert_eq!(refused.unwrap_err(), Refusal::NotOffered(Side::One));
     /// assert_eq!(battle, before);
     /// # Ok::<(), Refusal>(())
@@ -138,92 +187,96 @@ impl Battle {
     /// The first reason that applies: the battle is over, or a side's choice is not one of [`Battle::choices`]. The battle is
     /// unchanged.
     pub fn update(&mut self, one: Choice, two: Choice) -> Result<Update, Refusal> {
-        let mut events = EventList::new();
-        let result = self.inner.update_events(one, two, &mut events)?;
-        Ok(Update { result, events })
+        // One value from the beginning to the return, so that the list is written where the caller gets it, and not copied.
+        let mut update = Ok(Update::empty());
+        if let Ok(Update { result, events }) = &mut update {
+            match self.update_with(one, two, events) {
+                Ok(now) => *result = now,
+                Err(refusal) => update = Err(refusal),
+            }
+        }
+        update
     }
 
-    /// As [`Battle::update`], with the caller's list for the events, which can be reused. Its contents are replaced by the events of
-    /// this update.
+    /// Updates the battle, and passes the events to a sink: an [`EventList`](crate::EventList), a [`LogBuf`](crate::LogBuf),
+    /// [`Silent`], or a type of your own.
     ///
-    /// # Errors
-    ///
-    /// As for [`Battle::update`]; the battle and the list are unchanged.
-    pub fn update_events(
-        &mut self,
-        one: Choice,
-        two: Choice,
-        events: &mut EventList,
-    ) -> Result<BattleResult, Refusal> {
-        self.inner.update_events(one, two, events)
-    }
-
-    /// As [`Battle::update_events`], with choices as bytes (docs/MECHANICS.md, "Offered choices"). A byte that is not a choice is
-    /// refused as not offered.
-    ///
-    /// # Errors
-    ///
-    /// As for [`Battle::update`]; the battle and the list are unchanged.
-    pub fn update_events_by_bytes(
-        &mut self,
-        one: u8,
-        two: u8,
-        events: &mut EventList,
-    ) -> Result<BattleResult, Refusal> {
-        self.inner.update_events_by_bytes(one, two, events)
-    }
-
-    /// Updates the battle without reporting events, and returns the result after it: for searches, which don't read events.
-    ///
-    /// # Errors
-    ///
-    /// As for [`Battle::update`]; the battle is unchanged.
-    pub fn update_silent(&mut self, one: Choice, two: Choice) -> Result<BattleResult, Refusal> {
-        self.inner.update_silent(one, two)
-    }
-
-    /// As [`Battle::update_silent`], for two choices that are known to be offered, which are not checked again.
-    ///
-    /// With any other choice the battle may be invalid afterwards. [`Battle::state`], [`Battle::damage`] and [`Battle::odds`] may
-    /// then panic, but memory stays safe. A debug build checks both choices.
+    /// A side's choice is a [`Choice`], the byte of one, or an [`Offered`](crate::Offered) choice, which is not checked again. The sink is
+    /// emptied first.
     ///
     /// ```
-    /// # use gen1::{Battle, Side, Team, member};
+    /// # use gen1::{Battle, Choice, LogBuf, Refusal, Side, Team, member};
     /// # let team = Team::new(&[member("Mew", &["Psychic", "Surf"]).unwrap()]).unwrap();
-    /// let mut battle = Battle::new(&team, &team, [7; 10]);
+    /// let (mut battle, mut log) = (Battle::new(&team, &team, [7; 10]), LogBuf::new());
+    /// battle.update_with(Choice::Pass, Choice::Pass, &mut log)?;
+    /// battle.update_with(0x11, 0x12, &mut log)?;
     /// while !battle.is_over() {
     ///     let [one, two] = Side::BOTH.map(|side| battle.offered_mask(side).get(0).unwrap());
-    ///     battle.update_offered(one, two);
+    ///     battle.update_with(one, two, &mut log)?;
     /// }
+    /// # Ok::<(), Refusal>(())
     /// ```
+    ///
+    /// # Errors
+    ///
+    /// As for [`Battle::update`]; a byte that is not a choice is not offered. The battle and the sink are unchanged.
     ///
     /// # Panics
     ///
-    /// In a debug build, if a choice is not offered.
-    pub fn update_offered(&mut self, one: Choice, two: Choice) -> BattleResult {
-        debug_assert!(
-            self.choices(Side::One).contains(&one) && self.choices(Side::Two).contains(&two),
-            "choices that are not offered: {one:?}, {two:?}"
-        );
-        self.inner.update_offered(one, two, &mut Silent)
+    /// In a debug build, if an [`Offered`](crate::Offered) choice is of another battle, or of an earlier update.
+    pub fn update_with<C: Chosen, S: EventSink>(
+        &mut self,
+        one: C,
+        two: C,
+        sink: &mut S,
+    ) -> Result<BattleResult, Refusal> {
+        let (one, two) = (one.checked(self, Side::One)?, two.checked(self, Side::Two)?);
+        sink.begin();
+        Ok(packed::update_offered(&mut self.packed, one, two, &mut Pushed(sink)))
+    }
+
+    /// Updates the battle without reporting events: short for [`Battle::update_with`] and [`Silent`].
+    ///
+    /// # Errors
+    ///
+    /// As for [`Battle::update_with`].
+    pub fn update_silent<C: Chosen>(&mut self, one: C, two: C) -> Result<BattleResult, Refusal> {
+        self.update_with(one, two, &mut Silent)
+    }
+
+    /// A side's choice, if it is offered now.
+    #[inline(always)]
+    pub(crate) fn checked(&self, side: Side, choice: Option<Choice>) -> Result<Choice, Refusal> {
+        match choice {
+            Some(choice) if requests::is_offered(&self.packed, side, &choice) => Ok(choice),
+            _ if self.is_over() => Err(Refusal::Over),
+            _ => Err(Refusal::NotOffered(side)),
+        }
     }
 }
 
+impl PartialEq for Battle {
+    fn eq(&self, other: &Battle) -> bool {
+        self.bytes() == other.bytes()
+    }
+}
+
+impl Eq for Battle {}
+
+impl Hash for Battle {
+    fn hash<H: Hasher>(&self, state: &mut H) {
+        self.bytes().hash(state);
+    }
+}
+
+/// The battle's turn, result and turn limit.
 impl fmt::Debug for Battle {
     fn fmt(&self, f: &mut fmt::Formatter<'_>) -> fmt::Result {
-        self.inner.fmt(f)
-    }
-}
-
-impl From<Battle> for crate::generated::engine::Battle {
-    fn from(battle: Battle) -> Self {
-        battle.inner
-    }
-}
-
-impl From<crate::generated::engine::Battle> for Battle {
-    fn from(inner: crate::generated::engine::Battle) -> Self {
-        Battle { inner }
+        f.debug_struct("Battle")
+            .field("turn", &self.packed.turn())
+            .field("result", &self.result())
+            .field("limit", &self.limit())
+            .finish_non_exhaustive()
     }
 }
 
@@ -232,39 +285,5 @@ impl TryFrom<&[u8]> for Battle {
 
     fn try_from(bytes: &[u8]) -> Result<Self, LoadFault> {
         Battle::load(bytes)
-    }
-}
-
-/// The result of an update, and its events.
-#[derive(Clone, Debug, PartialEq, Eq)]
-pub struct Update {
-    result: BattleResult,
-    events: EventList,
-}
-
-impl Update {
-    /// The outcome after the update, and what is asked of each side for the next one.
-    #[must_use]
-    pub fn result(&self) -> BattleResult {
-        self.result
-    }
-
-    /// The events in their order, at most 64.
-    pub fn events(&self) -> impl ExactSizeIterator<Item = Event> + Clone + '_ {
-        self.events.iter().copied()
-    }
-
-    /// The events as lines of text, one for each.
-    #[must_use]
-    pub fn lines(&self) -> Lines<'_> {
-        Lines::new(&self.events)
-    }
-
-    /// The events as log bytes, at most 512, which [`events_of`](crate::events_of) reads back.
-    #[must_use]
-    pub fn log(&self) -> LogBuf {
-        let mut log = LogBuf::new();
-        crate::generated::engine::write_log(&self.events, &mut log);
-        log
     }
 }

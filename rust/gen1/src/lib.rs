@@ -77,11 +77,12 @@ mod room;
 mod serde_impls;
 mod state;
 mod teams;
+mod update;
 
 /// A list with a fixed capacity, stored inline: the type of lists in [`MemberSpec::moves`], [`State`] and [`Choices`].
 #[doc(no_inline)]
 pub use arrayvec::ArrayVec;
-pub use battle::{Battle, Update};
+pub use battle::Battle;
 #[doc(inline)]
 pub use crate::generated::engine::{BattleResult, Choices, LoadFault, Refusal, write_log};
 #[doc(inline)]
@@ -132,6 +133,7 @@ pub use odds::{DamageRefusal, Odds};
 pub use room::Room;
 pub use state::{ActiveState, MemberState, SideState, State};
 pub use teams::{NameFault, member};
+pub use update::{Chosen, EventSink, Offered, Silent, Update};
 
 /// Teams from the text of a team builder: its export text, and packed lines (docs/TEAM_TEXT.md).
 ///

@@ -1,8 +1,8 @@
 //! The choices that a side is offered, as one number.
-use crate::Choice;
+use crate::Offered;
 use crate::generated::requests::{choice_at, count_of};
 
-/// The choices that a side is offered, as twelve bits: for callers that draw a choice, or test for one, and need no list.
+/// The choices that a side is offered, as twelve bits: for callers that draw a choice and need no list.
 ///
 /// ```
 /// # use gen1::{Battle, Choice, Side, Team, member};
@@ -11,8 +11,8 @@ use crate::generated::requests::{choice_at, count_of};
 /// battle.update(Choice::Pass, Choice::Pass)?;
 /// let mask = battle.offered_mask(Side::One);
 /// assert_eq!(mask.bits(), 0b1100);
-/// assert_eq!(mask.get(1), Some("move 2".parse().unwrap()));
-/// assert!(mask.iter().eq(battle.choices(Side::One)));
+/// assert_eq!(mask.get(1).unwrap().choice(), Choice::MOVE_2);
+/// assert!(mask.iter().map(Choice::from).eq(battle.choices(Side::One)));
 /// # Ok::<(), gen1::Refusal>(())
 /// ```
 #[derive(Clone, Copy, Debug, PartialEq, Eq, Hash)]
@@ -40,12 +40,12 @@ impl OfferedMask {
 
     /// The choice at an index from 0, in the order of [`Battle::choices`](crate::Battle::choices); `None` past the last one.
     #[must_use]
-    pub fn get(self, place: usize) -> Option<Choice> {
-        (place < self.len()).then(|| choice_at(self.0, place as u8))
+    pub fn get(self, place: usize) -> Option<Offered> {
+        (place < self.len()).then(|| Offered(choice_at(self.0, place as u8)))
     }
 
     /// The choices in the order of their bytes.
-    pub fn iter(self) -> impl Iterator<Item = Choice> {
+    pub fn iter(self) -> impl Iterator<Item = Offered> {
         (0..self.len()).filter_map(move |place| self.get(place))
     }
 }

@@ -80,7 +80,7 @@ impl Battle {
             return Err(DamageRefusal::NoUsualDamage(id));
         }
         let packed = self.out()?;
-        let numbers = crate::generated::hits::numbers(&packed, side, id, critical);
+        let numbers = crate::generated::hits::numbers(packed, side, id, critical);
         crate::generated::hits::damage_list(&numbers).ok_or(DamageRefusal::DividedByZero)
     }
 
@@ -107,7 +107,7 @@ impl Battle {
     /// [`DamageRefusal::NobodyOut`] only. If a move has no damage, [`Odds::usual`] and [`Odds::critical`] say why.
     pub fn odds(&self, side: Side, id: MoveId) -> Result<Odds, DamageRefusal> {
         let packed = self.out()?;
-        let odds = crate::generated::odds::odds_of(&packed, side, id);
+        let odds = crate::generated::odds::odds_of(packed, side, id);
         let damages = |of: Damages| match of.code {
             0 => Ok(of.numbers),
             3 => Err(DamageRefusal::NoUsualDamage(id)),
@@ -122,17 +122,11 @@ impl Battle {
         })
     }
 
-    /// The battle in the form that functions on its bytes take.
-    pub(crate) fn packed(&self) -> Packed {
-        Packed::read(self.bytes()).expect("only choices that are offered have updated the battle")
-    }
-
-    /// As [`Battle::packed`], but an error before members are out.
-    fn out(&self) -> Result<Packed, DamageRefusal> {
-        let packed = self.packed();
-        if packed.turn() == 0 {
-            return Err(DamageRefusal::NobodyOut);
+    /// The bytes of the battle, if members are out.
+    fn out(&self) -> Result<&Packed, DamageRefusal> {
+        match self.packed.turn() {
+            0 => Err(DamageRefusal::NobodyOut),
+            _ => Ok(&self.packed),
         }
-        Ok(packed)
     }
 }

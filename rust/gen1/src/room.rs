@@ -34,7 +34,7 @@ impl Room {
     #[must_use]
     pub fn new(battle: Battle) -> Self {
         let mut inner = PlainRoom {
-            battle: battle.packed(),
+            battle: battle.packed,
             number: 0,
             log_length: 0,
             one: 0,
@@ -54,7 +54,8 @@ impl Room {
     /// A copy of the battle. It includes both teams and the numbers still to be drawn, so it must not be shown to the players.
     #[must_use]
     pub fn battle(&self) -> Battle {
-        Battle::load(self.inner.battle.as_bytes()).expect("a room keeps a battle")
+        let packed = self.inner.battle.clone();
+        Battle { packed }
     }
 
     /// The choices that a side may submit for the current pair, in the order of their bytes.

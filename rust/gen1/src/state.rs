@@ -163,7 +163,7 @@ impl Battle {
     /// ```
     #[must_use]
     pub fn state(&self) -> State {
-        let (packed, result) = (self.packed(), self.result());
+        let (packed, result) = (&self.packed, self.result());
         let header = packed.header();
         State {
             turn: packed.turn(),
@@ -175,9 +175,9 @@ impl Battle {
             index: header[5],
             numbers: core::array::from_fn(|at| header[6 + at]),
             sides: Side::BOTH.map(|side| SideState {
-                active: active_of(&packed, side),
+                active: active_of(packed, side),
                 members: (1..=6)
-                    .filter_map(|place| member_of(&packed, side, place))
+                    .filter_map(|place| member_of(packed, side, place))
                     .collect(),
             }),
         }

@@ -52,10 +52,12 @@ fn each_draw_does_what_is_told() {
             let update = battle.update(first, first).unwrap();
             missed += update
                 .events()
+                .iter()
                 .filter(|event| matches!(event, Event::Miss(_)))
                 .count();
             critical += update
                 .events()
+                .iter()
                 .filter(|event| matches!(event, Event::Crit(_)))
                 .count();
         }

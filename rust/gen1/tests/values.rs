@@ -167,8 +167,9 @@ fn what_events_hold_has_a_name() {
         .update(Choice::Pass, Choice::Pass)
         .unwrap()
         .events()
+        .iter()
         .filter_map(|event| match event {
-            Event::Turn(turn) => Some(turn),
+            Event::Turn(turn) => Some(*turn),
             _ => None,
         })
         .collect();

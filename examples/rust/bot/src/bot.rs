@@ -1,6 +1,6 @@
 //! The players: one that tries its choices with playouts, and one that chooses at random.
 use crate::random::Random;
-use gen1::{Battle, Choice, Outcome, Side};
+use gen1::{Battle, Choice, Offered, Outcome, Side};
 
 /// The result of playouts of a choice.
 #[derive(Clone, Copy, Debug, PartialEq)]
@@ -12,7 +12,7 @@ pub struct Tried {
 }
 
 /// A random choice of a side, all equally likely. The battle must not be over.
-pub fn random_choice(battle: &Battle, side: Side, random: &mut Random) -> Choice {
+pub fn random_choice(battle: &Battle, side: Side, random: &mut Random) -> Offered {
     let offered = battle.offered_mask(side);
     let place = random.below(offered.len());
     offered.get(place).expect("the battle goes on")
@@ -55,19 +55,20 @@ pub fn best(tried: &[Tried]) -> Choice {
 
 /// Plays a battle to its end: first with a side's choice, and then with random choices.
 fn play_out(mut battle: Battle, side: Side, first: Choice, random: &mut Random) -> Outcome {
-    let other = random_choice(&battle, side.other(), random);
-    let mut pair = if side == Side::One {
-        [first, other]
-    } else {
-        [other, first]
+    let other = random_choice(&battle, side.other(), random).choice();
+    let [one, two] = match side {
+        Side::One => [first, other],
+        Side::Two => [other, first],
     };
-    loop {
-        let result = battle.update_offered(pair[0], pair[1]);
-        if result.outcome.is_over() {
-            return result.outcome;
+    let mut result = battle.update_silent(one, two);
+    while let Ok(now) = result {
+        if now.outcome.is_over() {
+            return now.outcome;
         }
-        pair = Side::BOTH.map(|side| random_choice(&battle, side, random));
+        let [one, two] = Side::BOTH.map(|side| random_choice(&battle, side, random));
+        result = battle.update_silent(one, two);
     }
+    unreachable!("each choice was offered")
 }
 
 /// Two for a win of a side, and one for a tie.

@@ -102,7 +102,7 @@ impl Words {
         random: &mut Random,
     ) -> (Choice, Vec<bot::Tried>) {
         if playouts == 0 || battle.choices(side).len() == 1 {
-            return (bot::random_choice(battle, side, random), Vec::new());
+            return (bot::random_choice(battle, side, random).choice(), Vec::new());
         }
         let tried = bot::tried(battle, side, playouts, random);
         (bot::best(&tried), tried)

@@ -89,7 +89,7 @@ fn played(mut battle: Battle, sheet: &Sheet, expected: &Expected) -> Result<usiz
 /// Plays a pair of choices, with all its results.
 fn update(battle: &mut Battle, pair: [u8; 2]) -> Came {
     let (before, mut events, mut log) = (battle.clone(), EventList::new(), LogBuf::new());
-    let answer = battle.update_events_by_bytes(pair[0], pair[1], &mut events);
+    let answer = battle.update_with(pair[0], pair[1], &mut events);
     write_log(&events, &mut log);
     Came {
         refused: answer.err(),
