@@ -67,6 +67,7 @@ extern crate std;
 pub mod adapter;
 mod additions;
 mod battle;
+mod event;
 #[doc(hidden)]
 pub mod generated;
 mod lines;
@@ -75,6 +76,7 @@ mod odds;
 mod room;
 #[cfg(feature = "serde")]
 mod serde_impls;
+mod spectator;
 mod state;
 mod teams;
 mod update;
@@ -97,40 +99,17 @@ pub use crate::generated::machine::{
 };
 #[doc(inline)]
 pub use crate::generated::room::{Reply, RoomRefusal, Submitted};
-/// # Example
-///
-/// The log of a battle may come in pieces of any size:
-///
-/// ```
-/// use gen1::{Battle, Choice, LogReader, Side, Spectator, Team, member};
-///
-/// # fn main() -> Result<(), Box<dyn std::error::Error>> {
-/// let one = Team::new(&[member("Tauros", &["Strength"])?])?;
-/// let two = Team::new(&[member("Alakazam", &["Psychic"])?])?;
-/// let mut battle = Battle::new(&one, &two, [1, 36, 255, 7, 31, 100, 179, 254, 127, 10]);
-/// let mut spectator = Spectator::new(&one, &two);
-/// let mut reader = LogReader::new();
-/// for piece in battle.update(Choice::Pass, Choice::Pass)?.log().chunks(3) {
-///     spectator.follow(&mut reader, piece)?;
-/// }
-/// reader.finish()?;
-/// assert_eq!(spectator.turn(), 1);
-/// assert_eq!(spectator.place(Side::Two), 1);
-/// assert_eq!(spectator.hp(Side::Two, 1), two.members()[0].max_hp());
-/// # Ok(())
-/// # }
-/// ```
-#[doc(inline)]
-pub use crate::generated::spectator::View as Spectator;
 #[doc(inline)]
 pub use crate::generated::stats::{KnownMove, Member, MemberSpec, Status, Team, TeamRefusal};
 #[doc(inline)]
 pub use crate::generated::tables::{Effect, Element, MoveId, Species, Stat};
 pub use additions::{OutOfRange, UnknownName, UnknownText};
+pub use event::LineFault;
 pub use lines::{Events, Line, Lines, events_of};
 pub use mask::OfferedMask;
 pub use odds::{DamageRefusal, Odds};
 pub use room::Room;
+pub use spectator::Spectator;
 pub use state::{ActiveState, MemberState, SideState, State};
 pub use teams::{NameFault, member};
 pub use update::{Chosen, EventSink, Offered, Silent, Update};

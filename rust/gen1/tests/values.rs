@@ -1,6 +1,6 @@
 //! Traits that Rust users expect of values: keys of maps, order, text, and serde.
 use gen1::{
-    ArrayVec, Battle, Choice, Element, Event, Kind, MoveId, Outcome, Place, Request, Room,
+    ArrayVec, Battle, Choice, Element, Event, Kind, LineFault, MoveId, Outcome, Place, Request, Room,
     RoomRefusal, Rules, Side, Species, Stat, Submitted, Team, TurnNumber, member,
 };
 use std::collections::{BTreeMap, BTreeSet, HashMap, HashSet};
@@ -81,6 +81,39 @@ fn debug_shows_names() {
     let update = battle().update(Choice::Pass, Choice::Pass).unwrap();
     let last = update.events().last();
     assert_eq!(format!("{last:?}"), "Some(Turn(1))");
+}
+
+/// Lines of docs/MECHANICS.md, "Events" and "Lines".
+#[test]
+fn a_line_is_an_event_where_it_can() {
+    let lines = [
+        "|turn|9999", "|move|p1a: Tauros|Body Slam|p2a: Mr. Mime", "|cant|p1a: Tauros|partiallytrapped",
+        "|-damage|p2a: Mew|120/353 par|[from] Leech Seed", "|-damage|p2a: Mew|1/11", "|-heal|p2a: Mew|353/353 slp",
+        "|-crit|p1a: Mew", "|-supereffective|p1a: Mew", "|-resisted|p1a: Mew", "|-immune|p1a: Mew", "|-miss|p1a: Mew",
+        "|-fail|p1a: Mew", "|-status|p1a: Mew|brn", "|-curestatus|p1a: Mew|frz", "|-boost|p1a: Mew|spc|2",
+        "|-unboost|p1a: Mew|eva|1", "|-clearallboost", "|-start|p1a: Mew|typechange", "|-end|p1a: Mew|confusion",
+        "|-activate|p1a: Mew|Splash", "|-prepare|p1a: Mew|Solar Beam", "|-mustrecharge|p1a: Mew",
+        "|-hitcount|p1a: Nidoran-F|5", "|-ohko", "|faint|p2a: Mew", "|win|p1", "|tie", "|fault|2",
+    ];
+    for line in lines {
+        assert_eq!(line.parse().map(|event: Event| event.to_string()), Ok(line.into()));
+    }
+    let events: HashSet<Event> = lines.iter().map(|line| line.parse().unwrap()).collect();
+    assert_eq!(events.len(), lines.len());
+    let fault = |line: &str| line.parse::<Event>().unwrap_err();
+    assert_eq!(fault("|switch|p1a: Tauros|Tauros, L50|120/353 par"), LineFault::NoPlace);
+    assert_eq!(fault("|-damage|p1a: Tauros|0 fnt"), LineFault::NoMaximum);
+    for line in [
+        "", "turn|1", "|turn|0", "|turn|01", "|turn|1\n", "|turn|1|", "|win|p3", "|move|p1a: Tauros|body slam|p2a: Mew",
+        "|-damage|p1a: Mew|12/10", "|-damage|p1a: Mew|1/11|[from] love", "|-boost|p1a: Mew|atk|3", "|faint|p3a: Mew",
+        "|-hitcount|p1a: Mew|6", "|jump|p1a: Mew",
+    ] {
+        assert_eq!(fault(line), LineFault::NoEvent, "{line}");
+    }
+    let damage: Event = lines[3].parse().unwrap();
+    assert_eq!((damage.side(), damage.health().unwrap().max()), (Some(Side::Two), 353));
+    assert_eq!(lines[1].parse::<Event>().unwrap().move_id(), Some(MoveId::BODY_SLAM));
+    assert_eq!("|win|p1".parse::<Event>().unwrap().side(), Some(Side::One));
 }
 
 #[test]
@@ -210,4 +243,33 @@ fn a_member_is_the_object_of_the_document() {
     // Names are compared as in a team builder's text, and other keys are ignored, as in the program.
     assert_eq!(read(&text.replace("Mr. Mime", "mr mime")).unwrap(), spec);
     assert_eq!(read(&text.replace('{', r#"{"name":"Joe","#)).unwrap(), spec);
+}
+
+#[cfg(feature = "serde")]
+#[test]
+fn values_are_the_same_after_serde() {
+    fn again<T: serde::Serialize + serde::de::DeserializeOwned + PartialEq + std::fmt::Debug>(value: &T) -> String {
+        let text = serde_json::to_string(value).unwrap();
+        assert_eq!(&serde_json::from_str::<T>(&text).unwrap(), value);
+        text
+    }
+    let mut battle = battle();
+    let mut events = battle.update(Choice::Pass, Choice::Pass).unwrap().events().to_vec();
+    events.extend_from_slice(battle.update(Choice::MOVE_1, Choice::MOVE_1).unwrap().events());
+    again(&events);
+    again(&battle.state());
+    again(&battle.odds(Side::One, MoveId::STRENGTH).unwrap());
+    again(&battle.odds(Side::One, MoveId::SPLASH).unwrap());
+    again(&battle.result());
+    assert_eq!(again(&Outcome::Fault(2)), r#"{"Fault":2}"#);
+    let hurt: Event = "|-heal|p2a: Mew|120/353 par".parse().unwrap();
+    let text = r#"{"Heal":[{"side":"2","species":"Mew"},{"hp":120,"max":353,"kind":"Paralysis"}]}"#;
+    assert_eq!(again(&hurt), text);
+    assert!(serde_json::from_str::<Event>(&text.replace("120", "354")).is_err());
+    assert_eq!(again(&(Rules::SLEEP_CLAUSE, Place::new(6))), "[1,6]");
+    assert!(serde_json::from_str::<Place>("7").is_err());
+    let spec = member("Tauros", &["Strength"]).unwrap();
+    let team: Team = serde_json::from_str(&serde_json::to_string(&[&spec]).unwrap()).unwrap();
+    assert_eq!(team, Team::new(&[spec]).unwrap());
+    assert!(serde_json::from_str::<Team>("[]").unwrap_err().to_string().contains("member"));
 }
