@@ -150,7 +150,21 @@ class Library:
         root = plain[self.folder / "lib.rt"]
         root = re.sub(r"(?m)^#!\[.*\]\n+", "", root)
         allowed = ALLOWED if own == "crate" else ""
-        return HEAD.format(name=self.name) + allowed + nested(root, self.folder, plain).rstrip() + "\n"
+        return HEAD.format(name=self.name) + allowed + linked(nested(root, self.folder, plain).rstrip()) + "\n"
+
+
+PAGES = re.search(r'(?m)^repository = "(.*)"', (ROOT / "Cargo.toml").read_text())[1] + "/blob/main/"
+MENTION = re.compile(r"""(docs/[A-Z_]+\.md)(?:, "([^"\n]+)")?""")
+
+
+def linked(text):
+    """A text in which what doc comments mention of docs/ is a link to the repository."""
+
+    def link(mention):
+        section = re.sub(r"[^a-z0-9 -]", "", (mention[2] or "").lower()).replace(" ", "-")
+        return f"[{mention[0]}]({PAGES}{mention[1]}{'#' * bool(section)}{section})"
+
+    return re.sub(r"(?m)^ *//[/!].*$", lambda line: MENTION.sub(link, line[0]), text)
 
 
 def nested(text, folder, plain):

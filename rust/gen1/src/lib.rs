@@ -1,47 +1,54 @@
-//! First-generation Pokémon link battles: two teams, ten seed bytes and a list of choices determine a battle, down to the last
-//! random number drawn. A battle is 384 bytes that are updated in place; an update allocates no memory.
+//! First-generation Pokémon link battles, updated in place: 384 bytes a battle, no allocation.
 //!
-//! The sources are those of a proved engine without their contracts, built by your own compiler. docs/PLAIN.md in the repository
-//! says what was proved and how the two builds are compared.
-//!
-//! # A battle in ten lines
+//! Two teams, ten seed bytes and a list of choices determine a battle, down to the last random number drawn.
 //!
 //! ```
-//! use gen1::{Battle, Side, Team, member};
-//!
 //! # fn main() -> Result<(), Box<dyn std::error::Error>> {
-//! let one = Team::new(&[member("Tauros", &["Body Slam", "Hyper Beam", "Blizzard", "Earthquake"])?])?;
-//! let two = Team::new(&[member("Alakazam", &["Psychic", "Recover", "Thunder Wave", "Reflect"])?])?;
+//! use gen1::{Battle, Choice, Team, member};
+//! let one = Team::new(&[member("Tauros", &["Body Slam", "Hyper Beam"])?])?;
+//! let two = Team::new(&[member("Alakazam", &["Psychic", "Recover"])?])?;
 //! let mut battle = Battle::new(&one, &two, [1, 36, 255, 7, 31, 100, 179, 254, 127, 10]);
-//! while !battle.is_over() {
-//!     let [first, second] = Side::BOTH.map(|side| battle.choices(side)[0]);
-//!     let update = battle.update(first, second)?;
-//!     for line in update.lines() {
-//!         println!("{line}");
-//!     }
-//! }
-//! println!("{}", battle.outcome());
+//! battle.update(Choice::Pass, Choice::Pass)?.lines().for_each(|line| println!("{line}"));
+//! battle.update(Choice::MOVE_1, Choice::MOVE_1)?.lines().for_each(|line| println!("{line}"));
 //! # Ok(())
 //! # }
 //! ```
+//!
+//! In the first update both sides pass, and their first members come out. After that, [`Battle::choices`] lists what a side may choose,
+//! until [`Battle::is_over`].
+//!
+//! The sources are those of a proved engine without their contracts, built by your own compiler. [docs/PLAIN.md][plain] says what was
+//! proved and how the two builds are compared. The rules are in [docs/MECHANICS.md][rules].
+//!
+//! [plain]: https://github.com/hibsuloy/gen1/blob/main/docs/PLAIN.md
+//! [rules]: https://github.com/hibsuloy/gen1/blob/main/docs/MECHANICS.md
 //!
 //! # Where things are
 //!
 //! | For | Look at |
 //! |---|---|
-//! | teams | [`member`], [`MemberSpec`], [`Team`], [`Species`], [`MoveId`] |
+//! | teams | [`member`], [`MemberSpec`], [`Team`], [`Species`], [`MoveId`], [`text`] |
 //! | battles | [`Battle`], [`Choice`], [`Update`], [`Event`], [`Line`] |
 //! | the whole state of a battle | [`Battle::state`], [`State`] |
 //! | damage and exact chances | [`Battle::damage`], [`Battle::odds`] |
-//! | searches | [`Battle::offered_mask`], [`Battle::update_silent`], [`Battle::update_offered`], [`Battle::reseed`] |
-//! | logs | [`Update::log`], [`events_of`], [`Line::of`] |
+//! | searches | [`Battle::offered_mask`], [`Battle::update_silent`], [`Battle::reseed`], [`Battle::key`] |
+//! | events without a list, logs | [`Battle::update_with`], [`EventSink`], [`events_of`] |
 //! | what a spectator knows | [`Spectator`] |
 //! | two players who choose independently | [`Room`] |
 //!
+//! # Names
+//!
+//! Species and moves are constants, as [`Species::TAUROS`] and [`MoveId::BODY_SLAM`]. Wherever a text names one, only letters and digits
+//! are compared, in either case: in [`member`], in `parse`, in teams as text and in serde's data. An unknown name is an error that says
+//! which name is nearest. Only `from_name` compares every letter.
+//!
 //! # Features
 //!
-//! The crate is `no_std` and needs no allocator. `serde` adds `Serialize` and `Deserialize` for members of teams, names, choices,
-//! sides and battles. A member is the object of docs/PROGRAM.md, a battle its 384 bytes, and everything else its text:
+//! The crate is `no_std` and needs no allocator. `serde` adds `Serialize` and `Deserialize` for members, names, choices, sides, events,
+//! states, outcomes, odds and battles. A [`Team`] is only deserialized, from a list of members. A member is the object of
+//! [docs/PROGRAM.md][program], a battle its 384 bytes, and a name its text:
+//!
+//! [program]: https://github.com/hibsuloy/gen1/blob/main/docs/PROGRAM.md
 //!
 #![cfg_attr(feature = "serde", doc = "```")]
 #![cfg_attr(not(feature = "serde"), doc = "```ignore")]
@@ -54,6 +61,16 @@
 //! # Errors
 //!
 //! Bad input returns a named error that says what was wrong, and changes nothing.
+//!
+//! # What may grow
+//!
+//! A type is `#[non_exhaustive]` if this crate alone makes it and may add to it: the states, [`Odds`], and the errors [`NameFault`],
+//! [`DamageRefusal`] and [`LineFault`]. What the rules or a format fix is exhaustive: events, choices, outcomes, effects, types, and the
+//! errors that have numbers.
+//!
+//! # Rust version
+//!
+//! Rust 1.85 is the first with the edition of 2024, which the crate is written in. Nothing in it needs a later one.
 #![no_std]
 #![forbid(unsafe_code)]
 #![warn(missing_docs, missing_debug_implementations)]
@@ -114,7 +131,7 @@ pub use state::{ActiveState, MemberState, SideState, State};
 pub use teams::{NameFault, member};
 pub use update::{Chosen, EventSink, Offered, Silent, Update};
 
-/// Teams from the text of a team builder: its export text, and packed lines (docs/TEAM_TEXT.md).
+/// Teams from the text of a team builder: its export text, and packed lines ([docs/TEAM_TEXT.md](https://github.com/hibsuloy/gen1/blob/main/docs/TEAM_TEXT.md)).
 ///
 /// ```
 /// use gen1::{Battle, text::team_in_text};
