@@ -249,8 +249,17 @@ impl Battle {
     pub(crate) fn checked(&self, side: Side, choice: Option<Choice>) -> Result<Choice, Refusal> {
         match choice {
             Some(choice) if requests::is_offered(&self.packed, side, &choice) => Ok(choice),
-            _ if self.is_over() => Err(Refusal::Over),
-            _ => Err(Refusal::NotOffered(side)),
+            _ => Err(self.refusal(side)),
+        }
+    }
+
+    /// Why a side's choice is refused.
+    #[cold]
+    fn refusal(&self, side: Side) -> Refusal {
+        if self.is_over() {
+            Refusal::Over
+        } else {
+            Refusal::NotOffered(side)
         }
     }
 }
