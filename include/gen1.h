@@ -605,6 +605,17 @@ enum {
 uint32_t gen1_version(void);
 
 /*
+ * Returns what the library was built from, as a text that ends with a zero and is never freed:
+ *
+ *   - "proved, logic HEX, sources sha256 HEX": the library that the Rattle kit proved and built
+ *   - "plain, rustc VERSION, sources sha256 HEX": rustc's, from the same sources without their contracts
+ *   - "unknown": neither is known
+ *
+ * The sum is that of the files of crates/ that a proof reads. Where one of these isn't known, it is "unknown".
+ */
+const char *gen1_build(void);
+
+/*
  * Writes the name of a species (1 to 151), a move (1 to 165) or a type (0 to 14), as in docs/TABLES.md: "Mr. Mime",
  * "Double-Edge", "Psychic". A name is at most 14 bytes of ASCII. Returns 0 or one of the codes above.
  */

@@ -2,12 +2,14 @@
 
 import os
 import re
+import shlex
 import shutil
 import subprocess
 import sys
 
 sys.dont_write_bytecode = True
-from c_library import Unbuilt, calls, needed, ran, shown, version
+from c_library import Unbuilt, build_of, calls, needed, ran, shown, version, with_build
+from licenses import licenses, not_permitted, of_library, permitted
 from repository import ROOT
 
 # The functions that the library may need of the C library; abort only where it is the plain one.
@@ -55,7 +57,7 @@ class Tried:
         real = f"lib/libgen1.so.{'.'.join(version())}"
         want = ["include/gen1.h", "lib/libgen1.a", "lib/libgen1.so", "lib/libgen1.so.1", real, "lib/libgen1_c.a",
                 "lib/pkgconfig/gen1.pc", "lib/cmake/gen1/gen1Config.cmake", "lib/cmake/gen1/gen1ConfigVersion.cmake",
-                "share/doc/gen1/LICENSE", *(f"share/man/man3/{name}.3" for name in ["gen1", *calls()])]
+                "share/doc/gen1/LICENSE", "share/doc/gen1/LICENSES.txt", *(f"share/man/man3/{name}.3" for name in ["gen1", *calls()])]
         return None if found == sorted(want) else f"there are {found}"
 
     def names(self):
@@ -71,11 +73,44 @@ class Tried:
         return None if found and found[1] == "libgen1.so.1" and "(TEXTREL)" not in dynamic else dynamic
 
     def archive(self):
-        """The static library is the given one, to the byte."""
+        """The static library is the one of the gate, which has gen1_build, to the byte."""
         return None if (self.lib / "libgen1_c.a").read_bytes() == self.gate.library.read_bytes() else "it is another library"
 
+    def build(self):
+        """gen1_build of both libraries returns the same. The text is added to a library without it, and is then not "plain"."""
+        static, work = build_of(self.lib / "libgen1_c.a", self.gate.work / "build_of"), self.gate.work
+        code = f"import ctypes; it = ctypes.CDLL({str(self.lib / 'libgen1.so')!r}).gen1_build; it.restype = ctypes.c_char_p; print(it().decode())"
+        shared = ran(sys.executable, "-c", code).strip()
+        if static != shared or static.partition(",")[0] not in ("proved", "plain", "unknown"):
+            return f"{static!r} and {shared!r}"
+        ran("objcopy", "--strip-symbol", "gen1_build", self.gate.library, work / "without.a")
+        said = build_of(with_build(work / "without.a", work / "added"), work / "build_of")
+        return None if said == "unknown" else f"a library of unknown origin says {said!r}"
+
+    def licenses(self):
+        """LICENSES.txt is that of the library, and each crate that an artifact links has a license that is permitted."""
+        of_this = licenses(of_library(build_of(self.lib / "libgen1_c.a", self.gate.work / "build_of")))
+        same = (self.prefix / "share" / "doc" / "gen1" / "LICENSES.txt").read_text() == of_this
+        return "\n".join(not_permitted()) or (None if same else "LICENSES.txt is another text")
+
+    def licenses_refused(self):
+        """License expressions: those that leave a permitted choice, and others."""
+        good = ("MIT", "Unlicense/MIT", "GPL-3.0 OR MIT", "(MIT OR Apache-2.0) AND Unicode-DFS-2016", "Apache-2.0 WITH LLVM-exception OR MIT")
+        bad = ("GPL-3.0", "MIT AND GPL-3.0", "(MIT OR Apache-2.0) AND MPL-2.0", "none", "")
+        wrong = [it for it in good if not permitted(it)] + [it for it in bad if permitted(it)]
+        return f"{wrong} are taken wrongly" if wrong else None
+
+    def blank(self):
+        """A PREFIX with a blank: pkg-config quotes it, and CMake takes it."""
+        prefix = self.gate.work / "with blank"
+        shutil.rmtree(prefix, ignore_errors=True)
+        installed(library=self.gate.library, PREFIX=prefix)
+        words = f'cc examples/c/play.c $(PKG_CONFIG_PATH="{prefix}/lib/pkgconfig" pkg-config --cflags --libs gen1) -o "{prefix}/play"'
+        ran("sh", "-c", f'eval "{words.replace(chr(34), chr(92) + chr(34))}"')
+        return plays(prefix / "play", prefix / "lib")
+
     def flags(self, *words):
-        return ran("pkg-config", *words, "gen1", env=self.environment).split()
+        return shlex.split(ran("pkg-config", *words, "gen1", env=self.environment))
 
     def built(self, compiler, name, *words):
         """Builds a program by a compiler and plays the battle with it."""
@@ -215,11 +250,13 @@ def compare_install(gate):
             installed(library=gate.library, PREFIX=it.prefix)
     except Unbuilt as fault:
         return gate.tell("install", fault)
-    for check in (it.files, it.archive, it.staged, it.from_anywhere, it.older, it.without_the_kit, it.refuses):
+    for check in (it.files, it.archive, it.licenses_refused, it.staged, it.from_anywhere, it.older, it.without_the_kit, it.refuses):
         it.try_out(check.__name__, check)
+    it.try_out("build", it.build, "objcopy")
+    it.try_out("licenses", it.licenses, "cargo")
     it.try_out("nm -D", it.names, "nm")
     it.try_out("soname", it.soname, "readelf")
-    for check in (it.versions, it.shared, it.static, it.as_their_readmes_say):
+    for check in (it.versions, it.shared, it.static, it.as_their_readmes_say, it.blank):
         it.try_out(f"pkg-config, {check.__name__}", check, "pkg-config")
     for compiler in ("g++", "clang++"):
         it.try_out(f"C++17, {compiler}", lambda compiler=compiler: it.in_cpp(compiler), "pkg-config", compiler)

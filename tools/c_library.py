@@ -1,5 +1,11 @@
-"""The C library: the calls and the version of its header, and how to build and link it."""
+"""The C library: the calls and the version of its header, how to build and link it, and what it was built from.
 
+gen1_build of the library (gen1.h) says what it was built from. The plain library has that function in Rust (rust/gen1-ffi). The sources
+that are proved have none, so the tools that make artifacts of an archive add it. tools/library leaves a record beside its archive, from
+which the text is taken.
+"""
+
+import hashlib
 import os
 import re
 import shutil
@@ -7,11 +13,17 @@ import subprocess
 import sys
 
 sys.dont_write_bytecode = True
+from release_proved import said, sum_of_sources
 from repository import ROOT
 
 HEADER = ROOT / "include" / "gen1.h"
 # The library that tools/library leaves.
 PROVED = ROOT / "crates" / "gen1_c" / "out" / "libgen1_c.a"
+# Beside it; three words: the sums of the archive and of the sources, and the kit's logic.
+RECORD = PROVED.with_name("libgen1_c.record")
+SOURCE = """const char *gen1_build(void);
+const char *gen1_build(void) {{ return "{text}"; }}
+"""
 CALL = re.compile(r"(?m)^[a-z]\w*[\w *]*?\b(gen1_\w+)\(")
 VERSION = re.compile(r'(?m)^#define GEN1_VERSION "(\d+)\.(\d+)\.(\d+)"$')
 PLAIN_FEATURES = ("--no-default-features", "--features", "panic_handler")
@@ -50,8 +62,8 @@ def ran(*words, cwd=ROOT, env=None):
 
 def plain_build(profile):
     """Builds the C library of the plain sources with nothing of std, and returns the folder that it is in."""
-    target = ROOT / "target" / "c"
-    ran("cargo", "build", "-q", "--profile", profile, "-p", "gen1-ffi", *PLAIN_FEATURES, "--target-dir", target)
+    target, env = ROOT / "target" / "c", {**os.environ, "GEN1_BUILD": plain_origin()}
+    ran("cargo", "build", "-q", "--profile", profile, "-p", "gen1-ffi", *PLAIN_FEATURES, "--target-dir", target, env=env)
     return target / profile
 
 
@@ -78,7 +90,8 @@ def plain_library(folder):
 
 def link_shared(archive, to, soname):
     """Links the archive into a shared library that exports only the documented calls."""
-    archive, to = archive.resolve(), to.resolve()
+    to = to.resolve()
+    archive = with_build(archive, to.with_name(to.name + ".build"))
     script = to.with_name(to.name + ".map")
     names = calls()
     script.write_text("{ global: %s; local: *; };\n" % "; ".join(names))
@@ -89,6 +102,7 @@ def link_shared(archive, to, soname):
             "-Wl,-z,defs", "-Wl,-z,now", "-Wl,-z,relro", "-Wl,-z,noexecstack", "-Wl,--gc-sections")
     finally:
         script.unlink()
+        shutil.rmtree(to.with_name(to.name + ".build"), ignore_errors=True)
     missing = sorted(set(names) - shown(to))
     if missing:
         raise Unbuilt(f"{archive} has no {', '.join(missing)}: it was built before the header")
@@ -102,3 +116,63 @@ def shown(shared):
 def needed(shared):
     """The names that a shared library needs from others."""
     return {line.split()[-1].partition("@")[0] for line in ran("nm", "-D", "--undefined-only", shared).splitlines() if line}
+
+
+def sum_of(path):
+    return hashlib.sha256(path.read_bytes()).hexdigest()
+
+
+def kit_logic():
+    """The kit's logic, as `rt version` prints it."""
+    found = re.search(r"\blogic (\w+)", said("rt", "version") or "")
+    return found[1] if found else "unknown"
+
+
+def write_record(sources):
+    """Records what the archive of tools/library was built from; `sources` is their sum before the build."""
+    RECORD.write_text(f"{sum_of(PROVED)} {sources} {kit_logic()}\n")
+
+
+def origin(archive):
+    """The text of gen1_build for an archive that has no such function. It is proved only if it is the one of tools/library."""
+    if not PROVED.is_file() or archive.read_bytes() != PROVED.read_bytes():
+        return "unknown"
+    recorded = RECORD.read_text().split() if RECORD.is_file() else []
+    known = len(recorded) == 3 and recorded[0] == sum_of(archive)
+    sources, logic = recorded[1:] if known else ("unknown", "unknown")
+    return f"proved, logic {logic}, sources sha256 {sources}"
+
+
+def plain_origin():
+    """The text of gen1_build for a library that cargo builds here."""
+    found = re.match(r"rustc (\S+)", said(os.environ.get("RUSTC", "rustc"), "--version") or "")
+    return f"plain, rustc {found[1] if found else 'unknown'}, sources sha256 {sum_of_sources()}"
+
+
+def has_build(archive):
+    return bool(re.search(r"(?m) T gen1_build$", ran("nm", "-g", "--defined-only", archive)))
+
+
+def with_build(archive, folder):
+    """The archive itself where it has gen1_build, else its copy in a folder with an object that has it."""
+    archive, folder = archive.resolve(), folder.resolve()
+    if has_build(archive):
+        return archive
+    folder.mkdir(parents=True, exist_ok=True)
+    source, copy = folder / "gen1_build.c", folder / "libgen1_c.a"
+    source.write_text(SOURCE.format(text=origin(archive)))
+    shutil.copyfile(archive, copy)
+    words = ("-std=c99", "-O2", "-fPIC", "-ffunction-sections", "-fdata-sections", "-c", source.name, "-o", "gen1_build.o")
+    ran(*os.environ.get("CC", "cc").split(), *words, cwd=folder)
+    ran("ar", "rcsD", copy, "gen1_build.o", cwd=folder)
+    return copy
+
+
+def build_of(archive, folder):
+    """What gen1_build of an archive returns."""
+    folder = folder.resolve()
+    folder.mkdir(parents=True, exist_ok=True)
+    program, source = folder / "says", folder / "says.c"
+    source.write_text('#include <stdio.h>\nconst char *gen1_build(void);\nint main(void) { puts(gen1_build()); return 0; }\n')
+    ran(*os.environ.get("CC", "cc").split(), source, archive.resolve(), "-o", program)
+    return ran(program).strip()

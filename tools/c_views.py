@@ -173,7 +173,8 @@ def compare(calls, battles, count):
     for name in ("species_name", "move_name", "type_name", "species_from_name", "move_from_name", "species_stats", "move_data",
                  "text", "choice_kind", "choice_slot", "choice_words", "reseed"):
         getattr(calls, f"gen1_{name}").restype = c_uint8
-    calls.gen1_version.restype, calls.gen1_get_state.restype = c_uint32, None
+    calls.gen1_version.restype, calls.gen1_get_state.restype, calls.gen1_build.restype = c_uint32, None, ctypes.c_char_p
+    count.tell("build", calls.gen1_build().partition(b",")[0] in (b"proved", b"plain", b"unknown"), True)
     names = compare_tables(calls, count)
     compare_choices(calls, count)
     compare_sentences(calls, count)

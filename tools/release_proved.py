@@ -93,19 +93,20 @@ def rows(logs):
         yield f"[{number}] {note}"
 
 
-# The origins of the C library of a release.
+# The origins of the C library of a release, by the first word of gen1_build.
 LIBRARIES = {
-    "proved": "proved: crates/gen1_c/out/libgen1_c.a, which tools/library leaves, byte for byte",
-    "given": "given by whoever made the release, who knows where it is from",
-    "plain": "plain: built by cargo, not proved",
+    "proved": "what tools/library leaves, to which only gen1_build was added",
+    "plain": "built by cargo, not proved",
 }
 
 
 def proved(library, logs):
-    """The text. `library` is the C library's archive and a word of LIBRARIES, or None where the release has none."""
+    """The text. `library` is the C library's archive and its gen1_build, or None where the release has no library."""
     about = "none in this release"
     if library:
-        about = f"{LIBRARIES[library[1]]}; SHA-256 {hashlib.sha256(library[0].read_bytes()).hexdigest()} of libgen1_c.a"
+        archive, build = library
+        origin = LIBRARIES.get(build.partition(",")[0], "given to tools/release; its origin is not known")
+        about = f"{build}\n           {origin}\n           SHA-256 {hashlib.sha256(archive.read_bytes()).hexdigest()} of libgen1_c.a"
     kit = said("rt", "version") or "no rt was at hand when this was made; docs/PROVED.md names the kit"
     head = HEAD.format(version=version(), commit=commit(), sources=sum_of_sources(), kit=kit, library=about)
     middle = SEEN.format(logs=", ".join(log.name for log in logs)) if logs else UNSEEN

@@ -10,6 +10,15 @@ static void try_version(void)
     tell("gen1_version", got == GEN1_VERSION_NUMBER && unchanged(), got, GEN1_VERSION_NUMBER);
 }
 
+static void try_build(void)
+{
+    note();
+    const char *text = gen1_build();
+    bool known = strncmp(text, "proved, ", 8) == 0 || strncmp(text, "plain, ", 7) == 0 || strcmp(text, "unknown") == 0;
+    bool whole = memchr(text, 0, 256) != NULL && text == gen1_build();
+    tell("gen1_build", known && whole && unchanged(), known, 1);
+}
+
 /* A name of the tables, or bytes that are not a name. */
 static const char *some_name(const char *name, size_t *count, bool *is_name)
 {
@@ -173,6 +182,6 @@ static void try_choice_words(void)
 }
 
 try_call *const tries_of_views[] = {
-    try_version, try_species_from_name, try_move_from_name, try_view, try_choice_kind, try_choice_slot, try_reseed,
+    try_version, try_build, try_species_from_name, try_move_from_name, try_view, try_choice_kind, try_choice_slot, try_reseed,
     try_species_name, try_move_name, try_type_name, try_text, try_species_stats, try_move_data, try_choice_words, NULL
 };

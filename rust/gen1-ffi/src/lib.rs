@@ -3,5 +3,6 @@
 
 #[allow(unused_imports, unused_variables, dead_code, unreachable_pub, clippy::all)]
 mod generated;
+mod origin;
 mod panic;
 mod slices;

@@ -108,17 +108,17 @@ def _version() -> str:
     return version
 
 
-def _build(path: str) -> str:
-    """Which build a library is, by the file `libgen1.build` next to it; "unknown" if there is none."""
-    try:
-        word = Path(path).with_name("libgen1.build").read_text("ascii").strip()
-    except (OSError, UnicodeDecodeError):
+def _build(library: ctypes.CDLL) -> str:
+    """What a library was built from, as its gen1_build says; "unknown" if it has none."""
+    call = getattr(library, "gen1_build", None)
+    if call is None:
         return "unknown"
-    return word if word in ("proved", "plain") else "unknown"
+    call.restype, call.argtypes = ctypes.c_char_p, ()
+    return (call() or b"unknown").decode("ascii", "replace")
 
 
 LIBRARY_VERSION = _version()
-LIBRARY_BUILD = _build(PATH)
+LIBRARY_BUILD = _build(SHORT)
 _BATTLE, _TEAM, _ROOM, _SPECTATOR = POINTER(BattleBytes), POINTER(TeamStruct), POINTER(RoomStruct), POINTER(SpectatorStruct)
 _SIZES, _BYTES, _TEXT, _MEMBER = POINTER(c_size_t), ctypes.c_char_p, POINTER(c_char), POINTER(MemberStruct)
 new = bind("gen1_new", c_uint32, _BATTLE, _TEAM, _TEAM, SeedBytes, c_uint8, c_uint16)

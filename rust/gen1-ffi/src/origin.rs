@@ -1,0 +1,26 @@
+//! gen1_build of include/gen1.h: what this library was built from.
+#![allow(unsafe_code)]
+
+use core::ffi::c_char;
+
+/// The tools that build the library set the variable (tools/c_build.py); plain cargo doesn't know the sources.
+const BUILD: &str = match option_env!("GEN1_BUILD") {
+    Some(text) => text,
+    None => "plain, rustc unknown, sources sha256 unknown",
+};
+
+/// The text and the zero after it.
+static TEXT: [u8; BUILD.len() + 1] = {
+    let (mut text, mut at) = ([0; BUILD.len() + 1], 0);
+    while at < BUILD.len() {
+        text[at] = BUILD.as_bytes()[at];
+        at += 1;
+    }
+    text
+};
+
+/// Returns what this library was built from: a text that ends with a zero and begins with "plain".
+#[unsafe(no_mangle)]
+pub extern "C" fn gen1_build() -> *const c_char {
+    TEXT.as_ptr().cast()
+}
