@@ -53,15 +53,15 @@ class Named(IntEnum):
 CODES = (
     ("Outcome", "How a battle stands, of `Result.outcome`.", "ONGOING", "FAULT_TWO", ""),
     ("Request", "What a side is asked for the next update, of `Result.requests`.", "ASKED_NOTHING", "ASKED_SWITCH", "ASKED_"),
-    ("NewFault", "Why there is no battle or no team, of `BadTeam.code`.", "EMPTY", "TURN_LIMIT", ""),
+    ("NewFault", "Why teams or terms are refused, of `BadTeam.code`.", "EMPTY", "TURN_LIMIT", ""),
     ("LoadFault", 'The first test that bytes fail (docs/LAYOUT.md, "Loading"), of `BadBytes.code`.', "LOAD_LENGTH", "LOAD_REQUEST",
      "LOAD_"),
     ("Refusal", "Why an update was refused, of `Refused.code`.", "OVER", "NOT_OFFERED_TWO", ""),
     ("RoomRefusal", "Why a room refused a choice, of `RoomRefused.code`.", "ROOM_OVER", "ROOM_NOT_OFFERED", "ROOM_"),
     ("EventKind", "Which event of a log, of `Event.kind`.", "TURN", "FAULT", ""),
-    ("LogFault", "Why bytes are no log, of `BadLog.code`.", "LOG_TAG", "LOG_CUT", "LOG_"),
+    ("LogFault", "Why bytes are not a log, of `BadLog.code`.", "LOG_TAG", "LOG_CUT", "LOG_"),
     ("TextFault", "What was expected in a text of a team, of `BadText.code`.", "TEXT_SPECIES", "TEXT_TEAM", "TEXT_"),
-    ("DamageFault", "Why there are no damages, of `NoDamage.code`.", "DAMAGE_SIDE", "DAMAGE_DIVISOR", "DAMAGE_"),
+    ("DamageFault", "Why there is no damage, of `NoDamage.code`.", "DAMAGE_SIDE", "DAMAGE_DIVISOR", "DAMAGE_"),
 )
 # Enums of MECHANICS, "Events": the class, its docstring, and the heading of the names.
 KINDS = (

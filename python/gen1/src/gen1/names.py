@@ -480,7 +480,7 @@ class Request(Named):
 
 
 class NewFault(Named):
-    """Why there is no battle or no team, of `BadTeam.code`."""
+    """Why teams or terms are refused, of `BadTeam.code`."""
 
     EMPTY = 1, "the team has no member"
     TOO_MANY = 2, "it has more than six"
@@ -560,7 +560,7 @@ class EventKind(Named):
 
 
 class LogFault(Named):
-    """Why bytes are no log, of `BadLog.code`."""
+    """Why bytes are not a log, of `BadLog.code`."""
 
     TAG = 1, "a byte in a tag's place is no tag"
     FIELD = 2, "a field of an event is out of its range"
@@ -587,7 +587,7 @@ class TextFault(Named):
 
 
 class DamageFault(Named):
-    """Why there are no damages, of `NoDamage.code`."""
+    """Why there is no damage, of `NoDamage.code`."""
 
     SIDE = 1, "the side is neither 1 nor 2"
     MOVE = 2, "the move is not 1 to 165"
