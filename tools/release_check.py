@@ -10,7 +10,7 @@ import tarfile
 from pathlib import Path
 
 from c_install import LINES, plays
-from c_library import Missing, Unbuilt, calls
+from c_library import Missing, Unbuilt, build_of, calls
 from documents.links import lost_links
 from published import fault_of
 from repository import ROOT, version
@@ -144,12 +144,22 @@ class Trial:
         return None if PLACEHOLDER not in text and '"Tauros"' in text else "no battle was put into it"
 
     def proved(self):
-        """PROVED.txt names this version and commit, and the library of the C archive."""
+        """PROVED.txt names this version and commit, the library of the C archive, and what its gen1_build returns."""
         text = (self.out / "PROVED.txt").read_text()
         library = next((self.unpacked(path.name) / "lib" / "libgen1_c.a" for path in self.out.glob("gen1-*-c-*.tar.gz")), None)
         wanted = [f"gen1 {version()}", "commit     ", "toolchain  "]
-        wanted += [hashlib.sha256(library.read_bytes()).hexdigest()] if library else []
+        wanted += [hashlib.sha256(library.read_bytes()).hexdigest(), build_of(library, self.room / "build_of")] if library else []
         return next((f"it has no {words!r}" for words in wanted if words not in text), None)
+
+    def licenses(self):
+        """LICENSES.txt lists what the C archive's own LICENSES.txt does."""
+        text, rows = (self.out / "LICENSES.txt").read_text(), []
+        for path in self.out.glob("gen1-*-c-*.tar.gz"):
+            own = (self.unpacked(path.name) / "share" / "doc" / "gen1" / "LICENSES.txt").read_text()
+            rows = [row for row in own.partition("\n---")[0].splitlines() if row.startswith("    ")]
+            if not rows:
+                return "the list of the C archive is empty"
+        return next((f"it has no {row!r}" for row in rows if f"{row}\n" not in text), None)
 
     def security(self):
         """SECURITY.md names each call of the header."""
@@ -177,6 +187,7 @@ class Trial:
                     self.tell(name, check, *given)
         self.tell("links of the documents", self.links)
         self.tell("PROVED.txt", self.proved)
+        self.tell("LICENSES.txt", self.licenses)
         self.tell("SECURITY.md", self.security)
         print(f"{self.counts['passed']} passed, {self.counts['failed']} failed, {self.counts['skipped']} skipped")
         return int(self.counts["failed"] > 0)
