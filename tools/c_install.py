@@ -101,12 +101,12 @@ class Tried:
         return f"{wrong} are taken wrongly" if wrong else None
 
     def blank(self):
-        """A PREFIX with a blank: pkg-config quotes it, and CMake takes it."""
+        """A PREFIX with a blank: pkg-config quotes it."""
         prefix = self.gate.work / "with blank"
         shutil.rmtree(prefix, ignore_errors=True)
         installed(library=self.gate.library, PREFIX=prefix)
-        words = f'cc examples/c/play.c $(PKG_CONFIG_PATH="{prefix}/lib/pkgconfig" pkg-config --cflags --libs gen1) -o "{prefix}/play"'
-        ran("sh", "-c", f'eval "{words.replace(chr(34), chr(92) + chr(34))}"')
+        environment = {**os.environ, "PKG_CONFIG_PATH": f"{prefix}/lib/pkgconfig", "PROGRAM": str(prefix / "play")}
+        ran("sh", "-c", r'eval "cc examples/c/play.c $(pkg-config --cflags --libs gen1) -o \"\$PROGRAM\""', env=environment)
         return plays(prefix / "play", prefix / "lib")
 
     def flags(self, *words):

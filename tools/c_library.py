@@ -48,14 +48,14 @@ def version(header=HEADER):
 
 
 def ran(*words, cwd=ROOT, env=None):
-    """What a command printed; Unbuilt where it could not be run or its status is not 0."""
+    """What a command printed to standard output; Unbuilt where it could not be run or its status is not 0."""
     try:
         done = subprocess.run([str(word) for word in words], cwd=cwd, env=env, stdin=subprocess.DEVNULL, stdout=subprocess.PIPE,
-                              stderr=subprocess.STDOUT, text=True, errors="replace")
+                              stderr=subprocess.PIPE, text=True, errors="replace")
     except FileNotFoundError as fault:
         raise Missing(f"there is no {words[0]}") from fault
     if done.returncode:
-        tail = "\n".join(done.stdout.strip().splitlines()[-20:])
+        tail = "\n".join(f"{done.stdout}\n{done.stderr}".strip().splitlines()[-20:])
         raise Unbuilt(f"{' '.join(map(str, words))}: status {done.returncode}\n{tail}")
     return done.stdout
 

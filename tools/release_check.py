@@ -3,6 +3,7 @@
 import ctypes
 import hashlib
 import os
+import shlex
 import shutil
 import subprocess
 import sys
@@ -103,7 +104,7 @@ class Trial:
         if fault := due(told.to_bytes(3, "big"), bytes(numbers)) or due(named, f"{version()}\n"):
             return fault
         for name, words in (("shared", ["--cflags", "--libs"]), ("static", ["--static", "--cflags", "--libs"])):
-            flags = ran("pkg-config", *words, "gen1", cwd=folder, env=env).split()
+            flags = shlex.split(ran("pkg-config", *words, "gen1", cwd=folder, env=env))
             ran("cc", *(["-static"] if name == "static" else []), source, *flags, "-o", folder / name, cwd=folder)
             if fault := plays(folder / name, folder / "lib"):
                 return f"{name}: {fault}"

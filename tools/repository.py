@@ -107,9 +107,25 @@ def existing_file(path):
     return Path(path).resolve()
 
 
+def existing_archive(path):
+    """The whole path of a static library that a command line names, for argparse."""
+    whole = existing_file(path)
+    with open(whole, "rb") as file:
+        if file.read(8) != b"!<arch>\n":
+            raise ArgumentTypeError(f"{path} is not a static library")
+    return whole
+
+
 def existing_folder(path):
     """The whole path of a folder that a command line names, for argparse."""
     if not os.path.isdir(path):
+        raise ArgumentTypeError(f"{path} is not a folder")
+    return Path(path).resolve()
+
+
+def work_folder(path):
+    """The whole path of a folder to work in that a command line names, for argparse; it may not exist yet."""
+    if os.path.exists(path) and not os.path.isdir(path):
         raise ArgumentTypeError(f"{path} is not a folder")
     return Path(path).resolve()
 
