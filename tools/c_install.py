@@ -8,7 +8,7 @@ import subprocess
 import sys
 
 sys.dont_write_bytecode = True
-from c_library import Unbuilt, build_of, calls, needed, ran, shown, version, with_build
+from c_library import Unbuilt, build_of, calls, kit_logic, needed, origin, ran, shown, version, with_build, write_record
 from licenses import licenses, not_permitted, of_library, permitted
 from repository import ROOT
 
@@ -79,13 +79,32 @@ class Tried:
     def build(self):
         """gen1_build of both libraries returns the same. The text is added to a library without it, and is then not "plain"."""
         static, work = build_of(self.lib / "libgen1_c.a", self.gate.work / "build_of"), self.gate.work
-        code = f"import ctypes; it = ctypes.CDLL({str(self.lib / 'libgen1.so')!r}).gen1_build; it.restype = ctypes.c_char_p; print(it().decode())"
-        shared = ran(sys.executable, "-c", code).strip()
+        code = "import ctypes, sys; it = ctypes.CDLL(sys.argv[1]).gen1_build; it.restype = ctypes.c_char_p; print(it().decode())"
+        shared = ran(sys.executable, "-c", code, self.lib / "libgen1.so").strip()
         if static != shared or static.partition(",")[0] not in ("proved", "plain", "unknown"):
             return f"{static!r} and {shared!r}"
         ran("objcopy", "--strip-symbol", "gen1_build", self.gate.library, work / "without.a")
         said = build_of(with_build(work / "without.a", work / "added"), work / "build_of")
         return None if said == "unknown" else f"a library of unknown origin says {said!r}"
+
+    def origins(self):
+        """A library is proved only if it is, byte for byte, that of tools/library, whose record says what it was built from."""
+        given, proved = self.gate.work / "given.a", self.gate.work / "proved" / "libgen1_c.a"
+        shutil.rmtree(proved.parent, ignore_errors=True)
+        proved.parent.mkdir()
+        given.write_bytes(b"a library")
+        found = [origin(given, proved)]
+        shutil.copyfile(given, proved)
+        found.append(origin(given, proved))
+        write_record("1234", proved)
+        found.append(origin(given, proved))
+        given.write_bytes(b"another")
+        found.append(origin(given, proved))
+        shutil.copyfile(given, proved)
+        found.append(origin(given, proved))
+        unrecorded = "proved, logic unknown, sources sha256 unknown"
+        due = ["unknown", unrecorded, f"proved, logic {kit_logic()}, sources sha256 1234", "unknown", unrecorded]
+        return None if found == due else f"{found}"
 
     def licenses(self):
         """LICENSES.txt is that of the library, and each crate that an artifact links has a license that is permitted."""
@@ -250,7 +269,8 @@ def compare_install(gate):
             installed(library=gate.library, PREFIX=it.prefix)
     except Unbuilt as fault:
         return gate.tell("install", fault)
-    for check in (it.files, it.archive, it.licenses_refused, it.staged, it.from_anywhere, it.older, it.without_the_kit, it.refuses):
+    for check in (it.files, it.archive, it.origins, it.licenses_refused, it.staged, it.from_anywhere, it.older, it.without_the_kit,
+                  it.refuses):
         it.try_out(check.__name__, check)
     it.try_out("build", it.build, "objcopy")
     it.try_out("licenses", it.licenses, "cargo")

@@ -20,7 +20,7 @@ HEADER = ROOT / "include" / "gen1.h"
 # The library that tools/library leaves.
 PROVED = ROOT / "crates" / "gen1_c" / "out" / "libgen1_c.a"
 # Beside it; three words: the sums of the archive and of the sources, and the kit's logic.
-RECORD = PROVED.with_name("libgen1_c.record")
+RECORD = "libgen1_c.record"
 SOURCE = """const char *gen1_build(void);
 const char *gen1_build(void) {{ return "{text}"; }}
 """
@@ -128,16 +128,17 @@ def kit_logic():
     return found[1] if found else "unknown"
 
 
-def write_record(sources):
+def write_record(sources, proved=PROVED):
     """Records what the archive of tools/library was built from; `sources` is their sum before the build."""
-    RECORD.write_text(f"{sum_of(PROVED)} {sources} {kit_logic()}\n")
+    proved.with_name(RECORD).write_text(f"{sum_of(proved)} {sources} {kit_logic()}\n")
 
 
-def origin(archive):
+def origin(archive, proved=PROVED):
     """The text of gen1_build for an archive that has no such function. It is proved only if it is the one of tools/library."""
-    if not PROVED.is_file() or archive.read_bytes() != PROVED.read_bytes():
+    if not proved.is_file() or archive.read_bytes() != proved.read_bytes():
         return "unknown"
-    recorded = RECORD.read_text().split() if RECORD.is_file() else []
+    record = proved.with_name(RECORD)
+    recorded = record.read_text().split() if record.is_file() else []
     known = len(recorded) == 3 and recorded[0] == sum_of(archive)
     sources, logic = recorded[1:] if known else ("unknown", "unknown")
     return f"proved, logic {logic}, sources sha256 {sources}"
