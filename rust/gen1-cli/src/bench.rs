@@ -4,7 +4,7 @@ use crate::fault::Fault;
 use crate::files::put;
 use crate::random::Random;
 use clap::Args;
-use gen1::{Battle, Choice, EventList, Side};
+use gen1::{Battle, Choice, EventList, Offered, Side};
 use std::hint::black_box;
 use std::time::{Duration, Instant};
 
@@ -76,14 +76,15 @@ fn game(random: &mut Random) -> Game {
     let start = Battle::new(&random.team(6), &random.team(6), random.seed());
     let (mut battle, mut pairs) = (start.clone(), Vec::new());
     while let Some((one, two)) = drawn(&battle, random) {
-        battle.update_offered(one, two);
-        pairs.push((one, two));
+        pairs.push((one.choice(), two.choice()));
+        // What the mask offers is accepted.
+        let _ = battle.update_silent(one, two);
     }
     Game { start, pairs }
 }
 
 /// A choice for each side; `None` once the battle is over.
-fn drawn(battle: &Battle, random: &mut Random) -> Option<(Choice, Choice)> {
+fn drawn(battle: &Battle, random: &mut Random) -> Option<(Offered, Offered)> {
     let [one, two] = Side::BOTH.map(|side| random.choice(battle.offered_mask(side)));
     Some((one?, two?))
 }
@@ -102,7 +103,7 @@ fn recorded(game: &Game) -> usize {
 fn masked(game: &Game, random: &mut Random) -> usize {
     let (mut battle, mut updates) = (game.start.clone(), 0);
     while let Some((one, two)) = drawn(&battle, random) {
-        battle.update_offered(one, two);
+        let _ = battle.update_silent(one, two);
         updates += 1;
     }
     updates

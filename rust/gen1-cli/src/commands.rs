@@ -24,7 +24,7 @@ fn played(input: &[u8], then: impl Fn(&EventList) -> Result<(), Fault>) -> Resul
     let mut events = EventList::new();
     for (number, [one, two]) in pairs.into_iter().enumerate() {
         battle
-            .update_events_by_bytes(one, two, &mut events)
+            .update_with(one, two, &mut events)
             .map_err(|why| Fault::pair(number, why))?;
         then(&events)?;
     }

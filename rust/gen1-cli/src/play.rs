@@ -6,7 +6,7 @@ use crate::input::battle_and;
 use crate::random::Random;
 use crate::screen;
 use clap::{Args, ValueEnum};
-use gen1::{Battle, Choice, EventList, Side};
+use gen1::{Battle, Choice, EventList, Offered, Side};
 use std::path::{Path, PathBuf};
 
 /// The arguments of `play`.
@@ -55,7 +55,7 @@ pub fn play(game: &Game) -> Result<(), Fault> {
         let Some(two) = answer(game, &battle, &mut random) else {
             break;
         };
-        if battle.update_events(one, two, &mut events).is_ok() {
+        if battle.update_with(one, two, &mut events).is_ok() {
             put(text_of(&events))?;
         }
     }
@@ -135,7 +135,7 @@ fn won(battle: &Battle, choice: Choice, random: &mut Random) -> u32 {
         if copy.update_silent(one, other).is_err() {
             break;
         }
-        two = random.choice(copy.offered_mask(Side::Two));
+        two = random.choice(copy.offered_mask(Side::Two)).map(Offered::choice);
     }
     match copy.outcome().winner() {
         Some(winner) => 2 * u32::from(winner == Side::Two),

@@ -1,5 +1,5 @@
 //! Random numbers for players and measurements; a battle has its own.
-use gen1::{Choice, MemberSpec, MoveId, OfferedMask, Species, Team};
+use gen1::{MemberSpec, MoveId, Offered, OfferedMask, Species, Team};
 use std::hash::{BuildHasher, Hasher, RandomState};
 
 /// A random number generator (xorshift), whose output depends only on its seed.
@@ -31,7 +31,7 @@ impl Random {
     }
 
     /// One of the choices that are offered; `None` once the battle is over.
-    pub fn choice(&mut self, offered: OfferedMask) -> Option<Choice> {
+    pub fn choice(&mut self, offered: OfferedMask) -> Option<Offered> {
         offered.get(self.below(offered.len()))
     }
 

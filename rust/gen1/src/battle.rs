@@ -224,10 +224,10 @@ impl Battle {
     /// # Panics
     ///
     /// In a debug build, if an [`Offered`](crate::Offered) choice is of another battle, or of an earlier update.
-    pub fn update_with<C: Chosen, S: EventSink>(
+    pub fn update_with<A: Chosen, B: Chosen, S: EventSink>(
         &mut self,
-        one: C,
-        two: C,
+        one: A,
+        two: B,
         sink: &mut S,
     ) -> Result<BattleResult, Refusal> {
         let (one, two) = (one.checked(self, Side::One)?, two.checked(self, Side::Two)?);
@@ -240,7 +240,11 @@ impl Battle {
     /// # Errors
     ///
     /// As for [`Battle::update_with`].
-    pub fn update_silent<C: Chosen>(&mut self, one: C, two: C) -> Result<BattleResult, Refusal> {
+    pub fn update_silent<A: Chosen, B: Chosen>(
+        &mut self,
+        one: A,
+        two: B,
+    ) -> Result<BattleResult, Refusal> {
         self.update_with(one, two, &mut Silent)
     }
 
