@@ -133,8 +133,8 @@ mod draws {
 
 #[cfg(test)]
 mod early_effects {
-    //! Each early effect once, with its events and its bytes ([docs/MECHANICS.md, "Early effects"](https://github.com/hibsuloy/gen1/blob/main/docs/MECHANICS.md#early-effects); [docs/LAYOUT.md](https://github.com/hibsuloy/gen1/blob/main/docs/LAYOUT.md)). By
-    //! [docs/LAYOUT.md](https://github.com/hibsuloy/gen1/blob/main/docs/LAYOUT.md), the user's member begins at byte 24 and its active block at 168. Those of the foe begin at 204 and
+    //! Each early effect once, with its events and its bytes ([docs/MECHANICS.md, "Early effects"](https://hibsuloy.example/gen1/blob/main/docs/MECHANICS.md#early-effects); [docs/LAYOUT.md](https://hibsuloy.example/gen1/blob/main/docs/LAYOUT.md)). By
+    //! [docs/LAYOUT.md](https://hibsuloy.example/gen1/blob/main/docs/LAYOUT.md), the user's member begins at byte 24 and its active block at 168. Those of the foe begin at 204 and
     //! 348.
     use crate::battles::{FOE, USER, assert_same, chansey, named, tauros};
     use crate::draws::{BOTH, Operation, apply_from};
@@ -146,7 +146,7 @@ mod early_effects {
     use gen1_tests::testing::Fail;
 
     mod foe {
-        //! Moves that act on the foe ([docs/MECHANICS.md, "Early effects"](https://github.com/hibsuloy/gen1/blob/main/docs/MECHANICS.md#early-effects)).
+        //! Moves that act on the foe ([docs/MECHANICS.md, "Early effects"](https://hibsuloy.example/gen1/blob/main/docs/MECHANICS.md#early-effects)).
         use super::{BOTH, FOE, USER, fails, plays, tauros};
         use gen1::generated::layout::Packed;
         use gen1::generated::machine::{Event, Kind, Volatile, Who};
@@ -276,7 +276,7 @@ mod early_effects {
     }
 
     mod haze {
-        //! Haze, which acts on both sides ([docs/MECHANICS.md, "Early effects"](https://github.com/hibsuloy/gen1/blob/main/docs/MECHANICS.md#early-effects)).
+        //! Haze, which acts on both sides ([docs/MECHANICS.md, "Early effects"](https://hibsuloy.example/gen1/blob/main/docs/MECHANICS.md#early-effects)).
         use super::{BOTH, EarlyEffects, FOE, USER, apply_from, bytes_with, named, tauros};
         use crate::battles::assert_same;
         use gen1::generated::action::Known;
@@ -360,7 +360,7 @@ mod early_effects {
     }
 
     mod user {
-        //! Moves that act on their user ([docs/MECHANICS.md, "Early effects"](https://github.com/hibsuloy/gen1/blob/main/docs/MECHANICS.md#early-effects)).
+        //! Moves that act on their user ([docs/MECHANICS.md, "Early effects"](https://hibsuloy.example/gen1/blob/main/docs/MECHANICS.md#early-effects)).
         use super::{BOTH, FOE, USER, chansey, fails, plays, tauros};
         use crate::battles::assert_same;
         use gen1::generated::layout::{Conditions, Packed};
@@ -578,7 +578,7 @@ mod early_effects {
 
 #[cfg(test)]
 mod late_effects {
-    //! Stages that rise and fall, and sleep, with the numbers of [docs/MECHANICS.md, "Late effects"](https://github.com/hibsuloy/gen1/blob/main/docs/MECHANICS.md#late-effects), "Stage shift", "Rules
+    //! Stages that rise and fall, and sleep, with the numbers of [docs/MECHANICS.md, "Late effects"](https://hibsuloy.example/gen1/blob/main/docs/MECHANICS.md#late-effects), "Stage shift", "Rules
     //! (sleep clause, freeze clause)". The last damage was 75.
     use crate::battles::{self, FOE, USER, assert_same, electrode, named, send_out};
     use crate::draws::{BOTH, Operation, apply_from};
@@ -593,7 +593,7 @@ mod late_effects {
     use gen1_tests::testing::Fail;
 
     mod sleep_moves {
-        //! Sleep, with and without the sleep clause ([docs/MECHANICS.md, "Late effects"](https://github.com/hibsuloy/gen1/blob/main/docs/MECHANICS.md#late-effects), "Rules (sleep clause, freeze
+        //! Sleep, with and without the sleep clause ([docs/MECHANICS.md, "Late effects"](https://hibsuloy.example/gen1/blob/main/docs/MECHANICS.md#late-effects), "Rules (sleep clause, freeze
         //! clause)").
         use super::{
             Abort, BOTH, Conditions, Event, FOE, Fail, Ghost, Kind, LateEffects, LinkRandom, Operation,
@@ -821,7 +821,7 @@ mod late_effects {
     }
 
     mod stat_moves {
-        //! Stages that rise and fall ([docs/MECHANICS.md, "Late effects"](https://github.com/hibsuloy/gen1/blob/main/docs/MECHANICS.md#late-effects), "Stage shift").
+        //! Stages that rise and fall ([docs/MECHANICS.md, "Late effects"](https://hibsuloy.example/gen1/blob/main/docs/MECHANICS.md#late-effects), "Stage shift").
         use super::{
             Abort, BOTH, Conditions, Event, FOE, Fail, Packed, Side, Stat, Status, USER, count, electrode,
             fails, misses, plays, tauros,
@@ -1083,7 +1083,7 @@ mod late_effects {
 
 #[cfg(test)]
 mod side_effects {
-    //! What a move may do in addition to its damage, with the numbers of [docs/MECHANICS.md, "Side effects"](https://github.com/hibsuloy/gen1/blob/main/docs/MECHANICS.md#side-effects).
+    //! What a move may do in addition to its damage, with the numbers of [docs/MECHANICS.md, "Side effects"](https://hibsuloy.example/gen1/blob/main/docs/MECHANICS.md#side-effects).
     use crate::battles::{FOE, USER, assert_same, named, send_out, tauros, tauros_under, tauros_with};
     use crate::draws::{BOTH, Operation, apply_from};
     use gen1::generated::effects::side_effect;
@@ -1094,7 +1094,7 @@ mod side_effects {
     use gen1_tests::testing::Fail;
 
     mod chances {
-        //! Flinching, confusion, stages that fall, recharging, and moves without a side effect ([docs/MECHANICS.md](https://github.com/hibsuloy/gen1/blob/main/docs/MECHANICS.md), "Side
+        //! Flinching, confusion, stages that fall, recharging, and moves without a side effect ([docs/MECHANICS.md](https://hibsuloy.example/gen1/blob/main/docs/MECHANICS.md), "Side
         //! effects").
         use super::{Abort, BOTH, FOE, Packed, USER, does_nothing, plays, tauros};
         use crate::battles::assert_same;
@@ -1241,7 +1241,7 @@ mod side_effects {
     }
 
     mod disable {
-        //! Disable, with its draws ([docs/MECHANICS.md, "Side effects"](https://github.com/hibsuloy/gen1/blob/main/docs/MECHANICS.md#side-effects)). Its accuracy of 55 percent is the byte 140.
+        //! Disable, with its draws ([docs/MECHANICS.md, "Side effects"](https://hibsuloy.example/gen1/blob/main/docs/MECHANICS.md#side-effects)). Its accuracy of 55 percent is the byte 140.
         use super::{Abort, BOTH, FOE, Fail, USER, named, plays, tauros, tauros_with, tells};
         use crate::battles::assert_same;
         use gen1::generated::action::Known;
@@ -1359,7 +1359,7 @@ mod side_effects {
     }
 
     mod status_chance {
-        //! Poison, burns, freezes and paralysis, and the thaw ([docs/MECHANICS.md, "Side effects"](https://github.com/hibsuloy/gen1/blob/main/docs/MECHANICS.md#side-effects), "Rules (sleep clause, freeze
+        //! Poison, burns, freezes and paralysis, and the thaw ([docs/MECHANICS.md, "Side effects"](https://hibsuloy.example/gen1/blob/main/docs/MECHANICS.md#side-effects), "Rules (sleep clause, freeze
         //! clause)").
         use super::{
             Abort, BOTH, FOE, SideEffects, apply_from, does_nothing, plays, send_out, tauros, tauros_under,

@@ -153,7 +153,7 @@ mod tests {
     use gen1_tests::testing::Fail;
 
     mod effects {
-        //! Effects of moves with a countdown ([docs/MECHANICS.md, "Early effects"](https://github.com/hibsuloy/gen1/blob/main/docs/MECHANICS.md#early-effects), "Late effects", "Side effects").
+        //! Effects of moves with a countdown ([docs/MECHANICS.md, "Early effects"](https://hibsuloy.example/gen1/blob/main/docs/MECHANICS.md#early-effects), "Late effects", "Side effects").
         use super::{USER, two_tauros};
         use crate::Countdown;
         use crate::tests::assert_same;

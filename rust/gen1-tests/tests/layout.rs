@@ -22,7 +22,7 @@ mod comparing {
 
 #[cfg(test)]
 mod fields {
-    //! A battle at turn 0 ([docs/LAYOUT.md](https://github.com/hibsuloy/gen1/blob/main/docs/LAYOUT.md)), and each read and write function once.
+    //! A battle at turn 0 ([docs/LAYOUT.md](https://hibsuloy.example/gen1/blob/main/docs/LAYOUT.md)), and each read and write function once.
 
     use crate::comparing::assert_same;
     use arrayvec::ArrayVec;
@@ -314,7 +314,7 @@ mod fields {
 
 #[cfg(test)]
 mod loading {
-    //! Each field at its least and its greatest value, and one past each ([docs/LAYOUT.md, "Loading"](https://github.com/hibsuloy/gen1/blob/main/docs/LAYOUT.md#loading)).
+    //! Each field at its least and its greatest value, and one past each ([docs/LAYOUT.md, "Loading"](https://hibsuloy.example/gen1/blob/main/docs/LAYOUT.md#loading)).
     use crate::comparing::assert_same;
     use gen1::generated::layout::{LoadFault, Packed};
     use gen1_tests::testing::Abort;
@@ -744,7 +744,7 @@ mod loading {
 
 #[cfg(test)]
 mod readers {
-    //! Members by their places, several conditions at once, the terms, and a battle at turn 0 ([docs/LAYOUT.md](https://github.com/hibsuloy/gen1/blob/main/docs/LAYOUT.md)).
+    //! Members by their places, several conditions at once, the terms, and a battle at turn 0 ([docs/LAYOUT.md](https://hibsuloy.example/gen1/blob/main/docs/LAYOUT.md)).
     use crate::comparing::assert_same;
     use arrayvec::ArrayVec;
     use gen1::generated::layout::{Conditions, Packed};

@@ -18,7 +18,7 @@
 
 #[cfg(test)]
 mod counter {
-    //! Counter ([docs/MECHANICS.md, "Counter"](https://github.com/hibsuloy/gen1/blob/main/docs/MECHANICS.md#counter)). A Tauros has base Speed 110, so a draw, rotated left by 3 bits, is
+    //! Counter ([docs/MECHANICS.md, "Counter"](https://hibsuloy.example/gen1/blob/main/docs/MECHANICS.md#counter)). A Tauros has base Speed 110, so a draw, rotated left by 3 bits, is
     //! critical below 55 ("Critical hits").
     use crate::duel::{
         FOE, LAST, USER, assert_bytes, assert_same, assert_same_for, battle_of, bytes_of, named,
@@ -172,7 +172,7 @@ mod counter {
 
 #[cfg(test)]
 mod duel {
-    //! Two members that are out, for the tests: the bytes of their battle, and the offsets of [docs/LAYOUT.md](https://github.com/hibsuloy/gen1/blob/main/docs/LAYOUT.md).
+    //! Two members that are out, for the tests: the bytes of their battle, and the offsets of [docs/LAYOUT.md](https://hibsuloy.example/gen1/blob/main/docs/LAYOUT.md).
     use arrayvec::ArrayVec;
     use gen1::generated::layout::Packed;
     use gen1::generated::machine::{Event, EventList, Side};
@@ -292,7 +292,7 @@ mod duel {
 
 #[cfg(test)]
 mod first_hit {
-    //! The reports before the first hit ([docs/MECHANICS.md, "Order of events"](https://github.com/hibsuloy/gen1/blob/main/docs/MECHANICS.md#order-of-events), "Types").
+    //! The reports before the first hit ([docs/MECHANICS.md, "Order of events"](https://hibsuloy.example/gen1/blob/main/docs/MECHANICS.md#order-of-events), "Types").
     use crate::duel::{FOE, USER, assert_same, assert_same_for, named, two_tauros};
     use gen1::generated::action::Known;
     use gen1::generated::layout::Packed;
@@ -389,7 +389,7 @@ mod first_hit {
 
 #[cfg(test)]
 mod fixed_damage {
-    //! Fixed damage, Super Fang and Psywave ([docs/MECHANICS.md, "Fixed damage and one-hit moves"](https://github.com/hibsuloy/gen1/blob/main/docs/MECHANICS.md#fixed-damage-and-one-hit-moves)).
+    //! Fixed damage, Super Fang and Psywave ([docs/MECHANICS.md, "Fixed damage and one-hit moves"](https://hibsuloy.example/gen1/blob/main/docs/MECHANICS.md#fixed-damage-and-one-hit-moves)).
     use crate::duel::{
         FOE, LAST, OUTCOME, USER, assert_bytes, assert_same, assert_same_for, battle_of, bytes_of,
         named, tauros, two_tauros, with,
@@ -566,7 +566,7 @@ mod fixed_damage {
 
 #[cfg(test)]
 mod going_on {
-    //! Trapping and thrashing that go on, and trapping a foe that the move has no effect on ([docs/MECHANICS.md](https://github.com/hibsuloy/gen1/blob/main/docs/MECHANICS.md), "Going
+    //! Trapping and thrashing that go on, and trapping a foe that the move has no effect on ([docs/MECHANICS.md](https://hibsuloy.example/gen1/blob/main/docs/MECHANICS.md), "Going
     //! on").
     use crate::duel::{
         FLAGS, FOE, KEPT, TURNS, USER, assert_bytes, assert_same, bytes_of, named, two_tauros, with,
@@ -734,7 +734,7 @@ mod going_on {
 
 #[cfg(test)]
 mod hit_effects {
-    //! What follows a hit ([docs/MECHANICS.md, "Recoil, drain and explosion"](https://github.com/hibsuloy/gen1/blob/main/docs/MECHANICS.md#recoil-drain-and-explosion), "Going on", "Landing").
+    //! What follows a hit ([docs/MECHANICS.md, "Recoil, drain and explosion"](https://hibsuloy.example/gen1/blob/main/docs/MECHANICS.md#recoil-drain-and-explosion), "Going on", "Landing").
     use crate::duel::{FOE, USER, assert_same, assert_same_for, assert_told, two_tauros};
     use crate::setting::{healed, hit, hurt};
     use gen1::generated::layout::Conditions;
@@ -907,7 +907,7 @@ mod hit_effects {
 
 #[cfg(test)]
 mod lasting_moves {
-    //! Moves that last several turns ([docs/MECHANICS.md, "Going on"](https://github.com/hibsuloy/gen1/blob/main/docs/MECHANICS.md#going-on), "Charging"), with the offsets of [docs/LAYOUT.md](https://github.com/hibsuloy/gen1/blob/main/docs/LAYOUT.md).
+    //! Moves that last several turns ([docs/MECHANICS.md, "Going on"](https://hibsuloy.example/gen1/blob/main/docs/MECHANICS.md#going-on), "Charging"), with the offsets of [docs/LAYOUT.md](https://hibsuloy.example/gen1/blob/main/docs/LAYOUT.md).
     //! Both sides have a Tauros out: 353 HP, a quarter of which is 88.
     use crate::duel::{
         CURRENT, ENERGY, FLAGS, FOE, KEPT, LAST, TURNS, USER, assert_bytes, assert_same,
@@ -1087,7 +1087,7 @@ mod lasting_moves {
 
 #[cfg(test)]
 mod many_hits {
-    //! Moves that hit several times ([docs/MECHANICS.md, "Many hits"](https://github.com/hibsuloy/gen1/blob/main/docs/MECHANICS.md#many-hits)).
+    //! Moves that hit several times ([docs/MECHANICS.md, "Many hits"](https://hibsuloy.example/gen1/blob/main/docs/MECHANICS.md#many-hits)).
     use crate::duel::{FOE, assert_same, assert_same_for, assert_told, two_tauros};
     use crate::setting::{hit, hit_count, hurt};
     use gen1::generated::machine::{DamageSource, Event, Volatile};
@@ -1212,7 +1212,7 @@ mod many_hits {
 
 #[cfg(test)]
 mod miss {
-    //! What follows a miss ([docs/MECHANICS.md, "Action"](https://github.com/hibsuloy/gen1/blob/main/docs/MECHANICS.md#action), step 9).
+    //! What follows a miss ([docs/MECHANICS.md, "Action"](https://hibsuloy.example/gen1/blob/main/docs/MECHANICS.md#action), step 9).
     use crate::duel::{
         FOE, LAST, USER, assert_bytes, assert_same, assert_same_for, assert_told, bytes_of, named,
         two_tauros, with,
@@ -1304,7 +1304,7 @@ mod miss {
 
 #[cfg(test)]
 mod one_hit_moves {
-    //! One-hit moves ([docs/MECHANICS.md, "Fixed damage and one-hit moves"](https://github.com/hibsuloy/gen1/blob/main/docs/MECHANICS.md#fixed-damage-and-one-hit-moves)). Their accuracy byte is 76, and the bytes that
+    //! One-hit moves ([docs/MECHANICS.md, "Fixed damage and one-hit moves"](https://hibsuloy.example/gen1/blob/main/docs/MECHANICS.md#fixed-damage-and-one-hit-moves)). Their accuracy byte is 76, and the bytes that
     //! give a factor are the odd ones from 179 on ("Factors").
     use crate::duel::{
         FOE, LAST, USER, assert_bytes, assert_same, assert_same_for, bytes_of, named, two_tauros, with,
@@ -1450,7 +1450,7 @@ mod one_hit_moves {
 
 #[cfg(test)]
 mod rage {
-    //! Rage that builds ([docs/MECHANICS.md, "Going on"](https://github.com/hibsuloy/gen1/blob/main/docs/MECHANICS.md#going-on)). Tauros has an Attack of 298, which is 447 at one stage up and
+    //! Rage that builds ([docs/MECHANICS.md, "Going on"](https://hibsuloy.example/gen1/blob/main/docs/MECHANICS.md#going-on)). Tauros has an Attack of 298, which is 447 at one stage up and
     //! 596 at two.
     use crate::duel::{FOE, USER, assert_bytes, assert_same, assert_same_for, bytes_of, two_tauros};
     use crate::setting::hit;

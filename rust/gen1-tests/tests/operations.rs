@@ -11,8 +11,8 @@
 
 #[cfg(test)]
 mod action {
-    //! What is known of an action, and its hit test, with the numbers of [docs/MECHANICS.md, "Hit test"](https://github.com/hibsuloy/gen1/blob/main/docs/MECHANICS.md#hit-test) and "Action", and
-    //! the type rows of [docs/TABLES.md](https://github.com/hibsuloy/gen1/blob/main/docs/TABLES.md). Both sides have a Tauros out.
+    //! What is known of an action, and its hit test, with the numbers of [docs/MECHANICS.md, "Hit test"](https://hibsuloy.example/gen1/blob/main/docs/MECHANICS.md#hit-test) and "Action", and
+    //! the type rows of [docs/TABLES.md](https://hibsuloy.example/gen1/blob/main/docs/TABLES.md). Both sides have a Tauros out.
     use crate::battles::{self, FOE, USER, assert_same, named, tells};
     use gen1::generated::action::{Known, hit_or_miss, must_hit, note_miss};
     use gen1::generated::layout::{Conditions, Packed};
@@ -416,9 +416,9 @@ mod example {
 
 #[cfg(test)]
 mod hits {
-    //! The worked numbers of [docs/MECHANICS.md](https://github.com/hibsuloy/gen1/blob/main/docs/MECHANICS.md), for a member against a Tauros.
+    //! The worked numbers of [docs/MECHANICS.md](https://hibsuloy.example/gen1/blob/main/docs/MECHANICS.md), for a member against a Tauros.
     mod damage {
-        //! Worked values ([docs/MECHANICS.md, "Damage formula"](https://github.com/hibsuloy/gen1/blob/main/docs/MECHANICS.md#damage-formula), "Types", "Factors").
+        //! Worked values ([docs/MECHANICS.md, "Damage formula"](https://hibsuloy.example/gen1/blob/main/docs/MECHANICS.md#damage-formula), "Types", "Factors").
         use crate::battles::{assert_same, named, two_tauros};
         use gen1::generated::hits::{
             Numbers, damage, damage_list, factor, has_usual_damage, is_factor, numbers, own_numbers,
@@ -813,7 +813,7 @@ mod hits {
     }
 
     mod odds {
-        //! The odds of a use of a move ([docs/MECHANICS.md, "Critical hits"](https://github.com/hibsuloy/gen1/blob/main/docs/MECHANICS.md#critical-hits), "Hit test").
+        //! The odds of a use of a move ([docs/MECHANICS.md, "Critical hits"](https://hibsuloy.example/gen1/blob/main/docs/MECHANICS.md#critical-hits), "Hit test").
         use crate::battles::{assert_same, named, persian_and_tauros};
         use gen1::generated::layout::Conditions;
         use gen1::generated::machine::Side;
@@ -905,9 +905,9 @@ mod hits {
 
 #[cfg(test)]
 mod status {
-    //! The worked numbers of [docs/MECHANICS.md](https://github.com/hibsuloy/gen1/blob/main/docs/MECHANICS.md), for two members of one species.
+    //! The worked numbers of [docs/MECHANICS.md](https://hibsuloy.example/gen1/blob/main/docs/MECHANICS.md), for two members of one species.
     mod gate {
-        //! Picks and the gate, with the numbers of [docs/MECHANICS.md, "Picks"](https://github.com/hibsuloy/gen1/blob/main/docs/MECHANICS.md#picks), "Gate" and "Hit on itself".
+        //! Picks and the gate, with the numbers of [docs/MECHANICS.md, "Picks"](https://hibsuloy.example/gen1/blob/main/docs/MECHANICS.md#picks), "Gate" and "Hit on itself".
         use crate::battles::{FOE, USER, assert_same, tells, two_tauros};
         use gen1::generated::layout::{Conditions, Packed};
         use gen1::generated::machine::{

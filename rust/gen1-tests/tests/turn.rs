@@ -16,8 +16,8 @@
 
 #[cfg(test)]
 mod action {
-    //! Actions of one side ([docs/MECHANICS.md, "Action"](https://github.com/hibsuloy/gen1/blob/main/docs/MECHANICS.md#action), "Going on", "Charging", "Kept accuracy"), with the bytes of
-    //! [docs/LAYOUT.md](https://github.com/hibsuloy/gen1/blob/main/docs/LAYOUT.md) and the rows of [docs/TABLES.md](https://github.com/hibsuloy/gen1/blob/main/docs/TABLES.md).
+    //! Actions of one side ([docs/MECHANICS.md, "Action"](https://hibsuloy.example/gen1/blob/main/docs/MECHANICS.md#action), "Going on", "Charging", "Kept accuracy"), with the bytes of
+    //! [docs/LAYOUT.md](https://hibsuloy.example/gen1/blob/main/docs/LAYOUT.md) and the rows of [docs/TABLES.md](https://hibsuloy.example/gen1/blob/main/docs/TABLES.md).
     //!
     //! Each side has a Tauros out, of 353 HP. At level 100 a move of power P without a critical hit deals `42 * P * 74 /
     //! 72 / 50 + 2`, and half as much again if it is Normal. A sweep from 178 draws no critical hit, the factor 217, and
@@ -478,7 +478,7 @@ mod duels {
 
 #[cfg(test)]
 mod falls {
-    //! The end of an update ([docs/MECHANICS.md, "Falls and requests"](https://github.com/hibsuloy/gen1/blob/main/docs/MECHANICS.md#falls-and-requests), "Turn limit").
+    //! The end of an update ([docs/MECHANICS.md, "Falls and requests"](https://hibsuloy.example/gen1/blob/main/docs/MECHANICS.md#falls-and-requests), "Turn limit").
     use crate::setting::{
         FOE, USER, assert_bytes, assert_same, assert_told, bytes_of, started, started_alone,
         started_within, turn, who, with,
@@ -667,7 +667,7 @@ mod falls {
 
 #[cfg(test)]
 mod offered_choices {
-    //! What each side may choose ([docs/MECHANICS.md, "Offered choices"](https://github.com/hibsuloy/gen1/blob/main/docs/MECHANICS.md#offered-choices)).
+    //! What each side may choose ([docs/MECHANICS.md, "Offered choices"](https://hibsuloy.example/gen1/blob/main/docs/MECHANICS.md#offered-choices)).
     use crate::setting::{FOE, SEED, USER, assert_same, member_of};
     use arrayvec::ArrayVec;
     use gen1::generated::layout::{Conditions, Packed};
@@ -1542,8 +1542,8 @@ mod recorded {
 #[cfg(test)]
 mod setting {
     //! The battle at the start of the tests. Each side has a Tauros out, and then a Gengar, both at level 100 and with
-    //! the greatest DVs and experience. Their stats are those of [docs/MECHANICS.md, "Stats"](https://github.com/hibsuloy/gen1/blob/main/docs/MECHANICS.md#stats), and their bytes those of
-    //! [docs/LAYOUT.md](https://github.com/hibsuloy/gen1/blob/main/docs/LAYOUT.md).
+    //! the greatest DVs and experience. Their stats are those of [docs/MECHANICS.md, "Stats"](https://hibsuloy.example/gen1/blob/main/docs/MECHANICS.md#stats), and their bytes those of
+    //! [docs/LAYOUT.md](https://hibsuloy.example/gen1/blob/main/docs/LAYOUT.md).
     use arrayvec::ArrayVec;
     use gen1::generated::layout::Packed;
     use gen1::generated::machine::{
@@ -1704,7 +1704,7 @@ mod setting {
 
 #[cfg(test)]
 mod start {
-    //! The first update of a battle ([docs/MECHANICS.md, "Switching in"](https://github.com/hibsuloy/gen1/blob/main/docs/MECHANICS.md#switching-in), "Falls and requests").
+    //! The first update of a battle ([docs/MECHANICS.md, "Switching in"](https://hibsuloy.example/gen1/blob/main/docs/MECHANICS.md#switching-in), "Falls and requests").
     use crate::setting::{
         FOE, TAUROS_OUT, USER, assert_bytes, assert_same, assert_told, bytes_of, started_within,
         tauros_out, turn, unstarted, unstarted_alone, with,
@@ -1798,7 +1798,7 @@ mod start {
 
 #[cfg(test)]
 mod switching_in {
-    //! Members that come out in a battle ([docs/MECHANICS.md, "Switching in"](https://github.com/hibsuloy/gen1/blob/main/docs/MECHANICS.md#switching-in), "Falls and requests").
+    //! Members that come out in a battle ([docs/MECHANICS.md, "Switching in"](https://hibsuloy.example/gen1/blob/main/docs/MECHANICS.md#switching-in), "Falls and requests").
     use crate::setting::{
         FOE, GENGAR_OUT, USER, assert_bytes, assert_same, assert_told, bytes_of, gengar_out, started,
         tauros_out, turn, with,
@@ -1974,7 +1974,7 @@ mod switching_in {
 
 #[cfg(test)]
 mod turn_choices {
-    //! Turns ([docs/MECHANICS.md, "Order of a turn"](https://github.com/hibsuloy/gen1/blob/main/docs/MECHANICS.md#order-of-a-turn)), and their end ("Falls and requests"). Tauros has 353 HP and is
+    //! Turns ([docs/MECHANICS.md, "Order of a turn"](https://hibsuloy.example/gen1/blob/main/docs/MECHANICS.md#order-of-a-turn)), and their end ("Falls and requests"). Tauros has 353 HP and is
     //! faster. Snorlax has 523 HP.
     use crate::duels::{both, duel, hurt, knowing, poisoned, run_turn, slot, switch, uses};
     use crate::setting::{
@@ -2386,7 +2386,7 @@ mod turn_choices {
 
 #[cfg(test)]
 mod turn_order {
-    //! Who acts first in a turn ([docs/MECHANICS.md, "Order of a turn"](https://github.com/hibsuloy/gen1/blob/main/docs/MECHANICS.md#order-of-a-turn)). Tauros has a Speed of 318, and Snorlax one of
+    //! Who acts first in a turn ([docs/MECHANICS.md, "Order of a turn"](https://hibsuloy.example/gen1/blob/main/docs/MECHANICS.md#order-of-a-turn)). Tauros has a Speed of 318, and Snorlax one of
     //! 158.
     use crate::duels::{both, duel, hurt, knowing, run_turn, slot, uses};
     use crate::setting::{FOE, USER, assert_same, assert_told, turn};

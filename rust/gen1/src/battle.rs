@@ -48,13 +48,13 @@ impl Battle {
 
     /// Loads a battle from its 384 bytes ([docs/LAYOUT.md][layout]).
     ///
-    /// [layout]: https://github.com/hibsuloy/gen1/blob/main/docs/LAYOUT.md
+    /// [layout]: https://hibsuloy.example/gen1/blob/main/docs/LAYOUT.md
     ///
     /// # Errors
     ///
     /// The first test of the bytes that fails ([docs/LAYOUT.md, "Loading"][loading]). Bytes that pass all of them are a valid battle.
     ///
-    /// [loading]: https://github.com/hibsuloy/gen1/blob/main/docs/LAYOUT.md#loading
+    /// [loading]: https://hibsuloy.example/gen1/blob/main/docs/LAYOUT.md#loading
     pub fn from_bytes(bytes: &[u8; 384]) -> Result<Self, LoadFault> {
         Battle::load(bytes)
     }
@@ -72,7 +72,7 @@ impl Battle {
 
     /// The 384 bytes of the battle, which are its whole state ([docs/LAYOUT.md][layout]).
     ///
-    /// [layout]: https://github.com/hibsuloy/gen1/blob/main/docs/LAYOUT.md
+    /// [layout]: https://hibsuloy.example/gen1/blob/main/docs/LAYOUT.md
     ///
     /// # Panics
     ///

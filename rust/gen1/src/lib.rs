@@ -20,8 +20,8 @@
 //! The sources are those of a proved engine without their contracts, built by your own compiler. [docs/PLAIN.md][plain] says what was
 //! proved and how the two builds are compared. The rules are in [docs/MECHANICS.md][rules].
 //!
-//! [plain]: https://github.com/hibsuloy/gen1/blob/main/docs/PLAIN.md
-//! [rules]: https://github.com/hibsuloy/gen1/blob/main/docs/MECHANICS.md
+//! [plain]: https://hibsuloy.example/gen1/blob/main/docs/PLAIN.md
+//! [rules]: https://hibsuloy.example/gen1/blob/main/docs/MECHANICS.md
 //!
 //! # Where things are
 //!
@@ -48,7 +48,7 @@
 //! states, outcomes, odds and battles. A [`Team`] is only deserialized, from a list of members. A member is the object of
 //! [docs/PROGRAM.md][program], a battle its 384 bytes, and a name its text:
 //!
-//! [program]: https://github.com/hibsuloy/gen1/blob/main/docs/PROGRAM.md
+//! [program]: https://hibsuloy.example/gen1/blob/main/docs/PROGRAM.md
 //!
 #![cfg_attr(feature = "serde", doc = "```")]
 #![cfg_attr(not(feature = "serde"), doc = "```ignore")]
@@ -131,7 +131,7 @@ pub use state::{ActiveState, MemberState, SideState, State};
 pub use teams::{NameFault, member};
 pub use update::{Chosen, EventSink, Offered, Silent, Update};
 
-/// Teams from the text of a team builder: its export text, and packed lines ([docs/TEAM_TEXT.md](https://github.com/hibsuloy/gen1/blob/main/docs/TEAM_TEXT.md)).
+/// Teams from the text of a team builder: its export text, and packed lines ([docs/TEAM_TEXT.md](https://hibsuloy.example/gen1/blob/main/docs/TEAM_TEXT.md)).
 ///
 /// ```
 /// use gen1::{Battle, text::team_in_text};

@@ -8,7 +8,7 @@ use crate::generated::machine::{DeviceFault, Sink};
 /// The length of the longest line in bytes, without its line feed.
 const LENGTH: usize = 96;
 
-/// The line of an event ([docs/MECHANICS.md, "Lines"](https://github.com/hibsuloy/gen1/blob/main/docs/MECHANICS.md#lines)), without a line feed: `|move|p1a: Tauros|Strength|p2a: Tauros`.
+/// The line of an event ([docs/MECHANICS.md, "Lines"](https://hibsuloy.example/gen1/blob/main/docs/MECHANICS.md#lines)), without a line feed: `|move|p1a: Tauros|Strength|p2a: Tauros`.
 #[derive(Clone, Copy, PartialEq, Eq)]
 pub struct Line {
     text: ArrayString<LENGTH>,
@@ -111,7 +111,7 @@ impl DoubleEndedIterator for Lines<'_> {
     }
 }
 
-/// Iterates over the events of log bytes, of any number of updates one after the other ([docs/MECHANICS.md, "Log bytes"](https://github.com/hibsuloy/gen1/blob/main/docs/MECHANICS.md#log-bytes)).
+/// Iterates over the events of log bytes, of any number of updates one after the other ([docs/MECHANICS.md, "Log bytes"](https://hibsuloy.example/gen1/blob/main/docs/MECHANICS.md#log-bytes)).
 ///
 /// An error is the last item: the bytes from there on are not a log, or end within an event.
 ///

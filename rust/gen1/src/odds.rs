@@ -52,7 +52,7 @@ pub struct Odds {
 
 impl Battle {
     /// The damage of a side's move at each factor from 217 to 255, in the current state of both members that are out
-    /// ([docs/MECHANICS.md, "Damage numbers"](https://github.com/hibsuloy/gen1/blob/main/docs/MECHANICS.md#damage-numbers) to "Factors"). The member need not know the move.
+    /// ([docs/MECHANICS.md, "Damage numbers"](https://hibsuloy.example/gen1/blob/main/docs/MECHANICS.md#damage-numbers) to "Factors"). The member need not know the move.
     ///
     /// ```
     /// use gen1::{Battle, Choice, Side, Team, member};
@@ -84,7 +84,7 @@ impl Battle {
         crate::generated::hits::damage_list(&numbers).ok_or(DamageRefusal::DividedByZero)
     }
 
-    /// The odds of a side's move, in the current state of both members that are out ([docs/MECHANICS.md, "Critical hits"](https://github.com/hibsuloy/gen1/blob/main/docs/MECHANICS.md#critical-hits), "Hit test").
+    /// The odds of a side's move, in the current state of both members that are out ([docs/MECHANICS.md, "Critical hits"](https://hibsuloy.example/gen1/blob/main/docs/MECHANICS.md#critical-hits), "Hit test").
     ///
     /// The member need not know the move. The accuracy is that of a new use; the one that Thrash and Rage keep is ignored.
     ///

@@ -2,7 +2,7 @@
 use crate::{Battle, Choice, Choices, Reply, Side};
 use crate::generated::room::plain::{self, PlainRoom};
 
-/// A battle of two players who submit their choices independently, and do not see each other's ([docs/MECHANICS.md, "Rooms"](https://github.com/hibsuloy/gen1/blob/main/docs/MECHANICS.md#rooms)).
+/// A battle of two players who submit their choices independently, and do not see each other's ([docs/MECHANICS.md, "Rooms"](https://hibsuloy.example/gen1/blob/main/docs/MECHANICS.md#rooms)).
 ///
 /// Pairs of choices are numbered from 0, which is the first pair after the start of the battle. A pair ends, and the battle is
 /// updated, as soon as both choices are submitted. A side that is asked for nothing passes automatically.
@@ -82,7 +82,7 @@ impl Room {
         self.submit_byte(side, number, choice.byte())
     }
 
-    /// As [`Room::submit`], with the choice as a byte, as players send it ([docs/MECHANICS.md, "Offered choices"](https://github.com/hibsuloy/gen1/blob/main/docs/MECHANICS.md#offered-choices)). A byte that is not
+    /// As [`Room::submit`], with the choice as a byte, as players send it ([docs/MECHANICS.md, "Offered choices"](https://hibsuloy.example/gen1/blob/main/docs/MECHANICS.md#offered-choices)). A byte that is not
     /// a choice is refused as not offered.
     ///
     /// # Errors

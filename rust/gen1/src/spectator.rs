@@ -7,7 +7,7 @@ use core::fmt;
 ///
 /// A spectator that has seen every event of a battle from its start agrees with the battle.
 ///
-/// [view]: https://github.com/hibsuloy/gen1/blob/main/docs/MECHANICS.md#spectators-view
+/// [view]: https://hibsuloy.example/gen1/blob/main/docs/MECHANICS.md#spectators-view
 ///
 /// # Example
 ///

@@ -7,7 +7,7 @@ use arrayvec::ArrayVec;
 use crate::generated::layout::Packed;
 use crate::generated::stats::Status;
 
-/// The whole state of a battle ([docs/LAYOUT.md](https://github.com/hibsuloy/gen1/blob/main/docs/LAYOUT.md)).
+/// The whole state of a battle ([docs/LAYOUT.md](https://hibsuloy.example/gen1/blob/main/docs/LAYOUT.md)).
 ///
 /// It includes both teams and the numbers still to be drawn, so it must not be shown to the players. What a spectator may know is in
 /// [`Spectator`](crate::Spectator).

@@ -6,7 +6,7 @@ use core::fmt;
 use core::str::FromStr;
 
 impl Conditions {
-    /// The 17 bits ([docs/LAYOUT.md, "Condition bits"](https://github.com/hibsuloy/gen1/blob/main/docs/LAYOUT.md#condition-bits)).
+    /// The 17 bits ([docs/LAYOUT.md, "Condition bits"](https://hibsuloy.example/gen1/blob/main/docs/LAYOUT.md#condition-bits)).
     #[must_use]
     pub fn bits(self) -> u32 {
         Flags::bits(&self)

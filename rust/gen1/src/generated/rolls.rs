@@ -9,7 +9,7 @@
 //! - `laws`: what holds for every generator
 
 mod laws {
-    //! What holds for every generator ([docs/MECHANICS.md, "Link numbers"](https://github.com/hibsuloy/gen1/blob/main/docs/MECHANICS.md#link-numbers)). Each function has an empty body. Its contract
+    //! What holds for every generator ([docs/MECHANICS.md, "Link numbers"](https://hibsuloy.example/gen1/blob/main/docs/MECHANICS.md#link-numbers)). Each function has an empty body. Its contract
     //! is the law.
 
     use crate::generated::rolls::rolls::Rolls;
@@ -24,11 +24,11 @@ mod laws {
 }
 
 mod link {
-    //! The generator of a link battle ([docs/MECHANICS.md, "Link numbers"](https://github.com/hibsuloy/gen1/blob/main/docs/MECHANICS.md#link-numbers)).
+    //! The generator of a link battle ([docs/MECHANICS.md, "Link numbers"](https://hibsuloy.example/gen1/blob/main/docs/MECHANICS.md#link-numbers)).
 
     use crate::generated::rolls::rolls::Rolls;
 
-    /// The generator of a link battle ([docs/MECHANICS.md, "Link numbers"](https://github.com/hibsuloy/gen1/blob/main/docs/MECHANICS.md#link-numbers)).
+    /// The generator of a link battle ([docs/MECHANICS.md, "Link numbers"](https://hibsuloy.example/gen1/blob/main/docs/MECHANICS.md#link-numbers)).
     ///
     /// It has nine numbers that are drawn in turn, a tenth that is only kept, and the index of the number that is drawn
     /// next.
@@ -82,7 +82,7 @@ mod link {
         }
     }
 
-    /// Renews one of the nine numbers: five times the number, plus one, modulo 256 ([docs/MECHANICS.md, "Link numbers"](https://github.com/hibsuloy/gen1/blob/main/docs/MECHANICS.md#link-numbers)).
+    /// Renews one of the nine numbers: five times the number, plus one, modulo 256 ([docs/MECHANICS.md, "Link numbers"](https://hibsuloy.example/gen1/blob/main/docs/MECHANICS.md#link-numbers)).
     ///
     /// This happens each time that all nine were drawn.
     pub fn renew(number: u8) -> u8 {
@@ -103,9 +103,9 @@ mod link {
 }
 
 mod rolls {
-    //! A generator of bytes, which all draws of a battle come from ([docs/MECHANICS.md, "Link numbers"](https://github.com/hibsuloy/gen1/blob/main/docs/MECHANICS.md#link-numbers)).
+    //! A generator of bytes, which all draws of a battle come from ([docs/MECHANICS.md, "Link numbers"](https://hibsuloy.example/gen1/blob/main/docs/MECHANICS.md#link-numbers)).
 
-    /// A generator of bytes ([docs/MECHANICS.md, "Link numbers"](https://github.com/hibsuloy/gen1/blob/main/docs/MECHANICS.md#link-numbers)).
+    /// A generator of bytes ([docs/MECHANICS.md, "Link numbers"](https://hibsuloy.example/gen1/blob/main/docs/MECHANICS.md#link-numbers)).
     ///
     /// Its value alone determines what it draws next, and what it is after a draw.
     pub trait Rolls {
@@ -123,7 +123,7 @@ mod rolls {
 }
 
 mod search {
-    //! The first draw that passes a test ([docs/MECHANICS.md, "Link numbers"](https://github.com/hibsuloy/gen1/blob/main/docs/MECHANICS.md#link-numbers)).
+    //! The first draw that passes a test ([docs/MECHANICS.md, "Link numbers"](https://hibsuloy.example/gen1/blob/main/docs/MECHANICS.md#link-numbers)).
 
     use crate::generated::rolls::rolls::Rolls;
 
@@ -143,11 +143,11 @@ mod search {
 }
 
 mod sweep {
-    //! A generator that counts up ([docs/MECHANICS.md, "Link numbers"](https://github.com/hibsuloy/gen1/blob/main/docs/MECHANICS.md#link-numbers)).
+    //! A generator that counts up ([docs/MECHANICS.md, "Link numbers"](https://hibsuloy.example/gen1/blob/main/docs/MECHANICS.md#link-numbers)).
 
     use crate::generated::rolls::rolls::Rolls;
 
-    /// A generator for tests ([docs/MECHANICS.md, "Link numbers"](https://github.com/hibsuloy/gen1/blob/main/docs/MECHANICS.md#link-numbers)).
+    /// A generator for tests ([docs/MECHANICS.md, "Link numbers"](https://hibsuloy.example/gen1/blob/main/docs/MECHANICS.md#link-numbers)).
     ///
     /// Each draw is the last plus 1, and 0 after 255. A search that begins one past the byte that it looks for takes all
     /// 256 draws.

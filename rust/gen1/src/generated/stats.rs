@@ -10,10 +10,10 @@
 //! - `refusal`: why a list of members isn't a team
 
 mod known_move {
-    //! A move that a member knows ([docs/MECHANICS.md, "Teams"](https://github.com/hibsuloy/gen1/blob/main/docs/MECHANICS.md#teams)).
+    //! A move that a member knows ([docs/MECHANICS.md, "Teams"](https://hibsuloy.example/gen1/blob/main/docs/MECHANICS.md#teams)).
     use crate::generated::tables::MoveId;
 
-    /// A move that a member knows, with its remaining PP, at most 63 ([docs/MECHANICS.md, "Teams"](https://github.com/hibsuloy/gen1/blob/main/docs/MECHANICS.md#teams)).
+    /// A move that a member knows, with its remaining PP, at most 63 ([docs/MECHANICS.md, "Teams"](https://hibsuloy.example/gen1/blob/main/docs/MECHANICS.md#teams)).
     #[derive(Debug, Clone, Copy, Default, PartialEq, Eq)] #[cfg_attr(feature = "serde", derive(serde::Serialize, serde::Deserialize))]
     pub struct KnownMove {
         pub id: MoveId,
@@ -22,7 +22,7 @@ mod known_move {
 }
 
 mod member {
-    //! A member of a team at the beginning of a battle ([docs/MECHANICS.md, "Stats"](https://github.com/hibsuloy/gen1/blob/main/docs/MECHANICS.md#stats)).
+    //! A member of a team at the beginning of a battle ([docs/MECHANICS.md, "Stats"](https://hibsuloy.example/gen1/blob/main/docs/MECHANICS.md#stats)).
 
     use crate::generated::stats::known_move::KnownMove;
     use crate::generated::stats::member_spec::MemberSpec;
@@ -31,7 +31,7 @@ mod member {
     use arrayvec::ArrayVec;
     use crate::generated::tables::{MoveId, Species};
 
-    /// A member of a team at the beginning of a battle: unhurt, healthy, and with full PP ([docs/MECHANICS.md, "Stats"](https://github.com/hibsuloy/gen1/blob/main/docs/MECHANICS.md#stats)).
+    /// A member of a team at the beginning of a battle: unhurt, healthy, and with full PP ([docs/MECHANICS.md, "Stats"](https://hibsuloy.example/gen1/blob/main/docs/MECHANICS.md#stats)).
     #[derive(Debug, Clone, PartialEq, Eq)]
     pub struct Member {
         species: Species,
@@ -141,13 +141,13 @@ mod member {
 }
 
 mod member_spec {
-    //! The specification of a member, and what may be wrong with it ([docs/MECHANICS.md, "Teams"](https://github.com/hibsuloy/gen1/blob/main/docs/MECHANICS.md#teams)).
+    //! The specification of a member, and what may be wrong with it ([docs/MECHANICS.md, "Teams"](https://hibsuloy.example/gen1/blob/main/docs/MECHANICS.md#teams)).
 
     use crate::generated::stats::refusal::TeamRefusal;
     use arrayvec::ArrayVec;
     use crate::generated::tables::{Effect, MoveId, STRUGGLE, Species};
 
-    /// The specification of a member ([docs/MECHANICS.md, "Teams"](https://github.com/hibsuloy/gen1/blob/main/docs/MECHANICS.md#teams)).
+    /// The specification of a member ([docs/MECHANICS.md, "Teams"](https://hibsuloy.example/gen1/blob/main/docs/MECHANICS.md#teams)).
     ///
     /// `dvs` are those of Attack, Defense, Speed and Special. `exp` is the experience of HP, Attack, Defense, Speed and
     /// Special. `moves` are the chosen moves, each with its PP ups. `Team::new` says which values are refused.
@@ -234,12 +234,12 @@ mod member_spec {
 }
 
 mod refusal {
-    //! Why a list of members isn't a team ([docs/MECHANICS.md, "Teams"](https://github.com/hibsuloy/gen1/blob/main/docs/MECHANICS.md#teams)).
+    //! Why a list of members isn't a team ([docs/MECHANICS.md, "Teams"](https://hibsuloy.example/gen1/blob/main/docs/MECHANICS.md#teams)).
 
     use core::error::Error;
     use core::fmt;
 
-    /// Why a list of members isn't a team ([docs/MECHANICS.md, "Teams"](https://github.com/hibsuloy/gen1/blob/main/docs/MECHANICS.md#teams)). Each number is the place of the refused member,
+    /// Why a list of members isn't a team ([docs/MECHANICS.md, "Teams"](https://hibsuloy.example/gen1/blob/main/docs/MECHANICS.md#teams)). Each number is the place of the refused member,
     /// from 1.
     #[derive(Debug, Clone, Copy, PartialEq, Eq)]
     pub enum TeamRefusal {
@@ -323,14 +323,14 @@ mod refusal {
 }
 
 mod stats {
-    //! A member's stats ([docs/MECHANICS.md, "Stats"](https://github.com/hibsuloy/gen1/blob/main/docs/MECHANICS.md#stats)).
+    //! A member's stats ([docs/MECHANICS.md, "Stats"](https://hibsuloy.example/gen1/blob/main/docs/MECHANICS.md#stats)).
 
-    /// Attack, Defense, Speed or Special of a species with this base stat, at most 999 ([docs/MECHANICS.md, "Stats"](https://github.com/hibsuloy/gen1/blob/main/docs/MECHANICS.md#stats)).
+    /// Attack, Defense, Speed or Special of a species with this base stat, at most 999 ([docs/MECHANICS.md, "Stats"](https://hibsuloy.example/gen1/blob/main/docs/MECHANICS.md#stats)).
     pub fn stat(base: u8, dv: u8, exp: u16, level: u8) -> u16 {
         (points(base, dv, exp, level) + 5).min(999) as u16
     }
 
-    /// The maximum HP of a species with this base stat, at most 999 ([docs/MECHANICS.md, "Stats"](https://github.com/hibsuloy/gen1/blob/main/docs/MECHANICS.md#stats)).
+    /// The maximum HP of a species with this base stat, at most 999 ([docs/MECHANICS.md, "Stats"](https://hibsuloy.example/gen1/blob/main/docs/MECHANICS.md#stats)).
     pub fn hp_stat(base: u8, dv: u8, exp: u16, level: u8) -> u16 {
         (points(base, dv, exp, level) + u32::from(level) + 10).min(999) as u16
     }
@@ -363,7 +363,7 @@ mod stats {
 }
 
 mod status {
-    //! The status of a member ([docs/MECHANICS.md, "Penalties"](https://github.com/hibsuloy/gen1/blob/main/docs/MECHANICS.md#penalties)).
+    //! The status of a member ([docs/MECHANICS.md, "Penalties"](https://hibsuloy.example/gen1/blob/main/docs/MECHANICS.md#penalties)).
 
     /// A member's status.
     #[derive(Debug, Clone, Copy, Default, PartialEq, Eq)]
@@ -392,21 +392,21 @@ mod status {
 }
 
 mod team {
-    //! Teams ([docs/MECHANICS.md, "Stats"](https://github.com/hibsuloy/gen1/blob/main/docs/MECHANICS.md#stats)).
+    //! Teams ([docs/MECHANICS.md, "Stats"](https://hibsuloy.example/gen1/blob/main/docs/MECHANICS.md#stats)).
 
     use crate::generated::stats::member::Member;
     use crate::generated::stats::member_spec::MemberSpec;
     use crate::generated::stats::refusal::TeamRefusal;
     use arrayvec::ArrayVec;
 
-    /// A team: one to six members at the beginning of a battle, unhurt and healthy ([docs/MECHANICS.md, "Teams"](https://github.com/hibsuloy/gen1/blob/main/docs/MECHANICS.md#teams)).
+    /// A team: one to six members at the beginning of a battle, unhurt and healthy ([docs/MECHANICS.md, "Teams"](https://hibsuloy.example/gen1/blob/main/docs/MECHANICS.md#teams)).
     #[derive(Debug, Clone, PartialEq, Eq)]
     pub struct Team {
         members: ArrayVec<Member, 6>,
     }
 
     impl Team {
-        /// The team of the specified members, or the first test that they fail ([docs/MECHANICS.md, "Teams"](https://github.com/hibsuloy/gen1/blob/main/docs/MECHANICS.md#teams)).
+        /// The team of the specified members, or the first test that they fail ([docs/MECHANICS.md, "Teams"](https://hibsuloy.example/gen1/blob/main/docs/MECHANICS.md#teams)).
         ///
         /// The tests come in the order of `TeamRefusal`'s variants. Those of the number of members are first. The others
         /// go member by member, and each looks at all moves of a member before the next test.
