@@ -4,18 +4,19 @@
 //!
 //! ```
 //! # fn main() -> Result<(), Box<dyn std::error::Error>> {
-//! use gen1::{Battle, Choice, Team, member};
-//! let one = Team::new(&[member("Tauros", &["Body Slam", "Hyper Beam"])?])?;
-//! let two = Team::new(&[member("Alakazam", &["Psychic", "Recover"])?])?;
-//! let mut battle = Battle::new(&one, &two, [1, 36, 255, 7, 31, 100, 179, 254, 127, 10]);
-//! battle.update(Choice::Pass, Choice::Pass)?.lines().for_each(|line| println!("{line}"));
-//! battle.update(Choice::MOVE_1, Choice::MOVE_1)?.lines().for_each(|line| println!("{line}"));
+//! use gen1::{Battle, Side, Team, member};
+//! let team = Team::new(&[member("Tauros", &["Body Slam", "Blizzard"])?])?;
+//! let mut battle = Battle::new(&team, &team, [1, 36, 255, 7, 31, 100, 179, 254, 127, 10]);
+//! while !battle.is_over() {
+//!     let [one, two] = Side::BOTH.map(|side| battle.choices(side)[0]);
+//!     battle.update(one, two)?.lines().for_each(|line| println!("{line}"));
+//! }
 //! # Ok(())
 //! # }
 //! ```
 //!
-//! In the first update both sides pass, and their first members come out. After that, [`Battle::choices`] lists what a side may choose,
-//! until [`Battle::is_over`].
+//! Here each side takes the first choice that [`Battle::choices`] lists. In the first update both sides pass, and their first members
+//! come out.
 //!
 //! The sources are those of a proved engine without their contracts, built by your own compiler. [docs/PLAIN.md][plain] says what was
 //! proved and how the two builds are compared. The rules are in [docs/MECHANICS.md][rules].
