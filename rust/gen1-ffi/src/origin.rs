@@ -3,7 +3,7 @@
 
 use core::ffi::c_char;
 
-/// The tools that build the library set the variable (tools/c_build.py); plain cargo doesn't know the sources.
+/// The tools that build the library set the variable (tools/c_library.py); plain cargo doesn't know the sources.
 const BUILD: &str = match option_env!("GEN1_BUILD") {
     Some(text) => text,
     None => "plain, rustc unknown, sources sha256 unknown",
