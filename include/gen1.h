@@ -13,9 +13,9 @@
  *     battle is only its 384 bytes: copy them to keep a battle or to try out a choice, write them to a file, or send them.
  *   - Threads. There is no global state. Calls on different battles may run in different threads at the same time. Calls on the
  *     same battle may do so only if all of them take it as const.
- *   - Errors. Any number may be passed as an argument. A number out of its range makes the function return a code. If a
- *     function returns a code, it has changed nothing that its pointers point to. The only exception is `fault` of
- *     gen1_team_from_text and gen1_team_from_packed, which then says what is wrong with the text.
+ *   - Errors. Any number may be passed as an argument. A number out of its range makes the function return a code, one of
+ *     GEN1_ERROR_.. below. If a function returns a code, it has changed nothing that its pointers point to. The only exception
+ *     is `fault` of gen1_team_from_text and gen1_team_from_packed, which then says what is wrong with the text.
  *   - Pointers. The library cannot check these, so the caller has to. A pointer must not be NULL, and must point to as much
  *     memory as its type says, or as the size next to it says. A NULL is allowed where that size is 0.
  *   - Overlap. Memory that a function may write must not overlap anything else that is passed to it. What it takes as const may
@@ -62,12 +62,13 @@ typedef struct gen1_member {
 typedef struct gen1_team {
     gen1_member members[6]; /* the member at place p is members[p - 1] */
     uint8_t count;          /* 1 to 6 */
+    uint8_t reserved;       /* ignored; functions that write a team write 0 */
 } gen1_team;
 
 /* The size of a buffer that holds the log of any update, whatever the bytes of the battle are. */
 #define GEN1_LOG_ROOM 512
 
-/* The size of a buffer that holds any line of gen1_next_line. */
+/* The size of a buffer that holds any line of gen1_next_line and its NUL. */
 #define GEN1_LINE_ROOM 96
 
 /* The two sides. */
@@ -80,20 +81,23 @@ enum { GEN1_SLEEP_CLAUSE = 1, GEN1_FREEZE_CLAUSE = 2 };
 #define GEN1_LIMIT 1000
 
 /* A choice is one byte (docs/MECHANICS.md, "Offered choices"). */
-#define GEN1_PASS 0x00
-#define GEN1_MOVE(slot) (0x10 + (slot))     /* slot 1 to 4; 0 where no slot can be chosen */
-#define GEN1_SWITCH(place) (0x20 + (place)) /* place 1 to 6 */
+#define GEN1_CHOICE_PASS 0x00
+#define GEN1_CHOICE_MOVE(slot) (0x10 + (slot))     /* slot 1 to 4; 0 where no slot can be chosen */
+#define GEN1_CHOICE_SWITCH(place) (0x20 + (place)) /* place 1 to 6 */
 
 /* The status of a member: `status` of gen1_event, gen1_member_state and gen1_shown_member. */
 enum {
     GEN1_STATUS_NONE, GEN1_STATUS_SLEEP, GEN1_STATUS_POISON, GEN1_STATUS_BURN, GEN1_STATUS_FREEZE, GEN1_STATUS_PARALYSIS
 };
 
-/* Stats: `detail` of GEN1_BOOST and GEN1_UNBOOST. Stat n is at index n - 1 of `stages` and `stats` in gen1_active_state. */
+/*
+ * Stats: `detail` of GEN1_EVENT_BOOST and GEN1_EVENT_UNBOOST. Stat n is at index n - 1 of `stages` and `stats` in
+ * gen1_active_state.
+ */
 enum { GEN1_STAT_ATTACK = 1, GEN1_STAT_DEFENSE, GEN1_STAT_SPEED, GEN1_STAT_SPECIAL, GEN1_STAT_ACCURACY, GEN1_STAT_EVASION };
 
 /* What gen1_choice_kind returns. */
-enum { GEN1_CHOICE_NONE, GEN1_CHOICE_PASS, GEN1_CHOICE_MOVE, GEN1_CHOICE_SWITCH };
+enum { GEN1_KIND_NONE, GEN1_KIND_PASS, GEN1_KIND_MOVE, GEN1_KIND_SWITCH };
 
 /*
  * Conditions of the active member (docs/MECHANICS.md, "Conditions"): `conditions` of gen1_active_state is the sum of those it
@@ -107,7 +111,10 @@ enum {
     GEN1_CONDITION_LIGHT_SCREEN = 16384, GEN1_CONDITION_REFLECT = 32768, GEN1_CONDITION_DISABLED = 65536
 };
 
-/* Why a battle had to stop: `detail` of GEN1_FAULT. The outcome is then GEN1_FAULT_ONE or GEN1_FAULT_TWO, in the same order. */
+/*
+ * Why a battle had to stop: `detail` of GEN1_EVENT_FAULT. The outcome is then GEN1_OUTCOME_FAULT_ONE or GEN1_OUTCOME_FAULT_TWO,
+ * in the same order.
+ */
 enum { GEN1_FAULT_DIVISION = 1, GEN1_FAULT_PSYWAVE };
 
 /* tools/header.py writes the lines from here to "end of the tables", from docs/TABLES.md and docs/MECHANICS.md. */
@@ -154,7 +161,7 @@ enum {
     GEN1_SPECIES_MEW
 };
 
-/* Moves. GEN1_MOVE(slot) above is a choice, and none of these. */
+/* Moves. */
 enum {
     GEN1_MOVE_POUND = 1, GEN1_MOVE_KARATE_CHOP, GEN1_MOVE_DOUBLE_SLAP, GEN1_MOVE_COMET_PUNCH, GEN1_MOVE_MEGA_PUNCH,
     GEN1_MOVE_PAY_DAY, GEN1_MOVE_FIRE_PUNCH, GEN1_MOVE_ICE_PUNCH, GEN1_MOVE_THUNDER_PUNCH, GEN1_MOVE_SCRATCH,
@@ -188,19 +195,34 @@ enum {
     GEN1_MOVE_SUPER_FANG, GEN1_MOVE_SLASH, GEN1_MOVE_SUBSTITUTE, GEN1_MOVE_STRUGGLE
 };
 
-/* Why a member could not act: `detail` of GEN1_CANT. */
+/* What moves do besides their damage: `effect` of gen1_move (docs/TABLES.md, "Effects"). */
+enum {
+    GEN1_EFFECT_DAMAGE_ONLY = 0, GEN1_EFFECT_ALWAYS_FAILS, GEN1_EFFECT_MULTI_HIT, GEN1_EFFECT_PAY_DAY,
+    GEN1_EFFECT_FREEZE_CHANCE, GEN1_EFFECT_CHARGE, GEN1_EFFECT_CHARGE_INVULNERABLE, GEN1_EFFECT_TRAPPING,
+    GEN1_EFFECT_ONE_HIT_KNOCK_OUT, GEN1_EFFECT_DOUBLE_HIT, GEN1_EFFECT_TWINEEDLE, GEN1_EFFECT_CRASH_ON_MISS, GEN1_EFFECT_RECOIL,
+    GEN1_EFFECT_THRASH, GEN1_EFFECT_INFLICT_SLEEP, GEN1_EFFECT_INFLICT_CONFUSION, GEN1_EFFECT_FIXED_DAMAGE, GEN1_EFFECT_DISABLE,
+    GEN1_EFFECT_MIST, GEN1_EFFECT_RECHARGE, GEN1_EFFECT_COUNTER, GEN1_EFFECT_DRAIN, GEN1_EFFECT_LEECH_SEED,
+    GEN1_EFFECT_INFLICT_POISON, GEN1_EFFECT_INFLICT_PARALYSIS, GEN1_EFFECT_RAGE, GEN1_EFFECT_LEFT_OUT, GEN1_EFFECT_HEAL,
+    GEN1_EFFECT_SCREEN, GEN1_EFFECT_HAZE, GEN1_EFFECT_FOCUS_ENERGY, GEN1_EFFECT_BIDE, GEN1_EFFECT_EXPLODE,
+    GEN1_EFFECT_NEVER_MISSES, GEN1_EFFECT_DREAM_EATER, GEN1_EFFECT_SPLASH, GEN1_EFFECT_CONVERSION, GEN1_EFFECT_SUPER_FANG,
+    GEN1_EFFECT_SUBSTITUTE, GEN1_EFFECT_BURN_CHANCE, GEN1_EFFECT_PARALYSIS_CHANCE, GEN1_EFFECT_POISON_CHANCE,
+    GEN1_EFFECT_FLINCH_CHANCE, GEN1_EFFECT_CONFUSION_CHANCE, GEN1_EFFECT_STAT_DOWN_CHANCE, GEN1_EFFECT_STAT_UP,
+    GEN1_EFFECT_STAT_DOWN
+};
+
+/* Why a member could not act: `detail` of GEN1_EVENT_CANT. */
 enum {
     GEN1_REASON_ASLEEP = 1, GEN1_REASON_FROZEN, GEN1_REASON_PARTIALLY_TRAPPED, GEN1_REASON_FLINCHED, GEN1_REASON_RECHARGING,
     GEN1_REASON_DISABLED, GEN1_REASON_PARALYSED
 };
 
-/* What dealt damage: `detail` of GEN1_DAMAGE. */
+/* What dealt damage: `detail` of GEN1_EVENT_DAMAGE. */
 enum {
     GEN1_SOURCE_DIRECT = 0, GEN1_SOURCE_POISON, GEN1_SOURCE_BURN, GEN1_SOURCE_LEECH_SEED, GEN1_SOURCE_RECOIL,
     GEN1_SOURCE_CONFUSION
 };
 
-/* What began, ended or showed: `detail` of GEN1_START, GEN1_END and GEN1_ACTIVATE. */
+/* What began, ended or showed: `detail` of GEN1_EVENT_START, GEN1_EVENT_END and GEN1_EVENT_ACTIVATE. */
 enum {
     GEN1_VOLATILE_CONFUSION = 1, GEN1_VOLATILE_BIDE, GEN1_VOLATILE_SUBSTITUTE, GEN1_VOLATILE_LEECH_SEED, GEN1_VOLATILE_MIST,
     GEN1_VOLATILE_FOCUS_ENERGY, GEN1_VOLATILE_LIGHT_SCREEN, GEN1_VOLATILE_REFLECT, GEN1_VOLATILE_DISABLE,
@@ -208,6 +230,103 @@ enum {
 };
 
 /* end of the tables */
+
+/* ---- errors ---- */
+
+/*
+ * Codes. A function that returns a code returns 0 or one of these, and each number is the same error in every function.
+ * gen1_error_text writes a code in words.
+ */
+enum {
+    /* Teams and terms. */
+    GEN1_ERROR_TEAM_EMPTY = 1,      /* the team has no member */
+    GEN1_ERROR_TEAM_TOO_LONG = 2,   /* it has more than six */
+    GEN1_ERROR_LEVEL = 3,           /* the level is not 1 to 100 */
+    GEN1_ERROR_DV = 4,              /* a DV is above 15 */
+    GEN1_ERROR_NO_MOVE = 5,         /* there is no move */
+    GEN1_ERROR_MOVE_LEFT_OUT = 6,   /* a move is one of the four that the engine leaves out */
+    GEN1_ERROR_STRUGGLE = 7,        /* Struggle was chosen */
+    GEN1_ERROR_REPEATED_MOVE = 8,   /* a move is there twice */
+    GEN1_ERROR_PP_UPS = 9,          /* a move has more than three PP ups */
+    GEN1_ERROR_SPECIES = 10,        /* the species is not 1 to 151 */
+    GEN1_ERROR_MOVE = 11,           /* a move is not 1 to 165 */
+    GEN1_ERROR_RULES = 12,          /* the rules are above 3 */
+    GEN1_ERROR_TURN_LIMIT = 13,     /* the limit is not 1 to 9,999 */
+    GEN1_ERROR_FOES = 14,           /* the number of the foe's members is above 6 */
+
+    /* Loading: the first test that bytes fail (docs/LAYOUT.md, "Loading"). */
+    GEN1_ERROR_LOAD_LENGTH = 16,    /* there are not 384 bytes */
+    GEN1_ERROR_LOAD_VERSION = 17,   /* the version, byte 0, is not 1, 2 or 3 */
+    GEN1_ERROR_LOAD_HEADER = 18,    /* a field of the header is out of its range */
+    GEN1_ERROR_LOAD_MEMBER = 19,    /* a member is out of its ranges, or stands behind an empty place */
+    GEN1_ERROR_LOAD_ACTIVE = 20,    /* an active block is out of its ranges, or does not fit its current move */
+    GEN1_ERROR_LOAD_STAT = 21,      /* a current stat is not what stage and penalties make of the member's own */
+    GEN1_ERROR_LOAD_REQUEST = 22,   /* turn, outcome, requests and living members do not fit together */
+    GEN1_ERROR_STATE = 23,          /* a field of a state is wrong: its gen1_state_fault says which */
+
+    /* Updates. */
+    GEN1_ERROR_OVER = 24,           /* the battle is over */
+    GEN1_ERROR_NOT_OFFERED_ONE = 25, /* side 1's choice was not offered (nor perhaps side 2's) */
+    GEN1_ERROR_NOT_OFFERED_TWO = 26, /* side 2's was not */
+    GEN1_ERROR_SMALL_LOG = 27,      /* the room for the log is less than 512 bytes, or than the log */
+    GEN1_ERROR_LONG_LOG = 28,       /* the log is longer than that of an update, 512 bytes */
+
+    /* Logs. */
+    GEN1_ERROR_LOG_TAG = 32,        /* a byte in a tag's place is no tag */
+    GEN1_ERROR_LOG_FIELD = 33,      /* a field of an event is out of its range */
+    GEN1_ERROR_LOG_CUT = 34,        /* the bytes end within an event */
+    GEN1_ERROR_LOG_END = 35,        /* the index is at the end of the log, or past it */
+
+    /* Arguments. */
+    GEN1_ERROR_SIDE = 40,           /* the side is neither 1 nor 2 */
+    GEN1_ERROR_SMALL_TEXT = 41,     /* the text and its NUL do not fit */
+    GEN1_ERROR_UNKNOWN = 42,        /* nothing has this number */
+    GEN1_ERROR_CHOICE = 43,         /* the byte is not a choice */
+    GEN1_ERROR_NOBODY = 44,         /* that slot has no move, that place has no member, or no member is out yet */
+    GEN1_ERROR_LENGTHS = 45,        /* an array is not as long as that of the battles */
+    GEN1_ERROR_INDEX = 46,          /* the index is not 0 to 8 */
+    GEN1_ERROR_PLACE = 47,          /* the place is not 1 to 6 */
+
+    /* Calculating. */
+    GEN1_ERROR_UNUSUAL = 48,        /* it does not have the usual damage: no power, or a damage rule of its own */
+    GEN1_ERROR_DIVISOR = 49,        /* the defense that counts in this hit is 0, and the damage would be divided by it */
+    GEN1_ERROR_NOBODY_OUT = 50,     /* nobody is out: the battle is before its first update */
+
+    /* Rooms. */
+    GEN1_ERROR_STALE = 52,          /* the number is not that of the current pair */
+    GEN1_ERROR_CHOSEN = 53,         /* the side's choice is there */
+    GEN1_ERROR_NOT_OFFERED = 54,    /* the choice is none that the side is offered */
+
+    /* Teams out of text: what was expected. */
+    GEN1_ERROR_TEXT_SPECIES = 64,   /* the name of a species of the first generation */
+    GEN1_ERROR_TEXT_ITEM = 65,      /* no item: the first generation has none */
+    GEN1_ERROR_TEXT_SEVENTH_MEMBER = 66, /* at most six members */
+    GEN1_ERROR_TEXT_LEVEL = 67,     /* a level from 1 to 100 */
+    GEN1_ERROR_TEXT_EVS = 68,       /* EVs from 0 to 255, as "252 HP / 4 Atk", or packed as "252,4,,,," */
+    GEN1_ERROR_TEXT_SPECIAL_EVS = 69, /* the same EVs for SpA and SpD: the first generation has one Special */
+    GEN1_ERROR_TEXT_IVS = 70,       /* IVs from 0 to 31, as "14 HP / 0 Atk", or packed as "14,0,,,," */
+    GEN1_ERROR_TEXT_SPECIAL_IVS = 71, /* the same IVs for SpA and SpD */
+    GEN1_ERROR_TEXT_HP_IV = 72,     /* the HP IV that follows from the others, or none */
+    GEN1_ERROR_TEXT_MOVE = 73,      /* the name of a move of the first generation */
+    GEN1_ERROR_TEXT_FIFTH_MOVE = 74, /* at most four moves */
+    GEN1_ERROR_TEXT_LINE = 75,      /* a line of a member, as "Level: 50", "EVs: 252 HP", "IVs: 0 Atk" or "- Body Slam" */
+    GEN1_ERROR_TEXT_FIELDS = 76,    /* packed: twelve fields with `|` between them */
+    GEN1_ERROR_TEXT_TEAM = 77       /* members that are a team: `rule` says why they are none, and `member` who is at fault */
+};
+
+/* The size of a buffer that holds any sentence of gen1_error_text and its NUL. */
+#define GEN1_SENTENCE_ROOM 128
+
+/*
+ * Writes what a code means, as one sentence that gives the valid range, such as "a DV is above 15". Every code GEN1_ERROR_..
+ * has one; of a result of gen1_new, and of functions that return the same, pass GEN1_CODE_OF(result). The sentence of code 0 is
+ * "nothing is at fault".
+ *
+ * The sentence and a NUL are written to the beginning of `text`, whose size is `room`; the rest of `text` does not change.
+ * `*length` becomes the number of bytes before the NUL. Returns 0; GEN1_ERROR_UNKNOWN for any other number; or
+ * GEN1_ERROR_SMALL_TEXT if sentence and NUL do not fit. If it returns a code nothing has changed.
+ */
+uint8_t gen1_error_text(uint8_t code, char *text, size_t room, size_t *length);
 
 /* ---- beginning ---- */
 
@@ -224,52 +343,18 @@ enum {
 uint32_t gen1_new(gen1_battle *battle, const gen1_team *one, const gen1_team *two, const uint8_t seed[10], uint8_t rules,
                   uint16_t limit);
 
-#define GEN1_CODE(answer) ((answer) & 0xff)       /* one of the codes below */
-#define GEN1_PLACE(answer) ((answer) >> 8 & 0xff) /* the place of the member with the error, 1 to 6; 0 if it is not about one
-                                                     member */
-#define GEN1_SIDE(answer) ((answer) >> 16)        /* the team with the error, 1 or 2; 0 if it is not about a team */
-
-enum {
-    GEN1_EMPTY = 1,          /* the team has no member */
-    GEN1_TOO_MANY = 2,       /* it has more than six */
-    GEN1_LEVEL = 3,          /* the level is not 1 to 100 */
-    GEN1_DV = 4,             /* a DV is above 15 */
-    GEN1_NO_MOVE = 5,        /* there is no move */
-    GEN1_MOVE_LEFT_OUT = 6,  /* a move is one of the four that the engine leaves out */
-    GEN1_STRUGGLE = 7,       /* Struggle was chosen */
-    GEN1_REPEATED_MOVE = 8,  /* a move is there twice */
-    GEN1_PP_UPS = 9,         /* a move has more than three PP ups */
-    GEN1_NO_SUCH_SPECIES = 10, /* the species is not 1 to 151 */
-    GEN1_NO_SUCH_MOVE = 11,  /* a move is not 1 to 165 */
-    GEN1_RULES = 12,         /* the rules are above 3 */
-    GEN1_TURN_LIMIT = 13     /* the limit is not 1 to 9,999 */
-};
+#define GEN1_CODE_OF(answer) ((answer) & 0xff)       /* a code: GEN1_ERROR_TEAM_EMPTY to GEN1_ERROR_TURN_LIMIT */
+#define GEN1_PLACE_OF(answer) ((answer) >> 8 & 0xff) /* the place of the member with the error, 1 to 6; 0 if it is not about one
+                                                        member */
+#define GEN1_SIDE_OF(answer) ((answer) >> 16)        /* the team with the error, 1 or 2; 0 if it is not about a team */
 
 /*
  * Reads a battle from `count` bytes of any of the three versions of the layout (docs/LAYOUT.md, "Loading").
  *
- * Returns 0, or the number of the first test that the bytes fail, 1 to 7; then `*battle` has not changed. To test a battle in
- * place, load its bytes into another one.
+ * Returns 0, or GEN1_ERROR_LOAD_LENGTH to GEN1_ERROR_LOAD_REQUEST, the first test that the bytes fail; then `*battle` has not
+ * changed. To test a battle in place, load its bytes into another one.
  */
 uint8_t gen1_load(gen1_battle *battle, const uint8_t *bytes, size_t count);
-
-/* The tests of loading. The comment above each constant says what is wrong with bytes that fail the test. */
-enum {
-    /* There are not 384 bytes. */
-    GEN1_LOAD_LENGTH = 1,
-    /* The version, byte 0, is not 1, 2 or 3. */
-    GEN1_LOAD_VERSION = 2,
-    /* A field of the header is out of its range. */
-    GEN1_LOAD_HEADER = 3,
-    /* A member is out of its ranges, or stands behind an empty place. */
-    GEN1_LOAD_MEMBER = 4,
-    /* An active block is out of its ranges, or does not fit its current move. */
-    GEN1_LOAD_ACTIVE = 5,
-    /* A current stat is not what stage and penalties make of the member's own. */
-    GEN1_LOAD_STAT = 6,
-    /* Turn, outcome, requests and living members do not fit together. */
-    GEN1_LOAD_REQUEST = 7
-};
 
 /* ---- playing ---- */
 
@@ -277,138 +362,140 @@ enum {
  * Lists the choices that a side is offered (docs/MECHANICS.md, "Offered choices").
  *
  * Writes their bytes, in rising order, to the beginning of `choices`; the rest of the array does not change. Returns their
- * number, 1 to 9, or 0 if the battle is over. Returns GEN1_NO_SIDE if `side` is neither 1 nor 2.
+ * number: 1 to 9, or 0 if the battle is over or `side` is neither 1 nor 2.
  */
 uint8_t gen1_choices(const gen1_battle *battle, uint8_t side, uint8_t choices[9]);
 
-#define GEN1_NO_SIDE 255 /* returned by functions that list choices for a side that is neither 1 nor 2 */
-
 /*
- * Returns the choices that a side is offered as a mask of twelve bits: bit GEN1_BIT(choice) is 1 exactly if gen1_choices lists
- * the choice.
+ * Returns the choices that a side is offered as a mask of twelve bits: bit GEN1_CHOICE_BIT(choice) is 1 exactly if gen1_choices
+ * lists the choice.
  *
- * The bits are in the order of the bytes: bit 0 is GEN1_PASS, bits 1 to 5 are GEN1_MOVE(0) to GEN1_MOVE(4), bits 6 to 11 are
- * GEN1_SWITCH(1) to GEN1_SWITCH(6). The mask is 0 if the battle is over, and GEN1_NO_MASK if `side` is neither 1 nor 2.
+ * The bits are in the order of the bytes: bit 0 is GEN1_CHOICE_PASS, bits 1 to 5 are GEN1_CHOICE_MOVE(0) to
+ * GEN1_CHOICE_MOVE(4), bits 6 to 11 are GEN1_CHOICE_SWITCH(1) to GEN1_CHOICE_SWITCH(6). The mask is 0 if the battle is over or
+ * `side` is neither 1 nor 2.
  */
 uint16_t gen1_offered(const gen1_battle *battle, uint8_t side);
 
-#define GEN1_NO_MASK 0xffff /* returned by gen1_offered for a side that is neither 1 nor 2 */
-
-/* Returns the bit of a choice, 0 to 11. For a byte that is not a choice it returns 12, a bit that is 1 only in GEN1_NO_MASK. */
-static inline int GEN1_BIT(int choice)
+/* Returns the bit of a choice, 0 to 11. For a byte that is not a choice it returns 12, a bit that is 0 in every mask. */
+static inline int GEN1_CHOICE_BIT(int choice)
 {
-    if (choice == GEN1_PASS)
+    if (choice == GEN1_CHOICE_PASS)
         return 0;
-    if (choice >= GEN1_MOVE(0) && choice <= GEN1_MOVE(4))
-        return choice - GEN1_MOVE(0) + 1;
-    return choice >= GEN1_SWITCH(1) && choice <= GEN1_SWITCH(6) ? choice - GEN1_SWITCH(1) + 6 : 12;
+    if (choice >= GEN1_CHOICE_MOVE(0) && choice <= GEN1_CHOICE_MOVE(4))
+        return choice - GEN1_CHOICE_MOVE(0) + 1;
+    return choice >= GEN1_CHOICE_SWITCH(1) && choice <= GEN1_CHOICE_SWITCH(6) ? choice - GEN1_CHOICE_SWITCH(1) + 6 : 12;
 }
 
 /* Returns the choice of a bit from 0 to 11. */
-static inline int GEN1_CHOICE(int bit)
+static inline int GEN1_CHOICE_AT(int bit)
 {
-    return bit == 0 ? GEN1_PASS : bit < 6 ? GEN1_MOVE(0) + bit - 1 : GEN1_SWITCH(1) + bit - 6;
+    return bit == 0 ? GEN1_CHOICE_PASS : bit < 6 ? GEN1_CHOICE_MOVE(0) + bit - 1 : GEN1_CHOICE_SWITCH(1) + bit - 6;
 }
 
 /*
- * Plays one update: a choice of each side. The first update of a battle takes GEN1_PASS from both sides, and sends out the
- * first member of each.
+ * Plays one update: a choice of each side. The first update of a battle takes GEN1_CHOICE_PASS from both sides, and sends out
+ * the first member of each.
  *
- * With `room` 0 no log is written, `log` may be NULL, and `*length` becomes 0. Otherwise `room` is the size of `log`, at least
- * GEN1_LOG_ROOM. The log of the update is written to the beginning of `log`, and its number of bytes to `*length`; the rest of
- * `log` does not change.
+ * `room` is the size of `log`, at least GEN1_LOG_ROOM. The log of the update is written to the beginning of `log`, and its
+ * number of bytes to `*length`; the rest of `log` does not change.
  *
- * Returns 0, or the first of the codes below that applies, where GEN1_SMALL_LOG is tested first. If it returns a code nothing
- * has changed, whatever the bytes of `battle` are.
+ * Returns 0, or the first of these codes that applies: GEN1_ERROR_SMALL_LOG, GEN1_ERROR_OVER, GEN1_ERROR_NOT_OFFERED_ONE,
+ * GEN1_ERROR_NOT_OFFERED_TWO. If it returns a code nothing has changed, whatever the bytes of `battle` are.
  */
 uint8_t gen1_update(gen1_battle *battle, uint8_t one, uint8_t two, uint8_t *log, size_t room, size_t *length);
 
-enum {
-    GEN1_OVER = 1,            /* the battle is over */
-    GEN1_NOT_OFFERED_ONE = 2, /* side 1's choice was not offered (nor perhaps side 2's) */
-    GEN1_NOT_OFFERED_TWO = 3, /* side 2's was not */
-    GEN1_SMALL_LOG = 4        /* `room` is not 0, but less than GEN1_LOG_ROOM; tested before the other three */
-};
+/* Plays one update like gen1_update, without a log. */
+uint8_t gen1_update_silent(gen1_battle *battle, uint8_t one, uint8_t two);
 
 /*
- * Plays one update like gen1_update, without testing that the choices are offered. It is for callers that took both from
- * gen1_choices or gen1_offered.
+ * These play one update like the two above, without testing that the choices are offered. They are for callers that took both
+ * from gen1_choices or gen1_offered.
  *
- * Returns GEN1_SMALL_LOG as gen1_update does, and GEN1_NOT_OFFERED_ONE or GEN1_NOT_OFFERED_TWO for a byte that is not a choice
- * at all; then nothing has changed.
+ * Returns 0, or the first of these codes that applies, and then nothing has changed: GEN1_ERROR_SMALL_LOG; or
+ * GEN1_ERROR_NOT_OFFERED_ONE or GEN1_ERROR_NOT_OFFERED_TWO for a byte that is not a choice at all.
  *
  * If a choice is not offered, or the battle is over, `*battle` may be invalid afterwards (gen1_load finds out). Log and length
  * are written as usual, and no other memory.
  */
 uint8_t gen1_update_offered(gen1_battle *battle, uint8_t one, uint8_t two, uint8_t *log, size_t room, size_t *length);
+uint8_t gen1_update_offered_silent(gen1_battle *battle, uint8_t one, uint8_t two);
 
 /* Returns the outcome so far and what each side is asked for the next update, in one byte. Take it apart with these macros. */
 uint8_t gen1_result(const gen1_battle *battle);
 
-#define GEN1_OUTCOME(result) ((result) & 7)          /* GEN1_ONGOING to GEN1_FAULT_TWO */
-#define GEN1_REQUEST_ONE(result) ((result) >> 3 & 3) /* of side 1: GEN1_ASKED_NOTHING to GEN1_ASKED_SWITCH */
-#define GEN1_REQUEST_TWO(result) ((result) >> 5 & 3) /* of side 2, likewise */
+#define GEN1_RESULT_OUTCOME(result) ((result) & 7)          /* GEN1_OUTCOME_ONGOING to GEN1_OUTCOME_FAULT_TWO */
+#define GEN1_RESULT_REQUEST_ONE(result) ((result) >> 3 & 3) /* of side 1: GEN1_REQUEST_NOTHING to GEN1_REQUEST_SWITCH */
+#define GEN1_RESULT_REQUEST_TWO(result) ((result) >> 5 & 3) /* of side 2, likewise */
 
-enum { GEN1_ONGOING, GEN1_WIN_ONE, GEN1_WIN_TWO, GEN1_TIE, GEN1_FAULT_ONE, GEN1_FAULT_TWO };
-enum { GEN1_ASKED_NOTHING, GEN1_ASKED_MOVE, GEN1_ASKED_SWITCH };
+enum {
+    GEN1_OUTCOME_ONGOING, GEN1_OUTCOME_WIN_ONE, GEN1_OUTCOME_WIN_TWO, GEN1_OUTCOME_TIE, GEN1_OUTCOME_FAULT_ONE,
+    GEN1_OUTCOME_FAULT_TWO
+};
+enum { GEN1_REQUEST_NOTHING, GEN1_REQUEST_MOVE, GEN1_REQUEST_SWITCH };
 
 /* ---- telling ---- */
 
 /*
  * One event of a log (docs/MECHANICS.md, "Events"). Each number is the one in the log; a field that the event does not have is
- * 0. The health of a member is `hp`, `max_hp` and `status`, in GEN1_SWITCHED, GEN1_DAMAGE and GEN1_HEAL.
+ * 0. The health of a member is `hp`, `max_hp` and `status`, in GEN1_EVENT_SWITCH, GEN1_EVENT_DAMAGE and GEN1_EVENT_HEAL.
  */
 typedef struct gen1_event {
-    uint8_t tag;            /* the kind of event: GEN1_TURN to GEN1_FAULT, 1 to 28 */
+    uint8_t tag;            /* the kind of event: GEN1_EVENT_TURN to GEN1_EVENT_FAULT, 1 to 28 */
     uint8_t side;           /* the side that the event is about, or that wins: 1 or 2 */
     uint8_t species;        /* the species of the member that the event is about, 1 to 151 */
-    uint8_t move;           /* GEN1_MOVED and GEN1_PREPARE: 1 to 165 */
-    uint8_t target_side;    /* GEN1_MOVED: the foe's side, 1 or 2 */
-    uint8_t target_species; /* GEN1_MOVED: the foe's species, 1 to 151 */
-    uint8_t place;          /* GEN1_SWITCHED: 1 to 6 */
-    uint8_t level;          /* GEN1_SWITCHED: 1 to 100 */
-    uint8_t status;         /* part of the health; in GEN1_STATUS and GEN1_CURE the status that begins or ends, never
-                               GEN1_STATUS_NONE */
-    uint8_t detail;         /* GEN1_CANT: a GEN1_REASON_..; GEN1_DAMAGE: a GEN1_SOURCE_..; GEN1_START, GEN1_END and
-                               GEN1_ACTIVATE: a GEN1_VOLATILE_..; GEN1_BOOST and GEN1_UNBOOST: a GEN1_STAT_..; GEN1_FAULT:
-                               GEN1_FAULT_DIVISION or GEN1_FAULT_PSYWAVE */
-    uint8_t amount;         /* GEN1_BOOST and GEN1_UNBOOST: stages, 1 or 2; GEN1_HIT_COUNT: hits, 1 to 5 */
+    uint8_t move;           /* GEN1_EVENT_MOVE and GEN1_EVENT_PREPARE: 1 to 165 */
+    uint8_t target_side;    /* GEN1_EVENT_MOVE: the foe's side, 1 or 2 */
+    uint8_t target_species; /* GEN1_EVENT_MOVE: the foe's species, 1 to 151 */
+    uint8_t place;          /* GEN1_EVENT_SWITCH: 1 to 6 */
+    uint8_t level;          /* GEN1_EVENT_SWITCH: 1 to 100 */
+    uint8_t status;         /* part of the health; in GEN1_EVENT_STATUS and GEN1_EVENT_CURE the status that begins or ends,
+                               never GEN1_STATUS_NONE */
+    uint8_t detail;         /* GEN1_EVENT_CANT: a GEN1_REASON_..; GEN1_EVENT_DAMAGE: a GEN1_SOURCE_..; GEN1_EVENT_START,
+                               GEN1_EVENT_END and GEN1_EVENT_ACTIVATE: a GEN1_VOLATILE_..; GEN1_EVENT_BOOST and
+                               GEN1_EVENT_UNBOOST: a GEN1_STAT_..; GEN1_EVENT_FAULT: GEN1_FAULT_DIVISION or
+                               GEN1_FAULT_PSYWAVE */
+    uint8_t amount;         /* GEN1_EVENT_BOOST and GEN1_EVENT_UNBOOST: stages, 1 or 2; GEN1_EVENT_HIT_COUNT: hits, 1 to 5 */
+    uint8_t reserved;       /* 0 */
     uint16_t hp;            /* part of the health: 0 to max_hp */
     uint16_t max_hp;        /* part of the health: 11 to 999 */
-    uint16_t turn;          /* GEN1_TURN: 1 to 9,999 */
+    uint16_t turn;          /* GEN1_EVENT_TURN: 1 to 9,999 */
 } gen1_event;
 
 enum {
-    GEN1_TURN = 1, GEN1_SWITCHED, GEN1_MOVED, GEN1_CANT, GEN1_DAMAGE, GEN1_HEAL, GEN1_CRIT, GEN1_SUPER_EFFECTIVE, GEN1_RESISTED,
-    GEN1_IMMUNE, GEN1_MISS, GEN1_FAIL, GEN1_STATUS, GEN1_CURE, GEN1_BOOST, GEN1_UNBOOST, GEN1_CLEAR_ALL, GEN1_START, GEN1_END,
-    GEN1_ACTIVATE, GEN1_PREPARE, GEN1_MUST_RECHARGE, GEN1_HIT_COUNT, GEN1_ONE_HIT, GEN1_FAINT, GEN1_WIN, GEN1_TIED, GEN1_FAULT
+    GEN1_EVENT_TURN = 1, GEN1_EVENT_SWITCH, GEN1_EVENT_MOVE, GEN1_EVENT_CANT, GEN1_EVENT_DAMAGE, GEN1_EVENT_HEAL,
+    GEN1_EVENT_CRIT, GEN1_EVENT_SUPER_EFFECTIVE, GEN1_EVENT_RESISTED, GEN1_EVENT_IMMUNE, GEN1_EVENT_MISS, GEN1_EVENT_FAIL,
+    GEN1_EVENT_STATUS, GEN1_EVENT_CURE, GEN1_EVENT_BOOST, GEN1_EVENT_UNBOOST, GEN1_EVENT_CLEAR_ALL, GEN1_EVENT_START,
+    GEN1_EVENT_END, GEN1_EVENT_ACTIVATE, GEN1_EVENT_PREPARE, GEN1_EVENT_MUST_RECHARGE, GEN1_EVENT_HIT_COUNT,
+    GEN1_EVENT_ONE_HIT_KNOCK_OUT, GEN1_EVENT_FAINT, GEN1_EVENT_WIN, GEN1_EVENT_TIE, GEN1_EVENT_FAULT
 };
 
 /*
  * Reads the event that begins at index `*at` of a log of `count` bytes, and moves `*at` to the next event. Start with `*at` 0.
  * The log may be the logs of several updates, one after the other.
  *
- * Returns 0, or one of the codes below; then nothing has changed.
+ * Returns 0, or GEN1_ERROR_LOG_TAG, GEN1_ERROR_LOG_FIELD, GEN1_ERROR_LOG_CUT, or GEN1_ERROR_LOG_END if no event is left; then
+ * nothing has changed.
  */
 uint8_t gen1_next_event(const uint8_t *log, size_t count, size_t *at, gen1_event *event);
+
+/*
+ * Writes the bytes that an event has in a log to the beginning of `bytes`, and their number, at most 10, to `*length`; the rest
+ * of `bytes` does not change. gen1_next_event reads this event from them.
+ *
+ * Fields that the event does not have are ignored. Returns 0; GEN1_ERROR_LOG_TAG if `tag` is not 1 to 28; or
+ * GEN1_ERROR_LOG_FIELD if a field is out of its range. If it returns a code nothing has changed.
+ */
+uint8_t gen1_event_bytes(const gen1_event *event, uint8_t bytes[10], size_t *length);
 
 /*
  * Reads an event like gen1_next_event, and writes it as a line of text (docs/MECHANICS.md, "Lines"), as `battle_tool` prints
  * it, with its line feed.
  *
- * `room` is the size of `text`; GEN1_LINE_ROOM is always enough. The line is written to the beginning of `text`, without a
- * terminating zero, and its number of bytes to `*length`; the rest of `text` does not change. Returns as gen1_next_event does,
- * or GEN1_SMALL_TEXT.
+ * `room` is the size of `text`; GEN1_LINE_ROOM is always enough. The line and a NUL are written to the beginning of `text`; the
+ * rest of `text` does not change. `*length` becomes the number of bytes before the NUL. Returns as gen1_next_event does, or
+ * GEN1_ERROR_SMALL_TEXT.
  */
 uint8_t gen1_next_line(const uint8_t *log, size_t count, size_t *at, char *text, size_t room, size_t *length);
-
-enum {
-    GEN1_LOG_TAG = 1,    /* a byte in a tag's place is no tag */
-    GEN1_LOG_FIELD = 2,  /* a field of an event is out of its range */
-    GEN1_LOG_CUT = 3,    /* the bytes end within an event */
-    GEN1_LOG_END = 4,    /* `*at` is at the end, or past it */
-    GEN1_SMALL_TEXT = 5  /* gen1_next_line: the line does not fit */
-};
 
 /* ---- calculating ---- */
 
@@ -417,69 +504,127 @@ enum {
  * to 255 in this order (docs/MECHANICS.md, "Damage numbers" to "Factors").
  *
  * `move` is 1 to 165, and the member need not know it. If the damage before the factor is 0 or 1, all 39 numbers are that.
- * Returns 0, or one of the codes below; then nothing has changed.
+ * Returns 0, or the first of these codes that applies, and then nothing has changed: GEN1_ERROR_SIDE, GEN1_ERROR_MOVE,
+ * GEN1_ERROR_UNUSUAL, GEN1_ERROR_NOBODY_OUT, GEN1_ERROR_DIVISOR.
  */
 uint8_t gen1_damage(const gen1_battle *battle, uint8_t side, uint8_t move, bool critical, uint16_t damages[39]);
-
-enum {
-    GEN1_DAMAGE_SIDE = 1,    /* the side is neither 1 nor 2 */
-    GEN1_DAMAGE_MOVE = 2,    /* the move is not 1 to 165 */
-    GEN1_DAMAGE_UNUSUAL = 3, /* it does not have the usual damage: no power, or a damage rule of its own */
-    GEN1_DAMAGE_NOBODY = 4,  /* nobody is out: the battle is before its first update */
-    GEN1_DAMAGE_DIVISOR = 5  /* the defense that counts in this hit is 0, and the damage would be divided by it */
-};
 
 /* The damage of one hit in HP for each of the factors 217 to 255, which are equally likely; or why there is no such damage. */
 typedef struct gen1_damages {
     uint16_t numbers[39]; /* the damages, in rising order; zeros if there are none */
     uint8_t count;        /* how many there are: 39 or 0 */
-    uint8_t code;         /* 0; or why there are none: GEN1_DAMAGE_UNUSUAL or GEN1_DAMAGE_DIVISOR */
+    uint8_t code;         /* 0; or why there are none: GEN1_ERROR_UNUSUAL or GEN1_ERROR_DIVISOR */
 } gen1_damages;
 
 /*
- * The odds of one use of a move. Chances are exact counts: how many of the 256 values of a draw lead to the result.
+ * The odds of one use of a move by a member that acts now. Chances are exact counts: how many of the 256 values of a draw lead
+ * to the result.
  *
- * `hit_draws` counts one comparison only, the hit test (docs/MECHANICS.md, "Hit test"). It means nothing for a move for which
- * gen1_takes_hit_test returns 0, and it is not the chance that the move hits where something else decides:
+ * What keeps a member from acting at all, such as sleep or paralysis, is not counted. A move that goes on under Rage, Thrash or
+ * Petal Dance is tested with the accuracy that was kept; Wrap, Bind, Clamp or Fire Spin that goes on lands its last damage
+ * without a test. A damage of 0 is a miss. So a use with the usual damage hits by `hit_draws` and the damage together, where
+ * the numbers of one kind of hit are zeros.
  *
- *   - A one-hit move misses if its user is slower than the foe, or if the foe's type is immune to it.
- *   - Any other move with usual damage misses a foe that is immune to its type.
- *   - Counter misses if there is nothing to counter.
- *   - A move that goes on under Rage or Thrash is tested with the accuracy that was kept, not with the move's own.
- *
- * What keeps a member from acting at all, such as sleep or paralysis, is not counted either.
+ * Counter depends on the last damage and on the foe's last picked move, as they are now. If the foe acts first, both change.
  */
 typedef struct gen1_odds {
     gen1_damages usual;      /* the damage if the hit is not critical */
     gen1_damages critical;   /* the damage if the hit is critical */
-    uint16_t critical_draws; /* 0 to 255: how many of 256 draws make the hit critical; 0 for a move without usual damage */
-    uint16_t hit_draws;      /* 0 to 256: how many of 256 draws pass the hit test */
+    uint16_t critical_draws; /* 0 to 255: how many of 256 draws make the hit critical; 0 without the usual damage */
+    uint16_t hit_draws;      /* 0 to 256: how many of 256 draws of the hit test make the use hit; 256 without a test */
+    uint16_t least;          /* without the usual damage: the least damage; 0 if there is none */
+    uint16_t most;           /* without the usual damage: the most damage; from the least to the most all are equally likely */
+    uint8_t hits[6];         /* in how many of 8 cases a use that hits makes 0 to 5 hits; each deals the same damage */
+    uint8_t reason;          /* why `hit_draws` is 0: one of GEN1_ODDS_FALLEN, ..; or GEN1_ODDS_CAN_HIT */
+    uint8_t charges_first;   /* 1: the user would only charge now, and the odds are those of its strike; otherwise 0 */
 } gen1_odds;
 
+/* Why a use cannot hit, or not work: the first reason that applies (docs/MECHANICS.md, "Hit test" to "Side effects"). */
+enum {
+    GEN1_ODDS_CAN_HIT = 0,            /* it can hit */
+    GEN1_ODDS_FALLEN = 1,             /* the user or the foe has no HP */
+    GEN1_ODDS_LEFT_OUT = 2,           /* the engine leaves the move out: Metronome, Mimic, Mirror Move, Transform */
+    GEN1_ODDS_ALWAYS_FAILS = 3,       /* the move fails in every battle: Roar, Teleport, Whirlwind */
+    GEN1_ODDS_IMMUNE = 4,             /* the move's type has no effect on a type of the foe */
+    GEN1_ODDS_NO_DAMAGE = 5,          /* the damage is 0 after types */
+    GEN1_ODDS_FAULT = 6,              /* the battle would end with a fault: a divisor of 0, or Psywave at level 1 */
+    GEN1_ODDS_SLOWER = 7,             /* a one-hit move, and the user is slower than the foe */
+    GEN1_ODDS_NOTHING_TO_COUNTER = 8, /* the last damage is 0, or the foe's picked move cannot be countered */
+    GEN1_ODDS_NO_ENERGY = 9,          /* Bide has no damage to let out */
+    GEN1_ODDS_AWAKE = 10,             /* Dream Eater, and the foe is awake */
+    GEN1_ODDS_INVULNERABLE = 11,      /* the foe has flown up or dug in */
+    GEN1_ODDS_MIST = 12,              /* Mist guards the foe's stats */
+    GEN1_ODDS_SUBSTITUTE = 13,        /* the foe's substitute keeps the move away */
+    GEN1_ODDS_HAS_STATUS = 14,        /* the foe has a status already */
+    GEN1_ODDS_OWN_TYPE = 15,          /* the foe's type guards it: Poison, Grass, or Ground against Electric paralysis */
+    GEN1_ODDS_CONFUSED = 16,          /* the foe is confused already */
+    GEN1_ODDS_SEEDED = 17,            /* the foe is seeded already */
+    GEN1_ODDS_DISABLED = 18,          /* one of the foe's moves is disabled already */
+    GEN1_ODDS_NO_PP = 19,             /* Disable, and none of the foe's moves has PP */
+    GEN1_ODDS_STAGE = 20,             /* the stage, or the stat, is at its end */
+    GEN1_ODDS_SLEEP_CLAUSE = 21,      /* the sleep clause: a member of the foe's side sleeps already */
+    GEN1_ODDS_ALREADY_UP = 22,        /* the user has the condition already */
+    GEN1_ODDS_HEALTH = 23             /* the user's HP: a loss of 0, 255 or 511 is not healed; a substitute needs a quarter */
+};
+
 /*
- * Computes the odds of a move of `side`, with both active members as they are now (docs/MECHANICS.md, "Critical hits", "Hit
- * test").
+ * Computes the odds of a move of `side`, with both active members as they are now (docs/MECHANICS.md, "Critical hits" to "Hit
+ * test", "Fixed damage and one-hit moves", "Many hits").
  *
- * `move` is 1 to 165, and the member need not know it. The accuracy is that of a new use. Returns 0, or GEN1_DAMAGE_SIDE,
- * GEN1_DAMAGE_MOVE or GEN1_DAMAGE_NOBODY; then nothing has changed.
+ * `move` is 1 to 165, and the member need not know it. Returns 0, or GEN1_ERROR_SIDE, GEN1_ERROR_MOVE or
+ * GEN1_ERROR_NOBODY_OUT; then nothing has changed.
  */
 uint8_t gen1_odds_now(const gen1_battle *battle, uint8_t side, uint8_t move, gen1_odds *odds);
 
 /*
  * Computes the odds of a move between two members that have just been sent out at full HP; it needs no battle.
  *
- * Returns 0; or GEN1_NO_SUCH_MOVE if `move` is not 1 to 165; or what gen1_new returns for teams of one member, `user` as team
+ * Returns 0; or GEN1_ERROR_MOVE if `move` is not 1 to 165; or what gen1_new returns for teams of one member, `user` as team
  * one and `foe` as team two. If it returns a code, nothing has changed.
  */
 uint32_t gen1_odds_between(const gen1_member *user, const gen1_member *foe, uint8_t move, gen1_odds *odds);
 
 /*
+ * The chance that one use of a move knocks out the foe, or two uses in a row, for independent draws: `once` of `once_of` ways,
+ * and `twice` of `twice_of`. All ways are equally likely.
+ *
+ * If the foe has a substitute, it is the chance to break it. Both uses have the odds that gen1_odds_now returns, and their
+ * damages add up; the second Super Fang halves the HP that are left. Nothing else that happens between the uses is counted:
+ * no residual damage, no change of a stat, no recharging, and no fall of the user.
+ */
+typedef struct gen1_chances {
+    uint64_t once;             /* in how many ways the foe has no HP left after one use */
+    uint64_t once_of;          /* the ways of one use: at most 20,447,232 */
+    uint64_t twice;            /* in how many ways the foe has no HP left after two uses */
+    uint64_t twice_of;         /* the ways of two uses: the square of `once_of` */
+    uint8_t breaks_substitute; /* 1: the foe has a substitute, and the chances are those of breaking it; otherwise 0 */
+    uint8_t zeros[7];          /* zeros */
+} gen1_chances;
+
+/*
+ * Computes the chance that a move of `side` knocks out the foe's active member, with both as they are now (docs/MECHANICS.md,
+ * "Landing", "Many hits").
+ *
+ * `move` is 1 to 165, and the member need not know it. The chance of a move that charges is that of its strike. Returns 0, or
+ * GEN1_ERROR_SIDE, GEN1_ERROR_MOVE or GEN1_ERROR_NOBODY_OUT; then nothing has changed.
+ */
+uint8_t gen1_knock_out(const gen1_battle *battle, uint8_t side, uint8_t move, gen1_chances *chances);
+
+/*
+ * Return the HP that a damage of a move gives to its user (Absorb, Mega Drain, Leech Life, Dream Eater), or costs it (Take Down,
+ * Double-Edge, Submission, Struggle): 0 for any other move, and if `move` is not 1 to 165 (docs/MECHANICS.md, "Recoil, drain and
+ * explosion").
+ *
+ * `damage` is the HP that the foe lost, or what its substitute took without breaking. The user gains at most what it lacks.
+ */
+uint16_t gen1_drained(uint8_t move, uint16_t damage);
+uint16_t gen1_recoil(uint8_t move, uint16_t damage);
+
+/*
  * Returns whether a move takes the hit test when it is used (docs/MECHANICS.md, "Hit test"): 1, or 0 for moves that always fail
- * or only affect their user. Returns GEN1_NOT_A_MOVE if `move` is not 1 to 165.
+ * or only affect their user, and for a number that is not 1 to 165.
  */
 uint8_t gen1_takes_hit_test(uint8_t move);
-
-#define GEN1_NOT_A_MOVE 255 /* returned by gen1_takes_hit_test for a number that is not 1 to 165 */
 
 /* ---- many battles ---- */
 
@@ -492,31 +637,32 @@ uint8_t gen1_takes_hit_test(uint8_t move);
 /*
  * Writes the mask of one side in each of `count` battles, as gen1_offered returns it: masks[i] is of battles[i].
  *
- * Returns 0, or GEN1_NO_SIDE, or GEN1_LENGTHS if `mask_count` is not `count`; then nothing is written.
+ * Returns 0, or GEN1_ERROR_SIDE, or GEN1_ERROR_LENGTHS if `mask_count` is not `count`; then no mask is written.
  */
 uint8_t gen1_offered_many(const gen1_battle *battles, size_t count, uint8_t side, uint16_t *masks, size_t mask_count);
 
-/*
- * Plays one update of each of `count` battles, without logs: battles[i] by the choices ones[i] and twos[i].
- *
- * codes[i] becomes what gen1_update returns for that battle: 0, GEN1_OVER, GEN1_NOT_OFFERED_ONE or GEN1_NOT_OFFERED_TWO. A
- * battle whose update is refused does not change, and the other battles are updated all the same. results[i] becomes what
- * gen1_result returns for the battle as it is afterwards.
- *
- * Each array is followed by its own length. `ones` and `twos` may overlap, and no other two arrays. Returns 0, or GEN1_LENGTHS
- * if one of the lengths is not `count`; then nothing has changed.
- */
-uint8_t gen1_update_many(gen1_battle *battles, size_t count, const uint8_t *ones, size_t one_count, const uint8_t *twos,
-                         size_t two_count, uint8_t *results, size_t result_count, uint8_t *codes, size_t code_count);
+/* An update of one of many battles. */
+typedef struct gen1_batch_update {
+    uint8_t one;    /* the choice of side 1 */
+    uint8_t two;    /* the choice of side 2 */
+    uint8_t result; /* becomes what gen1_result returns for the battle afterwards */
+    uint8_t code;   /* becomes 0, GEN1_ERROR_OVER, GEN1_ERROR_NOT_OFFERED_ONE or GEN1_ERROR_NOT_OFFERED_TWO */
+} gen1_batch_update;
 
-#define GEN1_LENGTHS 254 /* an array is not as long as that of the battles */
+/*
+ * Plays one update of each of `count` battles, without logs: battles[i] by the choices in updates[i], where it writes what
+ * became of it. A battle whose update is refused does not change, and the other battles are updated all the same.
+ *
+ * Returns 0, or GEN1_ERROR_LENGTHS if `update_count` is not `count`; then nothing has changed.
+ */
+uint8_t gen1_update_many(gen1_battle *battles, size_t count, gen1_batch_update *updates, size_t update_count);
 
 /* How playouts ended. The four numbers add up to `rounds`. */
 typedef struct gen1_playouts {
     uint32_t wins_one; /* side 1 won */
     uint32_t wins_two; /* side 2 won */
     uint32_t ties;     /* nobody won */
-    uint32_t faults;   /* the battle had to stop: GEN1_FAULT_ONE or GEN1_FAULT_TWO */
+    uint32_t faults;   /* the battle had to stop: GEN1_OUTCOME_FAULT_ONE or GEN1_OUTCOME_FAULT_TWO */
 } gen1_playouts;
 
 /*
@@ -533,8 +679,8 @@ typedef struct gen1_playouts {
  * Hits, damage and all else that the battle itself draws come from its own link numbers, which are the same in each round. A
  * search that must not know them passes copies that have other numbers (gen1_reseed).
  *
- * Returns 0, or the number of the first test of gen1_load that the battle's bytes fail (GEN1_LOAD_VERSION, ..); then nothing is
- * written.
+ * Returns 0, or the number of the first test of gen1_load that the battle's bytes fail (GEN1_ERROR_LOAD_VERSION, ..); then
+ * nothing is written.
  */
 uint8_t gen1_playout(const gen1_battle *battle, uint64_t seed, uint32_t rounds, gen1_playouts *counts);
 
@@ -543,10 +689,12 @@ uint8_t gen1_playout(const gen1_battle *battle, uint64_t seed, uint32_t rounds, 
 /* Where a text of a team is wrong, and what was expected there. */
 typedef struct gen1_text_fault {
     size_t line;   /* in a text: the line, from 1; 0 if it is not about one line */
-    size_t member; /* in a packed line, and with GEN1_TEXT_TEAM: the member, from 1; 0 if it is not about one member */
+    size_t member; /* in a packed line, and with GEN1_ERROR_TEXT_TEAM: the member, from 1; 0 if it is not about one member */
     size_t field;  /* in a packed line: the field of the member, 1 to 12; 0 if it is not about one field */
-    uint8_t code;  /* what was expected: one of the codes below */
-    uint8_t rule;  /* with GEN1_TEXT_TEAM: why the members are not a team, GEN1_EMPTY to GEN1_PP_UPS; otherwise 0 */
+    uint8_t code;  /* what was expected: GEN1_ERROR_TEXT_SPECIES to GEN1_ERROR_TEXT_TEAM */
+    uint8_t rule;  /* with GEN1_ERROR_TEXT_TEAM: why the members are not a team, GEN1_ERROR_TEAM_EMPTY to GEN1_ERROR_PP_UPS;
+                      otherwise 0 */
+    uint8_t reserved[6]; /* 0 */
 } gen1_text_fault;
 
 /*
@@ -554,7 +702,7 @@ typedef struct gen1_text_fault {
  *
  * A member is a first line with the species, then lines such as "Level: 50", "EVs: 252 HP / 4 Atk", "IVs: 0 Atk" and "- Body
  * Slam". An empty line ends it. The defaults are level 100, all DVs 15 and all experience 63,504. Each move has three PP
- * ups. The text needs no terminating zero.
+ * ups. The text needs no NUL.
  *
  * Returns 0: `*team` is the team, which gen1_new accepts, with zeros after the last member, and `*fault` has not changed.
  * Otherwise it returns the code of the first error, `*fault` says where, and `*team` has not changed.
@@ -567,39 +715,17 @@ uint8_t gen1_team_from_text(const char *text, size_t count, gen1_team *team, gen
  */
 uint8_t gen1_team_from_packed(const char *text, size_t count, gen1_team *team, gen1_text_fault *fault);
 
-enum {
-    GEN1_TEXT_SPECIES = 1,        /* the name of a species of the first generation */
-    GEN1_TEXT_ITEM = 2,           /* no item: the first generation has none */
-    GEN1_TEXT_SEVENTH_MEMBER = 3, /* at most six members */
-    GEN1_TEXT_LEVEL = 4,          /* a level from 1 to 100 */
-    GEN1_TEXT_EVS = 5,            /* EVs from 0 to 255, as "252 HP / 4 Atk", or packed as "252,4,,,," */
-    GEN1_TEXT_SPECIAL_EVS = 6,    /* the same EVs for SpA and SpD: the first generation has one Special */
-    GEN1_TEXT_IVS = 7,            /* IVs from 0 to 31, as "14 HP / 0 Atk", or packed as "14,0,,,," */
-    GEN1_TEXT_SPECIAL_IVS = 8,    /* the same IVs for SpA and SpD */
-    GEN1_TEXT_HP_IV = 9,          /* the HP IV that follows from the others, or none */
-    GEN1_TEXT_MOVE = 10,          /* the name of a move of the first generation */
-    GEN1_TEXT_FIFTH_MOVE = 11,    /* at most four moves */
-    GEN1_TEXT_LINE = 12,          /* a line of a member, as "Level: 50", "EVs: 252 HP", "IVs: 0 Atk" or "- Body Slam" */
-    GEN1_TEXT_FIELDS = 13,        /* packed: twelve fields with `|` between them */
-    GEN1_TEXT_TEAM = 14           /* members that are a team: `rule` says why they are none, and `member` who is at fault */
-};
-
 /* ---- naming ---- */
 
-/* The sizes of buffers that hold any name, any words of gen1_choice_words, and any sentence of gen1_text. */
+/* The sizes of buffers that hold any name, and any words of gen1_choice_words, with their NUL. */
 #define GEN1_NAME_ROOM 16
 #define GEN1_WORDS_ROOM 32
-#define GEN1_SENTENCE_ROOM 128
 
 /*
- * Functions that write a text write it to the beginning of `text`, whose size is `room`, without a terminating zero, and its
- * number of bytes to `*length`; the rest of `text` does not change. They return 0, or one of these codes, and then nothing has
- * changed:
+ * Functions that write a text write it and a NUL to the beginning of `text`, whose size is `room`; the rest of `text` does not
+ * change. `*length` becomes the number of bytes before the NUL. They return 0; GEN1_ERROR_UNKNOWN if nothing has this number;
+ * or GEN1_ERROR_SMALL_TEXT if the text and its NUL do not fit. If they return a code nothing has changed.
  */
-enum {
-    GEN1_UNKNOWN = 1,   /* there is nothing with this number */
-    GEN1_SMALL_ROOM = 2 /* the text is longer than `room` */
-};
 
 /* Returns the version of the library: 65,536 * major + 256 * minor + patch. */
 uint32_t gen1_version(void);
@@ -617,7 +743,7 @@ const char *gen1_build(void);
 
 /*
  * Writes the name of a species (1 to 151), a move (1 to 165) or a type (0 to 14), as in docs/TABLES.md: "Mr. Mime",
- * "Double-Edge", "Psychic". A name is at most 14 bytes of ASCII. Returns 0 or one of the codes above.
+ * "Double-Edge", "Psychic". A name is at most 14 bytes of ASCII.
  */
 uint8_t gen1_species_name(uint8_t species, char *text, size_t room, size_t *length);
 uint8_t gen1_move_name(uint8_t move, char *text, size_t room, size_t *length);
@@ -640,7 +766,8 @@ typedef struct gen1_base {
 } gen1_base;
 
 /*
- * Writes the base stats and types of a species. Returns 0, or GEN1_UNKNOWN if it is not 1 to 151; then `*base` has not changed.
+ * Writes the base stats and types of a species. Returns 0, or GEN1_ERROR_UNKNOWN if it is not 1 to 151; then `*base` has not
+ * changed.
  */
 uint8_t gen1_species_stats(uint8_t species, gen1_base *base);
 
@@ -652,31 +779,30 @@ typedef struct gen1_move {
     uint8_t accuracy; /* 0 to 255: the percent of docs/TABLES.md times 255, divided by 100, rounded down. At unchanged stages a
                          draw below it hits */
     uint8_t pp;       /* 1 to 40: without PP ups */
+    uint8_t effect;   /* GEN1_EFFECT_DAMAGE_ONLY to GEN1_EFFECT_STAT_DOWN */
+    int8_t priority;  /* 1 for Quick Attack, which comes before any other move; -1 for Counter, which comes after any; else 0 */
+    uint8_t high_critical; /* 1 for the four moves that are often critical (docs/MECHANICS.md, "Critical hits"), else 0 */
 } gen1_move;
 
-/* Writes the data of a move. Returns 0, or GEN1_UNKNOWN if it is not 1 to 165; then `*row` has not changed. */
+/* Writes the data of a move. Returns 0, or GEN1_ERROR_UNKNOWN if it is not 1 to 165; then `*row` has not changed. */
 uint8_t gen1_move_data(uint8_t move, gen1_move *row);
 
 /*
- * Writes what a code means, as one sentence that gives the valid range, such as "a DV is above 15".
+ * Writes to `*tenths` by how many tenths a move of one type changes its damage to a foe of one type: 20, 5, 0, or 10 if it does
+ * not change it (docs/TABLES.md, "Type rows"). For a foe of two different types both factors count, one after the other.
  *
- * `about` says which function the code is from. Of a result of gen1_new, and of functions that return the same, pass
- * GEN1_CODE(result). The sentence of code 0 is "nothing is at fault". GEN1_NO_SIDE, GEN1_NO_MASK, GEN1_NOT_A_MOVE, GEN1_LENGTHS
- * and the codes GEN1_TEXT_.. have no sentence. Returns 0 or one of the codes above.
+ * Returns 0, or GEN1_ERROR_UNKNOWN if a type is not 0 to 14; then `*tenths` has not changed.
  */
-uint8_t gen1_text(uint8_t about, uint8_t code, char *text, size_t room, size_t *length);
+uint8_t gen1_effectiveness(uint8_t attack_type, uint8_t foe_type, uint8_t *tenths);
 
-enum {
-    GEN1_ABOUT_NEW = 1,    /* gen1_new, gen1_spectator_begin, gen1_odds_between, and `rule` of gen1_text_fault: 1 to 13 */
-    GEN1_ABOUT_LOAD = 2,   /* gen1_load and gen1_playout: 1 to 7 */
-    GEN1_ABOUT_UPDATE = 3, /* gen1_update, gen1_update_offered, and each of `codes` of gen1_update_many: 1 to 4 */
-    GEN1_ABOUT_LOG = 4,    /* gen1_next_event, gen1_next_line and gen1_spectator_feed: 1 to 5 */
-    GEN1_ABOUT_DAMAGE = 5, /* gen1_damage, gen1_odds_now, and `code` of gen1_damages: 1 to 5 */
-    GEN1_ABOUT_NAME = 6,   /* the functions of this section that return one of the codes above: 1 and 2 */
-    GEN1_ABOUT_CHOICE = 7, /* gen1_choice_words: 1 to 4 */
-    GEN1_ABOUT_RESEED = 8, /* gen1_reseed: 1 */
-    GEN1_ABOUT_ROOM = 9    /* gen1_room_submit: 1 to 4 */
-};
+/*
+ * Writes the stats of a member without a battle: its maximum HP, 11 to 999, and its own Attack, Defense, Speed and Special, 5
+ * to 999 (docs/MECHANICS.md, "Stats").
+ *
+ * Returns 0, or the code of the first error that gen1_new returns for a team of this member, GEN1_ERROR_LEVEL to
+ * GEN1_ERROR_MOVE; then `stats` has not changed.
+ */
+uint8_t gen1_member_stats(const gen1_member *member, uint16_t stats[5]);
 
 /* ---- looking ---- */
 
@@ -726,8 +852,8 @@ typedef struct gen1_state {
     uint16_t limit;           /* the last turn, 1 to 9,999 */
     uint16_t last_damage;     /* one number for both sides, 0 to 65,535 */
     uint8_t rules;            /* GEN1_SLEEP_CLAUSE and GEN1_FREEZE_CLAUSE, added up */
-    uint8_t outcome;          /* GEN1_ONGOING to GEN1_FAULT_TWO */
-    uint8_t requests[2];      /* GEN1_ASKED_NOTHING to GEN1_ASKED_SWITCH, of side 1 and side 2 */
+    uint8_t outcome;          /* GEN1_OUTCOME_ONGOING to GEN1_OUTCOME_FAULT_TWO */
+    uint8_t requests[2];      /* GEN1_REQUEST_NOTHING to GEN1_REQUEST_SWITCH, of side 1 and side 2 */
     uint8_t index;            /* the index of the link number that is drawn next, 0 to 8 */
     uint8_t numbers[10];      /* the nine link numbers in use, then the tenth seed byte, which is never drawn */
 } gen1_state;
@@ -735,29 +861,85 @@ typedef struct gen1_state {
 /* Writes the state that a battle's bytes represent to `*state`, every field of it. */
 void gen1_get_state(const gen1_battle *battle, gen1_state *state);
 
+/* The field of a state that is wrong. A value from `low` to `high` breaks the further rule of its field, which the field's code tells. */
+typedef struct gen1_state_fault {
+    uint32_t value; /* what the field has */
+    uint32_t low;   /* the least that it may have */
+    uint32_t high;  /* the greatest */
+    uint8_t field;  /* GEN1_FIELD_UNNAMED to GEN1_FIELD_CURRENT_STAT */
+    uint8_t side;   /* 1 or 2; 0 for a field of the whole battle */
+    uint8_t place;  /* of a member, 1 to 6; 0 for a field of an active member or of the whole battle */
+    uint8_t index;  /* which one of several; 0 for a field that stands once */
+} gen1_state_fault;
+
+enum {
+    GEN1_FIELD_UNNAMED = 0,          /* no field alone */
+    GEN1_FIELD_LIMIT = 1,            /* the turn limit */
+    GEN1_FIELD_TURN = 2,             /* the turn */
+    GEN1_FIELD_INDEX = 3,            /* the index of the next link number */
+    GEN1_FIELD_OUTCOME = 4,          /* the outcome. From 0 to 5 it does not fit the members that are living */
+    GEN1_FIELD_RULES = 5,            /* the rules */
+    GEN1_FIELD_REQUEST = 6,          /* the request of a side */
+    GEN1_FIELD_SPECIES = 7,          /* 0 only in a place after the last member */
+    GEN1_FIELD_LEVEL = 8,
+    GEN1_FIELD_MAX_HP = 9,
+    GEN1_FIELD_HP = 10,              /* at least 1 for the first member at turn 0 */
+    GEN1_FIELD_OWN_STAT = 11,        /* `index` is 1 Attack, 2 Defense, 3 Speed, 4 Special */
+    GEN1_FIELD_STATUS = 12,          /* 0 for a member without HP */
+    GEN1_FIELD_SLEEP = 13,
+    GEN1_FIELD_MARKED = 14,
+    GEN1_FIELD_MOVE = 15,            /* `index` is the slot. From `low` to `high` no member knows it, or an earlier slot has it */
+    GEN1_FIELD_PP = 16,              /* `index` is the slot */
+    GEN1_FIELD_PLACE = 17,
+    GEN1_FIELD_TYPE = 18,            /* `index` is 1 or 2 */
+    GEN1_FIELD_STAGE = 19,           /* `index` is 1 Attack to 4 Special, 5 accuracy, 6 evasion */
+    GEN1_FIELD_CONDITIONS = 20,      /* the bits */
+    GEN1_FIELD_SUBSTITUTE = 21,
+    GEN1_FIELD_CONFUSION = 22,
+    GEN1_FIELD_DISABLED_SLOT = 23,
+    GEN1_FIELD_DISABLED_TURNS = 24,
+    GEN1_FIELD_BAD_POISON = 25,
+    GEN1_FIELD_TURNS = 26,
+    GEN1_FIELD_ENERGY = 27,
+    GEN1_FIELD_KEPT_ACCURACY = 28,
+    GEN1_FIELD_CURRENT_MOVE = 29,    /* From 0 to 5 the slot holds no move */
+    GEN1_FIELD_PICKED_MOVE = 30,     /* likewise */
+    GEN1_FIELD_TIED_CONDITION = 31,  /* `index` is the place of a bit, from 0, that is on and does not belong to the current move */
+    GEN1_FIELD_CURRENT_STAT = 32     /* `index` is 1 to 4. From `low` to `high` no number of penalties gives it */
+};
+
 /*
- * Returns the kind of a choice: GEN1_CHOICE_PASS, GEN1_CHOICE_MOVE, GEN1_CHOICE_SWITCH, or GEN1_CHOICE_NONE if it isn't a
+ * Makes a battle of a state, and overwrites `*battle` with it. It accepts every state that gen1_get_state writes, and gives the same
+ * 384 bytes; and every other state whose bytes gen1_load accepts.
+ *
+ * An active member whose four `stats` are all 0 gets those of its own stats and stages, with one penalty for a burn or a paralysis, as
+ * if it had just been sent out.
+ *
+ * Returns 0, or GEN1_ERROR_STATE; then `*battle` has not changed, and `*fault` has the first field that is wrong. Fields are tested in
+ * this order: of the whole battle; of the members of side 1 and side 2; of the active members; their current stats; then outcome,
+ * requests and turn together.
+ */
+uint8_t gen1_set_state(gen1_battle *battle, const gen1_state *state, gen1_state_fault *fault);
+
+/*
+ * Returns the kind of a choice: GEN1_KIND_PASS, GEN1_KIND_MOVE, GEN1_KIND_SWITCH, or GEN1_KIND_NONE if it isn't a
  * choice.
  */
 uint8_t gen1_choice_kind(uint8_t choice);
 
-/* Returns the slot of a move, 0 to 4, or the place of a switch, 1 to 6; 0 for GEN1_PASS and for a byte that isn't a choice. */
+/*
+ * Returns the slot of a move, 0 to 4, or the place of a switch, 1 to 6; 0 for GEN1_CHOICE_PASS and for a byte that isn't a
+ * choice.
+ */
 uint8_t gen1_choice_slot(uint8_t choice);
 
 /*
  * Writes a choice of a side in words: "pass", "move 2 Body Slam", "move 0" (where no slot can be chosen), "switch 3 Gengar".
  *
- * The choice need not be offered. The words are at most 21 bytes, and are written as those of gen1_text. Returns 0, or the
- * first of these codes that applies:
+ * The choice need not be offered. The words are at most 21 bytes, and are written as a name is. Returns 0, or the first
+ * of these codes that applies: GEN1_ERROR_SIDE, GEN1_ERROR_CHOICE, GEN1_ERROR_NOBODY, GEN1_ERROR_SMALL_TEXT.
  */
 uint8_t gen1_choice_words(const gen1_battle *battle, uint8_t side, uint8_t choice, char *text, size_t room, size_t *length);
-
-enum {
-    GEN1_WORDS_SIDE = 1,   /* the side is neither 1 nor 2 */
-    GEN1_WORDS_CHOICE = 2, /* the byte is not a choice */
-    GEN1_WORDS_NOBODY = 3, /* that slot has no move, that place has no member, or no member is out yet */
-    GEN1_WORDS_SMALL = 4   /* the words are longer than `room` */
-};
 
 /* ---- searching ---- */
 
@@ -770,11 +952,9 @@ enum {
  * A copy of a battle holds the numbers that the battle itself will draw. A search that plays such copies knows what will
  * happen, which no player does. So reseed each copy with bytes of your own before you play it.
  *
- * Returns 0, or GEN1_RESEED_INDEX if `index` is above 8; then nothing has changed.
+ * Returns 0, or GEN1_ERROR_INDEX if `index` is above 8; then nothing has changed.
  */
 uint8_t gen1_reseed(gen1_battle *battle, const uint8_t seed[10], uint8_t index);
-
-enum { GEN1_RESEED_INDEX = 1 };
 
 /* ---- rooms ---- */
 
@@ -783,28 +963,33 @@ enum { GEN1_RESEED_INDEX = 1 };
  * until the other one is submitted; then it updates the battle.
  *
  * The caller owns a room, and may copy and store it. To make one, set `battle` by gen1_new or gen1_load and call
- * gen1_room_begin. From then on change it only by gen1_room_submit.
+ * gen1_room_begin, which writes all other fields. From then on change it only by gen1_room_submit and gen1_room_forfeit.
  */
 typedef struct gen1_room {
     gen1_battle battle;         /* the battle as it is now; before gen1_room_begin, the one to make a room of */
     uint32_t number;            /* the number of the current pair of choices, which is how many pairs have ended */
-    uint16_t log_length;        /* 0 to 512: how many bytes of `log` belong to the last update */
+    uint16_t log_length;        /* 0 to 512: how many bytes of `log` belong to the last pair that ended */
     uint8_t chosen[2];          /* the choices of side 1 and side 2 for the current pair, GEN1_DUE if not submitted; never show
                                    them to the players */
+    uint8_t forfeit;            /* the side that has forfeited, 1 or 2; 0 if neither has */
+    uint8_t unused[3];          /* 0 */
     uint8_t log[GEN1_LOG_ROOM]; /* the log of the last pair that ended; before that, of the start, if the room played it */
 } gen1_room;
 
-#define GEN1_ROOM_SIZE 904 /* the size of a gen1_room, for other languages; its alignment is 4 */
+#define GEN1_ROOM_SIZE 908 /* the size of a gen1_room, for other languages; its alignment is 4 */
 #define GEN1_DUE 255       /* a choice that has not been submitted */
 
-/* Makes a room of the battle in `room->battle`. If the battle is before its first update, that update is played at once. */
+/*
+ * Makes a room of the battle in `room->battle`. If the battle is before its first update, that update is played at once. The
+ * log is cleared beyond `log_length`, so that all bytes of a room are written.
+ */
 void gen1_room_begin(gen1_room *room);
 
 /*
  * Lists the choices that a side may submit for the current pair, as gen1_choices does. There are none if its choice is
- * submitted, or the battle is over. For a side that is asked nothing the room itself submits GEN1_PASS.
+ * submitted, the battle is over, or a side has forfeited. For a side that is asked nothing the room itself submits GEN1_CHOICE_PASS.
  *
- * Returns how many there are, 0 to 9, or GEN1_NO_SIDE.
+ * Returns how many there are, 0 to 9; 0 if `side` is neither 1 nor 2.
  */
 uint8_t gen1_room_choices(const gen1_room *room, uint8_t side, uint8_t choices[9]);
 
@@ -812,26 +997,45 @@ uint8_t gen1_room_choices(const gen1_room *room, uint8_t side, uint8_t choices[9
  * Submits a choice of a side for the pair with the given number.
  *
  * Returns 0 if the room takes the choice. Once both choices are there, the battle is updated, `log` becomes the log of the
- * update, and `number` rises by one. Otherwise it returns GEN1_NO_SIDE or the first of the codes below that applies, and
- * nothing has changed.
+ * update, and `number` rises by one. Otherwise it returns the first of these codes that applies, and nothing has changed:
+ * GEN1_ERROR_SIDE, GEN1_ERROR_OVER (also if a side has forfeited), GEN1_ERROR_STALE, GEN1_ERROR_CHOSEN, GEN1_ERROR_NOT_OFFERED.
  *
  * Until the pair has ended, no result that either player gets depends on which of the offered choices the other one made.
+ *
+ * The room keeps only the log of the last pair. A caller that wants the log of the whole battle appends it after
+ * gen1_room_begin, and each time that `number` has risen:
+ *
+ *     uint32_t before = room.number;
+ *     if (gen1_room_submit(&room, side, number, choice) == 0 && room.number != before) {
+ *         memcpy(all + length, room.log, room.log_length);
+ *         length += room.log_length;
+ *     }
  */
 uint8_t gen1_room_submit(gen1_room *room, uint8_t side, uint32_t number, uint8_t choice);
 
-enum {
-    GEN1_ROOM_OVER = 1,       /* the battle is over */
-    GEN1_ROOM_STALE = 2,      /* the number is not that of the current pair */
-    GEN1_ROOM_CHOSEN = 3,     /* the side's choice is there */
-    GEN1_ROOM_NOT_OFFERED = 4 /* the choice is none that the side is offered */
-};
+/*
+ * Ends the current pair by a forfeit of a side: the other side wins. Choices that were submitted for this pair are dropped.
+ *
+ * Returns 0; `log` is then the one event GEN1_EVENT_WIN, `number` has risen by one, `forfeit` is the side, and every later
+ * submission gets GEN1_ERROR_OVER. `battle` does not change: its bytes cannot represent a win while the loser has members left.
+ * Otherwise it returns GEN1_ERROR_SIDE, or GEN1_ERROR_OVER if the battle is over or a side has forfeited, and nothing has
+ * changed.
+ */
+uint8_t gen1_room_forfeit(gen1_room *room, uint8_t side);
+
+/*
+ * Returns the outcome of the room and what each side is asked, as gen1_result does for its battle. After a forfeit the outcome
+ * is the other side's win, and nothing is asked.
+ */
+uint8_t gen1_room_result(const gen1_room *room);
 
 /* ---- watching ---- */
 
 /* What a spectator sees of a member. */
 typedef struct gen1_shown_member {
-    uint16_t hp;    /* 0 to 999; its maximum before it first came out */
-    uint8_t status; /* GEN1_STATUS_NONE to GEN1_STATUS_PARALYSIS */
+    uint16_t hp;      /* 0 to 999; its maximum before it first came out */
+    uint8_t status;   /* GEN1_STATUS_NONE to GEN1_STATUS_PARALYSIS */
+    uint8_t reserved; /* 0 */
 } gen1_shown_member;
 
 /* What a spectator sees of a side. All fields from `stages` on belong to the active member. */
@@ -855,7 +1059,7 @@ typedef struct gen1_shown_side {
 typedef struct gen1_spectator {
     gen1_shown_side sides[2]; /* side 1 and side 2 */
     uint16_t turn;            /* 0 before the first turn, then 1 up to the limit */
-    uint8_t outcome;          /* GEN1_ONGOING to GEN1_FAULT_TWO */
+    uint8_t outcome;          /* GEN1_OUTCOME_ONGOING to GEN1_OUTCOME_FAULT_TWO */
     uint8_t held_count;       /* 0 to 9: how many bytes of `held` are in use */
     uint8_t held[10];         /* the bytes */
 } gen1_spectator;
@@ -872,10 +1076,160 @@ uint32_t gen1_spectator_begin(gen1_spectator *spectator, const gen1_team *one, c
  * Feeds a spectator the next `count` bytes of the battle's log. The log may be cut anywhere, also within an event: an event
  * counts as soon as its last byte is there.
  *
- * Returns 0; or GEN1_LOG_TAG or GEN1_LOG_FIELD if these bytes, after those that are held, are not part of a log. Then nothing
- * has changed, and none of the bytes has been taken in.
+ * Returns 0; or GEN1_ERROR_LOG_TAG or GEN1_ERROR_LOG_FIELD if these bytes, after those that are held, are not part of a log.
+ * Then nothing has changed, and none of the bytes has been taken in.
  */
 uint8_t gen1_spectator_feed(gen1_spectator *spectator, const uint8_t *log, size_t count);
+
+/* ---- players ---- */
+
+/*
+ * What one side may know (docs/MECHANICS.md, "Player's view"). The host of a battle keeps the battle and a teller for each side. It
+ * passes on three things: the bytes of gen1_tell, what gen1_get_own_side shows, and the mask of the side's choices. A player is made of
+ * these and of its own team, and of nothing else. All structs belong to the caller.
+ */
+
+/* A move that a member was seen to use. */
+typedef struct gen1_seen_move {
+    uint8_t id;   /* 1 to 165; 0 in a free slot */
+    uint8_t uses; /* 1 to 255, where 255 is that many and more; 0 in a free slot */
+} gen1_seen_move;
+
+/* A member as the log showed it last. If none has appeared, all fields are 0. */
+typedef struct gen1_seen {
+    uint16_t hp;             /* 0 to max */
+    uint16_t max;            /* 11 to 999 */
+    uint8_t species;         /* 1 to 151 */
+    uint8_t level;           /* 1 to 100 */
+    uint8_t status;          /* GEN1_STATUS_NONE to GEN1_STATUS_PARALYSIS */
+    gen1_seen_move moves[5]; /* in the order of their first use */
+    uint8_t unused;          /* 0 */
+} gen1_seen;
+
+/* The conditions of the active member that the log has announced and not ended: 1, else 0. */
+typedef struct gen1_announced {
+    uint8_t substitute;   /* Substitute */
+    uint8_t confused;     /* confusion */
+    uint8_t mist;         /* Mist */
+    uint8_t focus_energy; /* Focus Energy */
+    uint8_t light_screen; /* Light Screen */
+    uint8_t reflect;      /* Reflect */
+    uint8_t seeded;       /* Leech Seed */
+    uint8_t toxic;        /* its poison is that of Toxic */
+    uint8_t disabled;     /* Disable, of one of its moves */
+    uint8_t rage;         /* Rage */
+    uint8_t bide;         /* Bide */
+    uint8_t charging;     /* it charges a move, and uses it in its next action */
+    uint8_t recharging;   /* its next action is to recharge */
+} gen1_announced;
+
+/* What is public of a side. All fields from `announced` on belong to the active member. */
+typedef struct gen1_public_side {
+    gen1_seen members[6];     /* of the own side by places, of the foe by the order of appearance */
+    gen1_announced announced; /* its conditions */
+    uint8_t stages[6];        /* 0 to 12, 6 if unchanged: Attack, Defense, Speed, Special, accuracy, evasion */
+    uint8_t place;            /* of the active member, 1 to 6; 0 before the first came out */
+    uint8_t first_type;       /* 0 to 14 */
+    uint8_t second_type;      /* 0 to 14; the first again for a member of one type */
+    uint8_t last_move;        /* 1 to 165; 0 for none since it came out */
+    uint8_t unused;           /* 0 */
+} gen1_public_side;
+
+/* What the events of a battle make public. */
+typedef struct gen1_public {
+    gen1_public_side sides[2]; /* side 1 and side 2 */
+    uint16_t turn;             /* 0 before the first turn */
+    uint8_t outcome;           /* as in gen1_spectator */
+    uint8_t unused;            /* 0 */
+} gen1_public;
+
+/* A member of the own side; zeros if there is none. */
+typedef struct gen1_own_member {
+    uint8_t species;   /* 1 to 151 */
+    uint8_t level;     /* 1 to 100 */
+    uint8_t status;    /* GEN1_STATUS_NONE to GEN1_STATUS_PARALYSIS; a sleeping member shows no turns */
+    uint8_t unused;    /* 0 */
+    uint8_t moves[4];  /* by slot; 0 in an empty slot */
+    uint8_t pp[4];     /* by slot, 0 to 63 */
+    uint16_t hp;       /* 0 to its maximum */
+    uint16_t max_hp;   /* 11 to 999 */
+    uint16_t stats[4]; /* its own Attack, Defense, Speed and Special, 5 to 999 */
+} gen1_own_member;
+
+/*
+ * What a side is shown of itself after each update (docs/MECHANICS.md, "What a side is shown of itself"). Nothing of it depends on
+ * the foe, except `held`. Before the first update no member is active, and the fields of the active member are 0.
+ */
+typedef struct gen1_own_side {
+    gen1_own_member members[6]; /* by place; those after `count` are zeros */
+    uint32_t conditions;        /* GEN1_CONDITION_.., added up for all that are on; never GEN1_CONDITION_FLINCH */
+    uint16_t stats[4];          /* Attack, Defense, Speed and Special as they are now, 1 to 999 */
+    uint16_t turn;              /* 0 before the first turn, then 1 up to the limit */
+    uint8_t place;              /* of the active member, 1 to 6 */
+    uint8_t types[2];           /* of the active member */
+    uint8_t stages[6];          /* Attack, Defense, Speed, Special, accuracy and evasion, 0 to 12; 6 is no change */
+    uint8_t disabled_slot;      /* 1 to 4; 0 if no slot is disabled */
+    uint8_t held;               /* 1 if the foe's trapping move holds the active member, else 0 */
+    uint8_t request;            /* GEN1_REQUEST_NOTHING, GEN1_REQUEST_MOVE or GEN1_REQUEST_SWITCH */
+    uint8_t outcome;            /* GEN1_OUTCOME_ONGOING to GEN1_OUTCOME_FAULT_TWO */
+    uint8_t count;              /* of members, 1 to 6 */
+} gen1_own_side;
+
+#define GEN1_OWN_SIDE_SIZE 172 /* the size of a gen1_own_side, for other languages; its alignment is 4 */
+
+/* What a player knows. */
+typedef struct gen1_player {
+    gen1_public known;  /* what its own team and the bytes that it was told make known of both sides */
+    gen1_own_side own;  /* what it was last shown of itself; zeros before the first time */
+    uint16_t offered;   /* the mask of its choices, as of gen1_offered; 0 before the first time */
+    uint8_t side;       /* 1 or 2 */
+    uint8_t foes;       /* how many members the foe has, 1 to 6; 0 if it doesn't know */
+    uint8_t held_count; /* 0 to 9: how many bytes of `held` are in use */
+    uint8_t held[10];   /* the bytes of an event that has come in part */
+    uint8_t unused;     /* 0 */
+} gen1_player;
+
+#define GEN1_PLAYER_SIZE 456 /* the size of a gen1_player, for other languages; its alignment is 4 */
+
+/* What the host keeps of the side that it tells. */
+typedef struct gen1_teller {
+    uint8_t side;      /* 1 or 2 */
+    uint8_t pixels;    /* 1 if HP of the foe is told in 48ths, else 0 */
+    uint8_t places[6]; /* the foe's places that have appeared, in this order; 0 after the last */
+} gen1_teller;
+
+/*
+ * Sets a player to what it knows before a battle: its own team, at full HP. `foes` is the number of the foe's members, or 0 if the
+ * player isn't to know it.
+ *
+ * Returns 0; or GEN1_ERROR_SIDE, GEN1_ERROR_FOES (`foes` is above 6), or the error of the team as gen1_new does. Then nothing has
+ * changed.
+ */
+uint32_t gen1_player_begin(gen1_player *player, uint8_t side, const gen1_team *team, uint8_t foes);
+
+/*
+ * Feeds a player the next `count` bytes of what its side is told, cut anywhere. Returns 0; or GEN1_ERROR_LOG_TAG or
+ * GEN1_ERROR_LOG_FIELD as gen1_spectator_feed does. Then nothing has changed.
+ */
+uint8_t gen1_player_feed(gen1_player *player, const uint8_t *told, size_t count);
+
+/* Writes to `own` what a side of a battle is shown of itself. Returns 0, or GEN1_ERROR_SIDE; then nothing has changed. */
+uint8_t gen1_get_own_side(const gen1_battle *battle, uint8_t side, gen1_own_side *own);
+
+/* Replaces what a player was last shown of itself, and the mask of its choices. */
+void gen1_player_show(gen1_player *player, const gen1_own_side *own, uint16_t offered);
+
+/* Sets a teller to the beginning of a battle. Returns 0, or GEN1_ERROR_SIDE; then nothing has changed. */
+uint8_t gen1_teller_begin(gen1_teller *teller, uint8_t side, uint8_t pixels);
+
+/*
+ * Writes what the side is told of the log of an update to `told`: log bytes, as many as `count`. `*length` is their number. Call it
+ * once for each update, in order.
+ *
+ * Returns 0; or the first of GEN1_ERROR_LONG_LOG (`count` is above 512), GEN1_ERROR_SMALL_LOG (`room` is below `count`), and an error
+ * of the log as gen1_next_event does. Then nothing has changed.
+ */
+uint8_t gen1_tell(gen1_teller *teller, const uint8_t *log, size_t count, uint8_t *told, size_t room, size_t *length);
 
 #ifdef __cplusplus
 }

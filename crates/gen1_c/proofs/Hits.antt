@@ -34,17 +34,17 @@ not_zero n apart = grind (arith, nat_tests)
 
 -- the expected result, case by case
 
-pub due_no_move : (side : Side) (id : ℕ) (critical : Bool) (f : Field) → (nat_le 1 id && nat_le id 165) ≡ false → damages_due side id critical f ≡ Err 2
+pub due_no_move : (side : Side) (id : ℕ) (critical : Bool) (f : Field) → (nat_le 1 id && nat_le id 165) ≡ false → damages_due side id critical f ≡ Err 11
 unfolding damages_due
 due_no_move side id critical f e = rw e refl
 
 pub due_unusual : (side : Side) (id : ℕ) (critical : Bool) (f : Field) → (nat_le 1 id && nat_le id 165) ≡ true → has_usual_damage (move_at id) ≡ false
-    → damages_due side id critical f ≡ Err 3
+    → damages_due side id critical f ≡ Err 48
 unfolding damages_due
 due_unusual side id critical f e usual = rw (e, usual) refl
 
 pub due_nobody : (side : Side) (id : ℕ) (critical : Bool) (f : Field) → (nat_le 1 id && nat_le id 165) ≡ true → has_usual_damage (move_at id) ≡ true
-    → f.turn ≡ 0 → damages_due side id critical f ≡ Err 4
+    → f.turn ≡ 0 → damages_due side id critical f ≡ Err 50
 unfolding damages_due
 due_nobody side id critical f e usual turn = rw (e, usual, turn) refl
 
@@ -54,7 +54,7 @@ unfolding damages_due
 due_list side id critical f list e usual apart is = rw (e, usual, not_zero f.turn apart, is) refl
 
 pub due_divisor : (side : Side) (id : ℕ) (critical : Bool) (f : Field) → (nat_le 1 id && nat_le id 165) ≡ true → has_usual_damage (move_at id) ≡ true
-    → (f.turn ≡ 0 → ⊥) → damages (numbers_in side (move_at id) critical f) ≡ None → damages_due side id critical f ≡ Err 5
+    → (f.turn ≡ 0 → ⊥) → damages (numbers_in side (move_at id) critical f) ≡ None → damages_due side id critical f ≡ Err 49
 unfolding damages_due
 due_divisor side id critical f e usual apart is = rw (e, usual, not_zero f.turn apart, is) refl
 

@@ -16,8 +16,6 @@ pub mod OneByOne
 pub mod Playing
 -- Playouts, one after the other.
 pub mod Counting
--- The state that a battle's bytes represent.
-pub mod Viewed
 -- No line of an event has more than 95 bytes.
 pub mod ShortLines
 -- Texts that are expected, and so are written.
@@ -26,5 +24,7 @@ pub mod Writing
 pub mod Replies
 -- The odds of a move.
 pub mod OddsDue
+-- The bytes of an event.
+pub mod EventBytes
 -- Choices that are written to the beginning of a caller's bytes.
 pub mod WrittenChoices

@@ -2,7 +2,8 @@
 use Rattle.std.proofs.Common.{Err, Ok, Result, arith, false, nat_le, refl, subst, sym, true, ℕ, ◌&&◌, ◌==◌, ◌≡◌}
 use Rattle.gen1_machine.specs.declared.side.Side.{Side}
 use Rattle.gen1_machine.specs.declared.choice.Choice.TheVariants.{Pass}
-use Rattle.gen1_machine.specs.Moves.{move_at}
+use Rattle.gen1_machine.specs.Moves.{move_at, Move}
+use Rattle.gen1_machine.specs.Rules.{Rules}
 use Rattle.gen1_machine.specs.State.{Field, State}
 use Rattle.gen1_machine.specs.Step.{step, Stepped}
 use Rattle.gen1_machine.proofs.FallenFaint.{Standing}
@@ -13,25 +14,24 @@ use Rattle.gen1_engine.specs.declared.result.Refusal.{Refusal}
 use Rattle.gen1_engine.specs.Update.{Answers}
 use Rattle.gen1_room.proofs.Ending.{next_standing, not_refused, unbegun_offers}
 use Rattle.gen1_room.proofs.Steps.{answers_ok, step_accepts}
-use Rattle.gen1_odds.specs.declared.odds.Odds.{Odds}
-use Rattle.gen1_odds.specs.Odds.{odds_in}
-use Rattle.gen1_c.specs.Odds.{odds_due, TellsOdds}
+use Rattle.gen1_c.specs.Odds.{due_of, Tells}
 use Rattle.gen1_c.proofs.Hits.{not_zero}
 
-pub due_no_odds : (side : Side) (id : ℕ) (f : Field) → (nat_le 1 id && nat_le id 165) ≡ false → odds_due side id f ≡ Err 2
-unfolding odds_due
-due_no_odds side id f e = rw e refl
+module _ {A : Type 0} (read : Rules → Side → Move → Field → A) (r : Rules) (side : Side) (id : ℕ) (f : Field) where
+  pub due_no_move : (nat_le 1 id && nat_le id 165) ≡ false → due_of read r side id f ≡ Err 11
+  unfolding due_of
+  due_no_move e = rw e refl
 
-pub due_none_out : (side : Side) (id : ℕ) (f : Field) → (nat_le 1 id && nat_le id 165) ≡ true → f.turn ≡ 0 → odds_due side id f ≡ Err 4
-unfolding odds_due
-due_none_out side id f e turn = rw (e, turn) refl
+  pub due_none_out : (nat_le 1 id && nat_le id 165) ≡ true → f.turn ≡ 0 → due_of read r side id f ≡ Err 50
+  unfolding due_of
+  due_none_out e turn = rw (e, turn) refl
 
-pub due_odds : (side : Side) (id : ℕ) (f : Field) → (nat_le 1 id && nat_le id 165) ≡ true → (f.turn ≡ 0 → ⊥) → odds_due side id f ≡ Ok (odds_in side (move_at id) f)
-unfolding odds_due
-due_odds side id f e apart = rw (e, not_zero f.turn apart) refl
+  pub due_value : (nat_le 1 id && nat_le id 165) ≡ true → (f.turn ≡ 0 → ⊥) → due_of read r side id f ≡ Ok (read r side (move_at id) f)
+  unfolding due_of
+  due_value e apart = rw (e, not_zero f.turn apart) refl
 
-pub told_odds : {due : Result Odds ℕ} (r : Result Odds ℕ) (old new : Odds) (code : ℕ) → due ≡ r → TellsOdds r old new code → TellsOdds due old new code
-told_odds r old new code e h = subst (λ (d : Result Odds ℕ). TellsOdds d old new code) (sym e) h
+pub tells : {A : Type 0} {due : Result A ℕ} (r : Result A ℕ) (old new : A) (code : ℕ) → due ≡ r → Tells r old new code → Tells due old new code
+tells {A = A} r old new code e h = subst (λ (d : Result A ℕ). Tells d old new code) (sym e) h
 
 -- the first update of a battle is accepted, and then there are active members
 

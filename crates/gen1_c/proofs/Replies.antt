@@ -1,16 +1,22 @@
 -- Sides by their numbers, and replies of a room as codes.
-use Rattle.std.proofs.Common.{IsSome, None, Option, Some, ap, arith, false, refl, subst, sym, true, ℕ, ◌↔◌, ◌≡◌, ◌≤◌, ◌∙◌}
+use Rattle.std.proofs.Common.{Bool, Err, IsSome, None, Ok, Option, Result, Some, ap, arith, false, inl, inr, refl, subst, sym, true, ℕ, ◌↔◌, ◌≡◌, ◌≤◌, ◌∙◌}
 use Rattle.gen1_machine.specs.declared.side.Side.{Side}
 use Rattle.gen1_machine.specs.declared.side.Side.TheVariants.{One, Two}
 use Rattle.gen1_machine.specs.Numbers.{side_number}
-use Rattle.gen1_machine.specs.Room.{Reply, TurnedAway}
+use Rattle.gen1_machine.specs.declared.terms.Outcome.{Outcome}
+use Rattle.gen1_machine.specs.declared.terms.Outcome.TheVariants as outcomes
+use Rattle.gen1_machine.specs.State.{State}
+use Rattle.gen1_machine.specs.Valid.{IsOutcome, IsState}
+use Rattle.gen1_machine.specs.Room.{Course, Reply, TurnedAway}
 use Rattle.gen1_room.specs.declared.reply.RoomRefusal.{RoomRefusal}
 use Rattle.gen1_room.specs.declared.reply.RoomRefusal.TheVariants as whys
 use Rattle.gen1_room.specs.declared.reply.Submitted.{Submitted}
 use Rattle.gen1_room.specs.declared.reply.Submitted.TheVariants as submitted
-use Rattle.gen1_room.specs.Refusals.{number_of}
+use Rattle.gen1_engine.specs.declared.result.BattleResult.{BattleResult}
+use Rattle.gen1_room.specs.Forfeits.{ForfeitsAs as Forfeits}
+use Rattle.gen1_room.specs.declared.plain.PlainRoom.{PlainRoom}
 use Rattle.gen1_room.specs.Rooms.{reply_of_submitted, why_of}
-use Rattle.gen1_c.specs.Rooms.{reply_code}
+use Rattle.gen1_c.specs.Rooms.{ForfeitsAs, reply_code, why_code}
 
 in_range : (which : Side) → (1 ≤ side_number which) × (side_number which ≤ 2)
 in_range One = (omega arith, omega arith)
@@ -26,8 +32,32 @@ pub taken_code : (x : Submitted) (r : Reply) → reply_of_submitted x ≡ r → 
 taken_code submitted.Waiting r e = ap reply_code e
 taken_code (submitted.Advanced a) r e = ap reply_code e
 
-pub refused_code : (why : RoomRefusal) (n : ℕ) (r : Reply) → n ≡ number_of why → TurnedAway (why_of why) ≡ r → n ≡ reply_code r
-refused_code whys.Over n r k e = k ∙ ap reply_code e
-refused_code (whys.Stale current) n r k e = k ∙ ap reply_code e
-refused_code whys.AlreadyChosen n r k e = k ∙ ap reply_code e
-refused_code whys.NotOffered n r k e = k ∙ ap reply_code e
+pub refused_code : (why : RoomRefusal) (n : ℕ) (r : Reply) → n ≡ why_code (why_of why) → TurnedAway (why_of why) ≡ r → n ≡ reply_code r
+refused_code why n r k e = k ∙ ap reply_code e
+
+-- a room that is over
+
+pub over_code : {T : Type 0} {r : Result T RoomRefusal} (why : RoomRefusal) → r ≡ Err why → r ≡ Err whys.Over → why_code (why_of why) ≡ 24
+over_code whys.Over e k = refl
+over_code (whys.Stale current) e k = absurd (let f = sym e ∙ k in cc)
+over_code whys.AlreadyChosen e k = absurd (let f = sym e ∙ k in cc)
+over_code whys.NotOffered e k = absurd (let f = sym e ∙ k in cc)
+
+-- a forfeit
+
+pub taken_forfeit : (over : Bool) (c : Course) (side : Side) (new : PlainRoom) (res : BattleResult) → Forfeits over c side new (Ok res) → ForfeitsAs over c side new 0
+taken_forfeit true c side new res h = absurd (let f = h in cc)
+taken_forfeit false c side new res h = (refl, h.1)
+
+pub refused_forfeit : (over : Bool) (c : Course) (side : Side) (new : PlainRoom) (why : RoomRefusal) → Forfeits over c side new (Err why)
+    → ForfeitsAs over c side new (why_code (why_of why))
+refused_forfeit true c side new why h = over_code why refl h
+refused_forfeit false c side new why h = absurd (let f = h.0 in cc)
+
+-- the code of a fault is low
+
+pub fault_low : (s : State) → IsState s → (code : ℕ) → s.field.outcome ≡ outcomes.Fault code → code ≤ 2
+fault_low s valid code e = elim valid.field [
+  | inl u ↦ absurd (let f = sym u.outcome ∙ e in cc)
+  | inr v ↦ let low = subst (λ (o : Outcome). IsOutcome o) e v.field.outcome in omega (arith, low)
+]

@@ -1,21 +1,33 @@
 -- Texts that are expected, and so are written.
-use Rattle.std.proofs.Common.{Bool, Err, List, None, Ok, Option, Result, Some, ap, codes, false, if◌then◌else◌, nat_le, ok_or, option_map, refl, subst, sym, true, ℕ, ◌&&◌, ◌++◌, ◌+◌, ◌≡◌, ◌∙◌, ◌∷◌}
+use Rattle.std.proofs.Common.{Bool, Err, List, None, Ok, Option, Result, Some, ap, arith, codes, false, if◌then◌else◌, length, nat_le, nat_lt, ok_or, option_map, refl, set, subst, sym, true, ℕ, ◌&&◌, ◌++◌, ◌+◌, ◌<◌, ◌≡◌, ◌∙◌, ◌∷◌}
+use Rattle.std.proofs.lemmas.Bool.Decides.{nat_tests}
 use Rattle.std.specs.List.{slice_get}
 use Rattle.gen1_tables.specs.Names.{move_name, species_name}
 use Rattle.gen1_machine.specs.declared.side.Side.{Side}
 use Rattle.gen1_machine.specs.State.{Field, known_in, member_at, member_in, party}
 use Rattle.gen1_c.specs.Choices.{move_words, switch_words}
 use Rattle.gen1_c.proofs.Hits.{not_zero}
-use Rattle.gen1_c.specs.Fronts.{Room, Writes}
+use Rattle.gen1_c.proofs.WrittenChoices.{front_more}
+use Rattle.gen1_c.specs.Fronts.{Room, Writes, ended, over_front}
 use Rattle.gen1_c.specs.Names.{Tells, numbered}
 
 -- the expected text is written, or the code says why not
-pub written : (small : ℕ) {due : Result (List ℕ) ℕ} {text : List ℕ} (old new : Room) (code : ℕ) → due ≡ Ok text
-    → Writes small (Ok text) old new code → Writes small due old new code
-written small old new code e h = subst (λ (due : Result (List ℕ) ℕ). Writes small due old new code) (sym e) h
+pub written : {due : Result (List ℕ) ℕ} {text : List ℕ} (old new : Room) (code : ℕ) → due ≡ Ok text
+    → Writes (Ok text) old new code → Writes due old new code
+written old new code e h = subst (λ (due : Result (List ℕ) ℕ). Writes due old new code) (sym e) h
 
-pub refused : (small : ℕ) {due : Result (List ℕ) ℕ} {why : ℕ} (old : Room) → due ≡ Err why → Writes small due old old why
-refused small {why = why} old e = subst (λ (due : Result (List ℕ) ℕ). Writes small due old old why) (sym e) (refl, refl)
+pub refused : {due : Result (List ℕ) ℕ} {why : ℕ} (old : Room) → due ≡ Err why → Writes due old old why
+refused {why = why} old e = subst (λ (due : Result (List ℕ) ℕ). Writes due old old why) (sym e) (refl, refl)
+
+-- a text at the beginning, and a zero after it
+pub ended_writes : (text old now : List ℕ) (count n : ℕ) → count ≡ length text → count < length old → now ≡ over_front text old
+    → Writes (Ok text) (record { bytes = old; count = n }) (record { bytes = set now count 0; count = count }) 0
+ended_writes text old now count n long inside is =
+    let few : length text < length old = omega (arith, long, inside) in
+    let test : nat_lt (length text) (length old) ≡ true = grind (arith, nat_tests) in
+    let bytes : set now count 0 ≡ over_front (ended text) old =
+    ap (λ (k : ℕ). set now k 0) long ∙ (front_more text old now (length text) 0 (refl, is) few).1 in
+    rw test (refl, rw (bytes, long) refl)
 
 -- a test that nothing passed
 pub none_through : {A : Type 0} (test : Bool) (x : A) → (if test then Some x else None) ≡ None → test ≡ false
@@ -27,7 +39,7 @@ none_through false x e = refl
 pub in_range : {A : Type 0} (last number : ℕ) (it : A) → (nat_le 1 number && nat_le number last) ≡ true → numbered last number it ≡ Ok it
 in_range last number it e = rw e refl
 
-pub out_of_range : {A : Type 0} (last number : ℕ) (it : A) → (nat_le 1 number && nat_le number last) ≡ false → numbered last number it ≡ Err 1
+pub out_of_range : {A : Type 0} (last number : ℕ) (it : A) → (nat_le 1 number && nat_le number last) ≡ false → numbered last number it ≡ Err 42
 out_of_range last number it e = rw e refl
 
 -- an expected row is written
@@ -35,22 +47,22 @@ out_of_range last number it e = rw e refl
 pub row_told : {A : Type 0} {due : Result A ℕ} (old : A) {new : A} → due ≡ Ok new → Tells due old new 0
 row_told {A = A} old {new = new} e = subst (λ (due : Result A ℕ). Tells due old new 0) (sym e) (refl, refl)
 
-pub row_kept : {A : Type 0} {due : Result A ℕ} (old : A) → due ≡ Err 1 → Tells due old old 1
-row_kept {A = A} old e = subst (λ (due : Result A ℕ). Tells due old old 1) (sym e) (refl, refl)
+pub row_kept : {A : Type 0} {due : Result A ℕ} (old : A) → due ≡ Err 42 → Tells due old old 42
+row_kept {A = A} old e = subst (λ (due : Result A ℕ). Tells due old old 42) (sym e) (refl, refl)
 
 -- a text of a list, by its index
 
 pub got_some : {A : Type 0} (view : A → List ℕ) {o : Option A} (list : List (List ℕ)) (k : ℕ) {x : A} → option_map view o ≡ slice_get list k → o ≡ Some x
-    → ok_or {E = ℕ} (slice_get list k) 1 ≡ Ok (view x)
-got_some view list k e is = ap (λ (o : Option (List ℕ)). ok_or {E = ℕ} o 1) (sym e ∙ ap (option_map view) is)
+    → ok_or {E = ℕ} (slice_get list k) 42 ≡ Ok (view x)
+got_some view list k e is = ap (λ (o : Option (List ℕ)). ok_or {E = ℕ} o 42) (sym e ∙ ap (option_map view) is)
 
 pub got_none : {A : Type 0} (view : A → List ℕ) {o : Option A} (list : List (List ℕ)) (k : ℕ) → option_map view o ≡ slice_get list k → o ≡ None
-    → ok_or {E = ℕ} (slice_get list k) 1 ≡ Err 1
-got_none view list k e is = ap (λ (o : Option (List ℕ)). ok_or {E = ℕ} o 1) (sym e ∙ ap (option_map view) is)
+    → ok_or {E = ℕ} (slice_get list k) 42 ≡ Err 42
+got_none view list k e is = ap (λ (o : Option (List ℕ)). ok_or {E = ℕ} o 42) (sym e ∙ ap (option_map view) is)
 
 -- the words of a move and of a switch
 
-pub move_early : (side : Side) (slot : ℕ) (f : Field) → (slot ≡ 0 → ⊥) → f.turn ≡ 0 → move_words side slot f ≡ Err 3
+pub move_early : (side : Side) (slot : ℕ) (f : Field) → (slot ≡ 0 → ⊥) → f.turn ≡ 0 → move_words side slot f ≡ Err 44
 move_early side slot f some turn = rw (not_zero slot some, turn) refl
 
 pub move_named : (side : Side) (slot : ℕ) (f : Field) (id : ℕ) → (slot ≡ 0 → ⊥) → (f.turn ≡ 0 → ⊥) → id ≡ (known_in slot (member_in side f).moves).id
@@ -58,7 +70,7 @@ pub move_named : (side : Side) (slot : ℕ) (f : Field) (id : ℕ) → (slot ≡
 move_named side slot f id some out is range = rw (not_zero slot some, not_zero f.turn out, sym is, range) refl
 
 pub move_unnamed : (side : Side) (slot : ℕ) (f : Field) (id : ℕ) → (slot ≡ 0 → ⊥) → (f.turn ≡ 0 → ⊥) → id ≡ (known_in slot (member_in side f).moves).id
-    → (nat_le 1 id && nat_le id 165) ≡ false → move_words side slot f ≡ Err 3
+    → (nat_le 1 id && nat_le id 165) ≡ false → move_words side slot f ≡ Err 44
 move_unnamed side slot f id some out is range = rw (not_zero slot some, not_zero f.turn out, sym is, range) refl
 
 pub switch_named : (side : Side) (place : ℕ) (f : Field) (id : ℕ) → id ≡ (member_at place (party side f)).species
@@ -66,5 +78,5 @@ pub switch_named : (side : Side) (place : ℕ) (f : Field) (id : ℕ) → id ≡
 switch_named side place f id is range = rw (sym is, range) refl
 
 pub switch_unnamed : (side : Side) (place : ℕ) (f : Field) (id : ℕ) → id ≡ (member_at place (party side f)).species
-    → (nat_le 1 id && nat_le id 151) ≡ false → switch_words side place f ≡ Err 3
+    → (nat_le 1 id && nat_le id 151) ≡ false → switch_words side place f ≡ Err 44
 switch_unnamed side place f id is range = rw (sym is, range) refl

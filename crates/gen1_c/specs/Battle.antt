@@ -1,8 +1,9 @@
 -- Why two teams make no battle, and what loading bytes does (include/gen1.h, "beginning").
 use Rattle.std.specs.Prelude.{Err, List, Ok, Result, if◌then◌else◌, nat_le, ℕ, ◌&&◌, ◌+◌, ◌==◌, ◌≡◌}
 use Rattle.gen1_layout.specs.Parts.{Parts}
-use Rattle.gen1_layout.specs.Loading.{IsLoadedAs, number_of}
+use Rattle.gen1_layout.specs.Loading.{IsLoadedAs}
 use Rattle.gen1_layout.specs.declared.loading.LoadFault.{LoadFault}
+use Rattle.gen1_c.specs.Codes.{load_code}
 use Rattle.gen1_c.specs.Teams.{team_fault}
 use Rattle.gen1_c.specs.declared.teams.TeamForm.{TeamForm}
 
@@ -20,7 +21,7 @@ new_fault one two rules limit =
 -- the bytes are loaded; or the code is the first test that they fail, and the battle is as it was
 abbrev pub LoadsAs : Result Parts LoadFault → Parts → Parts → ℕ → Type 0
 LoadsAs (Ok loaded) old new code = (code ≡ 0) × (new ≡ loaded)
-LoadsAs (Err fault) old new code = (code ≡ number_of fault) × (new ≡ old)
+LoadsAs (Err fault) old new code = (code ≡ load_code fault) × (new ≡ old)
 
 abbrev pub Loads : List ℕ → Parts → Parts → ℕ → Type 0
 Loads bytes old new code = (read : Result Parts LoadFault) × IsLoadedAs read bytes × LoadsAs read old new code

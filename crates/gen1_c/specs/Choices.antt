@@ -19,16 +19,16 @@ slot_of_choice (Some Pass) = 0
 slot_of_choice (Some (Move slot)) = slot
 slot_of_choice (Some (Switch place)) = place
 
--- a word, a digit and a name; the code 3 if the number has no name
+-- a word, a digit and a name; the code 44 if the number has no name
 abbrev pub named : List ℕ → ℕ → ℕ → ℕ → List ℕ → Result (List ℕ) ℕ
 named word digit last number name =
-    if nat_le 1 number && nat_le number last then Ok ((word ++ ((48 + digit) ∷ codes " ")) ++ name) else Err 3
+    if nat_le 1 number && nat_le number last then Ok ((word ++ ((48 + digit) ∷ codes " ")) ++ name) else Err 44
 
 -- before the first update no member is out, so there are no moves
 abbrev pub move_words : Side → ℕ → Field → Result (List ℕ) ℕ
 move_words side slot f =
     if slot == 0 then Ok (codes "move 0")
-    else (if f.turn == 0 then Err 3
+    else (if f.turn == 0 then Err 44
     else named (codes "move ") slot 165 (known_in slot (member_in side f).moves).id (move_name (known_in slot (member_in side f).moves).id))
 
 abbrev pub switch_words : Side → ℕ → Field → Result (List ℕ) ℕ
@@ -36,7 +36,7 @@ switch_words side place f =
     named (codes "switch ") place 151 (member_at place (party side f)).species (species_name (member_at place (party side f)).species)
 
 abbrev pub words_due : Side → Option Choice → Field → Result (List ℕ) ℕ
-words_due side None f = Err 2
+words_due side None f = Err 43
 words_due side (Some Pass) f = Ok (codes "pass")
 words_due side (Some (Move slot)) f = move_words side slot f
 words_due side (Some (Switch place)) f = switch_words side place f

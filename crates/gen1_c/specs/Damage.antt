@@ -12,9 +12,9 @@ unfoldable pub damages_due : Side → ℕ → Bool → Field → Result (List �
 damages_due side id critical f =
     if nat_le 1 id && nat_le id 165
     then (if has_usual_damage (move_at id)
-    then (if f.turn == 0 then Err 4 else ok_or (damages (numbers_in side (move_at id) critical f)) 5)
-    else Err 3)
-    else Err 2
+    then (if f.turn == 0 then Err 50 else ok_or (damages (numbers_in side (move_at id) critical f)) 49)
+    else Err 48)
+    else Err 11
 
 abbrev pub TellsDamages : Result (List ℕ) ℕ → List ℕ → List ℕ → ℕ → Type 0
 TellsDamages (Ok list) old new code = (code ≡ 0) × (new ≡ list)

@@ -1,5 +1,7 @@
 -- What is written to the beginning of a caller's memory.
 pub mod Fronts
+-- Codes.
+pub mod Codes
 -- Teams as plain structs.
 pub mod Teams
 -- How a battle begins.
@@ -10,6 +12,8 @@ pub mod Update
 pub mod Events
 -- Events and lines of a log.
 pub mod Logs
+-- The bytes of an event.
+pub mod EventBytes
 -- The damage of a hit.
 pub mod Damage
 -- Masks, and many battles.
@@ -20,9 +24,15 @@ pub mod Playouts
 pub mod TeamText
 -- Names, and rows of the tables.
 pub mod Names
+-- The numbers of effects.
+pub mod Effects
+-- The type chart.
+pub mod Chart
+-- A member's stats.
+pub mod MemberStats
 -- Codes in words.
 pub mod Texts
--- The state that a battle's bytes represent.
+-- The field of a state that is wrong.
 pub mod View
 -- The bytes of choices.
 pub mod Choices
@@ -30,3 +40,5 @@ pub mod Choices
 pub mod Rooms
 -- The odds of a move.
 pub mod Odds
+-- What a player knows, and what it is told.
+pub mod Players

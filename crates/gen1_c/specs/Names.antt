@@ -5,12 +5,14 @@ use Rattle.gen1_tables.specs.Moves.{move_row}
 use Rattle.gen1_tables.specs.Names.{move_name, species_name}
 use Rattle.gen1_tables.specs.Species.{base_of, species_row, types_of}
 use Rattle.gen1_tables.specs.Types.{number_of}
+use Rattle.gen1_machine.specs.Moves.{is_often_critical}
+use Rattle.gen1_c.specs.Effects.{effect_number, priority_of}
 use Rattle.gen1_c.specs.declared.names.BaseForm.{BaseForm}
 use Rattle.gen1_c.specs.declared.names.MoveForm.{MoveForm}
 
--- the value for a number from 1 up to the last; the code 1 for any other
+-- the value for a number from 1 up to the last; the code 42 for any other
 abbrev pub numbered : {A : Type 0} → ℕ → ℕ → A → Result A ℕ
-numbered last number it = if nat_le 1 number && nat_le number last then Ok it else Err 1
+numbered last number it = if nat_le 1 number && nat_le number last then Ok it else Err 42
 
 abbrev pub species_text : ℕ → Result (List ℕ) ℕ
 species_text number = numbered 151 number (species_name number)
@@ -25,7 +27,7 @@ type_names =
     ∷ codes "Dragon" ∷ []
 
 abbrev pub type_text : ℕ → Result (List ℕ) ℕ
-type_text number = ok_or (slice_get type_names number) 1
+type_text number = ok_or (slice_get type_names number) 42
 
 -- base stats and types
 
@@ -43,6 +45,9 @@ row_of_move id = record {
   power = (move_row id).power;
   accuracy = (move_row id).accuracy * 255 / 100;
   pp = (move_row id).pp;
+  effect = effect_number (move_row id).effect;
+  priority = priority_of id;
+  high_critical = if is_often_critical id then 1 else 0;
 }
 
 abbrev pub move_due : ℕ → Result MoveForm ℕ

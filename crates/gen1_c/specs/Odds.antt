@@ -1,32 +1,51 @@
--- The odds of a use of a move, and why there are none (include/gen1.h, "calculating").
+-- The odds of a use of a move and its chance to knock out, and why there are none (include/gen1.h, "calculating").
 use Rattle.std.specs.Prelude.{Err, List, Ok, Result, [], if◌then◌else◌, nat_le, replicate, ℕ, ◌&&◌, ◌+◌, ◌==◌, ◌≡◌, ◌∷◌}
 use Rattle.gen1_stats.specs.Members.{Member}
 use Rattle.gen1_stats.specs.Teams.{team_refusal}
 use Rattle.gen1_machine.specs.declared.side.Side.{Side}
-use Rattle.gen1_machine.specs.Moves.{move_at}
+use Rattle.gen1_machine.specs.Moves.{move_at, Move}
+use Rattle.gen1_machine.specs.Rules.{Rules}
 use Rattle.gen1_machine.specs.declared.choice.Choice.TheVariants.{Pass}
 use Rattle.gen1_machine.specs.State.{Field, first_state, State, usual_terms}
 use Rattle.gen1_machine.specs.Step.{step}
+use Rattle.gen1_odds.specs.declared.knock_outs.Chances.{Chances}
 use Rattle.gen1_odds.specs.declared.odds.Odds.{Odds}
 use Rattle.gen1_odds.specs.HitTests.{takes_hit_test}
-use Rattle.gen1_odds.specs.Odds.{odds_in}
+use Rattle.gen1_odds.specs.KnockOut.{chances_in}
+use Rattle.gen1_odds.specs.Odds.{drained, odds_in, recoil}
 use Rattle.gen1_c.specs.Battle.{teams_fault}
 use Rattle.gen1_c.specs.Teams.{fault_of_any, member_fault, sheet_of}
 use Rattle.gen1_c.specs.declared.teams.MemberForm.{MemberForm}
 
--- the odds; or a code: not a move, no active member yet
-unfoldable pub odds_due : Side → ℕ → Field → Result Odds ℕ
-odds_due side id f =
-    if nat_le 1 id && nat_le id 165 then (if f.turn == 0 then Err 4 else Ok (odds_in side (move_at id) f)) else Err 2
+-- what a move has in the present state; or a code: not a move, no active member yet
+unfoldable pub due_of : {A : Type 0} → (Rules → Side → Move → Field → A) → Rules → Side → ℕ → Field → Result A ℕ
+due_of read r side id f =
+    if nat_le 1 id && nat_le id 165 then (if f.turn == 0 then Err 50 else Ok (read r side (move_at id) f)) else Err 11
 
-abbrev pub TellsOdds : Result Odds ℕ → Odds → Odds → ℕ → Type 0
-TellsOdds (Ok odds) old new code = (code ≡ 0) × (new ≡ odds)
-TellsOdds (Err why) old new code = (code ≡ why) × (new ≡ old)
+abbrev pub odds_due : Rules → Side → ℕ → Field → Result Odds ℕ
+odds_due = due_of odds_in
 
--- whether a move takes the hit test; or the code of a number that is not a move
+abbrev pub chances_due : Rules → Side → ℕ → Field → Result Chances ℕ
+chances_due = due_of chances_in
+
+abbrev pub Tells : {A : Type 0} → Result A ℕ → A → A → ℕ → Type 0
+Tells (Ok value) old new code = (code ≡ 0) × (new ≡ value)
+Tells (Err why) old new code = (code ≡ why) × (new ≡ old)
+
+-- what a move makes of a damage; 0 for a number that is not a move
+unfoldable pub made_of : (Move → ℕ → ℕ) → ℕ → ℕ → ℕ
+made_of read id damage = if nat_le 1 id && nat_le id 165 then read (move_at id) damage else 0
+
+abbrev pub drained_due : ℕ → ℕ → ℕ
+drained_due = made_of drained
+
+abbrev pub recoil_due : ℕ → ℕ → ℕ
+recoil_due = made_of recoil
+
+-- whether a move takes the hit test: 1 or 0; 0 for a number that is not a move
 unfoldable pub hit_test_due : ℕ → ℕ
 hit_test_due id =
-    if nat_le 1 id && nat_le id 165 then (if takes_hit_test (move_at id) then 1 else 0) else 255
+    if nat_le 1 id && nat_le id 165 then (if takes_hit_test (move_at id) then 1 else 0) else 0
 
 -- a battle whose first members have just been sent out
 abbrev pub facing : List Member → List Member → State
@@ -39,3 +58,7 @@ one_fault m = if member_fault m == 0 then fault_of_any (team_refusal (sheet_of m
 -- the first error of: the move, the user, the foe
 abbrev pub between_fault : MemberForm → MemberForm → ℕ → ℕ
 between_fault user foe number = if nat_le 1 number && nat_le number 165 then teams_fault (one_fault user) (one_fault foe) else 11
+
+-- the odds of a state, under its own rules
+abbrev pub odds_of_state : Side → ℕ → State → Odds
+odds_of_state side id s = odds_in s.terms.rules side (move_at id) s.field

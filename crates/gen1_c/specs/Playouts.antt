@@ -10,10 +10,11 @@ use Rattle.gen1_machine.specs.declared.terms.Outcome.{Outcome}
 use Rattle.gen1_machine.specs.declared.terms.Outcome.TheVariants.{Tie, WinOne, WinTwo}
 use Rattle.gen1_machine.specs.State.{State, is_over}
 use Rattle.gen1_machine.specs.Step.{run, step}
-use Rattle.gen1_layout.specs.Loading.{IsLoadedAs, number_of}
+use Rattle.gen1_layout.specs.Loading.{IsLoadedAs}
 use Rattle.gen1_layout.specs.Parts.{Parts}
 use Rattle.gen1_layout.specs.Within.{Stands}
 use Rattle.gen1_layout.specs.declared.loading.LoadFault.{LoadFault}
+use Rattle.gen1_c.specs.Codes.{load_code}
 use Rattle.gen1_c.specs.declared.playouts.PlayoutCounts.{PlayoutCounts}
 
 -- a battle that is played by random choices, and the state of their generator
@@ -103,7 +104,7 @@ pub record PlaysOut (s : State) (seed rounds : ℕ) (counts : PlayoutCounts) : T
 -- first test that they fail, and the counts are as they were.
 abbrev pub PlaysAs : Result Parts LoadFault → ℕ → ℕ → PlayoutCounts → PlayoutCounts → ℕ → Type 0
 PlaysAs (Ok loaded) seed rounds old new code = (code ≡ 0) × ((s : State) → Stands loaded s → PlaysOut s seed rounds new)
-PlaysAs (Err fault) seed rounds old new code = (code ≡ number_of fault) × (new ≡ old)
+PlaysAs (Err fault) seed rounds old new code = (code ≡ load_code fault) × (new ≡ old)
 
 abbrev pub Plays : List ℕ → ℕ → ℕ → PlayoutCounts → PlayoutCounts → ℕ → Type 0
 Plays bytes seed rounds old new code = (read : Result Parts LoadFault) × IsLoadedAs read bytes × PlaysAs read seed rounds old new code

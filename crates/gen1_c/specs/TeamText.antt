@@ -17,33 +17,33 @@ use Rattle.gen1_c.specs.declared.teams.TeamForm.{TeamForm}
 -- errors
 
 abbrev pub expected : ℕ → TextFaultForm
-expected code = record { line = 0; member = 0; field = 0; code = code; rule = 0 }
+expected code = record { line = 0; member = 0; field = 0; code = code; rule = 0; reserved = replicate 6 0 }
 
 abbrev pub code_of : MemberFault → ℕ
-code_of expects.Species = 1
-code_of expects.Item = 2
-code_of expects.SeventhMember = 3
-code_of expects.Level = 4
-code_of expects.Evs = 5
-code_of expects.SpecialEvs = 6
-code_of expects.Ivs = 7
-code_of expects.SpecialIvs = 8
-code_of expects.HpIv = 9
-code_of expects.Move = 10
-code_of expects.FifthMove = 11
-code_of expects.UnknownLine = 12
+code_of expects.Species = 64
+code_of expects.Item = 65
+code_of expects.SeventhMember = 66
+code_of expects.Level = 67
+code_of expects.Evs = 68
+code_of expects.SpecialEvs = 69
+code_of expects.Ivs = 70
+code_of expects.SpecialIvs = 71
+code_of expects.HpIv = 72
+code_of expects.Move = 73
+code_of expects.FifthMove = 74
+code_of expects.UnknownLine = 75
 
 abbrev pub of_team : TeamRefusal → TextFaultForm
-of_team refusal = record (expected 14) { member = place_of refusal; rule = rule_of refusal }
+of_team refusal = record (expected 77) { member = place_of refusal; rule = rule_of refusal }
 
 abbrev pub of_text : TextFault → TextFaultForm
 of_text (texts.Line line fault) = record (expected (code_of fault)) { line = line }
 of_text (texts.Team refusal) = of_team refusal
 
 abbrev pub of_packed : PackedFault → TextFaultForm
-of_packed (packed.Fields member) = record (expected 13) { member = member }
+of_packed (packed.Fields member) = record (expected 76) { member = member }
 of_packed (packed.Field member field fault) = record (expected (code_of fault)) { member = member; field = field }
-of_packed packed.SeventhMember = expected 3
+of_packed packed.SeventhMember = expected 66
 of_packed (packed.Team refusal) = of_team refusal
 
 -- the struct, with zeros after the last move and after the last member
@@ -71,6 +71,7 @@ abbrev pub form_of : List Sheet → TeamForm
 form_of sheets = record {
   members = member_at sheets 0 ∷ member_at sheets 1 ∷ member_at sheets 2 ∷ member_at sheets 3 ∷ member_at sheets 4 ∷ member_at sheets 5 ∷ [];
   count = length sheets;
+  reserved = 0;
 }
 
 -- the members that the text describes, if they are a team, or the first error

@@ -1,11 +1,12 @@
--- A code in words (include/gen1.h, "naming").
-use Rattle.std.specs.Prelude.{List, Result, [], codes, ok_or, slice_index_or, ℕ, ◌∷◌}
+-- A code in words (include/gen1.h, "errors").
+use Rattle.std.specs.Prelude.{List, Option, Result, [], codes, if◌then◌else◌, nat_lt, ok_or, ℕ, ◌-◌, ◌∷◌}
 use Rattle.std.specs.List.{slice_get}
 
--- the sentences of each function, by its codes from 0 on
+-- the sentences of each family of codes, from its first code on
 
-abbrev pub new_sentences : List (List ℕ)
-new_sentences =
+-- teams and terms, from 0 on
+abbrev pub team_sentences : List (List ℕ)
+team_sentences =
     codes "nothing is at fault" ∷
     codes "the team has no member: it has 1 to 6" ∷
     codes "the team has more than 6 members" ∷
@@ -20,11 +21,12 @@ new_sentences =
     codes "a move is not 1 to 165" ∷
     codes "the rules are not 0 to 3" ∷
     codes "the turn limit is not 1 to 9,999" ∷
+    codes "the number of the foe's members is above 6" ∷
     []
 
+-- loading, from 16 on
 abbrev pub load_sentences : List (List ℕ)
 load_sentences =
-    codes "nothing is at fault" ∷
     codes "there are not 384 bytes" ∷
     codes "the version, byte 0, is not 1, 2 or 3" ∷
     codes "a field of the header is out of its range" ∷
@@ -32,73 +34,88 @@ load_sentences =
     codes "an active block is out of its ranges, or does not fit its current move" ∷
     codes "a current stat is not what stage and penalties make of the member's own" ∷
     codes "turn, outcome, requests and living members do not fit together" ∷
+    codes "a field of the state is wrong" ∷
     []
 
+-- updates, from 24 on
 abbrev pub update_sentences : List (List ℕ)
 update_sentences =
-    codes "nothing is at fault" ∷
     codes "the battle is over" ∷
     codes "the choice of side 1 was not offered" ∷
     codes "the choice of side 2 was not offered" ∷
-    codes "the room for the log is neither 0 nor at least 512 bytes" ∷
+    codes "the room for the log is less than 512 bytes" ∷
+    codes "the log is longer than that of an update, 512 bytes" ∷
     []
 
+-- logs, from 32 on
 abbrev pub log_sentences : List (List ℕ)
 log_sentences =
-    codes "nothing is at fault" ∷
     codes "a byte in a tag's place is no tag: these are 1 to 28" ∷
     codes "a field of an event is out of its range" ∷
     codes "the bytes end within an event" ∷
-    codes "no event is left: the place is at the end of the log, or past it" ∷
-    codes "the line is longer than the room: 96 bytes hold any" ∷
+    codes "no event is left: the index is at the end of the log, or past it" ∷
     []
 
-abbrev pub damage_sentences : List (List ℕ)
-damage_sentences =
-    codes "nothing is at fault" ∷
+-- arguments, from 40 on
+abbrev pub argument_sentences : List (List ℕ)
+argument_sentences =
     codes "the side is neither 1 nor 2" ∷
-    codes "the move is not 1 to 165" ∷
-    codes "the move does not have the usual damage: it has no power, or a rule of its own" ∷
-    codes "nobody is out: the battle is before its first update" ∷
-    codes "the defense that counts in this hit is 0, and the damage would be divided by it" ∷
-    []
-
-abbrev pub name_sentences : List (List ℕ)
-name_sentences =
-    codes "nothing is at fault" ∷
+    codes "the text does not fit its buffer: 128 bytes hold any" ∷
     codes "nothing has this number: species are 1 to 151, moves 1 to 165, types 0 to 14" ∷
-    codes "the text is longer than the room" ∷
-    []
-
-abbrev pub choice_sentences : List (List ℕ)
-choice_sentences =
-    codes "nothing is at fault" ∷
-    codes "the side is neither 1 nor 2" ∷
     codes "the byte is no choice: these are 0, 16 to 20 and 33 to 38" ∷
     codes "there is no move in that slot, or no member at that place, or nobody is out" ∷
-    codes "the words are longer than the room: 32 bytes hold any" ∷
-    []
-
-abbrev pub reseed_sentences : List (List ℕ)
-reseed_sentences =
-    codes "nothing is at fault" ∷
+    codes "an array is not as long as that of the battles" ∷
     codes "the index is not 0 to 8" ∷
+    codes "the place is not 1 to 6" ∷
     []
 
+-- calculating, from 48 on
+abbrev pub damage_sentences : List (List ℕ)
+damage_sentences =
+    codes "the move does not have the usual damage: it has no power, or a rule of its own" ∷
+    codes "the defense that counts in this hit is 0, and the damage would be divided by it" ∷
+    codes "nobody is out: the battle is before its first update" ∷
+    []
+
+-- rooms, from 52 on
 abbrev pub room_sentences : List (List ℕ)
 room_sentences =
-    codes "nothing is at fault" ∷
-    codes "the battle is over" ∷
     codes "the number is not that of the current pair of choices" ∷
     codes "the side has chosen" ∷
     codes "the choice is not offered to the side" ∷
     []
 
--- by the number of the function
-abbrev pub sentences : ℕ → List (List ℕ)
-sentences about =
-    slice_index_or ([] ∷ new_sentences ∷ load_sentences ∷ update_sentences ∷ log_sentences ∷ damage_sentences ∷ name_sentences ∷ choice_sentences ∷ reseed_sentences ∷ room_sentences ∷ []) about []
+-- teams out of text: what was expected, from 64 on
+abbrev pub text_sentences : List (List ℕ)
+text_sentences =
+    codes "expected: the name of a species of the first generation" ∷
+    codes "expected: no item, because the first generation has none" ∷
+    codes "expected: at most 6 members" ∷
+    codes "expected: a level from 1 to 100" ∷
+    codes "expected: EVs from 0 to 255, such as 252 HP / 4 Atk, or packed as 252,4,,,," ∷
+    codes "expected: the same EVs for SpA and SpD, because the first generation has one Special" ∷
+    codes "expected: IVs from 0 to 31, such as 14 HP / 0 Atk, or packed as 14,0,,,," ∷
+    codes "expected: the same IVs for SpA and SpD" ∷
+    codes "expected: the HP IV that follows from the others, or none" ∷
+    codes "expected: the name of a move of the first generation" ∷
+    codes "expected: at most 4 moves" ∷
+    codes "expected: a line of a member, such as Level: 50, EVs: 252 HP, IVs: 0 Atk or - Body Slam" ∷
+    codes "expected: twelve fields with | between them" ∷
+    codes "expected: members that are a team" ∷
+    []
 
--- the sentence of a code; the code 1 if there is none
-abbrev pub sentence_due : ℕ → ℕ → Result (List ℕ) ℕ
-sentence_due about code = ok_or (slice_get (sentences about) code) 1
+-- the sentence of a code, if the code exists
+abbrev pub sentence_at : ℕ → Option (List ℕ)
+sentence_at code =
+    if nat_lt code 16 then slice_get team_sentences code
+    else (if nat_lt code 24 then slice_get load_sentences (code - 16)
+    else (if nat_lt code 32 then slice_get update_sentences (code - 24)
+    else (if nat_lt code 40 then slice_get log_sentences (code - 32)
+    else (if nat_lt code 48 then slice_get argument_sentences (code - 40)
+    else (if nat_lt code 52 then slice_get damage_sentences (code - 48)
+    else (if nat_lt code 64 then slice_get room_sentences (code - 52)
+    else slice_get text_sentences (code - 64)))))))
+
+-- the sentence of a code; the code 42 if there is none
+abbrev pub sentence_due : ℕ → Result (List ℕ) ℕ
+sentence_due code = ok_or (sentence_at code) 42

@@ -1,5 +1,5 @@
 -- What is offered, what an update returns and leaves, and the result of a battle (include/gen1.h, "playing").
-use Rattle.std.specs.Prelude.{Bool, List, [], length, map, nat_lt, ℕ, ◌&&◌, ◌*◌, ◌+◌, ◌≡◌, ◌≢◌, ◌∷◌}
+use Rattle.std.specs.Prelude.{List, length, map, ℕ, ◌*◌, ◌+◌, ◌≡◌, ◌≢◌}
 use Rattle.gen1_machine.specs.declared.choice.Choice.{Choice}
 use Rattle.gen1_machine.specs.declared.event.Event.{Event}
 use Rattle.gen1_machine.specs.declared.side.Side.{Side}
@@ -13,7 +13,8 @@ use Rattle.gen1_events.specs.Splits.{IsReading}
 use Rattle.gen1_layout.specs.Parts.{Parts}
 use Rattle.gen1_layout.specs.Within.{Stands}
 use Rattle.gen1_engine.specs.Replay.{step_by_bytes}
-use Rattle.gen1_engine.specs.Update.{refusal_number, refusal_of}
+use Rattle.gen1_engine.specs.Update.{refusal_of}
+use Rattle.gen1_c.specs.Codes.{refusal_code}
 use Rattle.gen1_c.specs.Fronts.{over_front}
 
 abbrev pub IsNoSide : ℕ → Type 0
@@ -23,14 +24,9 @@ IsNoSide number = (side : Side) → number ≢ side_number side
 abbrev pub Offers : List Choice → List ℕ → List ℕ → ℕ → Type 0
 Offers choices old new count = (count ≡ length choices) × (new ≡ over_front (map byte_of_choice choices) old)
 
--- a buffer for a log, but too small for some logs
-abbrev pub has_small_log : List ℕ → Bool
-has_small_log log = nat_lt 0 (length log) && nat_lt (length log) 512
-
--- the log of the events is at the beginning of the buffer, if there is one, and its length is written
+-- the log of the events is at the beginning of the buffer, and its length is written
 abbrev pub Logs : List Event → List ℕ → List ℕ → ℕ → Type 0
-Logs events [] new count = (new ≡ []) × (count ≡ 0)
-Logs events (first ∷ rest) new count = (log : List ℕ) × IsReading log events × (new ≡ over_front log (first ∷ rest)) × (count ≡ length log)
+Logs events old new count = (log : List ℕ) × IsReading log events × (new ≡ over_front log old) × (count ≡ length log)
 
 -- the memory of an update: the battle, the buffer for the log, and the log's length
 pub record Held : Type 0 where
@@ -38,10 +34,15 @@ pub record Held : Type 0 where
   pub log : List ℕ
   pub count : ℕ
 
--- after a refused pair its number is returned, and nothing has changed; after an accepted one the bytes represent the next state
+-- after a refused pair its code is returned, and nothing has changed; after an accepted one the bytes represent the next state
 abbrev pub UpdatesAs : Answer → State → Held → Held → ℕ → Type 0
-UpdatesAs (Refused why) next old new code = (code ≡ refusal_number (refusal_of why)) × (new ≡ old)
+UpdatesAs (Refused why) next old new code = (code ≡ refusal_code (refusal_of why)) × (new ≡ old)
 UpdatesAs (Accepted events) next old new code = (code ≡ 0) × Stands new.battle next × Logs events old.log new.log new.count
+
+-- the same without a log
+abbrev pub AnsweredAs : Answer → State → Parts → Parts → ℕ → Type 0
+AnsweredAs (Refused why) next old new code = (code ≡ refusal_code (refusal_of why)) × (new ≡ old)
+AnsweredAs (Accepted events) next old new code = (code ≡ 0) × Stands new next
 
 abbrev pub Updates : State → ℕ × ℕ → Held → Held → ℕ → Type 0
 Updates s bytes = UpdatesAs (step_by_bytes s bytes).answer (step_by_bytes s bytes).state

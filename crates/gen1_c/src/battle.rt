@@ -8,13 +8,10 @@ ghost use Rattle.gen1_layout.specs.Within.{Stands};
 ghost use Rattle.gen1_c.specs.Battle.{Loads, new_fault};
 ghost use Rattle.gen1_c.specs.Teams.{sheets_of};
 
+use crate::codes::{RULES, TURN_LIMIT, of_load};
 use crate::teams::{TeamForm, teams_of};
 use gen1_layout::Packed;
 use gen1_machine::{Rules, TurnLimit};
-
-const WRONG_RULES: u32 = 12;
-
-const WRONG_LIMIT: u32 = 13;
 
 /// Makes a battle of two teams, before its first update (include/gen1.h, "beginning").
 ///
@@ -36,10 +33,10 @@ pub extern "C" fn gen1_new(
     ensures kept { result ≢ 0 → battle.new ≡ battle.old }
 {
     let Some(rules) = Rules::new(rules) else {
-        return WRONG_RULES;
+        return RULES;
     };
     let Some(limit) = TurnLimit::new(limit) else {
-        return WRONG_LIMIT;
+        return TURN_LIMIT;
     };
     match teams_of(one, two) {
         Ok((one, two)) => {
@@ -51,7 +48,7 @@ pub extern "C" fn gen1_new(
 }
 
 /// Reads a battle from bytes of any of the three versions (include/gen1.h, "beginning"; docs/LAYOUT.md, "Loading"). Returns 0, or
-/// the number of the first of the seven tests that they fail.
+/// the code of the first of the seven tests that they fail.
 #[unsafe(no_mangle)]
 pub extern "C" fn gen1_load(battle: &mut Packed, bytes: &[u8]) -> u8
     ensures tests { Loads bytes.now battle.old battle.new result }
@@ -63,6 +60,6 @@ pub extern "C" fn gen1_load(battle: &mut Packed, bytes: &[u8]) -> u8
             *battle = packed;
             0
         }
-        Err(fault) => fault.number(),
+        Err(fault) => of_load(fault),
     }
 }

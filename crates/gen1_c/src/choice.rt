@@ -1,26 +1,19 @@
 //! Choices as bytes, taken apart and in words (include/gen1.h, "looking"; docs/MECHANICS.md, "Offered choices").
-ghost use Rattle.std.specs.Prelude.{Ok, length, ◌++◌, ◌≡◌, ◌≢◌, ◌≤◌};
+ghost use Rattle.std.specs.Prelude.{Ok, length, ◌++◌, ◌+◌, ◌≡◌, ◌≢◌, ◌≤◌};
 ghost use Rattle.gen1_machine.specs.Choices.{choice_at};
 ghost use Rattle.gen1_machine.specs.Numbers.{side_number};
 ghost use Rattle.gen1_machine.specs.State.{State};
 ghost use Rattle.gen1_machine.specs.declared.side.Side.{Side};
 ghost use Rattle.gen1_layout.specs.Within.{Stands};
 ghost use Rattle.gen1_c.specs.Choices.{kind_of_choice, move_words, slot_of_choice, switch_words, words_due};
-ghost use Rattle.gen1_c.specs.Fronts.{Writes};
+ghost use Rattle.gen1_c.specs.Fronts.{Writes, over_front};
 ghost use Rattle.gen1_c.specs.Update.{IsNoSide};
 
+use crate::codes::{CHOICE, NOBODY, SIDE, SMALL_TEXT};
 use crate::fronts::{put_front, write_text};
 use gen1_layout::Packed;
 use gen1_machine::{Choice, MoveSlot, Place, Side};
 use gen1_tables::{MoveId, Species};
-
-const NO_SIDE: u8 = 1;
-
-const NO_CHOICE: u8 = 2;
-
-const NOBODY: u8 = 3;
-
-const SMALL_WORDS: u8 = 4;
 
 /// Returns the kind of a choice: 1 Pass, 2 Move, 3 Switch; 0 if the byte is not a choice.
 #[unsafe(no_mangle)]
@@ -66,8 +59,8 @@ fn number_of_place(place: Place) -> u8
 }
 
 /// Writes a choice of a side in words, with the names of the battle, to the beginning of the text, and their number of bytes.
-/// Returns 0, or a code: 1 the side is neither 1 nor 2, 2 the byte is not a choice, 3 the move or member does not exist, 4 the text
-/// is too small. If it returns a code, nothing has changed.
+/// Returns 0, or the code of the side, the choice, a move or member that does not exist, or a text that is too small; then nothing
+/// has changed.
 #[unsafe(no_mangle)]
 pub extern "C" fn gen1_choice_words(
     battle: &Packed,
@@ -77,21 +70,21 @@ pub extern "C" fn gen1_choice_words(
     written: &mut usize,
 ) -> u8
     ensures writes { (s : State) (which : Side) → Stands battle.now s → side ≡ side_number which
-        → Writes 4 (words_due which (choice_at byte) s.field)
+        → Writes (words_due which (choice_at byte) s.field)
         (record { bytes = text.old; count = written.old })
         (record { bytes = text.new; count = written.new }) result }
-    ensures no_side { IsNoSide side → result ≡ 1 }
+    ensures no_side { IsNoSide side → result ≡ 40 }
     // For any bytes, valid or not.
     ensures kept { result ≢ 0 → (text.new ≡ text.old) × (written.new ≡ written.old) }
 {
     let Some(side) = Side::from_number(side) else {
-        return NO_SIDE;
+        return SIDE;
     };
     let Some(choice) = Choice::from_byte(byte) else {
-        return NO_CHOICE;
+        return CHOICE;
     };
     match choice {
-        Choice::Pass => write_text(b"pass", SMALL_WORDS, text, written),
+        Choice::Pass => write_text(b"pass", text, written),
         Choice::Move(slot) => write_move(battle, side, number_of_slot(slot), text, written),
         Choice::Switch(place) => write_switch(battle, side, number_of_place(place), text, written),
     }
@@ -100,13 +93,13 @@ pub extern "C" fn gen1_choice_words(
 // "move 2 Body Slam"; "move 0" where no slot can be chosen.
 fn write_move(battle: &Packed, side: Side, slot: u8, text: &mut [u8], written: &mut usize) -> u8
     requires { slot ≤ 4 }
-    ensures writes { (s : State) → Stands battle.now s → Writes 4 (move_words side slot s.field)
+    ensures writes { (s : State) → Stands battle.now s → Writes (move_words side slot s.field)
         (record { bytes = text.old; count = written.old })
         (record { bytes = text.new; count = written.new }) result }
     ensures kept { result ≢ 0 → (text.new ≡ text.old) × (written.new ≡ written.old) }
 {
     if slot == 0 {
-        return write_text(b"move 0", SMALL_WORDS, text, written);
+        return write_text(b"move 0", text, written);
     }
     if battle.turn() == 0 {
         return NOBODY;
@@ -124,7 +117,7 @@ fn write_move(battle: &Packed, side: Side, slot: u8, text: &mut [u8], written: &
 fn write_switch(battle: &Packed, side: Side, place: u8, text: &mut [u8], written: &mut usize) -> u8
     requires low { 1 ≤ place }
     requires high { place ≤ 6 }
-    ensures writes { (s : State) → Stands battle.now s → Writes 4 (switch_words side place s.field)
+    ensures writes { (s : State) → Stands battle.now s → Writes (switch_words side place s.field)
         (record { bytes = text.old; count = written.old })
         (record { bytes = text.new; count = written.new }) result }
     ensures kept { result ≢ 0 → (text.new ≡ text.old) × (written.new ≡ written.old) }
@@ -141,15 +134,23 @@ fn write_switch(battle: &Packed, side: Side, place: u8, text: &mut [u8], written
 // Writes two texts one after the other, as `write_text` writes one.
 fn write_joined(head: &[u8], name: &[u8], text: &mut [u8], written: &mut usize) -> u8
     requires { length head.now ≤ 9 }
-    ensures { Writes 4 (Ok (head.now ++ name.now)) (record { bytes = text.old; count = written.old })
+    ensures { Writes (Ok (head.now ++ name.now)) (record { bytes = text.old; count = written.old })
         (record { bytes = text.new; count = written.new }) result }
 {
     let count = head.len() + name.len();
-    if text.len() < count {
-        return SMALL_WORDS;
+    if text.len() <= count {
+        return SMALL_TEXT;
     }
-    put_front(head, text);
-    put_front(name, &mut text[head.len()..]);
+    put_both(head, name, text);
+    text[count] = 0;
     *written = count;
     0
+}
+
+fn put_both(head: &[u8], name: &[u8], text: &mut [u8])
+    requires { length head.now + length name.now ≤ length text.old }
+    ensures { text.new ≡ over_front (head.now ++ name.now) text.old }
+{
+    put_front(head, text);
+    put_front(name, &mut text[head.len()..]);
 }

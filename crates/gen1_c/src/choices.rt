@@ -1,5 +1,5 @@
 //! The offered choices, as bytes (include/gen1.h, "playing").
-ghost use Rattle.std.specs.Prelude.{List, [], drop, if◌then◌else◌, length, map, ℕ, ◌++◌, ◌<◌, ◌≡◌, ◌≢◌, ◌≤◌, ◌∷◌};
+ghost use Rattle.std.specs.Prelude.{List, [], drop, if◌then◌else◌, length, map, ℕ, ◌++◌, ◌<◌, ◌≡◌, ◌≤◌, ◌∷◌};
 ghost use Rattle.gen1_machine.specs.Choices.{byte_of_choice};
 ghost use Rattle.gen1_machine.specs.Numbers.{side_number};
 ghost use Rattle.gen1_machine.specs.OfferedChoices.{offered};
@@ -15,26 +15,24 @@ use gen1_engine::packed::offered_mask;
 use gen1_layout::Packed;
 use gen1_machine::Side;
 
-const NO_SIDE: u8 = 255;
-
 // The bytes of all choices, in the order of the bits of a mask.
 const BYTES: [u8; 12] = [
     0x00, 0x10, 0x11, 0x12, 0x13, 0x14, 0x21, 0x22, 0x23, 0x24, 0x25, 0x26,
 ];
 
 /// Lists the choices that a side is offered: writes their bytes, in rising order, to the beginning of the array, and returns their
-/// number.
+/// number; 0 if the side does not exist.
 #[unsafe(no_mangle)]
 pub extern "C" fn gen1_choices(battle: &Packed, side: u8, choices: &mut [u8; 9]) -> u8
     ensures offers { (s : State) (which : Side) → Stands battle.now s → side ≡ side_number which
         → Offers (offered which s.field) choices.old choices.new result }
-    ensures no_side { IsNoSide side → (result ≡ 255) × (choices.new ≡ choices.old) }
+    ensures no_side { IsNoSide side → (result ≡ 0) × (choices.new ≡ choices.old) }
     // For any bytes of the battle, valid or not.
-    ensures few { result ≢ 255 → result ≤ 9 }
+    ensures few { result ≤ 9 }
 {
     match Side::from_number(side) {
         Some(side) => put_offered(battle, side, choices),
-        None => NO_SIDE,
+        None => 0,
     }
 }
 

@@ -12,19 +12,19 @@ use gen1_layout::Packed;
 use gen1_machine::Side;
 use gen1_tables::MoveId;
 
-const NO_SIDE: u8 = 1;
+const NO_SIDE: u8 = 40;
 
-const NO_MOVE: u8 = 2;
+const NO_MOVE: u8 = 11;
 
-const UNUSUAL: u8 = 3;
+const UNUSUAL: u8 = 48;
 
-const NOBODY: u8 = 4;
+const NOBODY: u8 = 50;
 
-const DIVISOR: u8 = 5;
+const DIVISOR: u8 = 49;
 
 /// Computes the damage of a hit by a move of a side at each factor from 217 to 255, for both active members as they are now
-/// (include/gen1.h, "calculating"; docs/MECHANICS.md, "Damage numbers" to "Factors"). Returns 0, or the first code from 1 to 5 that
-/// applies; then the numbers have not changed.
+/// (include/gen1.h, "calculating"; docs/MECHANICS.md, "Damage numbers" to "Factors"). Returns 0, or the first code that applies;
+/// then the numbers have not changed.
 #[unsafe(no_mangle)]
 pub extern "C" fn gen1_damage(
     battle: &Packed,
@@ -35,7 +35,7 @@ pub extern "C" fn gen1_damage(
 ) -> u8
     ensures tells { (s : State) (which : Side) → Stands battle.now s → side ≡ side_number which
         → TellsDamages (damages_due which number critical s.field) damages.old damages.new result }
-    ensures no_side { IsNoSide side → (result ≡ 1) × (damages.new ≡ damages.old) }
+    ensures no_side { IsNoSide side → (result ≡ 40) × (damages.new ≡ damages.old) }
     // For any bytes, valid or not.
     ensures kept { result ≢ 0 → damages.new ≡ damages.old }
 {

@@ -11,31 +11,43 @@
 //! - `choice_generator`: the generator of those choices
 //! - `team_text`: teams read from text
 //! - `events`: the events of a log
+//! - `event_bytes`: the bytes of an event
 //! - `lines`: the lines of a log's events
 //! - `damage`: the damage of a hit
+//! - `codes`: the codes that functions return
 //! - `names`: names of species, moves and types, and their rows of the tables
+//! - `effects`: the numbers of effects
+//! - `chart`: the type chart
+//! - `member_stats`: a member's stats without a battle
 //! - `odds`: the odds of a use of a move
 //! - `texts`: codes in words
-//! - `view`: the state that a battle's bytes represent, as plain structs
+//! - `view`: the state that a battle's bytes represent, as plain structs, and back
 //! - `choice`: choices taken apart, and in words
 //! - `reseed`: other numbers to draw
 //! - `rooms`: rooms of two players
 //! - `spectators`: what a spectator knows
+//! - `players`: what a player knows, and what it is told
 //! - `fronts`: writing to the beginning of a caller's memory
 #![tactic(auto)]
 
 pub mod batches;
 pub mod battle;
+pub mod chart;
 pub mod choice;
 mod choice_generator;
 pub mod choices;
+mod codes;
 pub mod damage;
+mod effects;
+pub mod event_bytes;
 pub mod events;
 mod fronts;
 pub mod lines;
 pub mod masks;
+pub mod member_stats;
 pub mod names;
 pub mod odds;
+pub mod players;
 pub mod playouts;
 pub mod reseed;
 pub mod rooms;
@@ -46,9 +58,11 @@ pub mod texts;
 pub mod update;
 pub mod view;
 
+pub use batches::BatchUpdate;
 pub use events::EventFields;
+pub use gen1_states::{ActiveState, BattleState, MemberState, SideState};
 pub use names::{BaseForm, MoveForm};
 pub use playouts::PlayoutCounts;
 pub use team_text::TextFaultForm;
 pub use teams::{MemberForm, TeamForm};
-pub use view::{ActiveState, BattleState, MemberState, SideState};
+pub use view::StateFaultForm;

@@ -1,5 +1,5 @@
 //! The offered choices as a mask (include/gen1.h, "playing").
-ghost use Rattle.std.specs.Prelude.{◌<◌, ◌≡◌, ◌≢◌};
+ghost use Rattle.std.specs.Prelude.{◌<◌, ◌≡◌};
 ghost use Rattle.gen1_machine.specs.Numbers.{side_number};
 ghost use Rattle.gen1_machine.specs.State.{State};
 ghost use Rattle.gen1_machine.specs.declared.side.Side.{Side};
@@ -11,20 +11,18 @@ use gen1_engine::packed::offered_mask;
 use gen1_layout::Packed;
 use gen1_machine::Side;
 
-const NO_MASK: u16 = 65535;
-
 /// Returns the choices that a side is offered as a mask, whose bits are from the lowest on: Pass, Move 0 to 4, Switch 1 to 6.
-/// Returns 65,535 if the side does not exist.
+/// Returns 0 if the side does not exist.
 #[unsafe(no_mangle)]
 pub extern "C" fn gen1_offered(battle: &Packed, side: u8) -> u16
     ensures offers { (s : State) (which : Side) → Stands battle.now s → side ≡ side_number which
         → result ≡ offered_mask s which }
-    ensures no_side { IsNoSide side → result ≡ 65535 }
+    ensures no_side { IsNoSide side → result ≡ 0 }
     // For any bytes of the battle, valid or not.
-    ensures twelve { result ≢ 65535 → result < 4096 }
+    ensures twelve { result < 4096 }
 {
     match Side::from_number(side) {
         Some(side) => offered_mask(battle, side),
-        None => NO_MASK,
+        None => 0,
     }
 }

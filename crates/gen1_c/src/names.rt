@@ -4,7 +4,9 @@ ghost use Rattle.gen1_text.specs.Ids.{move_called, species_called};
 ghost use Rattle.gen1_c.specs.Fronts.{Writes};
 ghost use Rattle.gen1_c.specs.Names.{Tells, base_due, base_row, move_due, move_text, row_of_move, species_text, type_names, type_text};
 
-use crate::fronts::{SMALL_ROOM, UNKNOWN, write_text};
+use crate::codes::UNKNOWN;
+use crate::effects::{effect_number, is_often_critical, priority_of};
+use crate::fronts::write_text;
 use crate::texts::text_at;
 use gen1_tables::{MoveId, Species};
 use gen1_text::{move_called, species_called};
@@ -25,7 +27,7 @@ pub struct BaseForm {
     pub types: [u8; 2],
 }
 
-/// A move's type, power, accuracy as a byte, and PP without PP ups.
+/// A move's type, power, accuracy as a byte, PP without PP ups, effect and priority, and whether it is often critical.
 #[repr(C)]
 #[derive(Clone, Copy)]
 pub struct MoveForm {
@@ -33,6 +35,9 @@ pub struct MoveForm {
     pub power: u8,
     pub accuracy: u8,
     pub pp: u8,
+    pub effect: u8,
+    pub priority: i8,
+    pub high_critical: u8,
 }
 
 /// Returns the version of the library: 65,536 times the major number, plus 256 times the minor one, plus the patch number.
@@ -43,15 +48,15 @@ pub extern "C" fn gen1_version() -> u32
     VERSION
 }
 
-/// Writes the name of a species, 1 to 151, to the beginning of the text, and its number of bytes. Returns 0; 1 if the species does
-/// not exist, or 2 if the text is too small, and then nothing has changed.
+/// Writes the name of a species, 1 to 151, to the beginning of the text, and its number of bytes. Returns 0, or the code of a
+/// number without a species, or of a text that is too small; then nothing has changed.
 #[unsafe(no_mangle)]
 pub extern "C" fn gen1_species_name(number: u8, text: &mut [u8], written: &mut usize) -> u8
-    ensures { Writes 2 (species_text number) (record { bytes = text.old; count = written.old })
+    ensures { Writes (species_text number) (record { bytes = text.old; count = written.old })
         (record { bytes = text.new; count = written.new }) result }
 {
     match Species::new(number) {
-        Some(species) => write_text(species.name().as_bytes(), SMALL_ROOM, text, written),
+        Some(species) => write_text(species.name().as_bytes(), text, written),
         None => UNKNOWN,
     }
 }
@@ -59,11 +64,11 @@ pub extern "C" fn gen1_species_name(number: u8, text: &mut [u8], written: &mut u
 /// Writes the name of a move, 1 to 165, and returns as `gen1_species_name` does.
 #[unsafe(no_mangle)]
 pub extern "C" fn gen1_move_name(number: u8, text: &mut [u8], written: &mut usize) -> u8
-    ensures { Writes 2 (move_text number) (record { bytes = text.old; count = written.old })
+    ensures { Writes (move_text number) (record { bytes = text.old; count = written.old })
         (record { bytes = text.new; count = written.new }) result }
 {
     match MoveId::new(number) {
-        Some(id) => write_text(id.name().as_bytes(), SMALL_ROOM, text, written),
+        Some(id) => write_text(id.name().as_bytes(), text, written),
         None => UNKNOWN,
     }
 }
@@ -71,11 +76,11 @@ pub extern "C" fn gen1_move_name(number: u8, text: &mut [u8], written: &mut usiz
 /// Writes the name of a type, 0 to 14, and returns as `gen1_species_name` does.
 #[unsafe(no_mangle)]
 pub extern "C" fn gen1_type_name(number: u8, text: &mut [u8], written: &mut usize) -> u8
-    ensures { Writes 2 (type_text number) (record { bytes = text.old; count = written.old })
+    ensures { Writes (type_text number) (record { bytes = text.old; count = written.old })
         (record { bytes = text.new; count = written.new }) result }
 {
     match text_at(type_names(), number) {
-        Some(name) => write_text(name.as_bytes(), SMALL_ROOM, text, written),
+        Some(name) => write_text(name.as_bytes(), text, written),
         None => UNKNOWN,
     }
 }
@@ -108,7 +113,7 @@ pub extern "C" fn gen1_move_from_name(text: &[u8]) -> u8
     }
 }
 
-/// Writes the base stats and types of a species, 1 to 151. Returns 0; 1 if the species does not exist, and then nothing has changed.
+/// Writes the base stats and types of a species, 1 to 151. Returns 0, or a code if the species does not exist; then nothing has changed.
 #[unsafe(no_mangle)]
 pub extern "C" fn gen1_species_stats(number: u8, base: &mut BaseForm) -> u8
     ensures { Tells (base_due number) base.old base.new result }
@@ -132,7 +137,7 @@ fn base_of(species: Species) -> BaseForm
     }
 }
 
-/// Writes the row of a move, 1 to 165. Returns 0; 1 if the move does not exist, and then nothing has changed.
+/// Writes the row of a move, 1 to 165. Returns 0, or a code if the move does not exist; then nothing has changed.
 #[unsafe(no_mangle)]
 pub extern "C" fn gen1_move_data(number: u8, row: &mut MoveForm) -> u8
     ensures { Tells (move_due number) row.old row.new result }
@@ -154,5 +159,8 @@ fn row_of(id: MoveId) -> MoveForm
         power: id.power(),
         accuracy: id.accuracy_byte(),
         pp: id.pp(),
+        effect: effect_number(id.effect()),
+        priority: priority_of(id),
+        high_critical: if is_often_critical(id) { 1 } else { 0 },
     }
 }

@@ -1,14 +1,12 @@
-//! The odds of a use of a move (include/gen1.h, "calculating"; docs/MECHANICS.md, "Critical hits" to "Hit test").
+//! The odds of a use of a move, and its chance to knock out (include/gen1.h, "calculating"; docs/MECHANICS.md, "Critical hits" to "Hit test").
 ghost use Rattle.std.specs.Prelude.{[], if◌then◌else◌, ◌∷◌, ◌≡◌, ◌≢◌};
 ghost use Rattle.gen1_stats.specs.Teams.{team_of};
-ghost use Rattle.gen1_machine.specs.Moves.{move_at};
 ghost use Rattle.gen1_machine.specs.Numbers.{side_number};
 ghost use Rattle.gen1_machine.specs.State.{State};
 ghost use Rattle.gen1_machine.specs.declared.side.Side.{Side};
 ghost use Rattle.gen1_machine.specs.declared.side.Side.TheVariants.{One};
 ghost use Rattle.gen1_layout.specs.Within.{Stands};
-ghost use Rattle.gen1_odds.specs.Odds.{odds_in};
-ghost use Rattle.gen1_c.specs.Odds.{TellsOdds, between_fault, facing, hit_test_due, odds_due};
+ghost use Rattle.gen1_c.specs.Odds.{Tells, between_fault, chances_due, drained_due, facing, hit_test_due, odds_due, odds_of_state, recoil_due};
 ghost use Rattle.gen1_c.specs.Teams.{sheet_of};
 ghost use Rattle.gen1_c.specs.Update.{IsNoSide};
 
@@ -16,27 +14,27 @@ use crate::teams::{MemberForm, team_of_one};
 use gen1_engine::packed::update_events;
 use gen1_layout::Packed;
 use gen1_machine::{Choice, EventList, Side};
-use gen1_odds::{Odds, odds_of, takes_hit_test};
+use gen1_odds::{Chances, Odds, drained, knock_out, odds_of, recoil, takes_hit_test};
 use gen1_stats::Team;
 use gen1_tables::MoveId;
 
-const NO_SIDE: u8 = 1;
+const NO_SIDE: u8 = 40;
 
-const NO_MOVE: u8 = 2;
+const NO_MOVE: u8 = 11;
 
-const NOBODY: u8 = 4;
+const NOBODY: u8 = 50;
 
 const NO_SUCH_MOVE: u32 = 11;
 
-const NOT_A_MOVE: u8 = 255;
+const NOT_A_MOVE: u8 = 0;
 
 /// Computes the odds of a move of a side, with both active members as they are now. Returns 0, or the first code that applies, as
 /// `gen1_damage` returns it; then nothing has changed.
 #[unsafe(no_mangle)]
 pub extern "C" fn gen1_odds_now(battle: &Packed, side: u8, number: u8, odds: &mut Odds) -> u8
     ensures tells { (s : State) (which : Side) → Stands battle.now s → side ≡ side_number which
-        → TellsOdds (odds_due which number s.field) odds.old odds.new result }
-    ensures no_side { IsNoSide side → (result ≡ 1) × (odds.new ≡ odds.old) }
+        → Tells (odds_due s.terms.rules which number s.field) odds.old odds.new result }
+    ensures no_side { IsNoSide side → (result ≡ 40) × (odds.new ≡ odds.old) }
     // For any bytes, valid or not.
     ensures kept { result ≢ 0 → odds.new ≡ odds.old }
 {
@@ -53,6 +51,54 @@ pub extern "C" fn gen1_odds_now(battle: &Packed, side: u8, number: u8, odds: &mu
     0
 }
 
+/// Computes the chance that one use of a move of a side knocks out the foe's active member, or two uses in a row, with both as
+/// they are now; against a substitute, the chance to break it. Returns 0, or the first code that applies, as `gen1_damage` returns
+/// it; then nothing has changed.
+#[unsafe(no_mangle)]
+pub extern "C" fn gen1_knock_out(battle: &Packed, side: u8, number: u8, chances: &mut Chances) -> u8
+    ensures tells { (s : State) (which : Side) → Stands battle.now s → side ≡ side_number which
+        → Tells (chances_due s.terms.rules which number s.field) chances.old chances.new result }
+    ensures no_side { IsNoSide side → (result ≡ 40) × (chances.new ≡ chances.old) }
+    // For any bytes, valid or not.
+    ensures kept { result ≢ 0 → chances.new ≡ chances.old }
+{
+    let Some(side) = Side::from_number(side) else {
+        return NO_SIDE;
+    };
+    let Some(id) = MoveId::new(number) else {
+        return NO_MOVE;
+    };
+    if battle.turn() == 0 {
+        return NOBODY;
+    }
+    *chances = knock_out(battle, side, id);
+    0
+}
+
+/// Returns the HP that a damage of a move gives to its user (docs/MECHANICS.md, "Recoil, drain and explosion"): 0 if the move does
+/// not drain, or if the number is not a move.
+#[unsafe(no_mangle)]
+pub extern "C" fn gen1_drained(number: u8, damage: u16) -> u16
+    ensures { result ≡ drained_due number damage }
+{
+    match MoveId::new(number) {
+        Some(id) => drained(id, damage),
+        None => 0,
+    }
+}
+
+/// Returns the HP that a damage of a move costs its user (docs/MECHANICS.md, "Recoil, drain and explosion"): 0 if the move has no
+/// recoil, or if the number is not a move.
+#[unsafe(no_mangle)]
+pub extern "C" fn gen1_recoil(number: u8, damage: u16) -> u16
+    ensures { result ≡ recoil_due number damage }
+{
+    match MoveId::new(number) {
+        Some(id) => recoil(id, damage),
+        None => 0,
+    }
+}
+
 /// Computes the odds of a move of one member against another, both at full HP and just sent out. Returns 0, or an error as
 /// `gen1_new` returns it for teams of one; for the move its code alone.
 #[unsafe(no_mangle)]
@@ -63,8 +109,8 @@ pub extern "C" fn gen1_odds_between(
     odds: &mut Odds,
 ) -> u32
     ensures fault { result ≡ between_fault user.now foe.now number }
-    ensures told { result ≡ 0 → odds.new ≡ odds_in One (move_at number)
-        (facing (team_of (sheet_of user.now ∷ [])) (team_of (sheet_of foe.now ∷ []))).field }
+    ensures told { result ≡ 0 → odds.new ≡ odds_of_state One number
+        (facing (team_of (sheet_of user.now ∷ [])) (team_of (sheet_of foe.now ∷ []))) }
     ensures kept { result ≢ 0 → odds.new ≡ odds.old }
 {
     let Some(id) = MoveId::new(number) else {
@@ -82,7 +128,7 @@ pub extern "C" fn gen1_odds_between(
     0
 }
 
-/// Returns whether a move takes the hit test (docs/MECHANICS.md, "Hit test"): 1 or 0; 255 if the number is not a move.
+/// Returns whether a move takes the hit test (docs/MECHANICS.md, "Hit test"): 1 or 0; 0 if the number is not a move.
 #[unsafe(no_mangle)]
 pub extern "C" fn gen1_takes_hit_test(number: u8) -> u8
     ensures { result ≡ hit_test_due number }

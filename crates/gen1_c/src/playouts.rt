@@ -7,6 +7,7 @@ ghost use Rattle.gen1_c.specs.Playouts.{EndsAs, IsDrawn, IsPlayedOut, Plays, Pla
 ghost use Rattle.gen1_layout.specs.Parts.{joined};
 
 use crate::choice_generator::ChoiceGenerator;
+use crate::codes::of_load;
 use gen1_engine::Battle;
 use gen1_engine::packed::{choice_at, count_of};
 use gen1_events::Silent;
@@ -29,7 +30,7 @@ pub struct PlayoutCounts {
 }
 
 /// Plays copies of a battle to their end, by random choices among those offered, and counts how they end (include/gen1.h, "many
-/// battles"). Returns 0, or the number of the first of the seven tests of loading that the bytes fail (docs/LAYOUT.md, "Loading");
+/// battles"). Returns 0, or the code of the first of the seven tests of loading that the bytes fail (docs/LAYOUT.md, "Loading");
 /// then nothing is written.
 #[unsafe(no_mangle)]
 pub extern "C" fn gen1_playout(
@@ -47,7 +48,7 @@ pub extern "C" fn gen1_playout(
             *counts = counted(&start, seed, rounds);
             0
         }
-        Err(fault) => fault.number(),
+        Err(fault) => of_load(fault),
     }
 }
 

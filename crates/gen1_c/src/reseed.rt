@@ -5,20 +5,19 @@ ghost use Rattle.gen1_engine.specs.Reseed.{reseeded};
 ghost use Rattle.gen1_layout.specs.LoadingMeaning.{StandsForSome};
 ghost use Rattle.gen1_layout.specs.Within.{Stands};
 
+use crate::codes::INDEX;
 use gen1_engine::packed::reseed;
 use gen1_layout::Packed;
 use gen1_rolls::LinkRandom;
 
-const WRONG_INDEX: u8 = 1;
-
-/// Replaces the numbers that a battle draws, and sets the index of the next one, 0 to 8; nothing else changes. Returns 0; 1 if the
-/// index is above 8, and then nothing has changed.
+/// Replaces the numbers that a battle draws, and sets the index of the next one, 0 to 8; nothing else changes. Returns 0, or a
+/// code if the index is above 8; then nothing has changed.
 #[unsafe(no_mangle)]
 pub extern "C" fn gen1_reseed(battle: &mut Packed, seed: &[u8; 10], index: u8) -> u8
     ensures stands { index < 9 → (s : State) → Stands battle.old s → (result ≡ 0)
         × Stands battle.new (reseeded (record { index = index; numbers = seed.now }) s) }
     ensures valid { StandsForSome battle.old → StandsForSome battle.new }
-    ensures above { 9 ≤ index → result ≡ 1 }
+    ensures above { 9 ≤ index → result ≡ 46 }
     // For any bytes, valid or not.
     ensures kept { result ≢ 0 → battle.new ≡ battle.old }
 {
@@ -27,6 +26,6 @@ pub extern "C" fn gen1_reseed(battle: &mut Packed, seed: &[u8; 10], index: u8) -
             reseed(battle, &numbers);
             0
         }
-        None => WRONG_INDEX,
+        None => INDEX,
     }
 }

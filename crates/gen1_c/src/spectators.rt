@@ -2,14 +2,15 @@
 ghost use Rattle.std.specs.Prelude.{Err, Ok, [], ◌≡◌, ◌≢◌};
 ghost use Rattle.gen1_stats.specs.Teams.{team_of};
 ghost use Rattle.gen1_machine.specs.View.{View, first_view};
-ghost use Rattle.gen1_events.specs.Faults.{number_of};
 ghost use Rattle.gen1_events.specs.Reader.{Reading, part};
 ghost use Rattle.gen1_events.specs.declared.fault.LogFault.{LogFault};
 ghost use Rattle.gen1_spectator.specs.Following.{Follows};
 ghost use Rattle.gen1_spectator.specs.Plain.{IsExact, IsInRange, IsPlainSpectator, reading_of, view_of};
 ghost use Rattle.gen1_c.specs.Battle.{teams_fault};
+ghost use Rattle.gen1_c.specs.Codes.{log_code};
 ghost use Rattle.gen1_c.specs.Teams.{sheets_of, team_fault};
 
+use crate::codes::of_log;
 use crate::teams::{TeamForm, teams_of};
 use gen1_spectator::plain::{PlainSpectator, feed, first};
 
@@ -36,14 +37,14 @@ pub extern "C" fn gen1_spectator_begin(
     }
 }
 
-/// Feeds a spectator the next bytes of the log, which may be cut anywhere. Returns 0, or the number of the error.
+/// Feeds a spectator the next bytes of the log, which may be cut anywhere. Returns 0, or the code of the error.
 #[unsafe(no_mangle)]
 pub extern "C" fn gen1_spectator_feed(watch: &mut PlainSpectator, log: &[u8]) -> u8
     ensures told { IsPlainSpectator watch.old → result ≡ 0
         → Follows (reading_of watch.old) log.now (view_of watch.old)
         (Ok tt) (reading_of watch.new) (view_of watch.new) }
     ensures fault { IsPlainSpectator watch.old → result ≢ 0
-        → (fault : LogFault) × (result ≡ number_of fault) × (last : Reading) × (view : View)
+        → (fault : LogFault) × (result ≡ log_code fault) × (last : Reading) × (view : View)
         × Follows (reading_of watch.old) log.now (view_of watch.old) (Err fault) last view }
     ensures valid { IsPlainSpectator watch.old → IsPlainSpectator watch.new }
     ensures exact { IsPlainSpectator watch.old → result ≡ 0 → IsExact watch.new }
@@ -53,6 +54,6 @@ pub extern "C" fn gen1_spectator_feed(watch: &mut PlainSpectator, log: &[u8]) ->
 {
     match feed(watch, log) {
         Ok(()) => 0,
-        Err(fault) => fault.number(),
+        Err(fault) => of_log(fault),
     }
 }

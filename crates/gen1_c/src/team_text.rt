@@ -4,6 +4,7 @@ ghost use Rattle.gen1_text.specs.Packed.{members_packed};
 ghost use Rattle.gen1_text.specs.Texts.{members_told};
 ghost use Rattle.gen1_c.specs.TeamText.{TellsTeam, code_of, expected, form_of, member_at, member_of, move_at, of_packed, of_team, of_text, packed_due, team_due, text_due};
 
+use crate::codes::{TEXT_FIELDS, TEXT_SEVENTH_MEMBER, TEXT_TEAM};
 use crate::teams::{MemberForm, TeamForm};
 use arrayvec::ArrayVec;
 use gen1_stats::{MemberSpec, Team, TeamRefusal};
@@ -24,9 +25,11 @@ pub struct TextFaultForm {
     pub code: u8,
     /// Why the members are not a team.
     pub rule: u8,
+    /// Always 0.
+    pub reserved: [u8; 6],
 }
 
-/// Reads a team from the export text of a team builder. Returns 0, or the code of the first error, 1 to 14; then the team has not
+/// Reads a team from the export text of a team builder. Returns 0, or the code of the first error; then the team has not
 /// changed, and `fault` says where.
 #[unsafe(no_mangle)]
 pub extern "C" fn gen1_team_from_text(
@@ -101,7 +104,7 @@ fn of_packed(fault: PackedFault) -> TextFaultForm
     match fault {
         PackedFault::Fields { member } => TextFaultForm {
             member,
-            ..expected(13)
+            ..expected(TEXT_FIELDS)
         },
         PackedFault::Field {
             member,
@@ -112,7 +115,7 @@ fn of_packed(fault: PackedFault) -> TextFaultForm
             field,
             ..expected(number_of(fault))
         },
-        PackedFault::SeventhMember => expected(3),
+        PackedFault::SeventhMember => expected(TEXT_SEVENTH_MEMBER),
         PackedFault::Team(refusal) => of_team(refusal),
     }
 }
@@ -123,7 +126,7 @@ fn of_team(refusal: TeamRefusal) -> TextFaultForm
     TextFaultForm {
         member: usize::from(refusal.place()),
         rule: refusal.number(),
-        ..expected(14)
+        ..expected(TEXT_TEAM)
     }
 }
 
@@ -136,6 +139,7 @@ fn expected(code: u8) -> TextFaultForm
         field: 0,
         code,
         rule: 0,
+        reserved: [0; 6],
     }
 }
 
@@ -143,18 +147,18 @@ fn number_of(fault: MemberFault) -> u8
     ensures { result ≡ code_of fault }
 {
     match fault {
-        MemberFault::Species => 1,
-        MemberFault::Item => 2,
-        MemberFault::SeventhMember => 3,
-        MemberFault::Level => 4,
-        MemberFault::Evs => 5,
-        MemberFault::SpecialEvs => 6,
-        MemberFault::Ivs => 7,
-        MemberFault::SpecialIvs => 8,
-        MemberFault::HpIv => 9,
-        MemberFault::Move => 10,
-        MemberFault::FifthMove => 11,
-        MemberFault::UnknownLine => 12,
+        MemberFault::Species => 64,
+        MemberFault::Item => 65,
+        MemberFault::SeventhMember => 66,
+        MemberFault::Level => 67,
+        MemberFault::Evs => 68,
+        MemberFault::SpecialEvs => 69,
+        MemberFault::Ivs => 70,
+        MemberFault::SpecialIvs => 71,
+        MemberFault::HpIv => 72,
+        MemberFault::Move => 73,
+        MemberFault::FifthMove => 74,
+        MemberFault::UnknownLine => 75,
     }
 }
 
@@ -174,6 +178,7 @@ fn form_of(specs: &[MemberSpec]) -> TeamForm
             member_at(specs, 5),
         ],
         count: specs.len() as u8,
+        reserved: 0,
     }
 }
 

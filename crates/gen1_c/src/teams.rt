@@ -6,6 +6,7 @@ ghost use Rattle.gen1_c.specs.Battle.{teams_fault};
 ghost use Rattle.gen1_c.specs.Odds.{one_fault};
 ghost use Rattle.gen1_c.specs.Teams.{chosen, fault_of, first_fault, member_fault, sheet_of, sheets_of, species_of, team_fault};
 
+use crate::codes::{MOVE, SPECIES};
 use arrayvec::ArrayVec;
 use gen1_stats::{MemberSpec, Team, TeamRefusal};
 use gen1_tables::{MoveId, Species};
@@ -34,12 +35,9 @@ pub struct MemberForm {
 pub struct TeamForm {
     pub members: [MemberForm; 6],
     pub count: u8,
+    /// Ignored.
+    pub reserved: u8,
 }
-
-// The codes for a number that is not a species, or not a move.
-const NO_SUCH_SPECIES: u32 = 10;
-
-const NO_SUCH_MOVE: u32 = 11;
 
 // The teams of both sides. An error is that of the first team that has one, plus 65,536 times its side.
 pub(crate) fn teams_of(one: &TeamForm, two: &TeamForm) -> Result<(Team, Team), u32>
@@ -128,9 +126,9 @@ fn member_fault(member: &MemberForm) -> u32
     ensures small { result ≤ 11 }
 {
     if Species::new(member.species).is_none() {
-        NO_SUCH_SPECIES
+        u32::from(SPECIES)
     } else if member.moves.iter().any(|id| *id > 165) {
-        NO_SUCH_MOVE
+        u32::from(MOVE)
     } else {
         0
     }

@@ -1,12 +1,15 @@
-//! A code in words (include/gen1.h, "naming").
-ghost use Rattle.std.specs.Prelude.{[], map, option_map, ◌≡◌};
+//! A code in words (include/gen1.h, "errors").
+ghost use Rattle.std.specs.Prelude.{map, option_map, ◌≡◌};
 ghost use Rattle.std.specs.List.{slice_get};
 ghost use Rattle.gen1_c.specs.Fronts.{Writes};
-ghost use Rattle.gen1_c.specs.Texts.{sentence_due, sentences};
+ghost use Rattle.gen1_c.specs.Texts.{sentence_at, sentence_due};
 
-use crate::fronts::{SMALL_ROOM, UNKNOWN, write_text};
+use crate::codes::UNKNOWN;
+use crate::fronts::write_text;
 
-static NEW_TEXTS: [&str; 14] = [
+// The sentences of each family of codes, from its first code on.
+
+static TEAM_TEXTS: [&str; 15] = [
     "nothing is at fault",
     "the team has no member: it has 1 to 6",
     "the team has more than 6 members",
@@ -21,10 +24,10 @@ static NEW_TEXTS: [&str; 14] = [
     "a move is not 1 to 165",
     "the rules are not 0 to 3",
     "the turn limit is not 1 to 9,999",
+    "the number of the foe's members is above 6",
 ];
 
 static LOAD_TEXTS: [&str; 8] = [
-    "nothing is at fault",
     "there are not 384 bytes",
     "the version, byte 0, is not 1, 2 or 3",
     "a field of the header is out of its range",
@@ -32,86 +35,96 @@ static LOAD_TEXTS: [&str; 8] = [
     "an active block is out of its ranges, or does not fit its current move",
     "a current stat is not what stage and penalties make of the member's own",
     "turn, outcome, requests and living members do not fit together",
+    "a field of the state is wrong",
 ];
 
 static UPDATE_TEXTS: [&str; 5] = [
-    "nothing is at fault",
     "the battle is over",
     "the choice of side 1 was not offered",
     "the choice of side 2 was not offered",
-    "the room for the log is neither 0 nor at least 512 bytes",
+    "the room for the log is less than 512 bytes",
+    "the log is longer than that of an update, 512 bytes",
 ];
 
-static LOG_TEXTS: [&str; 6] = [
-    "nothing is at fault",
+static LOG_TEXTS: [&str; 4] = [
     "a byte in a tag's place is no tag: these are 1 to 28",
     "a field of an event is out of its range",
     "the bytes end within an event",
-    "no event is left: the place is at the end of the log, or past it",
-    "the line is longer than the room: 96 bytes hold any",
+    "no event is left: the index is at the end of the log, or past it",
 ];
 
-static DAMAGE_TEXTS: [&str; 6] = [
-    "nothing is at fault",
+static ARGUMENT_TEXTS: [&str; 8] = [
     "the side is neither 1 nor 2",
-    "the move is not 1 to 165",
-    "the move does not have the usual damage: it has no power, or a rule of its own",
-    "nobody is out: the battle is before its first update",
-    "the defense that counts in this hit is 0, and the damage would be divided by it",
-];
-
-static NAME_TEXTS: [&str; 3] = [
-    "nothing is at fault",
+    "the text does not fit its buffer: 128 bytes hold any",
     "nothing has this number: species are 1 to 151, moves 1 to 165, types 0 to 14",
-    "the text is longer than the room",
-];
-
-static CHOICE_TEXTS: [&str; 5] = [
-    "nothing is at fault",
-    "the side is neither 1 nor 2",
     "the byte is no choice: these are 0, 16 to 20 and 33 to 38",
     "there is no move in that slot, or no member at that place, or nobody is out",
-    "the words are longer than the room: 32 bytes hold any",
+    "an array is not as long as that of the battles",
+    "the index is not 0 to 8",
+    "the place is not 1 to 6",
 ];
 
-static RESEED_TEXTS: [&str; 2] = ["nothing is at fault", "the index is not 0 to 8"];
+static DAMAGE_TEXTS: [&str; 3] = [
+    "the move does not have the usual damage: it has no power, or a rule of its own",
+    "the defense that counts in this hit is 0, and the damage would be divided by it",
+    "nobody is out: the battle is before its first update",
+];
 
-static ROOM_TEXTS: [&str; 5] = [
-    "nothing is at fault",
-    "the battle is over",
+static ROOM_TEXTS: [&str; 3] = [
     "the number is not that of the current pair of choices",
     "the side has chosen",
     "the choice is not offered to the side",
 ];
 
-/// Writes what a code means, as one sentence with the valid range. `about` says which function the code is from. Returns 0; 1 if
-/// the code does not exist, or 2 if the text is too small, and then nothing has changed.
+static TEXT_TEXTS: [&str; 14] = [
+    "expected: the name of a species of the first generation",
+    "expected: no item, because the first generation has none",
+    "expected: at most 6 members",
+    "expected: a level from 1 to 100",
+    "expected: EVs from 0 to 255, such as 252 HP / 4 Atk, or packed as 252,4,,,,",
+    "expected: the same EVs for SpA and SpD, because the first generation has one Special",
+    "expected: IVs from 0 to 31, such as 14 HP / 0 Atk, or packed as 14,0,,,,",
+    "expected: the same IVs for SpA and SpD",
+    "expected: the HP IV that follows from the others, or none",
+    "expected: the name of a move of the first generation",
+    "expected: at most 4 moves",
+    "expected: a line of a member, such as Level: 50, EVs: 252 HP, IVs: 0 Atk or - Body Slam",
+    "expected: twelve fields with | between them",
+    "expected: members that are a team",
+];
+
+/// Writes what a code means, as one sentence with the valid range. Returns 0, or the code of an unknown number, or of a text that is
+/// too small; then nothing has changed.
 #[unsafe(no_mangle)]
-pub extern "C" fn gen1_text(about: u8, code: u8, text: &mut [u8], written: &mut usize) -> u8
-    ensures { Writes 2 (sentence_due about code) (record { bytes = text.old; count = written.old })
+pub extern "C" fn gen1_error_text(code: u8, text: &mut [u8], written: &mut usize) -> u8
+    ensures { Writes (sentence_due code) (record { bytes = text.old; count = written.old })
         (record { bytes = text.new; count = written.new }) result }
 {
-    match text_at(texts_about(about), code) {
-        Some(sentence) => write_text(sentence.as_bytes(), SMALL_ROOM, text, written),
+    match sentence_at(code) {
+        Some(sentence) => write_text(sentence.as_bytes(), text, written),
         None => UNKNOWN,
     }
 }
 
-// The sentences of a function, by their codes; none if `about` has no function.
-fn texts_about(about: u8) -> &'static [&'static str]
-    ensures { map (λ text. text.now) result.now ≡ sentences about }
+fn sentence_at(code: u8) -> Option<&'static str>
+    ensures { option_map (λ text. text.now) result ≡ sentence_at code }
 {
-    match about {
-        1 => &NEW_TEXTS,
-        2 => &LOAD_TEXTS,
-        3 => &UPDATE_TEXTS,
-        4 => &LOG_TEXTS,
-        5 => &DAMAGE_TEXTS,
-        6 => &NAME_TEXTS,
-        7 => &CHOICE_TEXTS,
-        8 => &RESEED_TEXTS,
-        9 => &ROOM_TEXTS,
-        _ => &[],
+    if code < 16 {
+        text_at(&TEAM_TEXTS, code)
+    } else if code < 24 {
+        text_at(&LOAD_TEXTS, code - 16)
+    } else if code < 32 {
+        text_at(&UPDATE_TEXTS, code - 24)
+    } else if code < 40 {
+        text_at(&LOG_TEXTS, code - 32)
+    } else if code < 48 {
+        text_at(&ARGUMENT_TEXTS, code - 40)
+    } else if code < 52 {
+        text_at(&DAMAGE_TEXTS, code - 48)
+    } else if code < 64 {
+        text_at(&ROOM_TEXTS, code - 52)
+    } else {
+        text_at(&TEXT_TEXTS, code - 64)
     }
 }
 

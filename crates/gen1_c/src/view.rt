@@ -1,88 +1,35 @@
-//! The state that a battle's bytes represent, as plain structs (include/gen1.h, "looking"; docs/LAYOUT.md).
-ghost use Rattle.std.specs.Prelude.{◌≡◌, ◌≤◌};
-ghost use Rattle.gen1_layout.specs.Words.{Reads, ReadsPacked, active_in, member_at, member_in, party};
-ghost use Rattle.gen1_stats.specs.declared.status.Status.{Status};
-ghost use Rattle.gen1_machine.specs.LogBytes.{kind_or_0};
-ghost use Rattle.gen1_machine.specs.State.{State, kind_of};
+//! The state that a battle's bytes represent, as plain structs, and back (include/gen1.h, "looking").
+ghost use Rattle.std.specs.Prelude.{◌↔◌, ◌≡◌, ◌≢◌};
+ghost use Rattle.gen1_layout.specs.LoadingMeaning.{IsBattle, StandsForSome};
+ghost use Rattle.gen1_layout.specs.Parts.{parts_of};
 ghost use Rattle.gen1_layout.specs.Within.{Stands};
-ghost use Rattle.gen1_c.specs.View.{active_now, active_state, member_state, no_active, side_state, sleep_of, state_of};
+ghost use Rattle.gen1_machine.specs.State.{State};
+ghost use Rattle.gen1_states.specs.Bytes.{bytes_of};
+ghost use Rattle.gen1_states.specs.Completed.{completed};
+ghost use Rattle.gen1_states.specs.Reading.{state_of};
+ghost use Rattle.gen1_states.specs.WholeTests.{fault_of};
+ghost use Rattle.gen1_c.specs.View.{fault_form};
 
-use bitflags::Flags;
 use gen1_layout::Packed;
-use gen1_machine::Side;
-use gen1_stats::Status;
-use gen1_tables::Stat;
+use gen1_states::{BattleState, StateFault, from_state, state_of};
 
-/// A member as it is now; zeros if there is none.
+const STATE: u8 = 23;
+
+/// The field of a state that is wrong (include/gen1.h, "looking").
 #[repr(C)]
 #[derive(Clone, Copy)]
-pub struct MemberState {
-    pub species: u8,
-    pub level: u8,
-    /// The kind of its status, 1 to 5; 0 if it is healthy.
-    pub status: u8,
-    /// How many turns of sleep are left.
-    pub sleep: u8,
-    /// Whether the sleep clause counts its sleep.
-    pub marked: u8,
-    pub moves: [u8; 4],
-    pub pp: [u8; 4],
-    pub hp: u16,
-    pub max_hp: u16,
-    /// Its own Attack, Defense, Speed and Special.
-    pub stats: [u16; 4],
-}
-
-/// The active member of a side; zeros before the first update.
-#[repr(C)]
-#[derive(Clone, Copy)]
-pub struct ActiveState {
-    /// The bits of its conditions (docs/LAYOUT.md, "Condition bits").
-    pub conditions: u32,
-    /// Attack, Defense, Speed and Special with stages and penalties.
-    pub stats: [u16; 4],
-    /// What Bide has stored.
-    pub energy: u16,
+pub struct StateFaultForm {
+    pub value: u32,
+    pub low: u32,
+    pub high: u32,
+    /// The number of the field.
+    pub field: u8,
+    /// 1 or 2; 0 for a field of the whole battle.
+    pub side: u8,
+    /// The place of the member, 1 to 6; 0 for a field of no member.
     pub place: u8,
-    pub types: [u8; 2],
-    /// Attack, Defense, Speed, Special, accuracy and evasion, from 0 to 12.
-    pub stages: [u8; 6],
-    /// 0 none, 1 to 4 a slot, 5 Struggle.
-    pub current_move: u8,
-    pub picked_move: u8,
-    pub kept_accuracy: u8,
-    pub substitute: u8,
-    pub confusion: u8,
-    pub disabled_slot: u8,
-    pub disabled_turns: u8,
-    pub bad_poison: u8,
-    /// Of Bide, thrashing or trapping.
-    pub turns: u8,
-}
-
-/// One side: its members by their places, and the active one.
-#[repr(C)]
-#[derive(Clone, Copy)]
-pub struct SideState {
-    pub members: [MemberState; 6],
-    pub active: ActiveState,
-}
-
-/// All that the bytes of a battle represent.
-#[repr(C)]
-#[derive(Clone, Copy)]
-pub struct BattleState {
-    pub sides: [SideState; 2],
-    pub turn: u16,
-    pub limit: u16,
-    pub last_damage: u16,
-    pub rules: u8,
-    pub outcome: u8,
-    pub requests: [u8; 2],
-    /// The index of the link number that is drawn next.
+    /// Which one of several; 0 for a field that stands once.
     pub index: u8,
-    /// The nine link numbers in use, then the tenth, which is never drawn.
-    pub numbers: [u8; 10],
 }
 
 /// Writes the state that a battle's bytes represent, every field of it.
@@ -90,139 +37,47 @@ pub struct BattleState {
 pub extern "C" fn gen1_get_state(battle: &Packed, state: &mut BattleState)
     ensures { (s : State) → Stands battle.now s → state.new ≡ state_of s }
 {
-    let header = battle.header();
-    *state = BattleState {
-        sides: [side_state(battle, Side::One), side_state(battle, Side::Two)],
-        turn: battle.turn(),
-        limit: battle.limit(),
-        last_damage: battle.last_damage(),
-        rules: header[19],
-        outcome: header[16],
-        requests: [header[17], header[18]],
-        index: header[5],
-        numbers: [
-            header[6], header[7], header[8], header[9], header[10], header[11], header[12],
-            header[13], header[14], header[15],
-        ],
-    };
+    *state = state_of(battle);
 }
 
-fn side_state(battle: &Packed, side: Side) -> SideState
-    ensures { (s : State) → Stands battle.now s → result ≡ side_state side s.field }
+/// Makes a battle of a plain state. Returns 0, or the code of an error; then the battle has not changed, and `fault` says which
+/// field is wrong.
+#[unsafe(no_mangle)]
+pub extern "C" fn gen1_set_state(
+    battle: &mut Packed,
+    state: &BattleState,
+    fault: &mut StateFaultForm,
+) -> u8
+    ensures accepts { result ≡ 0 ↔ IsBattle (bytes_of (completed state.now)) }
+    ensures code { result ≢ 0 → result ≡ 23 }
+    ensures value { result ≡ 0 → battle.new ≡ parts_of (bytes_of (completed state.now)) }
+    ensures stands { result ≡ 0 → StandsForSome battle.new }
+    ensures faultless { result ≡ 0 → fault.new ≡ fault.old }
+    ensures kept { result ≢ 0 → battle.new ≡ battle.old }
+    ensures fault { result ≢ 0 → fault.new ≡ fault_form (fault_of (completed state.now)) }
 {
-    SideState {
-        members: [
-            member_state(battle, side, 1),
-            member_state(battle, side, 2),
-            member_state(battle, side, 3),
-            member_state(battle, side, 4),
-            member_state(battle, side, 5),
-            member_state(battle, side, 6),
-        ],
-        active: active_now(battle, side),
+    match from_state(state) {
+        Ok(made) => {
+            *battle = made;
+            0
+        }
+        Err(found) => {
+            *fault = fault_form(&found);
+            STATE
+        }
     }
 }
 
-fn member_state(battle: &Packed, side: Side, place: u8) -> MemberState
-    requires low { 1 ≤ place }
-    requires high { place ≤ 6 }
-    ensures { ReadsPacked battle.now result λ f. member_state (member_at place (party side f)) }
+fn fault_form(fault: &StateFault) -> StateFaultForm
+    ensures { result ≡ fault_form fault.now }
 {
-    let block = battle.member(side, place);
-    let status = battle.status_at(side, place);
-    MemberState {
-        species: block[0],
-        level: block[1],
-        status: kind_of(status),
-        sleep: sleep_of(status),
-        marked: block[23],
-        moves: [block[15], block[16], block[17], block[18]],
-        pp: [block[19], block[20], block[21], block[22]],
-        hp: battle.hp_at(side, place),
-        max_hp: battle.max_hp_at(side, place),
-        stats: battle.own_stats_at(side, place),
-    }
-}
-
-fn kind_of(status: Status) -> u8
-    ensures { result ≡ kind_or_0 (kind_of status) }
-{
-    match status {
-        Status::Healthy => 0,
-        Status::Asleep { .. } => 1,
-        Status::Poisoned => 2,
-        Status::Burned => 3,
-        Status::Frozen => 4,
-        Status::Paralysed => 5,
-    }
-}
-
-fn sleep_of(status: Status) -> u8
-    ensures { result ≡ sleep_of status }
-{
-    match status {
-        Status::Asleep { turns, marked: _ } => turns,
-        _ => 0,
-    }
-}
-
-fn active_now(battle: &Packed, side: Side) -> ActiveState
-    ensures { (s : State) → Stands battle.now s → result ≡ active_now side s.field }
-{
-    if battle.turn() == 0 {
-        no_active()
-    } else {
-        active_state(battle, side)
-    }
-}
-
-fn no_active() -> ActiveState
-    ensures { result ≡ no_active }
-{
-    ActiveState {
-        conditions: 0,
-        stats: [0; 4],
-        energy: 0,
-        place: 0,
-        types: [0; 2],
-        stages: [0; 6],
-        current_move: 0,
-        picked_move: 0,
-        kept_accuracy: 0,
-        substitute: 0,
-        confusion: 0,
-        disabled_slot: 0,
-        disabled_turns: 0,
-        bad_poison: 0,
-        turns: 0,
-    }
-}
-
-fn active_state(battle: &Packed, side: Side) -> ActiveState
-    ensures stands { Reads battle.now result λ f. active_state (member_in side f)
-        (active_in side f) }
-{
-    let block = battle.active(side);
-    ActiveState {
-        conditions: battle.conditions(side).bits(),
-        stats: [
-            battle.current_stat(side, Stat::Attack),
-            battle.current_stat(side, Stat::Defense),
-            battle.current_stat(side, Stat::Speed),
-            battle.current_stat(side, Stat::Special),
-        ],
-        energy: battle.energy(side),
-        place: block[0],
-        types: [block[1], block[2]],
-        stages: [block[3], block[4], block[5], block[6], block[7], block[8]],
-        current_move: block[29],
-        picked_move: block[30],
-        kept_accuracy: block[31],
-        substitute: block[21],
-        confusion: block[22],
-        disabled_slot: block[23],
-        disabled_turns: block[24],
-        bad_poison: block[25],
-        turns: block[26],
+    StateFaultForm {
+        value: fault.value,
+        low: fault.low,
+        high: fault.high,
+        field: fault.field.number(),
+        side: fault.side,
+        place: fault.place,
+        index: fault.index,
     }
 }

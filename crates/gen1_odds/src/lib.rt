@@ -1,13 +1,40 @@
 //! The odds of a use of a move, from the bytes of a battle and without a draw (docs/MECHANICS.md, "Critical hits" to
-//! "Hit test"). They are the damage at each factor, and how many of the 256 possible draws make it critical or make
-//! it hit.
+//! "Hit test", "Fixed damage and one-hit moves", "Many hits").
 //!
 //! - `odds`: [`Odds`] of a move, for the two members that are out
+//! - `knock_outs`: [`Chances`] that one use or two knock out the foe
+//! - `reasons`: why a use can't hit
+//! - `status_reasons`: the same for moves that give a status
+//! - `foe_reasons`: for other moves that change the foe
+//! - `own_reasons`: for moves that change their user
 //! - `chances`: the numbers of draws, and [`takes_hit_test`]
+//! - `fixed_damage`: damage by a rule of its own
+//! - `hit_counts`: the number of hits, and what a damage gives back or costs
+//! - `trials`: the kinds of use of a move, and whether it goes on
+//! - `sights`: what a use finds in a battle
+//! - `laws`: what the odds say of the machine's own phases
 #![tactic(auto)]
 
 mod chances;
+mod fixed_damage;
+mod foe_reasons;
+mod hit_counts;
+mod knock_outs;
+mod laws;
 mod odds;
+mod own_reasons;
+mod reasons;
+mod sights;
+mod status_reasons;
+mod trials;
 
 pub use chances::takes_hit_test;
+pub use hit_counts::{drained, recoil};
+pub use knock_outs::{Chances, knock_out};
+pub use laws::{
+    breaks_if_needed, confusion_counts, counter_counts, fixed_counts, immune_misses,
+    must_hit_counts, one_hit_counts, paralysis_counts, poison_counts, seed_counts, slower_misses,
+    test_counts,
+};
 pub use odds::{Damages, Odds, odds_of};
+pub use reasons::Reason;

@@ -1,18 +1,24 @@
-//! The odds of a use of a move (docs/MECHANICS.md, "Damage numbers" to "Hit test").
-ghost use Rattle.std.specs.Prelude.{◌≡◌};
+//! The odds of a use of a move (docs/MECHANICS.md, "Damage numbers" to "Hit test", "Fixed damage and one-hit moves", "Many
+//! hits").
+ghost use Rattle.std.specs.Prelude.{◌≡◌, ◌≤◌};
 ghost use Rattle.gen1_layout.specs.Words.{Reads, move_at};
-ghost use Rattle.gen1_odds.specs.Odds.{damages_in, no_damages, odds_in};
+ghost use Rattle.gen1_odds.specs.Odds.{damages_in, flag, no_damages, odds_in};
+ghost use Rattle.gen1_odds.specs.Trials.{ReadsUnder};
 
-use crate::chances::{critical_draws, hit_draws};
-use gen1_hits::{damage_list, has_usual_damage, numbers};
+use crate::chances::{critical_draws, deals_usual, hit_draws};
+use crate::fixed_damage::fixed;
+use crate::hit_counts::{eighths, hit_count};
+use crate::reasons::{reason_code, reason_of};
+use crate::trials::charges_first;
+use gen1_hits::{damage_list, numbers};
 use gen1_layout::Packed;
 use gen1_machine::Side;
 use gen1_tables::MoveId;
 
 // The reasons for having no damages, with the numbers of `gen1_damage` of gen1_c.
-const UNUSUAL: u8 = 3;
+const UNUSUAL: u8 = 48;
 
-const DIVISOR: u8 = 5;
+const DIVISOR: u8 = 49;
 
 /// The damage of a hit at each factor from 217 to 255, which are equally likely, or why there is none.
 #[repr(C)]
@@ -22,43 +28,71 @@ pub struct Damages {
     pub numbers: [u16; 39],
     /// How many damages there are: 39, or 0.
     pub count: u8,
-    /// 0 if there are damages. Otherwise 3 if the move has no usual damage, or 5 if it would be divided by 0.
+    /// 0 if there are damages. Otherwise 48 if the use has no usual damage, or 49 if it would be divided by 0.
     pub code: u8,
 }
 
-/// The odds of a use of a move (docs/MECHANICS.md, "Critical hits" to "Hit test").
+/// The odds of a use of a move (docs/MECHANICS.md, "Critical hits" to "Hit test", "Fixed damage and one-hit moves", "Many
+/// hits").
+///
+/// The use is that of a member that acts now, whatever may keep it from acting. The odds of a move that charges are those
+/// of its strike.
 #[repr(C)]
 #[derive(Clone, Copy)]
 pub struct Odds {
-    /// The damage of a hit that isn't critical.
+    /// The damage of a hit that isn't critical. A damage of 0 is a miss.
     pub usual: Damages,
-    /// The damage of a critical hit.
+    /// The damage of a critical hit. A damage of 0 is a miss.
     pub critical: Damages,
-    /// How many of the 256 possible draws make the hit critical, 0 to 255. It is 0 for a move without usual damage.
+    /// How many of the 256 possible draws make the hit critical, 0 to 255. It is 0 for a use without usual damage.
     pub critical_draws: u16,
-    /// How many of the 256 possible draws pass the hit test, 0 to 256, for a move that takes one (`takes_hit_test`).
+    /// How many of the 256 possible draws of the hit test make the use hit, 0 to 256. It is 256 if it hits without a test.
     pub hit_draws: u16,
+    /// The least damage of a hit without usual damage, or 0.
+    pub least: u16,
+    /// The most damage of a hit without usual damage. The numbers from the least to the most are equally likely.
+    pub most: u16,
+    /// In how many of 8 cases a use that hits makes 0, 1, .. 5 hits. Each hit deals the same damage.
+    pub hits: [u8; 6],
+    /// Why the use can't hit: the number of a `Reason`, or 0 if it can.
+    pub reason: u8,
+    /// 1 if the user would only charge now, and strike in its next action; otherwise 0.
+    pub charges_first: u8,
 }
 
 /// The odds of a move of a side against the foe, for the present state of the two members that are out.
 ///
-/// The member need not know the move. The accuracy is that of a new use: a kept accuracy of a move that goes on
-/// doesn't count. The battle stays as it is, and nothing is drawn.
+/// The member need not know the move. The battle stays as it is, and nothing is drawn.
 pub fn odds_of(battle: &Packed, side: Side, id: MoveId) -> Odds
-    ensures stands { Reads battle.now result (odds_in side (move_at id)) }
+    ensures stands { ReadsUnder battle.now result λ r. odds_in r side (move_at id) }
+    ensures critical { result.critical_draws ≤ 255 }
+    ensures hits { result.hit_draws ≤ 256 }
 {
+    let reason = reason_of(battle, side, id);
+    let (least, most) = fixed(battle, side, id);
     Odds {
         usual: damages_of(battle, side, id, false),
         critical: damages_of(battle, side, id, true),
         critical_draws: critical_draws(battle, side, id),
-        hit_draws: hit_draws(battle, side, id),
+        hit_draws: hit_draws(battle, side, id, reason),
+        least,
+        most,
+        hits: eighths(hit_count(id.effect())),
+        reason: reason_code(reason),
+        charges_first: flag(charges_first(battle, side, id)),
     }
+}
+
+pub(crate) fn flag(holds: bool) -> u8
+    ensures { result ≡ flag holds }
+{
+    if holds { 1 } else { 0 }
 }
 
 fn damages_of(battle: &Packed, side: Side, id: MoveId, critical: bool) -> Damages
     ensures stands { Reads battle.now result (damages_in side (move_at id) critical) }
 {
-    if !has_usual_damage(id) {
+    if !deals_usual(battle, side, id) {
         return no_damages(UNUSUAL);
     }
     match damage_list(&numbers(battle, side, id, critical)) {

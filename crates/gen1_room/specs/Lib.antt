@@ -2,6 +2,8 @@
 pub mod Rooms
 -- A room as a plain struct.
 pub mod Plain
+-- Rooms that a side has forfeited.
+pub mod Forfeits
 -- What replies reveal about choices.
 pub mod Blind
 -- The numbers of refusals.

@@ -20,10 +20,11 @@ held_of r = record {
   two = choice_at r.two;
 }
 
--- it holds a course, as a room does, and its number counts the accepted pairs
+-- it holds a course, as a room does, its number counts the accepted pairs, and no side has forfeited
 pub record Keeps (r : PlainRoom) (c : Course) : Type 0 where
   pub holds : Holds (held_of r) c
   pub counts : Counts r.battle r.number
+  pub unforfeited : r.forfeit ≡ 0
 
 -- a missing choice is 255, and not another byte that is not a choice
 pub record IsMarked (r : PlainRoom) : Type 0 where

@@ -71,6 +71,7 @@ impl Shown {
         PlainMember {
             hp: self.hp,
             status: number_of(self.kind),
+            reserved: 0,
         }
     }
 }

@@ -20,7 +20,7 @@ static HEADER: [u8; 24] = [
 ];
 
 // Two Tauros that have come out.
-fn two_tauros() -> [u8; 384] {
+pub(crate) fn two_tauros() -> [u8; 384] {
     let mut form = [0; 384];
     form[..24].copy_from_slice(&HEADER);
     form[24..48].copy_from_slice(&TAUROS);
@@ -31,14 +31,14 @@ fn two_tauros() -> [u8; 384] {
 }
 
 // The same with a second Tauros on side 1, after the first.
-fn three_tauros() -> [u8; 384] {
+pub(crate) fn three_tauros() -> [u8; 384] {
     let mut form = two_tauros();
     form[48..72].copy_from_slice(&TAUROS);
     form
 }
 
 // Replaces some bytes of a form. Each change is an offset and a byte.
-fn put(form: &mut [u8; 384], changes: &[(usize, u8)]) {
+pub(crate) fn put(form: &mut [u8; 384], changes: &[(usize, u8)]) {
     for (at, byte) in changes {
         if let Some(place) = form.get_mut(*at) {
             *place = *byte;
@@ -47,7 +47,7 @@ fn put(form: &mut [u8; 384], changes: &[(usize, u8)]) {
 }
 
 // Replaces the bytes of a form from an offset on.
-fn put_block(form: &mut [u8; 384], start: usize, block: &[u8]) {
+pub(crate) fn put_block(form: &mut [u8; 384], start: usize, block: &[u8]) {
     for (place, byte) in form.iter_mut().skip(start).zip(block) {
         *place = *byte;
     }

@@ -1,9 +1,9 @@
--- The first battles are updated, and the others are as they were.
+-- The first battles are updated; the others, and the choices for them, are as they were.
 use Rattle.gen1_c.specs.Batches.{AreUpdated}
 use Rattle.gen1_c.proofs.OneByOne.{AreLeft}
 use Rattle.gen1_c.proofs.batches.update_each.Given as goal
 
 abbrev pub invariant-loop-place : goal.invariant-loop-place
 invariant-loop-place l =
-    AreUpdated l.place l.initial.battles l.ones l.twos (record { battles = l.battles; results = l.results; codes = l.codes })
-    × AreLeft l.place l.initial.battles l.battles
+    AreUpdated l.place l.initial.battles l.battles l.initial.updates l.updates
+    × AreLeft l.place l.initial.battles l.battles × AreLeft l.place l.initial.updates l.updates

@@ -11,11 +11,11 @@ returns-in-Some-clause-writes c s h =
     let is = c.species_at.ensures.packs (setting_of s) s.field (packs_of h) in
     let id = let_through _ _ _ (sym c.new.ensures ∙ c.in-Some.is) in
     let text = c.as_bytes.ensures.value ∙ c.name.ensures ∙ ap species_name id.1 in
-    written _ _ _ _ (switch_named c.args.side c.args.place s.field c.species_at.result is id.0
+    written _ _ _ (switch_named c.args.side c.args.place s.field c.species_at.result is id.0
     ∙ ap (λ (name : List ℕ). Ok ((codes "switch " ++ ((48 + c.args.place) ∷ codes " ")) ++ name)) (sym text)) c.write_joined.ensures
 
 pub returns-in-None-clause-writes : goal.returns-in-None-clause-writes
 returns-in-None-clause-writes c s h =
     let is = c.species_at.ensures.packs (setting_of s) s.field (packs_of h) in
-    refused _ _ (switch_unnamed c.args.side c.args.place s.field c.species_at.result is
+    refused _ (switch_unnamed c.args.side c.args.place s.field c.species_at.result is
     (none_through _ c.species_at.result (sym c.new.ensures ∙ c.in-None.is)))

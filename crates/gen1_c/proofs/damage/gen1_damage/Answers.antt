@@ -11,20 +11,20 @@ use Rattle.gen1_c.proofs.damage.gen1_damage.Goals as goal
 
 pub returns-in_default-new-clause-tells : goal.returns-in_default-new-clause-tells
 returns-in_default-new-clause-tells c s which h e =
-    told (Err 2) _ _ _ (due_no_move which c.args.number c.args.critical s.field (kept_out _ c.args.number (λ is. c.in_default-new.not-Some c.args.number (c.new.ensures ∙ is)))) (refl, refl)
+    told (Err 11) _ _ _ (due_no_move which c.args.number c.args.critical s.field (kept_out _ c.args.number (λ is. c.in_default-new.not-Some c.args.number (c.new.ensures ∙ is)))) (refl, refl)
 
 pub returns-then-not-has_usual_damage-clause-tells : goal.returns-then-not-has_usual_damage-clause-tells
 returns-then-not-has_usual_damage-clause-tells c s which h e =
     let id = let_through _ _ _ (sym c.new.ensures ∙ c.in-Some-new.is) in
     let usual = ap (λ n. has_usual_damage (move_at n)) (sym id.1) ∙ sym c.has_usual_damage.ensures ∙ c.if-not-has_usual_damage.true in
-    told (Err 3) _ _ _ (due_unusual which c.args.number c.args.critical s.field id.0 usual) (refl, refl)
+    told (Err 48) _ _ _ (due_unusual which c.args.number c.args.critical s.field id.0 usual) (refl, refl)
 
 pub returns-then-turn-eq0-clause-tells : goal.returns-then-turn-eq0-clause-tells
 returns-then-turn-eq0-clause-tells c s which h e =
     let id = let_through _ _ _ (sym c.new.ensures ∙ c.in-Some-new.is) in
     let usual = ap (λ n. has_usual_damage (move_at n)) (sym id.1) ∙ sym c.has_usual_damage.ensures ∙ c.if-not-has_usual_damage.false in
     let turn = sym (c.turn.ensures.packs (setting_of s) s.field (packs_of h)) ∙ c.if-turn-eq0.true in
-    told (Err 4) _ _ _ (due_nobody which c.args.number c.args.critical s.field id.0 usual turn) (refl, refl)
+    told (Err 50) _ _ _ (due_nobody which c.args.number c.args.critical s.field id.0 usual turn) (refl, refl)
 
 pub returns-in-Some-damage_list-clause-tells : goal.returns-in-Some-damage_list-clause-tells
 returns-in-Some-damage_list-clause-tells c s which h e =
@@ -49,5 +49,5 @@ returns-in-None-clause-tells c s which h e =
     let due = ap (λ it. damages (numbers_in it (move_at c.args.number) c.args.critical s.field)) (sym side)
     ∙ ap (λ n. damages (numbers_in c.in-Some.side (move_at n) c.args.critical s.field)) (sym id.1)
     ∙ ap damages (sym numbers) ∙ sym c.damage_list.ensures ∙ c.in-None.is in
-    told (Err 5) _ _ _
+    told (Err 49) _ _ _
     (due_divisor which c.args.number c.args.critical s.field id.0 usual (λ z. c.if-turn-eq0.false (turn ∙ z)) due) (refl, refl)

@@ -2,10 +2,8 @@ use Rattle.std.proofs.Common.{List, [], ap, sym, ◌∙◌, ◌∷◌, ℕ}
 use Rattle.gen1_stats.specs.Members.{Member}
 use Rattle.gen1_stats.specs.Teams.{team_of}
 use Rattle.gen1_machine.specs.declared.side.Side.TheVariants.{One}
-use Rattle.gen1_machine.specs.Moves.{move_at}
 use Rattle.gen1_layout.specs.Within.{setting_of}
-use Rattle.gen1_odds.specs.Odds.{odds_in}
-use Rattle.gen1_c.specs.Odds.{facing}
+use Rattle.gen1_c.specs.Odds.{facing, odds_of_state}
 use Rattle.gen1_c.specs.Teams.{sheet_of}
 use Rattle.gen1_c.proofs.Begun.{let_through}
 use Rattle.gen1_c.proofs.Hits.{within_out}
@@ -18,6 +16,6 @@ returns-clause-told c zero =
     let foe = c.in-Ok-team_of_one.team in
     let out = within_out {p = c.sent_out.result} {s = facing user foe} c.sent_out.ensures.stands c.sent_out.ensures.out in
     c.odds_of.ensures.stands (setting_of (facing user foe)) (facing user foe).field out
-    ∙ ap (λ (n : ℕ). odds_in One (move_at n) (facing user foe).field) id.1
-    ∙ ap (λ (one : List Member). odds_in One (move_at c.args.number) (facing one foe).field) c.in-Ok.ensures.made
-    ∙ ap (λ (two : List Member). odds_in One (move_at c.args.number) (facing (team_of (sheet_of c.args.user.now ∷ [])) two).field) c.in-Ok-team_of_one.ensures.made
+    ∙ ap (λ (n : ℕ). odds_of_state One n (facing user foe)) id.1
+    ∙ ap (λ (one : List Member). odds_of_state One c.args.number (facing one foe)) c.in-Ok.ensures.made
+    ∙ ap (λ (two : List Member). odds_of_state One c.args.number (facing (team_of (sheet_of c.args.user.now ∷ [])) two)) c.in-Ok-team_of_one.ensures.made

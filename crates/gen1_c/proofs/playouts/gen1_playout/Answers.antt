@@ -7,4 +7,4 @@ returns-in-Ok-clause-plays c =
 
 pub returns-in-Err-clause-plays : goal.returns-in-Err-clause-plays
 returns-in-Err-clause-plays c =
-    (Err c.in-Err.fault, rw c.as_bytes.ensures.value at c.in-Err.ensures.tests, (c.number.ensures, refl))
+    (Err c.in-Err.fault, rw c.as_bytes.ensures.value at c.in-Err.ensures.tests, (c.of_load.ensures.value, refl))

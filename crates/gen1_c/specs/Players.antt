@@ -1,0 +1,54 @@
+-- The codes of players, and what they are told (include/gen1.h, "players").
+use Rattle.std.specs.Prelude.{List, if◌then◌else◌, length, nat_le, not, replicate, ℕ, ◌&&◌, ◌+◌, ◌<◌, ◌==◌, ◌≡◌, ◌≢◌, ◌≤◌}
+use Rattle.gen1_machine.specs.declared.event.Event.{Event}
+use Rattle.gen1_machine.specs.Rules.{bit_of}
+use Rattle.gen1_events.specs.declared.fault.LogFault.{LogFault}
+use Rattle.gen1_events.specs.Faults.{number_of}
+use Rattle.gen1_events.specs.Reader.{Breaks}
+use Rattle.gen1_events.specs.Splits.{IsReading, Splits}
+use Rattle.gen1_player.specs.declared.teller.Teller.{Teller}
+use Rattle.gen1_player.specs.Retelling.{HasFault}
+use Rattle.gen1_player.specs.Telling.{meets_all, told_all}
+use Rattle.gen1_c.specs.Fronts.{over_front}
+
+abbrev pub side_code : ℕ → ℕ
+side_code side = if nat_le 1 side && nat_le side 2 then 0 else 40
+
+-- the first error of: the side, the number of foes, the team
+abbrev pub begin_code : ℕ → ℕ → ℕ → ℕ
+begin_code side foes team = if nat_le 1 side && nat_le side 2 then (if nat_le foes 6 then team else 14) else 40
+
+abbrev pub log_code : LogFault → ℕ
+log_code fault = 31 + number_of fault
+
+-- the bytes have this error after some events
+abbrev pub BreaksOff : LogFault → List ℕ → Type 0
+BreaksOff fault bytes = (events : List Event) × (rest : List ℕ) × Splits bytes events rest × Breaks fault rest
+
+abbrev pub first_teller : ℕ → ℕ → Teller
+first_teller side pixels = record { side = side; pixels = bit_of (not (pixels == 0)); places = replicate 6 0 }
+
+-- a teller, the caller's memory, and the number that it keeps beside it
+pub record Telling : Type 0 where
+  pub teller : Teller
+  pub bytes : List ℕ
+  pub count : ℕ
+
+-- the events of the log are told
+pub record IsTold (log : List ℕ) (old new : Telling) : Type 0 where
+  pub events : List Event
+  pub told : List ℕ
+  pub read : IsReading log events
+  pub means : IsReading told (told_all events old.teller)
+  pub teller : new.teller ≡ meets_all events old.teller
+  pub bytes : new.bytes ≡ over_front told old.bytes
+  pub count : new.count ≡ length told
+
+-- The first of: a log of more than 512 bytes, too little memory, bytes that are not a log. Then nothing has changed.
+pub record Tells (log : List ℕ) (old new : Telling) (code : ℕ) : Type 0 where
+  pub long : 512 < length log → code ≡ 28
+  pub small : length log ≤ 512 → length old.bytes < length log → code ≡ 27
+  pub read : length log ≤ 512 → length log ≤ length old.bytes → (events : List Event) → IsReading log events → code ≡ 0
+  pub broken : length log ≤ 512 → length log ≤ length old.bytes → code ≢ 0 → (fault : LogFault) × (code ≡ log_code fault) × HasFault log fault
+  pub told : code ≡ 0 → IsTold log old new
+  pub kept : code ≢ 0 → new ≡ old

@@ -1,0 +1,99 @@
+//! The codes that functions return (include/gen1.h, "errors"). Each number is the same error in every function.
+ghost use Rattle.std.specs.Prelude.{◌≡◌, ◌≤◌};
+ghost use Rattle.gen1_c.specs.Codes.{load_code, log_code, refusal_code};
+
+use gen1_engine::Refusal;
+use gen1_events::LogFault;
+use gen1_layout::LoadFault;
+use gen1_machine::Side;
+
+// Terms.
+pub(crate) const RULES: u32 = 12;
+
+pub(crate) const TURN_LIMIT: u32 = 13;
+
+// Updates.
+pub(crate) const SMALL_LOG: u8 = 27;
+
+// Logs.
+pub(crate) const LOG_TAG: u8 = 32;
+
+pub(crate) const LOG_FIELD: u8 = 33;
+
+pub(crate) const LOG_CUT: u8 = 34;
+
+pub(crate) const LOG_END: u8 = 35;
+
+// Arguments. A species and a move are also what a team can have wrong.
+pub(crate) const SPECIES: u8 = 10;
+
+pub(crate) const MOVE: u8 = 11;
+
+pub(crate) const SIDE: u8 = 40;
+
+pub(crate) const SMALL_TEXT: u8 = 41;
+
+pub(crate) const UNKNOWN: u8 = 42;
+
+pub(crate) const CHOICE: u8 = 43;
+
+pub(crate) const NOBODY: u8 = 44;
+
+pub(crate) const LENGTHS: u8 = 45;
+
+pub(crate) const INDEX: u8 = 46;
+
+// Calculating.
+pub(crate) const UNUSUAL: u8 = 48;
+
+pub(crate) const DIVISOR: u8 = 49;
+
+pub(crate) const NOBODY_OUT: u8 = 50;
+
+// Teams out of text.
+pub(crate) const TEXT_SEVENTH_MEMBER: u8 = 66;
+
+pub(crate) const TEXT_FIELDS: u8 = 76;
+
+pub(crate) const TEXT_TEAM: u8 = 77;
+
+// The first test of loading that bytes fail.
+pub(crate) fn of_load(fault: LoadFault) -> u8
+    ensures value { result ≡ load_code fault }
+    ensures some { 1 ≤ result }
+{
+    match fault {
+        LoadFault::Length => 16,
+        LoadFault::Version => 17,
+        LoadFault::Header => 18,
+        LoadFault::Member => 19,
+        LoadFault::Active => 20,
+        LoadFault::Stat => 21,
+        LoadFault::Request => 22,
+    }
+}
+
+// Why an update was refused.
+pub(crate) fn of_refusal(why: Refusal) -> u8
+    ensures value { result ≡ refusal_code why }
+    ensures some { 1 ≤ result }
+{
+    match why {
+        Refusal::Over => 24,
+        Refusal::NotOffered(Side::One) => 25,
+        Refusal::NotOffered(Side::Two) => 26,
+    }
+}
+
+// What is wrong with the bytes of a log.
+pub(crate) fn of_log(fault: LogFault) -> u8
+    ensures value { result ≡ log_code fault }
+    ensures low { 32 ≤ result }
+    ensures high { result ≤ 34 }
+{
+    match fault {
+        LogFault::UnknownTag => 32,
+        LogFault::BadField => 33,
+        LogFault::Truncated => 34,
+    }
+}

@@ -1,0 +1,139 @@
+//! What a player knows, and what it is told (include/gen1.h, "players"; docs/MECHANICS.md, "Player's view").
+ghost use Rattle.std.specs.Prelude.{List, [], ◌++◌, ◌≡◌, ◌≢◌, ℕ};
+ghost use Rattle.gen1_stats.specs.Members.{Member};
+ghost use Rattle.gen1_stats.specs.Teams.{team_of};
+ghost use Rattle.gen1_machine.specs.State.{State};
+ghost use Rattle.gen1_machine.specs.declared.side.Side.{Side};
+ghost use Rattle.gen1_machine.specs.Numbers.{side_number};
+ghost use Rattle.gen1_events.specs.declared.fault.LogFault.{LogFault};
+ghost use Rattle.gen1_layout.specs.Within.{Stands};
+ghost use Rattle.gen1_player.specs.OwnSide.{own_side};
+ghost use Rattle.gen1_player.specs.PlainOwnSide.{plain_side};
+ghost use Rattle.gen1_player.specs.Player.{IsPlayer, Shown, not_shown, player_of};
+ghost use Rattle.gen1_c.specs.Players.{BreaksOff, Tells, begin_code, first_teller, log_code, side_code};
+ghost use Rattle.gen1_c.specs.Teams.{sheets_of, team_fault};
+ghost use Rattle.gen1_c.specs.Update.{IsNoSide};
+
+use crate::fronts::put_front;
+use crate::teams::{TeamForm, team_of};
+use gen1_layout::Packed;
+use gen1_machine::Side;
+use gen1_player::{OwnSide, Player, Teller, own_side};
+
+// The codes of include/gen1.h, "players".
+const NO_SIDE: u8 = 40;
+
+const SMALL_LOG: u8 = 27;
+
+const TOO_MANY_FOES: u32 = 14;
+
+const LONG_LOG: u8 = 28;
+
+/// Sets a player to what it knows before a battle. Returns 0, or the first error: of the side, of the number of foes, of the team.
+#[unsafe(no_mangle)]
+pub extern "C" fn gen1_player_begin(player: &mut Player, side: u8, team: &TeamForm, foes: u8) -> u32
+    ensures code { result ≡ begin_code side foes (team_fault team.now) }
+    ensures begun { result ≡ 0 → (s : Side) → side ≡ side_number s
+        → player.new ≡ player_of s (team_of (sheets_of team.now)) foes [] [] (record { own = not_shown; offered = 0 }) }
+    ensures kept { result ≢ 0 → player.new ≡ player.old }
+{
+    let Some(side) = Side::from_number(side) else {
+        return u32::from(NO_SIDE);
+    };
+    if foes > 6 {
+        return TOO_MANY_FOES;
+    }
+    match team_of(team) {
+        Ok(team) => {
+            *player = Player::new(side, &team, foes);
+            0
+        }
+        Err(fault) => fault,
+    }
+}
+
+/// Feeds a player the next bytes of what its side is told, which may be cut anywhere. Returns 0, or the code of the error.
+#[unsafe(no_mangle)]
+pub extern "C" fn gen1_player_feed(player: &mut Player, told: &[u8]) -> u8
+    ensures fed { (side : Side) (team : List Member) (foes : ℕ) (before : List ℕ) (shown : Shown)
+        → IsPlayer side team foes before shown player.old → result ≡ 0
+        → IsPlayer side team foes (before ++ told.now) shown player.new }
+    ensures fault { (side : Side) (team : List Member) (foes : ℕ) (before : List ℕ) (shown : Shown)
+        → IsPlayer side team foes before shown player.old → result ≢ 0
+        → (fault : LogFault) × (result ≡ log_code fault) × BreaksOff fault (before ++ told.now) }
+    ensures kept { result ≢ 0 → player.new ≡ player.old }
+{
+    match player.feed(told) {
+        Ok(()) => 0,
+        Err(fault) => 31 + fault.number(),
+    }
+}
+
+/// Replaces what a player was last shown of itself, and the mask of its choices.
+#[unsafe(no_mangle)]
+pub extern "C" fn gen1_player_show(player: &mut Player, own: &OwnSide, offered: u16)
+    ensures changed { player.new ≡ record player.old { own = own.now; offered = offered } }
+    ensures shown { (side : Side) (team : List Member) (foes : ℕ) (told : List ℕ) (shown : Shown)
+        → IsPlayer side team foes told shown player.old
+        → IsPlayer side team foes told (record { own = own.now; offered = offered }) player.new }
+{
+    player.show(own, offered);
+}
+
+/// Sets a teller to the beginning of a battle. Returns 0, or 40 for a number that is not a side.
+#[unsafe(no_mangle)]
+pub extern "C" fn gen1_teller_begin(teller: &mut Teller, side: u8, pixels: u8) -> u8
+    ensures code { result ≡ side_code side }
+    ensures begun { result ≡ 0 → teller.new ≡ first_teller side pixels }
+    ensures kept { result ≢ 0 → teller.new ≡ teller.old }
+{
+    match Side::from_number(side) {
+        Some(side) => {
+            *teller = Teller::new(side, pixels != 0);
+            0
+        }
+        None => NO_SIDE,
+    }
+}
+
+/// Writes what a side is told of the log of an update to the beginning of the caller's memory. Returns 0, or the code of an error.
+#[unsafe(no_mangle)]
+pub extern "C" fn gen1_tell(
+    teller: &mut Teller,
+    log: &[u8],
+    told: &mut [u8],
+    length: &mut usize,
+) -> u8
+    ensures told { Tells log.now (record { teller = teller.old; bytes = told.old; count = length.old })
+        (record { teller = teller.new; bytes = told.new; count = length.new }) result }
+{
+    if log.len() > 512 {
+        return LONG_LOG;
+    }
+    if told.len() < log.len() {
+        return SMALL_LOG;
+    }
+    match teller.tell_log(log) {
+        Ok(bytes) => {
+            put_front(bytes.as_slice(), told);
+            *length = bytes.len();
+            0
+        }
+        Err(fault) => 31 + fault.number(),
+    }
+}
+
+/// Writes what a side is shown of itself. Returns 0, or 40 if `side` is neither 1 nor 2; then nothing
+/// has changed.
+#[unsafe(no_mangle)]
+pub extern "C" fn gen1_get_own_side(battle: &Packed, side: u8, own: &mut OwnSide) -> u8
+    ensures shows { (s : State) (which : Side) → Stands battle.now s → side ≡ side_number which
+        → (result ≡ 0) × (own.new ≡ plain_side (own_side which s.field)) }
+    ensures no_side { IsNoSide side → (result ≡ 40) × (own.new ≡ own.old) }
+{
+    let Some(side) = Side::from_number(side) else {
+        return NO_SIDE;
+    };
+    *own = own_side(battle, side);
+    0
+}

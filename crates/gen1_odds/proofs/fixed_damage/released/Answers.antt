@@ -1,0 +1,39 @@
+use Rattle.std.proofs.Common.{Bool, Some, ap, arith, if◌then◌else◌, sym, None, nat_le, ℕ, ◌≡◌, ◌∙◌}
+use Rattle.gen1_machine.specs.Conditions.{energy_with, Storing}
+use Rattle.gen1_machine.specs.GoingOn.{let_out}
+use Rattle.gen1_machine.specs.Layout.{energy_of}
+use Rattle.gen1_machine.specs.State.{underway_in}
+use Rattle.gen1_status.proofs.Comparing.{at_most, not_at_most}
+use Rattle.gen1_multiturn.specs.Bide.{energy_let_out}
+use Rattle.gen1_multiturn.proofs.Underways.{not-stored, stored-is}
+use Rattle.gen1_odds.proofs.fixed_damage.released.Goals as goal
+
+pub returns-in_default : goal.returns-in_default
+returns-in_default c = record {
+  stands = λ g f h.
+      let none = not-stored (underway_in c.args.side f).bide (sym (c.bide.ensures.stands g f h) ∙ c.in_default.is) in
+      sym (ap (energy_let_out f.last_damage) none);
+}
+
+pub returns-then-turns-le1 : goal.returns-then-turns-le1
+returns-then-turns-le1 c = record {
+  stands = λ g f h.
+      let o = (underway_in c.args.side f).bide in
+      let b : Storing = record { turns = c.in-Some.turns; energy = energy_of o } in
+      let is = stored-is o c.in-Some.turns (sym (c.bide.ensures.stands g f h) ∙ c.in-Some.is) in
+      let energy = c.energy.ensures.stands g f h in
+      let last = c.last_damage.ensures.stands g f h in
+      let so : (if nat_le b.turns 1 then Some (let_out (energy_with f.last_damage b)) else None) ≡ Some (let_out (energy_with f.last_damage b)) =
+      ap (λ (x : Bool). if x then Some (let_out (energy_with f.last_damage b)) else None) (at_most _ 1 c.if-turns-le1.true) in
+      ap (λ (n : ℕ). Some n) (omega (arith, energy, last)) ∙ sym (ap (energy_let_out f.last_damage) is ∙ so);
+}
+
+pub returns : goal.returns
+returns c = record {
+  stands = λ g f h.
+      let o = (underway_in c.args.side f).bide in
+      let b : Storing = record { turns = c.in-Some.turns; energy = energy_of o } in
+      let is = stored-is o c.in-Some.turns (sym (c.bide.ensures.stands g f h) ∙ c.in-Some.is) in
+      ap (λ (x : Bool). if x then Some (let_out (energy_with f.last_damage b)) else None) (sym (not_at_most _ 1 c.if-turns-le1.false))
+      ∙ sym (ap (energy_let_out f.last_damage) is);
+}

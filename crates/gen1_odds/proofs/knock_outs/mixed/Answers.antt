@@ -1,0 +1,8 @@
+use Rattle.std.proofs.Common.{arith}
+use Rattle.gen1_odds.proofs.Ways.{parted}
+use Rattle.gen1_odds.proofs.knock_outs.mixed.Goals as goal
+
+pub returns-clause-most : goal.returns-clause-most
+returns-clause-most c most first second =
+    let b = parted c.from.result c.from-2.result c.args.one c.args.another most (omega arith) first second in
+    omega (arith, b)

@@ -1,0 +1,94 @@
+-- The chance that one use knocks out the foe, or two uses in a row, for independent draws. A chance is a number of ways out
+-- of all of them. A use has 256 draws of the hit test. For the usual damage these come with 256 critical draws, 39 factors
+-- and 8 cases of the number of hits.
+use Rattle.std.specs.Prelude.{Bool, List, None, Option, Some, if◌then◌else◌, max, not, replicate, suc, sum_by, zero, ℕ, ◌&&◌, ◌*◌, ◌+◌, ◌-◌, ◌/◌, ◌==◌}
+use Rattle.std.specs.List.{range_with_len}
+use Rattle.gen1_machine.specs.declared.side.Side.{Side}
+use Rattle.gen1_machine.specs.Moves.{super_fang, Move}
+use Rattle.gen1_machine.specs.Rules.{Rules}
+use Rattle.gen1_machine.specs.Sides.{other}
+use Rattle.gen1_machine.specs.State.{conditions_in, member_in, Field}
+use Rattle.gen1_odds.specs.declared.hit_counts.HitCount.{HitCount}
+use Rattle.gen1_odds.specs.declared.hit_counts.HitCount.TheVariants.{Once, Several, Twice}
+use Rattle.gen1_odds.specs.declared.knock_outs.Chances.{Chances}
+use Rattle.gen1_odds.specs.declared.odds.Odds.{Odds}
+use Rattle.gen1_odds.specs.Odds.{deals_usual, flag, hit_count, odds_in}
+use Rattle.gen1_odds.specs.Trials.{has_substitute_in}
+
+-- The damage that is needed: all HP, or one more than the substitute has.
+
+abbrev pub needed : Option ℕ → ℕ → ℕ
+needed (Some substitute) hp = substitute + 1
+needed None hp = hp
+
+abbrev pub needed_in : Side → Field → ℕ
+needed_in s f = needed (conditions_in s f).substitute (member_in s f).hp
+
+-- The one way in which nothing is needed any more.
+abbrev pub over : ℕ → ℕ
+over zero = 1
+over (suc left) = 0
+
+-- Of 256 draws some lead one way, and the others another.
+abbrev pub mixed : ℕ → ℕ → ℕ → ℕ
+mixed draws one another = draws * one + (256 - draws) * another
+
+-- Ways from here, where `next` gives those from the damage that is then needed
+
+-- After a number of hits of the same damage, over all damages.
+abbrev pub after_hits : List ℕ → ℕ → (ℕ → ℕ) → ℕ → ℕ
+after_hits list hits next need = sum_by (λ damage. next (need - hits * damage)) list
+
+-- After hits that may be critical.
+abbrev pub after_either : Odds → ℕ → (ℕ → ℕ) → ℕ → ℕ
+after_either o hits next need =
+    mixed o.critical_draws (after_hits o.critical.numbers hits next need) (after_hits o.usual.numbers hits next need)
+
+-- After a number of hits that may vary, by what each number leads to.
+abbrev pub by_count : HitCount → (ℕ → ℕ) → ℕ
+by_count Once at = 8 * at 1
+by_count Twice at = 8 * at 2
+by_count Several at = 3 * at 2 + 3 * at 3 + at 4 + at 5
+
+-- After a use, which may miss.
+abbrev pub after_usual : HitCount → Odds → (ℕ → ℕ) → ℕ → ℕ
+after_usual count o next need =
+    mixed o.hit_draws (by_count count λ hits. after_either o hits next need) (79872 * next need)
+
+-- Damage by a rule of its own: each number from the least to the most
+
+-- Super Fang takes half of the HP that are left.
+abbrev pub taken : Bool → ℕ → ℕ → ℕ
+taken halves need damage = if halves then max 1 (need / 2) else damage
+
+abbrev pub fixed_ways : Odds → ℕ
+fixed_ways o = o.most + 1 - o.least
+
+abbrev pub after_fixed : Bool → Odds → (ℕ → ℕ) → ℕ → ℕ
+after_fixed halves o next need =
+    mixed o.hit_draws
+    (sum_by (λ damage. next (need - taken halves need damage)) (range_with_len o.least (fixed_ways o)))
+    (fixed_ways o * next need)
+
+-- The whole
+
+abbrev pub chances_of : ((ℕ → ℕ) → ℕ → ℕ) → ℕ → ℕ → ℕ → Chances
+chances_of after ways need breaks = record {
+  once = after over need;
+  once_of = ways;
+  twice = after (after over) need;
+  twice_of = ways * ways;
+  breaks_substitute = breaks;
+  zeros = replicate 7 0;
+}
+
+-- Super Fang doesn't halve a substitute.
+abbrev pub halves_in : Side → Move → Field → Bool
+halves_in s move f = move.number == super_fang && not (has_substitute_in (other s) f)
+
+abbrev pub chances_in : Rules → Side → Move → Field → Chances
+chances_in r s move f =
+    if deals_usual s move f
+    then chances_of (after_usual (hit_count move.effect) (odds_in r s move f)) 20447232 (needed_in (other s) f) (flag (has_substitute_in (other s) f))
+    else chances_of (after_fixed (halves_in s move f) (odds_in r s move f)) (256 * fixed_ways (odds_in r s move f))
+    (needed_in (other s) f) (flag (has_substitute_in (other s) f))

@@ -1,0 +1,98 @@
+-- What the odds say of the machine's own phases: of the hit test's draw, which values make a use hit. Each law is the
+-- contract of a function in src/laws.rt.
+use Rattle.std.specs.Prelude.{Bool, None, Option, Some, false, nat_le, not, true, ℕ, ◌+◌, ◌||◌, ◌≡◌, ◌≤◌}
+use Rattle.gen1_rolls.specs.Streams.{byte_at, first}
+use Rattle.gen1_machine.specs.declared.side.Side.{Side}
+use Rattle.gen1_machine.specs.Counter.{counter}
+use Rattle.gen1_machine.specs.Damage.{is_factor}
+use Rattle.gen1_machine.specs.EarlyEffects.{confuse_foe, paralyse_foe, poison_foe, seed_foe}
+use Rattle.gen1_machine.specs.FixedDamage.{fixed_damage, knock_out}
+use Rattle.gen1_machine.specs.HitTest.{hit_or_miss, is_immune, must_hit}
+use Rattle.gen1_machine.specs.Landing.{breaks}
+use Rattle.gen1_machine.specs.Moves.{Move}
+use Rattle.gen1_machine.specs.Progress.{has_missed, Phase, Progress}
+use Rattle.gen1_machine.specs.Sides.{other}
+use Rattle.gen1_machine.specs.State.{active_in, Field}
+use Rattle.gen1_multiturn.specs.Counter.{can_counter_in}
+use Rattle.gen1_odds.specs.declared.reasons.Reason.{Reason}
+use Rattle.gen1_odds.specs.KnockOut.{needed}
+use Rattle.gen1_odds.specs.Odds.{passes}
+use Rattle.gen1_odds.specs.Reasons.{confusion_reason, paralysis_reason, poison_reason, seed_reason}
+use Rattle.gen1_odds.specs.Trials.{goes_on_in, is_slower_in}
+
+-- An action of a side that has settled its move, and has neither missed nor stopped.
+pub record Acting (s : Side) (move : Move) (p : Progress) : Type 0 where
+  pub moves_on : p.stopped ≡ false
+  pub aims : p.action.missed ≡ false
+  pub knows : p.action.going_on ≡ goes_on_in s move p.field
+
+-- Whether a use misses with this draw of the hit test.
+abbrev pub misses : Side → Move → Field → ℕ → Bool
+misses s move f draw = not (passes s move f draw)
+
+-- The same for a use that may fail for a reason.
+abbrev pub fails_by : Option Reason → Side → Move → Field → ℕ → Bool
+fails_by (Some why) s move f draw = true
+fails_by None s move f draw = misses s move f draw
+
+-- The hit test misses by its draw, which is the next.
+abbrev pub TestCounts : Type 0
+TestCounts = (s : Side) (move : Move) (p : Progress) → Acting s move p
+    → has_missed (hit_or_miss s move p) ≡ misses s move p.field (byte_at p.stream p.drawn)
+
+-- So does the test whose miss ends the action.
+abbrev pub MustHitCounts : Type 0
+MustHitCounts = (s : Side) (move : Move) (p : Progress) → Acting s move p
+    → (must_hit s move p).stopped ≡ misses s move p.field (byte_at p.stream p.drawn)
+
+-- Fixed damage comes after the hit test.
+abbrev pub FixedCounts : Type 0
+FixedCounts = (s : Side) (move : Move) (p : Progress) → Acting s move p
+    → has_missed (fixed_damage s move p) ≡ misses s move p.field (byte_at p.stream p.drawn)
+
+-- Counter draws for a critical hit first. Without a damage to return it misses in any case.
+abbrev pub CounterCounts : Type 0
+CounterCounts = (s : Side) (move : Move) (p : Progress) → Acting s move p
+    → has_missed (counter s move p)
+    ≡ (not (can_counter_in s p.field) || misses s move p.field (byte_at p.stream (p.drawn + 1)))
+
+-- A one-hit move draws for a critical hit, and until a factor. That of a slower user misses in any case, and so does one
+-- of a type without effect.
+
+abbrev pub SlowerMisses : Type 0
+SlowerMisses = (s : Side) (move : Move) (p : Progress) → Acting s move p
+    → is_slower_in s p.field ≡ true → has_missed (knock_out s move p) ≡ true
+
+abbrev pub ImmuneMisses : Type 0
+ImmuneMisses = (s : Side) (move : Move) (p : Progress) → Acting s move p
+    → is_immune move.kind (active_in (other s) p.field) ≡ true → has_missed (knock_out s move p) ≡ true
+
+abbrev pub OneHitCounts : Type 0
+OneHitCounts = (s : Side) (move : Move) (p : Progress) (m : ℕ) → Acting s move p
+    → is_slower_in s p.field ≡ false
+    → is_immune move.kind (active_in (other s) p.field) ≡ false
+    → first p.stream (p.drawn + 1) is_factor ≡ Some m
+    → has_missed (knock_out s move p) ≡ misses s move p.field (byte_at p.stream (m + 1))
+
+-- Moves that give the foe a status or a condition fail for a reason, or by the draw.
+
+abbrev pub StatusCounts : (Side → Move → Phase) → (Side → Move → Field → Option Reason) → Type 0
+StatusCounts phase reason = (s : Side) (move : Move) (p : Progress) → Acting s move p
+    → (phase s move p).stopped ≡ fails_by (reason s move p.field) s move p.field (byte_at p.stream p.drawn)
+
+abbrev pub PoisonCounts : Type 0
+PoisonCounts = StatusCounts poison_foe poison_reason
+
+abbrev pub ParalysisCounts : Type 0
+ParalysisCounts = StatusCounts paralyse_foe paralysis_reason
+
+abbrev pub SeedCounts : Type 0
+SeedCounts = StatusCounts seed_foe seed_reason
+
+abbrev pub ConfusionCounts : Type 0
+ConfusionCounts = StatusCounts confuse_foe confusion_reason
+
+-- A substitute breaks by the damage that is needed, and by no less. It has at most 249 HP.
+abbrev pub BreaksIfNeeded : Type 0
+BreaksIfNeeded = (substitute hp damage : ℕ) → substitute ≤ 249
+    → breaks damage substitute ≡ nat_le (needed (Some substitute) hp) damage

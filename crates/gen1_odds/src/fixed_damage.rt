@@ -1,0 +1,92 @@
+//! Damage by a rule of its own (docs/MECHANICS.md, "Fixed damage and one-hit moves", "Counter", "Going on").
+ghost use Rattle.std.specs.Prelude.{max, ◌*◌, ◌-◌, ◌/◌, ◌≡◌};
+ghost use Rattle.gen1_layout.specs.Words.{Reads, member_in, move_at};
+ghost use Rattle.gen1_machine.specs.FixedDamage.{half_hp};
+ghost use Rattle.gen1_odds.specs.Odds.{fixed_by, fixed_in, fixed_of, twin};
+ghost use Rattle.gen1_odds.specs.Trials.{released_in};
+
+use crate::trials::{Trial, traps_on, trial_of};
+use gen1_layout::Packed;
+use gen1_machine::Side;
+use gen1_multiturn::counter;
+use gen1_tables::MoveId;
+
+const SONIC_BOOM: u8 = 49;
+
+const DRAGON_RAGE: u8 = 82;
+
+const PSYWAVE: u8 = 149;
+
+const SUPER_FANG: u8 = 162;
+
+/// The least and the most damage of a move that does not have the usual damage, or zeros.
+pub(crate) fn fixed(battle: &Packed, side: Side, id: MoveId) -> (u16, u16)
+    ensures stands { Reads battle.now result (fixed_in side (move_at id)) }
+{
+    if traps_on(battle, side, id) {
+        return twin(battle.last_damage());
+    }
+    fixed_of(battle, side, id, trial_of(id.effect()))
+}
+
+fn fixed_of(battle: &Packed, side: Side, id: MoveId, trial: Trial) -> (u16, u16)
+    ensures stands { Reads battle.now result (fixed_of trial (move_at id).number side) }
+{
+    match trial {
+        Trial::OneHit => (65535, 65535),
+        Trial::Fixed => fixed_by(battle, side, id.number()),
+        Trial::Counter => twin(counter(battle, side).unwrap_or(0)),
+        Trial::Bide => twin(released(battle, side).unwrap_or(0)),
+        _ => (0, 0),
+    }
+}
+
+fn fixed_by(battle: &Packed, side: Side, number: u8) -> (u16, u16)
+    ensures stands { Reads battle.now result (fixed_by number side) }
+{
+    if number == SONIC_BOOM {
+        return (20, 20);
+    }
+    if number == DRAGON_RAGE {
+        return (40, 40);
+    }
+    if number == PSYWAVE {
+        return (1, psywave_most(battle.level(side)));
+    }
+    if number == SUPER_FANG {
+        return twin(half_hp(battle, side.other()));
+    }
+    twin(u16::from(battle.level(side)))
+}
+
+fn psywave_most(level: u8) -> u16
+    ensures { result ≡ max 1 (level * 3 / 2 - 1) }
+{
+    (u16::from(level) * 3 / 2).saturating_sub(1).max(1)
+}
+
+fn half_hp(battle: &Packed, side: Side) -> u16
+    ensures stands { Reads battle.now result λ f. half_hp (member_in side f) }
+{
+    (battle.hp(side) / 2).max(1)
+}
+
+fn twin(damage: u16) -> (u16, u16)
+    ensures { result ≡ twin damage }
+{
+    (damage, damage)
+}
+
+/// The damage that Bide lets out in this action, or `None` if it stores or only begins.
+pub(crate) fn released(battle: &Packed, side: Side) -> Option<u16>
+    ensures stands { Reads battle.now result (released_in side) }
+{
+    let Some(turns) = battle.bide(side) else {
+        return None;
+    };
+    if turns <= 1 {
+        let energy = battle.energy(side).wrapping_add(battle.last_damage());
+        return Some(energy.wrapping_mul(2));
+    }
+    None
+}

@@ -1,0 +1,411 @@
+-- After any run, the types and conditions that the log told of are those of the active members.
+use Rattle.std.proofs.Common.{[], Bool, List, ap, arith, false, length, length-set, not, refl, subst, sym, true, true≢false, ℕ, ◌++◌, ◌-◌, ◌∙◌, ◌∷◌, ◌≡◌, ◌≤◌}
+use Rattle.gen1_tables.specs.Types.{number_of}
+use Rattle.gen1_stats.specs.Members.{is_living, Member}
+use Rattle.gen1_machine.specs.declared.side.Side.{Side}
+use Rattle.gen1_machine.specs.declared.side.Side.TheVariants.{One, Two}
+use Rattle.gen1_machine.specs.declared.event.Volatile.{Volatile}
+use Rattle.gen1_machine.specs.declared.event.Volatile.TheVariants as volatiles
+use Rattle.gen1_machine.specs.declared.event.Event.{Event}
+use Rattle.gen1_machine.specs.declared.event.Event.TheVariants as events
+use Rattle.gen1_machine.specs.Health.{Health}
+use Rattle.gen1_machine.specs.Moves.{Move}
+use Rattle.gen1_machine.specs.Rules.{bit_of}
+use Rattle.gen1_machine.specs.Sides.{other}
+use Rattle.gen1_machine.specs.Conditions.{after_haze, without_seed, without_trapping, ActiveConditions}
+use Rattle.gen1_machine.specs.State.{active_in, changed_active, changed_conditions, changed_member, fallen, has_fallen_in, health_in, member_at, member_in, party, who_in, with_member, with_types_of, Active, Field, Party}
+use Rattle.gen1_machine.specs.EarlyEffects.{with_levelled_stats}
+use Rattle.gen1_machine.specs.SwitchingIn.{switch_event, with_sent_out}
+use Rattle.gen1_machine.proofs.Showing.{member-after, BothOut, IsOut}
+use Rattle.gen1_player.specs.declared.public.Public.{Public}
+use Rattle.gen1_player.specs.declared.public_side.PublicSide.{PublicSide}
+use Rattle.gen1_player.specs.Public.{comes_out, first_public, hears, hears_all, is_cleared, on_announced, on_out, public_side, set_volatile, takes_types}
+use Rattle.gen1_player.specs.True.{ConditionsAgree, SideIsTold}
+use Rattle.gen1_player.proofs.Facts.{sent-place, sent-standing, marked, plain, sent, standing, with_cleared, Calm, Marks, Placid, Plain, Standing}
+use Rattle.gen1_player.proofs.Stories.{Story, Switching}
+use Rattle.gen1_machine.specs.Ruling.{ruling_of}
+use Rattle.gen1_player.proofs.ToldEffects.{ruling_of-tells}
+use Rattle.gen1_player.proofs.ToldActions.{says-any}
+use Rattle.gen1_player.proofs.ToldRuns.{story-runs}
+use Rattle.gen1_player.proofs.HeardSides.{clear-hears, come_out, comes-heard, end-hears, foe-side, heard, hears_all-last, held, known_of, marked-known, move-hears, moves-heard, noise-heard, out-side, set-heard, start-hears, switch-hears, types-hears, with_mark, with_types, without_most, Begins, Known}
+
+-- One side
+
+record Exact (x : PublicSide) (t : Party) : Type 0 where
+  same : heard x ≡ held t
+  few : length t.members ≤ 6
+
+abbrev hushed : Known → Known
+hushed k = record k { seeded = 0 }
+
+abbrev lives : Party → Bool
+lives t = is_living (member_at t.active.place t)
+
+-- A member that fell without an event may have lost Leech Seed.
+record Loose (x : PublicSide) (t : Party) : Type 0 where
+  rest : hushed (heard x) ≡ hushed (held t)
+  living : lives t ≡ true → heard x ≡ held t
+  few : length t.members ≤ 6
+
+loosened : (x : PublicSide) (t : Party) → Exact x t → Loose x t
+loosened x t m = record { rest = ap hushed m.same; living = λ e. m.same; few = m.few }
+
+tightened : (x : PublicSide) (t : Party) → not (lives t) ≡ false → Loose x t → Exact x t
+tightened x t e m = record { same = m.living (by (lives t) e); few = m.few }
+  where
+    by : (b : Bool) → not b ≡ false → b ≡ true
+    by true h = refl
+    by false h = absurd (true≢false h)
+
+exact-heard : (x y : PublicSide) (t : Party) → heard y ≡ heard x → Exact x t → Exact y t
+exact-heard x y t e m = record { same = e ∙ m.same; few = m.few }
+
+loose-heard : (x y : PublicSide) (t : Party) → heard y ≡ heard x → Loose x t → Loose y t
+loose-heard x y t e m = record { rest = ap hushed e ∙ m.rest; living = λ l. e ∙ m.living l; few = m.few }
+
+abbrev with_active : Active → Party → Party
+with_active a t = record t { active = a }
+
+abbrev with_conditions : (ActiveConditions → ActiveConditions) → Party → Party
+with_conditions change t = record t { active = record t.active { conditions = change t.active.conditions } }
+
+placid-held : (change : Active → Active) → Placid change → (t : Party) → held t ≡ held (with_active (change t.active) t)
+placid-held change h t = sym (ap (λ (a : Standing). known_of a (plain a.conditions)) (h t.active))
+
+calm-held : (change : ActiveConditions → ActiveConditions) → Calm change → (t : Party) → held t ≡ held (with_conditions change t)
+calm-held change h t = sym (ap (λ (c : Plain). known_of (standing t.active) c) (h t.active.conditions))
+
+exact-active : (change : Active → Active) → Placid change → (x : PublicSide) (t : Party) → Exact x t → Exact x (with_active (change t.active) t)
+exact-active change h x t m = record { same = m.same ∙ placid-held change h t; few = m.few }
+
+loose-active : (change : Active → Active) → Placid change → (x : PublicSide) (t : Party) → Loose x t → Loose x (with_active (change t.active) t)
+loose-active change h x t m = record {
+  rest = m.rest ∙ ap hushed (placid-held change h t);
+  living = λ e. m.living (sym (ap (λ (a : Standing). is_living (member_at a.place t)) (h t.active)) ∙ e) ∙ placid-held change h t;
+  few = m.few;
+}
+
+exact-conditions : (change : ActiveConditions → ActiveConditions) → Calm change → (x : PublicSide) (t : Party) → Exact x t → Exact x (with_conditions change t)
+exact-conditions change h x t m = record { same = m.same ∙ calm-held change h t; few = m.few }
+
+loose-conditions : (change : ActiveConditions → ActiveConditions) → Calm change → (x : PublicSide) (t : Party) → Loose x t → Loose x (with_conditions change t)
+loose-conditions change h x t m = record { rest = m.rest ∙ ap hushed (calm-held change h t); living = λ e. m.living e ∙ calm-held change h t; few = m.few }
+
+exact-member : (i : ℕ) (n : Member) (x : PublicSide) (t : Party) → Exact x t → Exact x (with_member i n t)
+exact-member i n x t m = record { same = m.same; few = rw (length-set t.members (i - 1) n) m.few }
+
+not-living : (b : Bool) → b ≡ false → b ≡ true → ⊥
+not-living b e h = true≢false (sym h ∙ e)
+
+fallen-lives : (t : Party) → IsOut t → lives (with_member t.active.place (fallen (member_at t.active.place t)) t) ≡ false
+unfolding fallen
+fallen-lives t o = ap is_living (member-after t (fallen (member_at t.active.place t)) o)
+
+loose-falls : (x : PublicSide) (t : Party) → IsOut t → Loose x t → Loose x (with_member t.active.place (fallen (member_at t.active.place t)) t)
+loose-falls x t o m = record {
+  rest = m.rest;
+  living = λ e. absurd (not-living _ (fallen-lives t o) e);
+  few = rw (length-set t.members (t.active.place - 1) (fallen (member_at t.active.place t))) m.few;
+}
+
+explodes-loose : (x : PublicSide) (t : Party) → IsOut t → Exact x t → Loose x (with_conditions without_seed (with_member t.active.place (fallen (member_at t.active.place t)) t))
+unfolding without_seed
+explodes-loose x t o m = record {
+  rest = ap hushed m.same;
+  living = λ e. absurd (not-living _ (fallen-lives t o) e);
+  few = rw (length-set t.members (t.active.place - 1) (fallen (member_at t.active.place t))) m.few;
+}
+
+-- A volatile begins or ends
+
+marks-plain : (what : Volatile) (on : Bool) (change : ActiveConditions → ActiveConditions) → Marks what on change → (c : ActiveConditions) → plain (change c) ≡ marked what on (plain c)
+marks-plain volatiles.TypeChange on change h c = absurd h
+marks-plain volatiles.Mist on change h c = h c
+marks-plain volatiles.FocusEnergy on change h c = h c
+marks-plain volatiles.Disable on change h c = h c
+marks-plain volatiles.Rage on change h c = h c
+marks-plain volatiles.LeechSeed on change h c = h c
+marks-plain volatiles.Confusion on change h c = h c
+marks-plain volatiles.Bide on change h c = h c
+marks-plain volatiles.Substitute on change h c = h c
+marks-plain volatiles.LightScreen on change h c = h c
+marks-plain volatiles.Reflect on change h c = h c
+marks-plain volatiles.Trapped on change h c = h c
+marks-plain volatiles.Splash on change h c = h c
+
+marks-begins : (what : Volatile) (on : Bool) (change : ActiveConditions → ActiveConditions) → Marks what on change → Begins what
+marks-begins volatiles.TypeChange on change h = absurd h
+marks-begins volatiles.Mist on change h = tt
+marks-begins volatiles.FocusEnergy on change h = tt
+marks-begins volatiles.Disable on change h = tt
+marks-begins volatiles.Rage on change h = tt
+marks-begins volatiles.LeechSeed on change h = tt
+marks-begins volatiles.Confusion on change h = tt
+marks-begins volatiles.Bide on change h = tt
+marks-begins volatiles.Substitute on change h = tt
+marks-begins volatiles.LightScreen on change h = tt
+marks-begins volatiles.Reflect on change h = tt
+marks-begins volatiles.Trapped on change h = tt
+marks-begins volatiles.Splash on change h = tt
+
+exact-marks : (what : Volatile) (on : Bool) (change : ActiveConditions → ActiveConditions) → Marks what on change → (x : PublicSide) (t : Party)
+    → Exact x t → Exact (on_announced (set_volatile what (bit_of on)) x) (with_conditions change t)
+exact-marks what on change h x t m = record {
+  same = set-heard what (bit_of on) x ∙ ap (with_mark what (bit_of on)) m.same ∙ sym (marked-known what on (standing t.active) (plain t.active.conditions))
+      ∙ sym (ap (λ (c : Plain). known_of (standing t.active) c) (marks-plain what on change h t.active.conditions));
+  few = m.few;
+}
+
+-- A member comes out
+
+sent-held : (place : ℕ) (t : Party) → held (with_active (with_sent_out place (member_at place t) t.active) t) ≡ come_out (member_at place t).species place
+sent-held place t = ap (λ (a : Standing). known_of a (plain a.conditions)) (sent-standing place (member_at place t) t.active)
+
+-- Both sides
+
+record Both (f : Field) (p : Public) : Type 0 where
+  one : Exact p.one f.one
+  two : Exact p.two f.two
+
+record Either (f : Field) (p : Public) : Type 0 where
+  one : Loose p.one f.one
+  two : Loose p.two f.two
+
+both-active : (s : Side) (change : Active → Active) → Placid change → (f : Field) (p : Public) → Both f p → Both (changed_active s change f) p
+unfolding changed_active
+both-active One change h f p m = record { one = exact-active change h p.one f.one m.one; two = m.two }
+both-active Two change h f p m = record { one = m.one; two = exact-active change h p.two f.two m.two }
+
+either-active : (s : Side) (change : Active → Active) → Placid change → (f : Field) (p : Public) → Either f p → Either (changed_active s change f) p
+unfolding changed_active
+either-active One change h f p m = record { one = loose-active change h p.one f.one m.one; two = m.two }
+either-active Two change h f p m = record { one = m.one; two = loose-active change h p.two f.two m.two }
+
+both-conditions : (s : Side) (change : ActiveConditions → ActiveConditions) → Calm change → (f : Field) (p : Public) → Both f p → Both (changed_conditions s change f) p
+unfolding changed_active changed_conditions
+both-conditions One change h f p m = record { one = exact-conditions change h p.one f.one m.one; two = m.two }
+both-conditions Two change h f p m = record { one = m.one; two = exact-conditions change h p.two f.two m.two }
+
+both-member : (s : Side) (change : Member → Member) (f : Field) (p : Public) → Both f p → Both (changed_member s change f) p
+unfolding changed_member
+both-member One change f p m = record { one = exact-member f.one.active.place (change (member_in One f)) p.one f.one m.one; two = m.two }
+both-member Two change f p m = record { one = m.one; two = exact-member f.two.active.place (change (member_in Two f)) p.two f.two m.two }
+
+both-apart : (f g : Field) (p : Public) → f.one ≡ g.one → f.two ≡ g.two → Both f p → Both g p
+both-apart f g p a b m = record { one = subst (Exact p.one) a m.one; two = subst (Exact p.two) b m.two }
+
+either-apart : (f g : Field) (p : Public) → f.one ≡ g.one → f.two ≡ g.two → Either f p → Either g p
+either-apart f g p a b m = record { one = subst (Loose p.one) a m.one; two = subst (Loose p.two) b m.two }
+
+both-heard : (f : Field) (p q : Public) → ((u : Side) → heard (public_side u q) ≡ heard (public_side u p)) → Both f p → Both f q
+both-heard f p q h m = record { one = exact-heard p.one q.one f.one (h One) m.one; two = exact-heard p.two q.two f.two (h Two) m.two }
+
+either-heard : (f : Field) (p q : Public) → ((u : Side) → heard (public_side u q) ≡ heard (public_side u p)) → Either f p → Either f q
+either-heard f p q h m = record { one = loose-heard p.one q.one f.one (h One) m.one; two = loose-heard p.two q.two f.two (h Two) m.two }
+
+placed : (x : PublicSide) (t : Party) → IsOut t → Exact x t → 1 ≤ x.place
+placed x t o m = let e : x.place ≡ t.active.place = ap (λ (k : Known). k.place) m.same in omega (arith, o.placed, e)
+
+both-marks : (s : Side) (what : Volatile) (on : Bool) (change : ActiveConditions → ActiveConditions) → Marks what on change → (f : Field) (p : Public)
+    → BothOut f → Both f p → Both (changed_conditions s change f) (on_out s (on_announced (set_volatile what (bit_of on))) p)
+unfolding changed_active changed_conditions
+both-marks One what on change h f p o m = record {
+  one = subst (λ (x : PublicSide). Exact x (with_conditions change f.one)) (sym (out-side One (on_announced (set_volatile what (bit_of on))) p (placed p.one f.one o.one m.one)))
+      (exact-marks what on change h p.one f.one m.one);
+  two = subst (λ (x : PublicSide). Exact x f.two) (sym (foe-side One (on_announced (set_volatile what (bit_of on))) p)) m.two;
+}
+both-marks Two what on change h f p o m = record {
+  one = subst (λ (x : PublicSide). Exact x f.one) (sym (foe-side Two (on_announced (set_volatile what (bit_of on))) p)) m.one;
+  two = subst (λ (x : PublicSide). Exact x (with_conditions change f.two)) (sym (out-side Two (on_announced (set_volatile what (bit_of on))) p (placed p.two f.two o.two m.two)))
+      (exact-marks what on change h p.two f.two m.two);
+}
+
+exact-types : (x y : PublicSide) (t u : Party) → Exact x t → Exact y u → Exact (takes_types y x) (with_active (with_types_of u.active t.active) t)
+unfolding with_types_of
+exact-types x y t u m k = record {
+  same = ap (λ (z : Known). with_types z.first_type z.second_type (heard x)) k.same
+      ∙ ap (with_types (number_of u.active.first_type) (number_of u.active.second_type)) m.same;
+  few = m.few;
+}
+
+both-types : (s : Side) (f : Field) (p : Public) → BothOut f → Both f p
+    → Both (changed_active s (with_types_of (active_in (other s) f)) f) (on_out s (takes_types (public_side (other s) p)) p)
+unfolding changed_active
+both-types One f p o m = record {
+  one = subst (λ (x : PublicSide). Exact x (with_active (with_types_of f.two.active f.one.active) f.one)) (sym (out-side One (takes_types p.two) p (placed p.one f.one o.one m.one)))
+      (exact-types p.one p.two f.one f.two m.one m.two);
+  two = subst (λ (x : PublicSide). Exact x f.two) (sym (foe-side One (takes_types p.two) p)) m.two;
+}
+both-types Two f p o m = record {
+  one = subst (λ (x : PublicSide). Exact x f.one) (sym (foe-side Two (takes_types p.one) p)) m.one;
+  two = subst (λ (x : PublicSide). Exact x (with_active (with_types_of f.one.active f.two.active) f.two)) (sym (out-side Two (takes_types p.one) p (placed p.two f.two o.two m.two)))
+      (exact-types p.two p.one f.two f.one m.two m.one);
+}
+
+abbrev cleared_party : Party → Party
+cleared_party t = with_conditions after_haze (with_active (with_levelled_stats t.active) t)
+
+exact-cleared : (x : PublicSide) (t : Party) → Exact x t → Exact (is_cleared x) (cleared_party t)
+unfolding after_haze with_levelled_stats
+exact-cleared x t m = record { same = ap without_most m.same; few = m.few }
+
+both-cleared : (f : Field) (p : Public) → BothOut f → Both f p → Both (with_cleared Two (with_cleared One f)) (on_out Two is_cleared (on_out One is_cleared p))
+unfolding changed_active changed_conditions
+both-cleared f p o m =
+    let q : Public = on_out One is_cleared p in
+    let two : q.two ≡ p.two = foe-side One is_cleared p in
+    record {
+      one = subst (λ (x : PublicSide). Exact x (cleared_party f.one)) (sym (foe-side Two is_cleared q ∙ out-side One is_cleared p (placed p.one f.one o.one m.one)))
+          (exact-cleared p.one f.one m.one);
+      two = subst (λ (x : PublicSide). Exact x (cleared_party f.two)) (sym (out-side Two is_cleared q (subst (λ (x : PublicSide). 1 ≤ x.place) (sym two) (placed p.two f.two o.two m.two)) ∙ ap is_cleared two))
+          (exact-cleared p.two f.two m.two);
+    }
+
+exploded : (s : Side) (f : Field) (p : Public) → BothOut f → Both f p → Either (changed_conditions s without_seed (changed_member s fallen f)) p
+unfolding changed_active changed_conditions changed_member
+exploded One f p o m = record { one = explodes-loose p.one f.one o.one m.one; two = loosened p.two f.two m.two }
+exploded Two f p o m = record { one = loosened p.one f.one m.one; two = explodes-loose p.two f.two o.two m.two }
+
+either-falls : (s : Side) (f : Field) (p : Public) → BothOut f → Either f p → Either (changed_member s fallen f) p
+unfolding changed_member
+either-falls One f p o m = record { one = loose-falls p.one f.one o.one m.one; two = m.two }
+either-falls Two f p o m = record { one = m.one; two = loose-falls p.two f.two o.two m.two }
+
+sent-member : (place : ℕ) (t : Party) → member_at (with_sent_out place (member_at place t) t.active).place t ≡ member_at place t
+sent-member place t = ap (λ (i : ℕ). member_at i t) (sent-place place (member_at place t) t.active)
+
+exact-sent : (place level : ℕ) (h : Health) (x : PublicSide) (t : Party) → 1 ≤ place → place ≤ length t.members → length t.members ≤ 6
+    → Exact (comes_out (member_at (with_sent_out place (member_at place t) t.active).place t).species place level h x) (with_active (with_sent_out place (member_at place t) t.active) t)
+exact-sent place level h x t low high few = record {
+  same = comes-heard (member_at (with_sent_out place (member_at place t) t.active).place t).species place level h x low (omega (arith, high, few)) ∙ ap (λ (n : Member). come_out n.species place) (sent-member place t) ∙ sym (sent-held place t);
+  few = few;
+}
+
+trapping-calm : Calm without_trapping
+unfolding without_trapping
+trapping-calm c = refl
+
+both-sent : (s : Side) (place : ℕ) (f : Field) (p : Public) → 1 ≤ place → place ≤ length (party s f).members → Both f p
+    → Both (sent s place f) (hears (switch_event s place (sent s place f)) p)
+unfolding changed_active changed_conditions
+both-sent One place f p low high m =
+    let g : Field = sent One place f in
+    subst (Both g) (sym (switch-hears (who_in One g) place (member_in One g).level (health_in One g) p)) (record {
+      one = exact-sent place (member_in One g).level (health_in One g) p.one f.one low high m.one.few;
+      two = exact-conditions without_trapping trapping-calm p.two f.two m.two;
+    })
+both-sent Two place f p low high m =
+    let g : Field = sent Two place f in
+    subst (Both g) (sym (switch-hears (who_in Two g) place (member_in Two g).level (health_in Two g) p)) (record {
+      one = exact-conditions without_trapping trapping-calm p.one f.one m.one;
+      two = exact-sent place (member_in Two g).level (health_in Two g) p.two f.two low high m.two.few;
+    })
+
+either-sent : (s : Side) (place : ℕ) (f : Field) (p : Public) → 1 ≤ place → place ≤ length (party s f).members → Either f p
+    → Either (sent s place f) (hears (switch_event s place (sent s place f)) p)
+unfolding changed_active changed_conditions
+either-sent One place f p low high m =
+    let g : Field = sent One place f in
+    subst (Either g) (sym (switch-hears (who_in One g) place (member_in One g).level (health_in One g) p)) (record {
+      one = loosened _ _ (exact-sent place (member_in One g).level (health_in One g) p.one f.one low high m.one.few);
+      two = loose-conditions without_trapping trapping-calm p.two f.two m.two;
+    })
+either-sent Two place f p low high m =
+    let g : Field = sent Two place f in
+    subst (Either g) (sym (switch-hears (who_in Two g) place (member_in Two g).level (health_in Two g) p)) (record {
+      one = loose-conditions without_trapping trapping-calm p.one f.one m.one;
+      two = loosened _ _ (exact-sent place (member_in Two g).level (health_in Two g) p.two f.two low high m.two.few);
+    })
+
+-- The story
+
+abbrev told_by : List Event → Public
+told_by es = hears_all es first_public
+
+next : (K : Field → Public → Type 0) (g : Field) (es : List Event) (e : Event) → K g (hears e (told_by es)) → K g (told_by (es ++ e ∷ []))
+next K g es e m = subst (K g) (sym (hears_all-last es e first_public)) m
+
+starts-both : (s : Side) (what : Volatile) (change : ActiveConditions → ActiveConditions) → Marks what true change → (f : Field) (es : List Event)
+    → BothOut f → Both f (told_by es) → let g : Field = changed_conditions s change f in Both g (told_by (es ++ events.Start (who_in s g) what ∷ []))
+starts-both s what change h f es o m =
+    let g : Field = changed_conditions s change f in
+    next Both g es (events.Start (who_in s g) what)
+    (subst (Both g) (sym (start-hears (who_in s g) what (told_by es) (marks-begins what true change h))) (both-marks s what true change h f (told_by es) o m))
+
+ends-both : (s : Side) (what : Volatile) (change : ActiveConditions → ActiveConditions) → Marks what false change → (f : Field) (es : List Event)
+    → BothOut f → Both f (told_by es) → let g : Field = changed_conditions s change f in Both g (told_by (es ++ events.End (who_in s g) what ∷ []))
+ends-both s what change h f es o m =
+    let g : Field = changed_conditions s change f in
+    next Both g es (events.End (who_in s g) what)
+    (subst (Both g) (sym (end-hears (who_in s g) what (told_by es))) (both-marks s what false change h f (told_by es) o m))
+
+converts-both : (s : Side) (f : Field) (es : List Event) → BothOut f → Both f (told_by es)
+    → let g : Field = changed_active s (with_types_of (active_in (other s) f)) f in Both g (told_by (es ++ events.Start (who_in s g) volatiles.TypeChange ∷ []))
+converts-both s f es o m =
+    let g : Field = changed_active s (with_types_of (active_in (other s) f)) f in
+    next Both g es (events.Start (who_in s g) volatiles.TypeChange) (subst (Both g) (sym (types-hears (who_in s g) (told_by es))) (both-types s f (told_by es) o m))
+
+clears-both : (f : Field) (es : List Event) → BothOut f → Both f (told_by es) → Both (with_cleared Two (with_cleared One f)) (told_by (es ++ events.ClearAll ∷ []))
+clears-both f es o m =
+    let g : Field = with_cleared Two (with_cleared One f) in
+    next Both g es events.ClearAll (subst (Both g) (sym (clear-hears (told_by es))) (both-cleared f (told_by es) o m))
+
+moves-both : (s : Side) (move : Move) (f : Field) (es : List Event) → Both f (told_by es) → Both f (told_by (es ++ events.Move (who_in s f) move.number (who_in (other s) f) ∷ []))
+moves-both s move f es m =
+    next Both f es (events.Move (who_in s f) move.number (who_in (other s) f)) (subst (Both f) (sym (move-hears (who_in s f) (who_in (other s) f) move.number (told_by es)))
+    (both-heard f (told_by es) _ (λ u. moves-heard s (other s) u move.number (told_by es)) m))
+
+none-fallen : (s : Side) (f : Field) → has_fallen_in s f ≡ false → not (lives (party s f)) ≡ false
+none-fallen One f e = e
+none-fallen Two f e = e
+
+telling : Story
+telling = record {
+  exact = λ f es. Both f (told_by es);
+  loose = λ f es. Either f (told_by es);
+  said = λ s move. Unit {0};
+  loosen = λ f es m. record { one = loosened _ _ m.one; two = loosened _ _ m.two };
+  tighten = λ f es m a b. record { one = tightened _ _ (none-fallen One f a) m.one; two = tightened _ _ (none-fallen Two f b) m.two };
+  member = λ s change h f es m. both-member s change f (told_by es) m;
+  active = λ s change h f es m. both-active s change h f (told_by es) m;
+  conditions = λ s change h f es m. both-conditions s change h f (told_by es) m;
+  apart = λ f g es a b m. both-apart f g (told_by es) a b m;
+  noise = λ e h f es m. next Both f es e (both-heard f (told_by es) (hears e (told_by es)) (λ u. noise-heard e h u (told_by es)) m);
+  starts = starts-both;
+  ends = ends-both;
+  converts = converts-both;
+  clears = clears-both;
+  moves = λ s move k f es o m. moves-both s move f es m;
+  explodes = λ s f es o m. exploded s f (told_by es) o m;
+  loose_active = λ s change h f es m. either-active s change h f (told_by es) m;
+  loose_apart = λ f g es a b m. either-apart f g (told_by es) a b m;
+  loose_noise = λ e h f es m. next Either f es e (either-heard f (told_by es) (hears e (told_by es)) (λ u. noise-heard e h u (told_by es)) m);
+  loose_falls = λ s f es o m. either-falls s f (told_by es) o m;
+}
+
+telling-switches : Switching telling
+unfolding telling
+telling-switches = record {
+  sends = λ s place f es low high m. next Both (sent s place f) es (switch_event s place (sent s place f)) (both-sent s place f (told_by es) low high m);
+  loose_sends = λ s place f es low high m. next Either (sent s place f) es (switch_event s place (sent s place f)) (either-sent s place f (told_by es) low high m);
+}
+
+-- What is left of it
+
+side-told : (x : PublicSide) (t : Party) → Loose x t → SideIsTold x t
+side-told x t m = record {
+  first_type = ap (λ (k : Known). k.first_type) m.rest;
+  second_type = ap (λ (k : Known). k.second_type) m.rest;
+  mist = ap (λ (k : Known). k.mist) m.rest;
+  focus_energy = ap (λ (k : Known). k.focus_energy) m.rest;
+  disabled = ap (λ (k : Known). k.disabled) m.rest;
+  rage = ap (λ (k : Known). k.rage) m.rest;
+  seeded = λ e. ap (λ (k : Known). k.seeded) (m.living e);
+}
+
+pub conditions_agree : ConditionsAgree
+unfolding hears_all telling
+conditions_agree t one two seed pairs a b =
+    let m = story-runs telling t one two seed pairs a b telling-switches (λ pre t. says-any (λ s move. tt) (ruling_of t) (ruling_of-tells t))
+    (record { one = record { same = refl; few = a.size.1 }; two = record { same = refl; few = b.size.1 } }) in
+    (side-told _ _ m.one, side-told _ _ m.two)

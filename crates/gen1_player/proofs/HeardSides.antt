@@ -1,0 +1,279 @@
+-- What the log tells of an active member's types and conditions, event by event.
+use Rattle.std.proofs.Common.{[], Bool, List, ap, arith, false, if◌then◌else◌, inl, inr, nat_le, refl, sym, true, true≢false, ℕ, ◌&&◌, ◌++◌, ◌==◌, ◌∙◌, ◌∷◌, ◌≡◌, ◌≢◌, ◌≤◌, ◌⊎◌}
+use Rattle.std.proofs.lemmas.Bool.{le-leb}
+use Rattle.std.proofs.lemmas.Bool.Decides.{eqb_tells}
+use Rattle.gen1_tables.specs.Species.{species_row}
+use Rattle.gen1_tables.specs.Types.{number_of}
+use Rattle.gen1_machine.specs.declared.side.Side.{Side}
+use Rattle.gen1_machine.specs.declared.side.Side.TheVariants.{One, Two}
+use Rattle.gen1_machine.specs.declared.health.Kind.{Kind}
+use Rattle.gen1_machine.specs.declared.health.Kind.TheVariants as kinds
+use Rattle.gen1_machine.specs.declared.health.Who.{Who}
+use Rattle.gen1_machine.specs.declared.event.CantReason.{CantReason}
+use Rattle.gen1_machine.specs.declared.event.CantReason.TheVariants as reasons
+use Rattle.gen1_machine.specs.declared.event.DamageSource.{DamageSource}
+use Rattle.gen1_machine.specs.declared.event.DamageSource.TheVariants as sources
+use Rattle.gen1_machine.specs.declared.event.Volatile.{Volatile}
+use Rattle.gen1_machine.specs.declared.event.Volatile.TheVariants as volatiles
+use Rattle.gen1_machine.specs.declared.event.Event.{Event}
+use Rattle.gen1_machine.specs.declared.event.Event.TheVariants as events
+use Rattle.gen1_machine.specs.Health.{Health}
+use Rattle.gen1_machine.specs.Moves.{move_at, toxic}
+use Rattle.gen1_machine.specs.Numbers.{kind_number}
+use Rattle.gen1_machine.specs.Rules.{bit_of}
+use Rattle.gen1_machine.specs.Sides.{other}
+use Rattle.gen1_machine.specs.State.{Party}
+use Rattle.gen1_player.specs.declared.public.Public.{Public}
+use Rattle.gen1_player.specs.declared.public_side.PublicSide.{PublicSide}
+use Rattle.gen1_player.specs.Public.{begins, comes_out, ends_recharging, gets_status, hears, hears_all, if_seen_out, is_cleared, is_hurt_by, is_kept_by, on_announced, on_out, on_public_side, on_seen, public_side, set_volatile, suffers_move, takes_types, uses_move}
+use Rattle.gen1_player.proofs.Facts.{side_out, is_noise, marked, plain, standing, Plain, Standing}
+
+-- What the log tells of a side's types and conditions. A flag is 1 or 0.
+pub record Known : Type 0 where
+  pub place : ℕ
+  pub first_type : ℕ
+  pub second_type : ℕ
+  pub mist : ℕ
+  pub focus_energy : ℕ
+  pub disabled : ℕ
+  pub rage : ℕ
+  pub seeded : ℕ
+
+abbrev pub heard : PublicSide → Known
+heard x = let a = x.announced in record {
+  place = x.place;
+  first_type = x.first_type;
+  second_type = x.second_type;
+  mist = a.mist;
+  focus_energy = a.focus_energy;
+  disabled = a.disabled;
+  rage = a.rage;
+  seeded = a.seeded;
+}
+
+abbrev pub known_of : Standing → Plain → Known
+known_of a c = record {
+  place = a.place;
+  first_type = number_of a.first_type;
+  second_type = number_of a.second_type;
+  mist = bit_of c.mist;
+  focus_energy = bit_of c.focus_energy;
+  disabled = bit_of c.disabled;
+  rage = bit_of c.rage;
+  seeded = bit_of c.seeded;
+}
+
+abbrev pub held : Party → Known
+held t = known_of (standing t.active) (plain t.active.conditions)
+
+abbrev pub with_mark : Volatile → ℕ → Known → Known
+with_mark volatiles.Mist on k = record k { mist = on }
+with_mark volatiles.FocusEnergy on k = record k { focus_energy = on }
+with_mark volatiles.Disable on k = record k { disabled = on }
+with_mark volatiles.Rage on k = record k { rage = on }
+with_mark volatiles.LeechSeed on k = record k { seeded = on }
+with_mark _ on k = k
+
+abbrev pub with_types : ℕ → ℕ → Known → Known
+with_types first second k = record k { first_type = first; second_type = second }
+
+abbrev pub without_most : Known → Known
+without_most k = record k { mist = 0; focus_energy = 0; disabled = 0; seeded = 0 }
+
+-- Sides
+
+pub hears_all-last : (es : List Event) (e : Event) (p : Public) → hears_all (es ++ e ∷ []) p ≡ hears e (hears_all es p)
+unfolding hears_all
+hears_all-last [] e p = refl
+hears_all-last (x ∷ xs) e p = hears_all-last xs e (hears x p)
+
+-- An event that tells nothing of a side, whatever is looked at.
+
+quiet-out : {A : Type 0} (look : PublicSide → A) (h : PublicSide → PublicSide) (x : PublicSide) → look (h x) ≡ look x → look (if_seen_out h x) ≡ look x
+quiet-out look h x e = elim (x.place == 0) as (λ b. look (if b then x else h x) ≡ look x) [ true ↦ refl | false ↦ e ]
+
+pub quiet-side : {A : Type 0} (look : PublicSide → A) (s u : Side) (h : PublicSide → PublicSide) (p : Public) → ((x : PublicSide) → look (h x) ≡ look x)
+    → look (public_side u (on_out s h p)) ≡ look (public_side u p)
+unfolding on_out
+quiet-side look One One h p e = quiet-out look h p.one (e p.one)
+quiet-side look One Two h p e = refl
+quiet-side look Two One h p e = refl
+quiet-side look Two Two h p e = quiet-out look h p.two (e p.two)
+
+pub same-sides : {A : Type 0} (look : PublicSide → A) (u : Side) (p q : Public) → p.one ≡ q.one → p.two ≡ q.two → look (public_side u p) ≡ look (public_side u q)
+same-sides look One p q a b = ap look a
+same-sides look Two p q a b = ap look b
+
+-- An event of a side that is out.
+is-out : (h : PublicSide → PublicSide) (x : PublicSide) → 1 ≤ x.place → if_seen_out h x ≡ h x
+is-out h x low = by (eqb_tells x.place 0)
+  where
+    by : (((x.place == 0) ≡ true) × (x.place ≡ 0)) ⊎ (((x.place == 0) ≡ false) × (x.place ≢ 0)) → if_seen_out h x ≡ h x
+    by (inl e) = absurd (omega (arith, low, e.1))
+    by (inr e) = ap (λ (b : Bool). if b then x else h x) e.0
+
+pub out-side : (s : Side) (h : PublicSide → PublicSide) (p : Public) → 1 ≤ (public_side s p).place → public_side s (on_out s h p) ≡ h (public_side s p)
+unfolding on_out
+out-side One h p low = is-out h p.one low
+out-side Two h p low = is-out h p.two low
+
+pub foe-side : (s : Side) (h : PublicSide → PublicSide) (p : Public) → public_side (other s) (on_out s h p) ≡ public_side (other s) p
+unfolding on_out
+foe-side One h p = refl
+foe-side Two h p = refl
+
+-- Announcements that tell nothing of these
+
+kept-heard : (why : CantReason) (x : PublicSide) → heard (on_announced (is_kept_by why) x) ≡ heard x
+kept-heard reasons.Flinched x = refl
+kept-heard reasons.Recharging x = refl
+kept-heard reasons.Disabled x = refl
+kept-heard reasons.Paralysed x = refl
+kept-heard _ x = refl
+
+hurt-heard : (source : DamageSource) (x : PublicSide) → heard (on_announced (is_hurt_by source) x) ≡ heard x
+hurt-heard sources.Confusion x = refl
+hurt-heard _ x = refl
+
+poison-heard : (b : Bool) (x : PublicSide) → heard (on_announced (λ a. if b then record a { toxic = 1 } else a) x) ≡ heard x
+poison-heard true x = refl
+poison-heard false x = refl
+
+status-heard : (kind : Kind) (move : ℕ) (x : PublicSide) → heard (on_announced (gets_status kind move) x) ≡ heard x
+status-heard kinds.Poison move x = poison-heard (move == toxic) x
+status-heard kinds.Freeze move x = refl
+status-heard _ move x = refl
+
+suffers-heard : (b : Bool) (x : PublicSide) → heard (if b then on_announced (λ a. record a { recharging = 0 }) x else x) ≡ heard x
+suffers-heard true x = refl
+suffers-heard false x = refl
+
+pub moves-heard : (w foe u : Side) (move : ℕ) (p : Public) → heard (public_side u (on_out foe (suffers_move move) (on_out w (uses_move move) p))) ≡ heard (public_side u p)
+moves-heard w foe u move p = quiet-side heard foe u (suffers_move move) (on_out w (uses_move move) p) (suffers-heard (ends_recharging (move_at move).effect))
+    ∙ quiet-side heard w u (uses_move move) p (λ x. refl)
+
+pub noise-heard : (e : Event) → is_noise e ≡ true → (u : Side) (p : Public) → heard (public_side u (hears e p)) ≡ heard (public_side u p)
+unfolding hears
+noise-heard (events.Turn i) h u p = same-sides heard u (record p { turn = i }) p refl refl
+noise-heard (events.Switch w place level k) h u p = absurd (true≢false (sym h))
+noise-heard (events.Move w move foe) h u p = absurd (true≢false (sym h))
+noise-heard (events.Cant w why) h u p = quiet-side heard w.side u (on_announced (is_kept_by why)) p (kept-heard why)
+noise-heard (events.Damage w k source) h u p = quiet-side heard w.side u (λ x. on_announced (is_hurt_by source) (on_seen (λ m. record m { hp = k.hp }) x)) p (λ x. hurt-heard source (on_seen (λ m. record m { hp = k.hp }) x))
+noise-heard (events.Heal w k) h u p = quiet-side heard w.side u (on_seen (λ m. record m { hp = k.hp })) p (λ x. refl)
+noise-heard (events.Status w kind) h u p = quiet-side heard w.side u
+    (λ x. on_announced (gets_status kind (public_side (other w.side) p).last_move) (on_seen (λ m. record m { status = kind_number kind }) x)) p
+    (λ x. status-heard kind (public_side (other w.side) p).last_move (on_seen (λ m. record m { status = kind_number kind }) x))
+noise-heard (events.Cure w kind) h u p = quiet-side heard w.side u (on_seen (λ m. record m { status = 0 })) p (λ x. refl)
+noise-heard (events.Faint w) h u p = quiet-side heard w.side u (on_seen (λ m. record m { hp = 0; status = 0 })) p (λ x. refl)
+noise-heard (events.Boost w stat i) h u p = quiet-side heard w.side u _ p (λ x. refl)
+noise-heard (events.Unboost w stat i) h u p = quiet-side heard w.side u _ p (λ x. refl)
+noise-heard events.ClearAll h u p = absurd (true≢false (sym h))
+noise-heard (events.Start w what) h u p = absurd (true≢false (sym h))
+noise-heard (events.End w what) h u p = absurd (true≢false (sym h))
+noise-heard (events.Prepare w move) h u p = quiet-side heard w.side u (on_announced (λ a. record a { charging = 1 })) p (λ x. refl)
+noise-heard (events.MustRecharge w) h u p = quiet-side heard w.side u (on_announced (λ a. record a { recharging = 1 })) p (λ x. refl)
+noise-heard (events.Win s) h u p = same-sides heard u (hears (events.Win s) p) p refl refl
+noise-heard events.Tie h u p = same-sides heard u (hears events.Tie p) p refl refl
+noise-heard (events.Fault i) h u p = same-sides heard u (hears (events.Fault i) p) p refl refl
+noise-heard _ h u p = refl
+
+-- Announcements of these
+
+pub set-heard : (what : Volatile) (on : ℕ) (x : PublicSide) → heard (on_announced (set_volatile what on) x) ≡ with_mark what on (heard x)
+set-heard volatiles.Mist on x = refl
+set-heard volatiles.FocusEnergy on x = refl
+set-heard volatiles.Disable on x = refl
+set-heard volatiles.Rage on x = refl
+set-heard volatiles.LeechSeed on x = refl
+set-heard volatiles.Confusion on x = refl
+set-heard volatiles.Bide on x = refl
+set-heard volatiles.Substitute on x = refl
+set-heard volatiles.LightScreen on x = refl
+set-heard volatiles.Reflect on x = refl
+set-heard volatiles.TypeChange on x = refl
+set-heard volatiles.Trapped on x = refl
+set-heard volatiles.Splash on x = refl
+
+pub marked-known : (what : Volatile) (on : Bool) (a : Standing) (c : Plain) → known_of a (marked what on c) ≡ with_mark what (bit_of on) (known_of a c)
+marked-known volatiles.Mist on a c = refl
+marked-known volatiles.FocusEnergy on a c = refl
+marked-known volatiles.Disable on a c = refl
+marked-known volatiles.Rage on a c = refl
+marked-known volatiles.LeechSeed on a c = refl
+marked-known volatiles.Confusion on a c = refl
+marked-known volatiles.Bide on a c = refl
+marked-known volatiles.Substitute on a c = refl
+marked-known volatiles.LightScreen on a c = refl
+marked-known volatiles.Reflect on a c = refl
+marked-known volatiles.TypeChange on a c = refl
+marked-known volatiles.Trapped on a c = refl
+marked-known volatiles.Splash on a c = refl
+
+-- That a volatile begins, where it isn't a change of types.
+abbrev pub Begins : Volatile → Type 0
+Begins volatiles.TypeChange = ⊥
+Begins _ = Unit {0}
+
+pub begins-out : (s : Side) (what : Volatile) (p : Public) → Begins what → begins s what p ≡ on_out s (on_announced (set_volatile what 1)) p
+begins-out s volatiles.Mist p h = refl
+begins-out s volatiles.FocusEnergy p h = refl
+begins-out s volatiles.Disable p h = refl
+begins-out s volatiles.Rage p h = refl
+begins-out s volatiles.LeechSeed p h = refl
+begins-out s volatiles.Confusion p h = refl
+begins-out s volatiles.Bide p h = refl
+begins-out s volatiles.Substitute p h = refl
+begins-out s volatiles.LightScreen p h = refl
+begins-out s volatiles.Reflect p h = refl
+begins-out s volatiles.TypeChange p h = absurd h
+begins-out s volatiles.Trapped p h = refl
+begins-out s volatiles.Splash p h = refl
+
+pub start-hears : (w : Who) (what : Volatile) (p : Public) → Begins what → hears (events.Start w what) p ≡ on_out w.side (on_announced (set_volatile what 1)) p
+unfolding hears
+start-hears w what p h = begins-out w.side what p h
+
+pub types-hears : (w : Who) (p : Public) → hears (events.Start w volatiles.TypeChange) p ≡ on_out w.side (takes_types (public_side (other w.side) p)) p
+unfolding hears
+types-hears w p = refl
+
+pub end-hears : (w : Who) (what : Volatile) (p : Public) → hears (events.End w what) p ≡ on_out w.side (on_announced (set_volatile what 0)) p
+unfolding hears
+end-hears w what p = refl
+
+pub clear-hears : (p : Public) → hears events.ClearAll p ≡ on_out Two is_cleared (on_out One is_cleared p)
+unfolding hears
+clear-hears p = refl
+
+pub move-hears : (w foe : Who) (move : ℕ) (p : Public) → hears (events.Move w move foe) p ≡ on_out (other w.side) (suffers_move move) (on_out w.side (uses_move move) p)
+unfolding hears
+move-hears w foe move p = refl
+
+pub switch-hears : (w : Who) (place level : ℕ) (h : Health) (p : Public) → hears (events.Switch w place level h) p ≡ on_public_side w.side (comes_out w.species place level h) p
+unfolding hears
+switch-hears w place level h p = refl
+
+-- A member that comes out
+
+and-true : (a b : Bool) → a ≡ true → b ≡ true → (a && b) ≡ true
+and-true a b e h = ap (λ (x : Bool). x && b) e ∙ h
+
+abbrev pub come_out : ℕ → ℕ → Known
+come_out species place = record {
+  place = place;
+  first_type = number_of (species_row species).first_type;
+  second_type = number_of (species_row species).second_type;
+  mist = 0;
+  focus_energy = 0;
+  disabled = 0;
+  rage = 0;
+  seeded = 0;
+}
+
+known-if : (b : Bool) (x y : PublicSide) (k : Known) → b ≡ true → heard x ≡ k → heard (if b then x else y) ≡ k
+known-if true x y k e h = h
+known-if false x y k e h = absurd (true≢false (sym e))
+
+pub comes-heard : (species place level : ℕ) (h : Health) (x : PublicSide) → 1 ≤ place → place ≤ 6 → heard (comes_out species place level h x) ≡ come_out species place
+comes-heard species place level h x low high = known-if (nat_le 1 place && nat_le place 6) (side_out species place level h x) x (come_out species place)
+    (and-true (nat_le 1 place) (nat_le place 6) (le-leb 1 place low) (le-leb place 6 high)) refl

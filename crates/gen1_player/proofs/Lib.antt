@@ -1,0 +1,37 @@
+-- What an event makes public, by the side that it names.
+pub mod Hearing
+-- What becomes of a value to which the events of log bytes are applied.
+pub mod Following
+-- What a side is told of an event, by its kind.
+pub mod Tellings
+-- A player that was fed log bytes.
+pub mod Players
+-- Log bytes that are told to one side.
+pub mod Retellings
+-- What a side is shown of itself: its members by their places, and how many there are.
+pub mod OwnSides
+-- Offered choices from what is shown, and what is not shown.
+pub mod Fairness
+-- Worked examples.
+pub mod WorkedOwnSides
+-- What is known of a battle by its events, phase by phase.
+pub mod Facts
+pub mod Stories
+pub mod ToldGate
+pub mod ToldEffects
+pub mod ToldActions
+pub mod ToldTurns
+pub mod ToldEnds
+pub mod ToldRuns
+-- What is public agrees with what a spectator sees.
+pub mod Agreeing
+pub mod Placing
+-- What is public of types and conditions agrees with the battle.
+pub mod HeardSides
+pub mod Conditions
+-- What is public of members agrees with the battle.
+pub mod Appearing
+pub mod Members
+pub mod WorkedPlayers
+-- The player in two battles that give a side the same.
+pub mod FairPlayers

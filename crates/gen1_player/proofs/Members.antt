@@ -1,0 +1,410 @@
+-- After any run, a member that has appeared is the member at its place, and it was seen to use its own moves or Struggle.
+use Rattle.std.proofs.Common.{[], List, ap, arith, get_or, length, length-set, map, refl, subst, sym, ℕ, ◌++◌, ◌-◌, ◌∙◌, ◌∷◌, ◌≡◌, ◌≢◌, ◌<◌, ◌≤◌}
+use Rattle.std.proofs.lemmas.List.{length-map}
+use Rattle.std.proofs.Math.ListN.{get_or-map}
+use Rattle.std.proofs.Math.Seq.{map-set_same}
+use Rattle.gen1_stats.specs.Members.{nobody, IsFresh, IsTeam, Member}
+use Rattle.gen1_machine.specs.declared.side.Side.{Side}
+use Rattle.gen1_machine.specs.declared.side.Side.TheVariants.{One, Two}
+use Rattle.gen1_machine.specs.declared.event.Volatile.{Volatile}
+use Rattle.gen1_machine.specs.declared.event.Volatile.TheVariants as volatiles
+use Rattle.gen1_machine.specs.declared.event.Event.{Event}
+use Rattle.gen1_machine.specs.declared.event.Event.TheVariants as events
+use Rattle.gen1_machine.specs.declared.health.Who.{Who}
+use Rattle.gen1_machine.specs.declared.picks.Pick.{Pick}
+use Rattle.gen1_machine.specs.Health.{Health}
+use Rattle.gen1_machine.specs.Moves.{Move}
+use Rattle.gen1_machine.specs.Sides.{other}
+use Rattle.gen1_machine.specs.Conditions.{after_haze, without_seed, ActiveConditions}
+use Rattle.gen1_machine.specs.State.{first_state, active_in, changed_active, changed_conditions, changed_member, fallen, health_in, member_at, member_in, party, who_in, with_types_of, Active, Field, Party, Terms}
+use Rattle.gen1_machine.specs.EarlyEffects.{with_levelled_stats}
+use Rattle.gen1_machine.specs.Picks.{number_in, used_by}
+use Rattle.gen1_machine.specs.Progress.{active, given, member, Progress}
+use Rattle.gen1_machine.specs.Action.{move_taken_in}
+use Rattle.gen1_machine.specs.Ruling.{ruling_of}
+use Rattle.gen1_machine.specs.Step.{run, Ran}
+use Rattle.gen1_machine.specs.SwitchingIn.{switch_event, with_sent_out}
+use Rattle.gen1_machine.proofs.Showing.{BothOut, IsOut}
+use Rattle.gen1_machine.proofs.Watching.{Lands, Rests, Runs}
+use Rattle.gen1_player.specs.declared.public.Public.{Public}
+use Rattle.gen1_player.specs.declared.public_side.PublicSide.{PublicSide}
+use Rattle.gen1_player.specs.Public.{begins, comes_out, first_public, hears, hears_all, not_seen, seen_at, on_out, public_side, uses_move}
+use Rattle.gen1_player.specs.True.{public_of, MembersAgree, SideHasAppeared}
+use Rattle.gen1_player.proofs.Facts.{sent-place, sent, traits, with_cleared, Sizes, Standing, Tame, Traits}
+use Rattle.gen1_player.proofs.Stories.{MayFall, Story, Switching}
+use Rattle.gen1_player.proofs.ToldEffects.{ruling_of-tells}
+use Rattle.gen1_player.proofs.ToldActions.{carry_out-tells, Says}
+use Rattle.gen1_player.proofs.ToldRuns.{sizes_of, story-runs}
+use Rattle.gen1_player.proofs.HeardSides.{clear-hears, end-hears, foe-side, hears_all-last, move-hears, out-side, switch-hears}
+use Rattle.gen1_player.proofs.Appearing.{clear-faces, comes-faces, comes-shows, end-faces, face, faces, no_face, no_traits, noise-faces, none-show, shows-seen, start-faces, suffers-same, used-is-allowed, uses-face, comes-face, uses-shows, AllShow, Allowed, Face, Faces, Shows}
+
+-- The members of two teams, as no battle changes them.
+record Teams : Type 0 where
+  one : List Traits
+  two : List Traits
+
+abbrev team_of : Side → Teams → List Traits
+team_of One k = k.one
+team_of Two k = k.two
+
+record Appeared (ts : List Traits) (z : Faces) (t : Party) : Type 0 where
+  same : map traits t.members ≡ ts
+  place : z.place ≡ t.active.place
+  six : length z.members ≡ 6
+  few : length ts ≤ 6
+  named : (i : ℕ) → i < length ts → (get_or ts i no_traits).species ≢ 0
+  out : z.place ≢ 0 → (get_or z.members (z.place - 1) no_face).species ≢ 0
+  shows : AllShow z.members ts
+
+record Appears (k : Teams) (f : Field) (p : Public) : Type 0 where
+  one : Appeared k.one (faces p.one) f.one
+  two : Appeared k.two (faces p.two) f.two
+
+module _ {k : Teams} where
+  appears-active : (s : Side) (change : Active → Active) → ((a : Active) → (change a).place ≡ a.place) → (f : Field) (p : Public) → Appears k f p → Appears k (changed_active s change f) p
+  unfolding changed_active
+  appears-active One change h f p m = record {
+    one = record { same = m.one.same; place = m.one.place ∙ sym (h f.one.active); six = m.one.six; few = m.one.few; named = m.one.named; out = m.one.out; shows = m.one.shows };
+    two = m.two;
+  }
+  appears-active Two change h f p m = record {
+    one = m.one;
+    two = record { same = m.two.same; place = m.two.place ∙ sym (h f.two.active); six = m.two.six; few = m.two.few; named = m.two.named; out = m.two.out; shows = m.two.shows };
+  }
+
+  appears-conditions : (s : Side) (change : ActiveConditions → ActiveConditions) (f : Field) (p : Public) → Appears k f p → Appears k (changed_conditions s change f) p
+  unfolding changed_conditions
+  appears-conditions s change f p m = appears-active s (λ a. record a { conditions = change a.conditions }) (λ a. refl) f p m
+
+  appears-member : (s : Side) (change : Member → Member) → Tame change → (f : Field) (p : Public) → Appears k f p → Appears k (changed_member s change f) p
+  unfolding changed_member
+  appears-member One change h f p m = record {
+    one = record {
+      same = map-set_same traits f.one.members (f.one.active.place - 1) (change (member_in One f)) nobody (h (member_in One f)) ∙ m.one.same;
+      place = m.one.place;
+      six = m.one.six;
+      few = m.one.few;
+      named = m.one.named;
+      out = m.one.out;
+      shows = m.one.shows;
+    };
+    two = m.two;
+  }
+  appears-member Two change h f p m = record {
+    one = m.one;
+    two = record {
+      same = map-set_same traits f.two.members (f.two.active.place - 1) (change (member_in Two f)) nobody (h (member_in Two f)) ∙ m.two.same;
+      place = m.two.place;
+      six = m.two.six;
+      few = m.two.few;
+      named = m.two.named;
+      out = m.two.out;
+      shows = m.two.shows;
+    };
+  }
+
+  appears-apart : (f g : Field) (p : Public) → f.one ≡ g.one → f.two ≡ g.two → Appears k f p → Appears k g p
+  appears-apart f g p a b m = record { one = subst (Appeared k.one (faces p.one)) a m.one; two = subst (Appeared k.two (faces p.two)) b m.two }
+
+  appears-heard : (f : Field) (p q : Public) → ((u : Side) → faces (public_side u q) ≡ faces (public_side u p)) → Appears k f p → Appears k f q
+  appears-heard f p q h m = record {
+    one = subst (λ (z : Faces). Appeared k.one z f.one) (sym (h One)) m.one;
+    two = subst (λ (z : Faces). Appeared k.two z f.two) (sym (h Two)) m.two;
+  }
+
+-- A move that the active member of a side may use.
+abbrev Usable : Teams → Side → ℕ → Field → Type 0
+Usable k s n f = Allowed (get_or (team_of s k) ((active_in s f).place - 1) no_traits).moves n
+
+counted : (ts : List Traits) (z : Faces) (t : Party) → Appeared ts z t → length t.members ≤ 6
+counted ts z t m = let e : length t.members ≡ length ts = sym (length-map t.members traits) ∙ ap length m.same in omega (arith, e, m.few)
+
+-- A side whose member uses a move.
+uses-appeared : (ts : List Traits) (x : PublicSide) (t : Party) (n : ℕ) → IsOut t → Allowed (get_or ts (t.active.place - 1) no_traits).moves n
+    → Appeared ts (faces x) t → Appeared ts (faces (uses_move n x)) t
+uses-appeared ts x t n o h m =
+    let six : length x.members ≡ 6 = sym (length-map x.members face) ∙ m.six in
+    let e : x.place ≡ t.active.place = m.place in
+    let few = counted ts (faces x) t m in
+    let low : 1 ≤ x.place = omega (arith, e, o.placed) in
+    let high : x.place ≤ length x.members = omega (arith, e, o.within, few, six) in
+    record {
+      same = m.same;
+      place = m.place;
+      six = length-map _ face ∙ length-set x.members (x.place - 1) _ ∙ six;
+      few = m.few;
+      named = m.named;
+      out = λ z. subst (λ (i : ℕ). i ≢ 0) (sym (uses-face n x low high)) (m.out z);
+      shows = uses-shows n x ts low high
+          (subst (λ (i : ℕ). Allowed (get_or ts (i - 1) no_traits).moves n) (sym e) h) m.shows;
+    }
+
+moved : (k : Teams) (s : Side) (n : ℕ) (f : Field) (p : Public) → BothOut f → Usable k s n f → Appears k f p → Appears k f (on_out s (uses_move n) p)
+moved k One n f p o h m =
+    let e : p.one.place ≡ f.one.active.place = m.one.place in
+    let low : 1 ≤ p.one.place = omega (arith, e, o.one.placed) in
+    record {
+      one = subst (λ (x : PublicSide). Appeared k.one (faces x) f.one) (sym (out-side One (uses_move n) p low)) (uses-appeared k.one p.one f.one n o.one h m.one);
+      two = subst (λ (x : PublicSide). Appeared k.two (faces x) f.two) (sym (foe-side One (uses_move n) p)) m.two;
+    }
+moved k Two n f p o h m =
+    let e : p.two.place ≡ f.two.active.place = m.two.place in
+    let low : 1 ≤ p.two.place = omega (arith, e, o.two.placed) in
+    record {
+      one = subst (λ (x : PublicSide). Appeared k.one (faces x) f.one) (sym (foe-side Two (uses_move n) p)) m.one;
+      two = subst (λ (x : PublicSide). Appeared k.two (faces x) f.two) (sym (out-side Two (uses_move n) p low)) (uses-appeared k.two p.two f.two n o.two h m.two);
+    }
+
+-- A side whose member comes out.
+sent-appeared : (ts : List Traits) (x : PublicSide) (t : Party) (place : ℕ) (m : Member) (h : Health) → 1 ≤ place → place ≤ length t.members → h.max ≡ m.max → m ≡ member_at place t
+    → (a : Active) → a.place ≡ place → Appeared ts (faces x) t → Appeared ts (faces (comes_out m.species place m.level h x)) (record t { active = a })
+sent-appeared ts x t place m h low high e same a out k =
+    let six : length x.members ≡ 6 = sym (length-map x.members face) ∙ k.six in
+    let few = counted ts (faces x) t k in
+    let at : get_or ts (place - 1) no_traits ≡ traits m =
+    ap (λ (qs : List Traits). get_or qs (place - 1) no_traits) (sym k.same) ∙ get_or-map traits t.members (place - 1) nobody ∙ ap traits (sym same) in
+    let inside : place ≤ length x.members = omega (arith, high, few, six) in
+    let all : length t.members ≡ length ts = sym (length-map t.members traits) ∙ ap length k.same in
+    let species : m.species ≢ 0 = subst (λ (q : Traits). q.species ≢ 0) at (k.named (place - 1) (omega (arith, low, high, all))) in
+    subst (λ (z : Faces). Appeared ts z (record t { active = a })) (sym (comes-faces m.species place m.level h x low (omega (arith, high, few)))) (record {
+      same = k.same;
+      place = sym out;
+      six = length-map _ face ∙ length-set x.members (place - 1) _ ∙ six;
+      few = k.few;
+      named = k.named;
+      out = λ z. subst (λ (i : ℕ). i ≢ 0) (sym (comes-face m.species place m.level h x low inside)) species;
+      shows = comes-shows m place x h ts low inside e at k.shows;
+    })
+
+member-out : (place : ℕ) (t : Party) → member_at (with_sent_out place (member_at place t) t.active).place t ≡ member_at place t
+member-out place t = ap (λ (i : ℕ). member_at i t) (sent-place place (member_at place t) t.active)
+
+sent-appears : (k : Teams) (s : Side) (place : ℕ) (f : Field) (p : Public) → 1 ≤ place → place ≤ length (party s f).members → Appears k f p
+    → Appears k (sent s place f) (hears (switch_event s place (sent s place f)) p)
+unfolding changed_active changed_conditions
+sent-appears k One place f p low high m =
+    let g : Field = sent One place f in
+    subst (Appears k g) (sym (switch-hears (who_in One g) place (member_in One g).level (health_in One g) p)) (record {
+      one = sent-appeared k.one p.one f.one place (member_in One g) (health_in One g) low high refl (member-out place f.one)
+          (with_sent_out place (member_at place f.one) f.one.active) (sent-place place (member_at place f.one) f.one.active) m.one;
+      two = record { same = m.two.same; place = m.two.place; six = m.two.six; few = m.two.few; named = m.two.named; out = m.two.out; shows = m.two.shows };
+    })
+sent-appears k Two place f p low high m =
+    let g : Field = sent Two place f in
+    subst (Appears k g) (sym (switch-hears (who_in Two g) place (member_in Two g).level (health_in Two g) p)) (record {
+      one = record { same = m.one.same; place = m.one.place; six = m.one.six; few = m.one.few; named = m.one.named; out = m.one.out; shows = m.one.shows };
+      two = sent-appeared k.two p.two f.two place (member_in Two g) (health_in Two g) low high refl (member-out place f.two)
+          (with_sent_out place (member_at place f.two) f.two.active) (sent-place place (member_at place f.two) f.two.active) m.two;
+    })
+
+-- The stories: of a whole battle, and of an action whose move is settled
+
+abbrev told_by : List Event → Public
+told_by es = hears_all es first_public
+
+start-begins : (w : Who) (what : Volatile) (p : Public) → hears (events.Start w what) p ≡ begins w.side what p
+unfolding hears
+start-begins w what p = refl
+
+-- A further fact about the places of active members.
+record Further (U : Field → Type 0) : Type 0 where
+  active : (s : Side) (change : Active → Active) → ((a : Active) → (change a).place ≡ a.place) → (f : Field) → U f → U (changed_active s change f)
+  member : (s : Side) (change : Member → Member) (f : Field) → U f → U (changed_member s change f)
+  apart : (f g : Field) → f.one ≡ g.one → f.two ≡ g.two → U f → U g
+
+record With (k : Teams) (U : Field → Type 0) (f : Field) (es : List Event) : Type 0 where
+  appears : Appears k f (told_by es)
+  more : U f
+
+fallen-tame : Tame fallen
+unfolding fallen
+fallen-tame m = refl
+
+module _ {k : Teams} {U : Field → Type 0} (u : Further U) where
+  with-last : (f : Field) (es : List Event) (e : Event) → ((s : Side) → faces (public_side s (hears e (told_by es))) ≡ faces (public_side s (told_by es)))
+      → With k U f es → With k U f (es ++ e ∷ [])
+  with-last f es e h m = record {
+    appears = subst (Appears k f) (sym (hears_all-last es e first_public)) (appears-heard f (told_by es) (hears e (told_by es)) h m.appears);
+    more = m.more;
+  }
+
+  with-active : (s : Side) (change : Active → Active) → ((a : Active) → (change a).place ≡ a.place) → (f : Field) (es : List Event) → With k U f es → With k U (changed_active s change f) es
+  with-active s change h f es m = record { appears = appears-active s change h f (told_by es) m.appears; more = u.active s change h f m.more }
+
+  with-conditions : (s : Side) (change : ActiveConditions → ActiveConditions) (f : Field) (es : List Event) → With k U f es → With k U (changed_conditions s change f) es
+  unfolding changed_conditions
+  with-conditions s change f es m = with-active s (λ a. record a { conditions = change a.conditions }) (λ a. refl) f es m
+
+  with-member : (s : Side) (change : Member → Member) → Tame change → (f : Field) (es : List Event) → With k U f es → With k U (changed_member s change f) es
+  with-member s change h f es m = record { appears = appears-member s change h f (told_by es) m.appears; more = u.member s change f m.more }
+
+  with-apart : (f g : Field) (es : List Event) → f.one ≡ g.one → f.two ≡ g.two → With k U f es → With k U g es
+  with-apart f g es a b m = record { appears = appears-apart f g (told_by es) a b m.appears; more = u.apart f g a b m.more }
+
+  with-start : (w : Who) (what : Volatile) (f : Field) (es : List Event) → With k U f es → With k U f (es ++ events.Start w what ∷ [])
+  with-start w what f es m = with-last f es (events.Start w what)
+      (λ s. ap (λ (p : Public). faces (public_side s p)) (start-begins w what (told_by es)) ∙ start-faces w.side what s (told_by es)) m
+
+  with-end : (w : Who) (what : Volatile) (f : Field) (es : List Event) → With k U f es → With k U f (es ++ events.End w what ∷ [])
+  with-end w what f es m = with-last f es (events.End w what)
+      (λ s. ap (λ (p : Public). faces (public_side s p)) (end-hears w what (told_by es)) ∙ end-faces w.side what s (told_by es)) m
+
+  with-clear : (f : Field) (es : List Event) → With k U f es → With k U (with_cleared Two (with_cleared One f)) (es ++ events.ClearAll ∷ [])
+  unfolding with_levelled_stats
+  with-clear f es m = with-last _ es events.ClearAll
+      (λ s. ap (λ (p : Public). faces (public_side s p)) (clear-hears (told_by es)) ∙ clear-faces s (told_by es))
+      (with-conditions Two after_haze _ es (with-active Two with_levelled_stats (λ a. refl) _ es
+      (with-conditions One after_haze _ es (with-active One with_levelled_stats (λ a. refl) f es m))))
+
+  with-convert : (s : Side) (f : Field) (es : List Event) → With k U f es
+      → let g : Field = changed_active s (with_types_of (active_in (other s) f)) f in With k U g (es ++ events.Start (who_in s g) volatiles.TypeChange ∷ [])
+  unfolding with_types_of
+  with-convert s f es m = with-start _ volatiles.TypeChange _ es (with-active s (with_types_of (active_in (other s) f)) (λ a. refl) f es m)
+
+  with-move : (s : Side) (move : Move) → ((f : Field) → U f → Usable k s move.number f) → (f : Field) (es : List Event) → BothOut f → With k U f es
+      → With k U f (es ++ events.Move (who_in s f) move.number (who_in (other s) f) ∷ [])
+  with-move s move h f es o m =
+      let p : Public = told_by es in
+      let n : ℕ = move.number in
+      let e : Event = events.Move (who_in s f) n (who_in (other s) f) in
+      record {
+        appears = subst (Appears k f) (sym (hears_all-last es e first_public)) (subst (Appears k f) (sym (move-hears (who_in s f) (who_in (other s) f) n p))
+            (appears-heard f (on_out s (uses_move n) p) _ (λ t. suffers-same (other s) t n (on_out s (uses_move n) p)) (moved k s n f p o (h f m.more) m.appears)));
+        more = m.more;
+      }
+
+appearing : (k : Teams) (U : Field → Type 0) → Further U → Story
+appearing k U u = record {
+  exact = With k U;
+  loose = With k U;
+  said = λ s move. (f : Field) → U f → Usable k s move.number f;
+  loosen = λ f es m. m;
+  tighten = λ f es m a b. m;
+  member = λ s change h f es m. with-member u s change h f es m;
+  active = λ s change h f es m. with-active u s change (λ a. ap (λ (x : Standing). x.place) (h a)) f es m;
+  conditions = λ s change h f es m. with-conditions u s change f es m;
+  apart = λ f g es a b m. with-apart u f g es a b m;
+  noise = λ e h f es m. with-last u f es e (λ s. noise-faces e h s (told_by es)) m;
+  starts = λ s what change h f es o m. with-start u _ what _ es (with-conditions u s change f es m);
+  ends = λ s what change h f es o m. with-end u _ what _ es (with-conditions u s change f es m);
+  converts = λ s f es o m. with-convert u s f es m;
+  clears = λ f es o m. with-clear u f es m;
+  moves = λ s move h f es o m. with-move u s move h f es o m;
+  explodes = λ s f es o m. with-conditions u s without_seed _ es (with-member u s fallen fallen-tame f es m);
+  loose_active = λ s change h f es m. with-active u s change (λ a. ap (λ (x : Standing). x.place) (h a)) f es m;
+  loose_apart = λ f g es a b m. with-apart u f g es a b m;
+  loose_noise = λ e h f es m. with-last u f es e (λ s. noise-faces e h s (told_by es)) m;
+  loose_falls = λ s f es o m. with-member u s fallen fallen-tame f es m;
+}
+
+nothing-further : Further (λ f. Unit {0})
+nothing-further = record { active = λ s change h f m. tt; member = λ s change f m. tt; apart = λ f g a b m. tt }
+
+abbrev of_battle : Teams → Story
+of_battle k = appearing k (λ f. Unit {0}) nothing-further
+
+battle-switches : (k : Teams) → Switching (of_battle k)
+unfolding appearing
+battle-switches k = record {
+  sends = λ s place f es low high m. record {
+    appears = subst (Appears k (sent s place f)) (sym (hears_all-last es (switch_event s place (sent s place f)) first_public)) (sent-appears k s place f (told_by es) low high m.appears);
+    more = tt;
+  };
+  loose_sends = λ s place f es low high m. record {
+    appears = subst (Appears k (sent s place f)) (sym (hears_all-last es (switch_event s place (sent s place f)) first_public)) (sent-appears k s place f (told_by es) low high m.appears);
+    more = tt;
+  };
+}
+
+-- That a move is usable depends only on who is out
+
+abbrev at_place : Teams → Side → ℕ → ℕ → Type 0
+at_place k s n place = Allowed (get_or (team_of s k) (place - 1) no_traits).moves n
+
+usable-active : (k : Teams) (n : ℕ) (t s : Side) (change : Active → Active) → ((a : Active) → (change a).place ≡ a.place) → (f : Field)
+    → Usable k t n f → Usable k t n (changed_active s change f)
+unfolding changed_active
+usable-active k n One One change h f m = subst (at_place k One n) (sym (h f.one.active)) m
+usable-active k n One Two change h f m = m
+usable-active k n Two One change h f m = m
+usable-active k n Two Two change h f m = subst (at_place k Two n) (sym (h f.two.active)) m
+
+usable-member : (k : Teams) (n : ℕ) (t s : Side) (change : Member → Member) (f : Field) → Usable k t n f → Usable k t n (changed_member s change f)
+unfolding changed_member
+usable-member k n One One change f m = m
+usable-member k n One Two change f m = m
+usable-member k n Two One change f m = m
+usable-member k n Two Two change f m = m
+
+usable-apart : (k : Teams) (n : ℕ) (t : Side) (f g : Field) → f.one ≡ g.one → f.two ≡ g.two → Usable k t n f → Usable k t n g
+usable-apart k n One f g a b m = subst (λ (x : Party). at_place k One n x.active.place) a m
+usable-apart k n Two f g a b m = subst (λ (x : Party). at_place k Two n x.active.place) b m
+
+usable-further : (k : Teams) (s : Side) (n : ℕ) → Further (Usable k s n)
+usable-further k s n = record { active = usable-active k n s; member = usable-member k n s; apart = usable-apart k n s }
+
+abbrev of_action : Teams → Side → ℕ → Story
+of_action k s n = appearing k (Usable k s n) (usable-further k s n)
+
+-- The move that a side takes up is usable.
+taken-usable : (k : Teams) (s : Side) (pick : Pick) (f : Field) (p : Public) → Appears k f p → Usable k s (number_in (used_by pick (active_in s f).current_move) (member_in s f).moves) f
+taken-usable k One pick f p m = subst (λ (q : Traits). Allowed q.moves (number_in (used_by pick f.one.active.current_move) (member_in One f).moves))
+    (sym (ap (λ (qs : List Traits). get_or qs (f.one.active.place - 1) no_traits) (sym m.one.same) ∙ get_or-map traits f.one.members (f.one.active.place - 1) nobody))
+    (used-is-allowed (used_by pick f.one.active.current_move) (member_in One f))
+taken-usable k Two pick f p m = subst (λ (q : Traits). Allowed q.moves (number_in (used_by pick f.two.active.current_move) (member_in Two f).moves))
+    (sym (ap (λ (qs : List Traits). get_or qs (f.two.active.place - 1) no_traits) (sym m.two.same) ∙ get_or-map traits f.two.members (f.two.active.place - 1) nobody))
+    (used-is-allowed (used_by pick f.two.active.current_move) (member_in Two f))
+
+forget : (k : Teams) (s : Side) (i : ℕ) (n : Sizes) (pre : List Event) (q : Progress) → Lands (MayFall (of_action k s i) n pre) (MayFall (of_action k s i) n pre) q
+    → Lands (MayFall (of_battle k) n pre) (MayFall (of_battle k) n pre) q
+unfolding appearing
+forget k s i n pre q (Runs r m) = Runs r (record { begun = m.begun; loose = record { appears = m.loose.appears; more = tt } })
+forget k s i n pre q (Rests r m) = Rests r (record { begun = m.begun; loose = record { appears = m.loose.appears; more = tt } })
+
+says : (k : Teams) (n : Sizes) (pre : List Event) (t : Terms) → Says (of_battle k) n pre (ruling_of t)
+unfolding given appearing
+says k n pre t s pick = record {
+  leads = λ p r m.
+      let i : ℕ = number_in (used_by pick (active s p).current_move) (member s p).moves in
+      forget k s i n pre _ ((carry_out-tells {v = of_action k s i} {z = n} {pre = pre} (ruling_of t) (ruling_of-tells t) s pick (move_taken_in s pick p.field) (λ f u. u)).leads p r
+      (record { begun = m.begun; exact = record { appears = m.exact.appears; more = taken-usable k s pick p.field (told_by (pre ++ p.events)) m.exact.appears } }));
+}
+
+-- What is left of it
+
+side-appeared : (ts : List Traits) (x : PublicSide) (t : Party) → Appeared ts (faces x) t → SideHasAppeared x t
+side-appeared ts x t m = record {
+  out = λ z. subst (λ (s : Face). s.species ≢ 0) (get_or-map face x.members (x.place - 1) not_seen) (m.out z);
+  each = λ place e. shows-seen (seen_at place x) (member_at place t) e
+      (subst (λ (s : Face). Shows s (traits (member_at place t))) (get_or-map face x.members (place - 1) not_seen)
+      (subst (Shows (get_or (map face x.members) (place - 1) no_face))
+      (ap (λ (qs : List Traits). get_or qs (place - 1) no_traits) (sym m.same) ∙ get_or-map traits t.members (place - 1) nobody) (m.shows (place - 1))));
+}
+
+team-named : (team : List Member) → IsTeam team → (i : ℕ) → i < length (map traits team) → (get_or (map traits team) i no_traits).species ≢ 0
+team-named team h i low =
+    let e = length-map team traits in
+    let fresh : IsFresh (get_or team i nobody) = h.members i nobody (omega (arith, e, low)) in
+    subst (λ (q : Traits). q.species ≢ 0) (sym (get_or-map traits team i nobody)) (λ z. omega (arith, z, fresh.species.0))
+
+first-appeared : (team : List Member) → IsTeam team → (t : Party) → t.members ≡ team → t.active.place ≡ 0 → Appeared (map traits team) (faces first_public.one) t
+first-appeared team h t e z = record {
+  same = ap (λ (ms : List Member). map traits ms) e;
+  place = sym z;
+  six = refl;
+  few = let c = length-map team traits in omega (arith, c, h.size.1);
+  named = team-named team h;
+  out = λ n. absurd (n refl);
+  shows = none-show 6 (map traits team);
+}
+
+pub members_agree : MembersAgree
+unfolding hears_all appearing
+members_agree t one two seed pairs a b =
+    let k : Teams = record { one = map traits one; two = map traits two } in
+    let r : Ran = run (first_state t one two seed) pairs in
+    let m = story-runs (of_battle k) t one two seed pairs a b (battle-switches k) (λ pre t. says k (sizes_of one two) pre t) (record {
+      appears = record { one = first-appeared one a _ refl refl; two = first-appeared two b _ refl refl };
+      more = tt;
+    }) in
+    (side-appeared k.one (public_of r).one r.state.field.one m.appears.one, side-appeared k.two (public_of r).two r.state.field.two m.appears.two)

@@ -1,0 +1,264 @@
+-- Stories: facts about a battle's field and the events that it wrote so far. Phases that keep a story true.
+use Rattle.std.proofs.Common.{[], Bool, List, None, Option, Some, ap, false, length, length-set, refl, subst, true, ℕ, ◌+◌, ◌++◌, ◌-◌, ◌∙◌, ◌∷◌, ◌≡◌, ◌≤◌}
+use Rattle.std.proofs.lemmas.List.{append_assoc}
+use Rattle.gen1_rolls.specs.Streams.{byte_at, span, first}
+use Rattle.gen1_stats.specs.declared.status.Status.{Status}
+use Rattle.gen1_stats.specs.declared.status.Status.TheVariants.{Healthy}
+use Rattle.gen1_stats.specs.Members.{Member}
+use Rattle.gen1_machine.specs.declared.side.Side.{Side}
+use Rattle.gen1_machine.specs.declared.side.Side.TheVariants.{One, Two}
+use Rattle.gen1_machine.specs.declared.terms.Outcome.TheVariants as outcomes
+use Rattle.gen1_machine.specs.declared.health.Kind.{Kind}
+use Rattle.gen1_machine.specs.declared.event.DamageSource.{DamageSource}
+use Rattle.gen1_machine.specs.declared.event.Volatile.{Volatile}
+use Rattle.gen1_machine.specs.declared.event.Volatile.TheVariants as volatiles
+use Rattle.gen1_machine.specs.declared.event.Event.{Event}
+use Rattle.gen1_machine.specs.declared.event.Event.TheVariants as events
+use Rattle.gen1_machine.specs.Sides.{other}
+use Rattle.gen1_machine.specs.Moves.{Move}
+use Rattle.gen1_machine.specs.Conditions.{without_seed, ActiveConditions}
+use Rattle.gen1_machine.specs.State.{active_in, changed_active, changed_conditions, changed_member, fallen, has_fallen_in, healed_by, health_in, hurt_by, party, who_in, with_last_damage, with_outcome, with_status, with_types_of, Active, Field}
+use Rattle.gen1_machine.specs.CurrentStats.{with_penalty_of}
+use Rattle.gen1_machine.specs.Progress.{cure, stop, draw, draw_until, ends, fault, gain_hp, inflict, lasts, lose_hp, note, on_action, on_active, on_conditions, on_field, on_member, set_last_damage, starts, told, Action, Phase, Progress}
+use Rattle.gen1_machine.specs.SwitchingIn.{switch_event}
+use Rattle.gen1_machine.proofs.Showing.{keeps-active, keeps-member, BothOut}
+use Rattle.gen1_machine.proofs.Watching.{choose-tells, stay-tells, stop-leads, ◌⊳◌, Lands, Leads, Runs}
+use Rattle.gen1_player.proofs.Facts.{penalty-placid, Calm, Marks, Standing, Placid, Tame, is_noise, with_cleared, sent, Sizes}
+
+-- Stories
+
+-- What a story says of a field after a list of events, and why each change and each event keeps it true. `loose` is what it says after
+-- a member fell without an event.
+pub record Story : Type 1 where
+  pub exact : Field → List Event → Type 0
+  pub loose : Field → List Event → Type 0
+  pub said : Side → Move → Type 0  -- that a side may use a move
+  pub loosen : (f : Field) (es : List Event) → exact f es → loose f es
+  pub tighten : (f : Field) (es : List Event) → loose f es → has_fallen_in One f ≡ false → has_fallen_in Two f ≡ false → exact f es
+  pub member : (s : Side) (change : Member → Member) → Tame change → (f : Field) (es : List Event) → exact f es → exact (changed_member s change f) es
+  pub active : (s : Side) (change : Active → Active) → Placid change → (f : Field) (es : List Event) → exact f es → exact (changed_active s change f) es
+  pub conditions : (s : Side) (change : ActiveConditions → ActiveConditions) → Calm change → (f : Field) (es : List Event)
+      → exact f es → exact (changed_conditions s change f) es
+  pub apart : (f g : Field) (es : List Event) → f.one ≡ g.one → f.two ≡ g.two → exact f es → exact g es
+  pub noise : (e : Event) → is_noise e ≡ true → (f : Field) (es : List Event) → exact f es → exact f (es ++ e ∷ [])
+  pub starts : (s : Side) (what : Volatile) (change : ActiveConditions → ActiveConditions) → Marks what true change → (f : Field) (es : List Event)
+      → BothOut f → exact f es → exact (changed_conditions s change f) (es ++ events.Start (who_in s (changed_conditions s change f)) what ∷ [])
+  pub ends : (s : Side) (what : Volatile) (change : ActiveConditions → ActiveConditions) → Marks what false change → (f : Field) (es : List Event)
+      → BothOut f → exact f es → exact (changed_conditions s change f) (es ++ events.End (who_in s (changed_conditions s change f)) what ∷ [])
+  pub converts : (s : Side) (f : Field) (es : List Event) → BothOut f → exact f es
+      → let g : Field = changed_active s (with_types_of (active_in (other s) f)) f in exact g (es ++ events.Start (who_in s g) volatiles.TypeChange ∷ [])
+  pub clears : (f : Field) (es : List Event) → BothOut f → exact f es → exact (with_cleared Two (with_cleared One f)) (es ++ events.ClearAll ∷ [])
+  pub moves : (s : Side) (move : Move) → said s move → (f : Field) (es : List Event) → BothOut f → exact f es
+      → exact f (es ++ events.Move (who_in s f) move.number (who_in (other s) f) ∷ [])
+  pub explodes : (s : Side) (f : Field) (es : List Event) → BothOut f → exact f es → loose (changed_conditions s without_seed (changed_member s fallen f)) es
+  pub loose_active : (s : Side) (change : Active → Active) → Placid change → (f : Field) (es : List Event) → loose f es → loose (changed_active s change f) es
+  pub loose_apart : (f g : Field) (es : List Event) → f.one ≡ g.one → f.two ≡ g.two → loose f es → loose g es
+  pub loose_noise : (e : Event) → is_noise e ≡ true → (f : Field) (es : List Event) → loose f es → loose f (es ++ e ∷ [])
+  pub loose_falls : (s : Side) (f : Field) (es : List Event) → BothOut f → loose f es → loose (changed_member s fallen f) es
+
+-- Why a member that comes out keeps a story true.
+pub record Switching (v : Story) : Type 0 where
+  pub sends : (s : Side) (place : ℕ) (f : Field) (es : List Event) → 1 ≤ place → place ≤ length (party s f).members
+      → v.exact f es → v.exact (sent s place f) (es ++ switch_event s place (sent s place f) ∷ [])
+  pub loose_sends : (s : Side) (place : ℕ) (f : Field) (es : List Event) → 1 ≤ place → place ≤ length (party s f).members
+      → v.loose f es → v.loose (sent s place f) (es ++ switch_event s place (sent s place f) ∷ [])
+
+pub record Sized (n : Sizes) (f : Field) : Type 0 where
+  pub one : length f.one.members ≡ n.one
+  pub two : length f.two.members ≡ n.two
+
+-- Both sides have a member out.
+pub record Begun (n : Sizes) (f : Field) : Type 0 where
+  pub both : BothOut f
+  pub sized : Sized n f
+
+-- The story is true of a battle in the middle of an update, which began after these events.
+pub record Holds (v : Story) (n : Sizes) (pre : List Event) (f : Field) (es : List Event) : Type 0 where
+  pub begun : Begun n f
+  pub exact : v.exact f (pre ++ es)
+
+pub record May (v : Story) (n : Sizes) (pre : List Event) (f : Field) (es : List Event) : Type 0 where
+  pub begun : Begun n f
+  pub loose : v.loose f (pre ++ es)
+
+abbrev pub Now : Story → Sizes → List Event → Progress → Type 0
+Now v n pre p = Holds v n pre p.field p.events
+
+abbrev pub MayFall : Story → Sizes → List Event → Progress → Type 0
+MayFall v n pre p = May v n pre p.field p.events
+
+abbrev pub Tells : Story → Sizes → List Event → Phase → Type 0
+Tells v n pre f = Leads (Now v n pre) (Now v n pre) (MayFall v n pre) f
+
+-- What stays begun
+
+pub begun-active : {n : Sizes} (s : Side) (change : Active → Active) (f : Field) → ((a : Active) → (change a).place ≡ a.place) → Begun n f → Begun n (changed_active s change f)
+unfolding changed_active
+begun-active One change f h b = record { both = (keeps-active One change h).both f b.both; sized = record { one = b.sized.one; two = b.sized.two } }
+begun-active Two change f h b = record { both = (keeps-active Two change h).both f b.both; sized = record { one = b.sized.one; two = b.sized.two } }
+
+pub begun-conditions : {n : Sizes} (s : Side) (change : ActiveConditions → ActiveConditions) (f : Field) → Begun n f → Begun n (changed_conditions s change f)
+unfolding changed_conditions
+begun-conditions s change f b = begun-active s (λ a. record a { conditions = change a.conditions }) f (λ a. refl) b
+
+pub begun-member : {n : Sizes} (s : Side) (change : Member → Member) (f : Field) → Begun n f → Begun n (changed_member s change f)
+unfolding changed_member
+begun-member One change f b = record {
+  both = (keeps-member One change).both f b.both;
+  sized = record { one = length-set f.one.members (f.one.active.place - 1) _ ∙ b.sized.one; two = b.sized.two };
+}
+begun-member Two change f b = record {
+  both = (keeps-member Two change).both f b.both;
+  sized = record { one = b.sized.one; two = length-set f.two.members (f.two.active.place - 1) _ ∙ b.sized.two };
+}
+
+abbrev pub place_of : Standing → ℕ
+place_of x = x.place
+
+-- Events come last
+
+pub at_end : (K : Field → List Event → Type 0) (f : Field) (pre es : List Event) (e : Event) → K f ((pre ++ es) ++ e ∷ []) → K f (pre ++ (es ++ e ∷ []))
+at_end K f pre es e h = subst (λ (l : List Event). K f l) (append_assoc pre es (e ∷ [])) h
+
+module _ {v : Story} {n : Sizes} {pre : List Event} where
+  pub holds-active : (s : Side) (change : Active → Active) → Placid change → (f : Field) (es : List Event) → Holds v n pre f es → Holds v n pre (changed_active s change f) es
+  holds-active s change h f es m = record { begun = begun-active s change f (λ a. ap place_of (h a)) m.begun; exact = v.active s change h f (pre ++ es) m.exact }
+
+  pub holds-conditions : (s : Side) (change : ActiveConditions → ActiveConditions) → Calm change → (f : Field) (es : List Event)
+      → Holds v n pre f es → Holds v n pre (changed_conditions s change f) es
+  holds-conditions s change h f es m = record { begun = begun-conditions s change f m.begun; exact = v.conditions s change h f (pre ++ es) m.exact }
+
+  pub holds-member : (s : Side) (change : Member → Member) → Tame change → (f : Field) (es : List Event) → Holds v n pre f es → Holds v n pre (changed_member s change f) es
+  holds-member s change h f es m = record { begun = begun-member s change f m.begun; exact = v.member s change h f (pre ++ es) m.exact }
+
+  pub holds-noise : (e : Event) → is_noise e ≡ true → (f : Field) (es : List Event) → Holds v n pre f es → Holds v n pre f (es ++ e ∷ [])
+  holds-noise e h f es m = record { begun = m.begun; exact = at_end v.exact f pre es e (v.noise e h f (pre ++ es) m.exact) }
+
+  pub may-active : (s : Side) (change : Active → Active) → Placid change → (f : Field) (es : List Event) → May v n pre f es → May v n pre (changed_active s change f) es
+  may-active s change h f es m = record { begun = begun-active s change f (λ a. ap place_of (h a)) m.begun; loose = v.loose_active s change h f (pre ++ es) m.loose }
+
+  pub may-noise : (e : Event) → is_noise e ≡ true → (f : Field) (es : List Event) → May v n pre f es → May v n pre f (es ++ e ∷ [])
+  may-noise e h f es m = record { begun = m.begun; loose = at_end v.loose f pre es e (v.loose_noise e h f (pre ++ es) m.loose) }
+
+  pub loosened : (p : Progress) → Now v n pre p → MayFall v n pre p
+  loosened p m = record { begun = m.begun; loose = v.loosen p.field (pre ++ p.events) m.exact }
+
+module _ {v : Story} {n : Sizes} {pre : List Event} {S : Progress → Type 0} where
+  pub draw-tells : {Q : Progress → Type 0} {f : ℕ → Phase} → ((b : ℕ) → Leads (Now v n pre) Q S (f b)) → Leads (Now v n pre) Q S (draw f)
+  unfolding draw
+  draw-tells h = record { leads = λ p r m. (h (byte_at p.stream p.drawn)).leads (record p { drawn = p.drawn + 1 }) r m }
+
+  until-lands : {f : ℕ → Phase} (p : Progress) (o : Option ℕ) → ((b : ℕ) → Leads (Now v n pre) (Now v n pre) S (f b)) → p.stopped ≡ false → Now v n pre p
+      → Lands (Now v n pre) S (elim o as (λ _. Progress) [ Some m ↦ f (byte_at p.stream m) (record p { drawn = m + 1 }) | None ↦ record p { drawn = p.drawn + span p.stream } ])
+  until-lands p None h r m = Runs r m
+  until-lands p (Some n) h r m = (h (byte_at p.stream n)).leads (record p { drawn = n + 1 }) r m
+
+  pub until-tells : (test : ℕ → Bool) {f : ℕ → Phase} → ((b : ℕ) → Leads (Now v n pre) (Now v n pre) S (f b)) → Leads (Now v n pre) (Now v n pre) S (draw_until test f)
+  unfolding draw_until
+  until-tells test h = record { leads = λ p r m. until-lands p (first p.stream p.drawn test) h r m }
+
+  pub action-tells : (change : Action → Action) → Leads (Now v n pre) (Now v n pre) S (on_action change)
+  unfolding on_action
+  action-tells change = record { leads = λ p r m. Runs r m }
+
+  pub field-tells : (change : Field → Field) → ((f : Field) (es : List Event) → Holds v n pre f es → Holds v n pre (change f) es)
+      → Leads (Now v n pre) (Now v n pre) S (on_field change)
+  unfolding on_field
+  field-tells change h = record { leads = λ p r m. Runs r (h p.field p.events m) }
+
+  -- A change and its event together.
+  pub told-tells : (change : Field → Field) (event : Field → Event)
+      → ((f : Field) (es : List Event) → Holds v n pre f es → Holds v n pre (change f) (es ++ event (change f) ∷ []))
+      → Leads (Now v n pre) (Now v n pre) S (told change event)
+  unfolding told
+  told-tells change event h = record { leads = λ p r m. Runs r (h p.field p.events m) }
+
+  -- An event that a story doesn't follow.
+  pub told-noise : (change : Field → Field) (event : Field → Event) → ((f : Field) (es : List Event) → Holds v n pre f es → Holds v n pre (change f) es)
+      → ((f : Field) → is_noise (event f) ≡ true) → Leads (Now v n pre) (Now v n pre) S (told change event)
+  told-noise change event h k = told-tells change event (λ f es m. holds-noise (event (change f)) (k (change f)) (change f) es (h f es m))
+
+  pub note-tells : (event : Field → Event) → ((f : Field) → is_noise (event f) ≡ true) → Leads (Now v n pre) (Now v n pre) S (note event)
+  unfolding note
+  note-tells event h = record { leads = λ p r m. Runs r (holds-noise (event p.field) (h p.field) p.field p.events m) }
+
+  pub active-tells : (s : Side) (change : Active → Active) → Placid change → Leads (Now v n pre) (Now v n pre) S (on_active s change)
+  unfolding on_active
+  active-tells s change h = field-tells _ (holds-active s change h)
+
+  pub conditions-tells : (s : Side) (change : ActiveConditions → ActiveConditions) → Calm change → Leads (Now v n pre) (Now v n pre) S (on_conditions s change)
+  unfolding on_conditions
+  conditions-tells s change h = field-tells _ (holds-conditions s change h)
+
+  pub member-tells : (s : Side) (change : Member → Member) → Tame change → Leads (Now v n pre) (Now v n pre) S (on_member s change)
+  unfolding on_member
+  member-tells s change h = field-tells _ (holds-member s change h)
+
+  pub damage-tells : (damage : ℕ) → Leads (Now v n pre) (Now v n pre) S (set_last_damage damage)
+  unfolding set_last_damage with_last_damage
+  damage-tells damage = field-tells (with_last_damage damage) (λ f es m. record {
+    begun = record { both = record { one = m.begun.both.one; two = m.begun.both.two }; sized = record { one = m.begun.sized.one; two = m.begun.sized.two } };
+    exact = v.apart f (with_last_damage damage f) (pre ++ es) refl refl m.exact;
+  })
+
+  pub starts-tells : (s : Side) (what : Volatile) (change : ActiveConditions → ActiveConditions) → Marks what true change
+      → Leads (Now v n pre) (Now v n pre) S (starts s what change)
+  unfolding starts
+  starts-tells s what change h = told-tells (changed_conditions s change) (λ f. events.Start (who_in s f) what) (λ f es m. record {
+    begun = begun-conditions s change f m.begun;
+    exact = at_end v.exact (changed_conditions s change f) pre es (events.Start (who_in s (changed_conditions s change f)) what)
+        (v.starts s what change h f (pre ++ es) m.begun.both m.exact);
+  })
+
+  pub ends-tells : (s : Side) (what : Volatile) (change : ActiveConditions → ActiveConditions) → Marks what false change
+      → Leads (Now v n pre) (Now v n pre) S (ends s what change)
+  unfolding ends
+  ends-tells s what change h = told-tells (changed_conditions s change) (λ f. events.End (who_in s f) what) (λ f es m. record {
+    begun = begun-conditions s change f m.begun;
+    exact = at_end v.exact (changed_conditions s change f) pre es (events.End (who_in s (changed_conditions s change f)) what)
+        (v.ends s what change h f (pre ++ es) m.begun.both m.exact);
+  })
+
+  pub lasts-tells : (s : Side) (what : Volatile) (change : ActiveConditions → ActiveConditions) → Calm change
+      → Leads (Now v n pre) (Now v n pre) S (lasts s what change)
+  unfolding lasts
+  lasts-tells s what change h = told-noise (changed_conditions s change) (λ f. events.Activate (who_in s f) what) (holds-conditions s change h) (λ f. refl)
+
+  pub lose-tells : (s : Side) (source : DamageSource) (amount : ℕ) → Leads (Now v n pre) (Now v n pre) S (lose_hp s source amount)
+  unfolding lose_hp hurt_by
+  lose-tells s source amount = choose-tells _
+      (told-noise (changed_member s (hurt_by amount)) (λ f. events.Damage (who_in s f) (health_in s f) source) (holds-member s (hurt_by amount) (λ m. refl)) (λ f. refl)) stay-tells
+
+  pub gain-tells : (s : Side) (amount : ℕ) → Leads (Now v n pre) (Now v n pre) S (gain_hp s amount)
+  unfolding gain_hp healed_by
+  gain-tells s amount = choose-tells _
+      (told-noise (changed_member s (healed_by amount)) (λ f. events.Heal (who_in s f) (health_in s f)) (holds-member s (healed_by amount) (λ m. refl)) (λ f. refl)) stay-tells
+
+  pub status-tells : (s : Side) (status : Status) (kind : Kind)
+      → Leads (Now v n pre) (Now v n pre) S (told (changed_member s (with_status status)) (λ f. events.Status (who_in s f) kind))
+  unfolding with_status
+  status-tells s status kind = told-noise (changed_member s (with_status status)) (λ f. events.Status (who_in s f) kind) (holds-member s (with_status status) (λ m. refl)) (λ f. refl)
+
+  pub inflict-tells : (s : Side) (status : Status) (kind : Kind) → Leads (Now v n pre) (Now v n pre) S (inflict s status kind)
+  unfolding inflict with_status
+  inflict-tells s status kind = member-tells s (with_status status) (λ m. refl)
+      ⊳ told-noise (changed_active s (with_penalty_of status)) (λ f. events.Status (who_in s f) kind) (holds-active s (with_penalty_of status) (penalty-placid status)) (λ f. refl)
+
+  pub cure-tells : (s : Side) (kind : Kind) → Leads (Now v n pre) (Now v n pre) S (cure s kind)
+  unfolding cure with_status
+  cure-tells s kind = told-noise (changed_member s (with_status Healthy)) (λ f. events.Cure (who_in s f) kind) (holds-member s (with_status Healthy) (λ m. refl)) (λ f. refl)
+
+  pub fault-step : (k : ℕ) → Leads (Now v n pre) (Now v n pre) S (on_field (with_outcome (outcomes.Fault k)))
+  unfolding with_outcome
+  fault-step k = field-tells (with_outcome (outcomes.Fault k)) (λ f es m. record {
+    begun = record { both = record { one = m.begun.both.one; two = m.begun.both.two }; sized = record { one = m.begun.sized.one; two = m.begun.sized.two } };
+    exact = v.apart f (with_outcome (outcomes.Fault k) f) (pre ++ es) refl refl m.exact;
+  })
+
+module _ {v : Story} {n : Sizes} {pre : List Event} where
+  pub stop-tells : Tells v n pre stop
+  stop-tells = stop-leads loosened
+
+  pub fault-tells : (k : ℕ) → Tells v n pre (fault k)
+  unfolding fault
+  fault-tells k = fault-step k ⊳ stop-tells

@@ -1,0 +1,399 @@
+-- A story stays true through what moves do in addition to damage.
+use Rattle.std.proofs.Common.{[], Bool, List, None, Option, Some, ap, false, refl, subst, sym, true, ℕ, ◌++◌, ◌∷◌, ◌≡◌}
+use Rattle.gen1_tables.specs.declared.effect.Stat.{Stat}
+use Rattle.gen1_tables.specs.declared.effect.Stat.TheVariants.{Attack, Speed}
+use Rattle.gen1_tables.specs.declared.effect.Effect.{Effect}
+use Rattle.gen1_tables.specs.declared.effect.Effect.TheVariants as effects
+use Rattle.gen1_stats.specs.declared.known_move.KnownMove.{KnownMove}
+use Rattle.gen1_stats.specs.declared.status.Status.{Status}
+use Rattle.gen1_stats.specs.declared.status.Status.TheVariants.{Asleep}
+use Rattle.gen1_machine.specs.declared.side.Side.{Side}
+use Rattle.gen1_machine.specs.declared.side.Side.TheVariants.{One, Two}
+use Rattle.gen1_machine.specs.declared.health.Kind.{Kind}
+use Rattle.gen1_machine.specs.declared.health.Kind.TheVariants as kinds
+use Rattle.gen1_machine.specs.declared.event.Volatile.TheVariants as volatiles
+use Rattle.gen1_machine.specs.declared.event.Event.{Event}
+use Rattle.gen1_machine.specs.declared.event.Event.TheVariants as events
+use Rattle.gen1_machine.specs.Sides.{other}
+use Rattle.gen1_machine.specs.Conditions.{with_recharge, after_haze}
+use Rattle.gen1_machine.specs.Moves.{Move}
+use Rattle.gen1_machine.specs.State.{active_in, who_in, kind_of, changed_active, changed_conditions, with_types_of, Active, Field, Terms}
+use Rattle.gen1_machine.specs.CurrentStats.{at_new_stage, recomputed_at, with_penalty_of}
+use Rattle.gen1_machine.specs.Progress.{Phase, active, note, on_active, on_conditions, on_field, told, Progress}
+use Rattle.gen1_machine.specs.StageShift.{note_boost, note_unboost, take_penalty_again, shift_to, raise_from, lower_from, raise_stage, lower_stage}
+use Rattle.gen1_machine.specs.Ruling.{is_sleep_count, sleep_for, fall_asleep, sleep_freely, freeze_freely, sleep_only_one, freeze_only_one, sleeps_under, freezes_under, ruling_of, Ruling}
+use Rattle.gen1_machine.specs.EarlyEffects.{confused_by, confuse, confuse_foe, take_types, convert, set_mist, set_focus_energy, set_light_screen, set_reflect, set_screen, with_levelled_stats, clear_side, cure_kind, set_skips, haze_cures, haze, rest_up, recover, heal, poison_foe, paralyse_foe, seed_foe, pay_for_substitute, make_substitute, splash, early_effect}
+use Rattle.gen1_machine.specs.LateEffects.{ready_to_sleep, put_to_sleep, lower_foes_stat, bide_for, start_bide, late_effect}
+use Rattle.gen1_machine.specs.SideEffects.{happens_below, by_chance, thaw, may_inflict, may_poison, may_confuse, flinch, kept_away_effect, names_slot, disable_for, disable_slot, disable, must_recharge, side_effect}
+use Rattle.gen1_machine.proofs.Watching.{seeing, Runs, Leads, before-leads, ◌⊳◌, choose-tells, given-tells, given-sees, stay-tells}
+use Rattle.gen1_player.proofs.Facts.{penalty-placid, is_noise, with_cleared, Placid, Sizes}
+use Rattle.gen1_player.proofs.Stories.{Begun, Story, Holds, Now, MayFall, Tells, at_end, begun-active, begun-conditions, holds-conditions, may-active, may-noise, draw-tells, until-tells, told-noise, note-tells, active-tells, conditions-tells, starts-tells, lose-tells, gain-tells, status-tells, inflict-tells, cure-tells}
+use Rattle.gen1_player.proofs.ToldGate.{fail-tells, fails_if-tells, must_hit-tells}
+
+pub record RulingTells (v : Story) (n : Sizes) (pre : List Event) (r : Ruling) : Type 0 where
+  pub sleeps : (s : Side) → Tells v n pre (r.sleeps s)
+  pub freezes : (s : Side) → Tells v n pre (r.freezes s)
+
+-- Stages. They shift after a member fell without an event too
+
+recomputed-placid : (stat : Stat) (k : ℕ) → Placid (recomputed_at stat k)
+unfolding recomputed_at
+recomputed-placid Attack k a = refl
+recomputed-placid Speed k a = refl
+recomputed-placid _ k a = refl
+
+new_stage-placid : (stat : Stat) (k : ℕ) → Placid (at_new_stage stat k)
+unfolding at_new_stage
+new_stage-placid stat k a = refl
+
+-- A fact that changes of an active member keep, and events that a story doesn't follow.
+record Steady (P : Progress → Type 0) : Type 1 where
+  active : (S : Progress → Type 0) (s : Side) (change : Active → Active) → Placid change → Leads P P S (on_active s change)
+  note : (S : Progress → Type 0) (event : Field → Event) → ((f : Field) → is_noise (event f) ≡ true) → Leads P P S (note event)
+
+module _ {P S : Progress → Type 0} (k : Steady P) where
+  penalty-shifts : (s : Side) → Leads P P S (take_penalty_again s)
+  unfolding take_penalty_again
+  penalty-shifts s = given-tells _ (λ status. k.active _ s (with_penalty_of status) (penalty-placid status))
+
+  shift_to-shifts : (user target : Side) (stat : Stat) (m : ℕ) → Leads P P S (shift_to user target stat m)
+  unfolding shift_to
+  shift_to-shifts user target stat m = k.active _ target (recomputed_at stat m) (recomputed-placid stat m) ⊳ penalty-shifts (other user)
+
+  boost-shifts : (s : Side) (stat : Stat) (m : ℕ) → Leads P P S (note_boost s stat m)
+  unfolding note_boost
+  boost-shifts s stat m = choose-tells _ (k.note _ (λ f. events.Boost (who_in s f) stat m) (λ f. refl)) stay-tells
+
+  unboost-shifts : (s : Side) (stat : Stat) (m : ℕ) → Leads P P S (note_unboost s stat m)
+  unfolding note_unboost
+  unboost-shifts s stat m = choose-tells _ (k.note _ (λ f. events.Unboost (who_in s f) stat m) (λ f. refl)) stay-tells
+
+  raise_from-shifts : (user target : Side) (stat : Stat) (by : ℕ) {f : Phase} (m : ℕ) (full : Bool) → Leads P P S f → Leads P P S (raise_from user target stat by f m full)
+  unfolding raise_from
+  raise_from-shifts user target stat by m full h = choose-tells _ h
+      (choose-tells _ (k.active _ target (at_new_stage stat _) (new_stage-placid stat _) ⊳ boost-shifts target stat _ ⊳ h) (shift_to-shifts user target stat _ ⊳ boost-shifts target stat _))
+
+  lower_from-shifts : (user target : Side) (stat : Stat) (by : ℕ) {f : Phase} (m : ℕ) (least : Bool) → Leads P P S f → Leads P P S (lower_from user target stat by f m least)
+  unfolding lower_from
+  lower_from-shifts user target stat by m least h = choose-tells _ h
+      (choose-tells _ (k.active _ target (at_new_stage stat _) (new_stage-placid stat _) ⊳ unboost-shifts target stat _ ⊳ h) (shift_to-shifts user target stat _ ⊳ unboost-shifts target stat _))
+
+  raise-shifts : (user target : Side) (stat : Stat) (by : ℕ) {f : Phase} → Leads P P S f → Leads P P S (raise_stage user target stat by f)
+  unfolding raise_stage
+  raise-shifts user target stat by h = given-tells _ (λ m. given-tells _ (λ full. raise_from-shifts user target stat by m full h))
+
+  lower-shifts : (user target : Side) (stat : Stat) (by : ℕ) {f : Phase} → Leads P P S f → Leads P P S (lower_stage user target stat by f)
+  unfolding lower_stage
+  lower-shifts user target stat by h = given-tells _ (λ m. given-tells _ (λ least. lower_from-shifts user target stat by m least h))
+
+-- Haze: both sides are cleared before its event
+
+pub record Due (v : Story) (n : Sizes) (pre : List Event) (change : Field → Field) (f : Field) (es : List Event) : Type 0 where
+  pub before : Field
+  pub held : Holds v n pre before es
+  pub now : f ≡ change before
+
+abbrev pub IsDue : Story → Sizes → List Event → (Field → Field) → Progress → Type 0
+IsDue v n pre change p = Due v n pre change p.field p.events
+
+cleared-begun : {n : Sizes} (s : Side) (f : Field) → Begun n f → Begun n (with_cleared s f)
+unfolding with_levelled_stats
+cleared-begun s f b = begun-conditions s after_haze (changed_active s with_levelled_stats f) (begun-active s with_levelled_stats f (λ a. refl) b)
+
+module _ {v : Story} {n : Sizes} {pre : List Event} where
+  now-steady : Steady (Now v n pre)
+  now-steady = record { active = λ S s change h. active-tells s change h; note = λ S event h. note-tells event h }
+
+  may-steady : Steady (MayFall v n pre)
+  unfolding on_active on_field note
+  may-steady = record {
+    active = λ S s change h. record { leads = λ p r m. Runs r (may-active s change h p.field p.events m) };
+    note = λ S event h. record { leads = λ p r m. Runs r (may-noise (event p.field) (h p.field) p.field p.events m) };
+  }
+
+  pub raise-tells : {S : Progress → Type 0} (user target : Side) (stat : Stat) (by : ℕ) {f : Phase} → Leads (Now v n pre) (Now v n pre) S f
+      → Leads (Now v n pre) (Now v n pre) S (raise_stage user target stat by f)
+  raise-tells user target stat by h = raise-shifts now-steady user target stat by h
+
+  pub lower-tells : {S : Progress → Type 0} (user target : Side) (stat : Stat) (by : ℕ) {f : Phase} → Leads (Now v n pre) (Now v n pre) S f
+      → Leads (Now v n pre) (Now v n pre) S (lower_stage user target stat by f)
+  lower-tells user target stat by h = lower-shifts now-steady user target stat by h
+
+  pub raise-falls : {S : Progress → Type 0} (user target : Side) (stat : Stat) (by : ℕ) {f : Phase} → Leads (MayFall v n pre) (MayFall v n pre) S f
+      → Leads (MayFall v n pre) (MayFall v n pre) S (raise_stage user target stat by f)
+  raise-falls user target stat by h = raise-shifts may-steady user target stat by h
+
+  pub now-due : (p : Progress) → Now v n pre p → IsDue v n pre (λ f. f) p
+  now-due p m = record { before = p.field; held = m; now = refl }
+
+  pub due-field : {S : Progress → Type 0} (change G : Field → Field) → Leads (IsDue v n pre G) (IsDue v n pre (λ f. change (G f))) S (on_field change)
+  unfolding on_field
+  due-field change G = record { leads = λ p r m. Runs r (record { before = m.before; held = m.held; now = ap change m.now }) }
+
+  clear_side-tells : {S : Progress → Type 0} (s : Side) (G : Field → Field) → Leads (IsDue v n pre G) (IsDue v n pre (λ f. with_cleared s (G f))) S (clear_side s)
+  unfolding clear_side on_active on_conditions
+  clear_side-tells s G = due-field (changed_active s with_levelled_stats) G ⊳ due-field (changed_conditions s after_haze) (λ f. changed_active s with_levelled_stats (G f))
+
+  holds-cleared : (f : Field) (es : List Event) → Holds v n pre f es → Holds v n pre (with_cleared Two (with_cleared One f)) (es ++ events.ClearAll ∷ [])
+  holds-cleared f es m = record {
+    begun = cleared-begun Two (with_cleared One f) (cleared-begun One f m.begun);
+    exact = at_end v.exact (with_cleared Two (with_cleared One f)) pre es events.ClearAll (v.clears f (pre ++ es) m.begun.both m.exact);
+  }
+
+  clears-told : {S : Progress → Type 0} → Leads (IsDue v n pre (λ f. with_cleared Two (with_cleared One f))) (Now v n pre) S (note (λ f. events.ClearAll))
+  unfolding note
+  clears-told = record {
+    leads = λ p r m. Runs r (subst (λ (f : Field). Holds v n pre f (p.events ++ events.ClearAll ∷ [])) (sym m.now) (holds-cleared m.before p.events m.held));
+  }
+
+  -- Conversion
+
+  holds-converted : (s : Side) (f : Field) (es : List Event) → Holds v n pre f es
+      → let g : Field = changed_active s (with_types_of (active_in (other s) f)) f in Holds v n pre g (es ++ events.Start (who_in s g) volatiles.TypeChange ∷ [])
+  unfolding with_types_of
+  holds-converted s f es m =
+      let change : Active → Active = with_types_of (active_in (other s) f) in
+      let g : Field = changed_active s change f in
+      record {
+        begun = begun-active s change f (λ a. refl) m.begun;
+        exact = at_end v.exact g pre es (events.Start (who_in s g) volatiles.TypeChange) (v.converts s f (pre ++ es) m.begun.both m.exact);
+      }
+
+module _ {v : Story} {n : Sizes} {pre : List Event} where
+  -- The rulings
+
+  pub sleep_for-tells : (marked : Bool) (s : Side) (b : ℕ) → Tells v n pre (sleep_for marked s b)
+  unfolding sleep_for seeing
+  sleep_for-tells marked s b = inflict-tells s _ _
+
+  pub fall_asleep-tells : (marked : Bool) (s : Side) → Tells v n pre (fall_asleep marked s)
+  unfolding fall_asleep seeing
+  fall_asleep-tells marked s = until-tells is_sleep_count (sleep_for-tells marked s)
+
+  sleeps_under-tells : (clause : Bool) (s : Side) → Tells v n pre (sleeps_under clause s)
+  unfolding sleeps_under sleep_only_one sleep_freely seeing
+  sleeps_under-tells true s = fails_if-tells s _ ⊳ fall_asleep-tells true (other s)
+  sleeps_under-tells false s = fall_asleep-tells false (other s)
+
+  freeze_freely-tells : (s : Side) → Tells v n pre (freeze_freely s)
+  unfolding freeze_freely seeing
+  freeze_freely-tells s = conditions-tells (other s) _ (λ c. refl) ⊳ inflict-tells (other s) _ _
+
+  freezes_under-tells : (clause : Bool) (s : Side) → Tells v n pre (freezes_under clause s)
+  unfolding freezes_under freeze_only_one seeing
+  freezes_under-tells true s = choose-tells _ stay-tells (freeze_freely-tells s)
+  freezes_under-tells false s = freeze_freely-tells s
+
+  pub ruling_of-tells : (t : Terms) → RulingTells v n pre (ruling_of t)
+  ruling_of-tells t = record { sleeps = sleeps_under-tells t.rules.sleep_clause; freezes = freezes_under-tells t.rules.freeze_clause }
+
+  -- Before damage
+
+  pub confused_by-tells : (s : Side) (b : ℕ) → Tells v n pre (confused_by s b)
+  unfolding confused_by seeing
+  confused_by-tells s b = starts-tells s _ _ (λ c. refl)
+
+  pub confuse-tells : (s : Side) → Tells v n pre (confuse s)
+  unfolding confuse seeing
+  confuse-tells s = draw-tells (confused_by-tells s)
+
+  pub confuse_foe-tells : (s : Side) (move : Move) → Tells v n pre (confuse_foe s move)
+  unfolding confuse_foe seeing
+  confuse_foe-tells s move = fails_if-tells s _ ⊳ must_hit-tells s move ⊳ fails_if-tells s _ ⊳ confuse-tells (other s)
+
+  pub take_types-tells : {S : Progress → Type 0} (s : Side) (foe : Active)
+      → Leads (λ p. Now v n pre p × (active (other s) p ≡ foe)) (Now v n pre) S (take_types s foe)
+  unfolding take_types told
+  take_types-tells s foe = record {
+    leads = λ p r m.
+        Runs r (subst (λ (x : Active). Holds v n pre (changed_active s (with_types_of x) p.field)
+        (p.events ++ events.Start (who_in s (changed_active s (with_types_of x) p.field)) volatiles.TypeChange ∷ [])) m.1 (holds-converted s p.field p.events m.0));
+  }
+
+  pub convert-tells : (s : Side) → Tells v n pre (convert s)
+  unfolding convert seeing
+  convert-tells s = fails_if-tells s _ ⊳ given-sees (active (other s)) (take_types-tells s)
+
+  pub mist-tells : (s : Side) → Tells v n pre (set_mist s)
+  unfolding set_mist seeing
+  mist-tells s = fails_if-tells s _ ⊳ starts-tells s _ _ (λ c. refl)
+
+  pub focus_energy-tells : (s : Side) → Tells v n pre (set_focus_energy s)
+  unfolding set_focus_energy seeing
+  focus_energy-tells s = fails_if-tells s _ ⊳ starts-tells s _ _ (λ c. refl)
+
+  pub light_screen-tells : (s : Side) → Tells v n pre (set_light_screen s)
+  unfolding set_light_screen seeing
+  light_screen-tells s = fails_if-tells s _ ⊳ starts-tells s _ _ (λ c. refl)
+
+  pub reflect-tells : (s : Side) → Tells v n pre (set_reflect s)
+  unfolding set_reflect seeing
+  reflect-tells s = fails_if-tells s _ ⊳ starts-tells s _ _ (λ c. refl)
+
+  pub screen-tells : (s : Side) (move : Move) → Tells v n pre (set_screen s move)
+  unfolding set_screen seeing
+  screen-tells s move = choose-tells _ (light_screen-tells s) (reflect-tells s)
+
+  pub cure_kind-tells : (s : Side) (kind : Option Kind) → Tells v n pre (cure_kind s kind)
+  unfolding cure_kind seeing
+  cure_kind-tells s None = stay-tells
+  cure_kind-tells s (Some kind) = cure-tells s kind
+
+  pub skips-tells : (skips : Bool) → Tells v n pre (set_skips skips)
+  unfolding set_skips seeing
+  skips-tells skips = record { leads = λ p r m. Runs r m }
+
+  pub haze_cures-tells : (s : Side) (status : Status) → Tells v n pre (haze_cures s status)
+  unfolding haze_cures seeing
+  haze_cures-tells s status = skips-tells _ ⊳ cure_kind-tells s (kind_of status)
+
+  pub haze-tells : (s : Side) → Tells v n pre (haze s)
+  unfolding haze seeing
+  haze-tells s = before-leads now-due (clear_side-tells One (λ f. f)) ⊳ clear_side-tells Two (with_cleared One) ⊳ clears-told ⊳ given-tells _ (haze_cures-tells (other s))
+
+  pub rest_up-tells : (s : Side) → Tells v n pre (rest_up s)
+  unfolding rest_up seeing
+  rest_up-tells s = status-tells s (Asleep 2 false) kinds.Sleep ⊳ given-tells _ (λ m. gain-tells s _)
+
+  pub recover-tells : (s : Side) → Tells v n pre (recover s)
+  unfolding recover seeing
+  recover-tells s = given-tells _ (λ m. gain-tells s _)
+
+  pub heal-tells : (s : Side) (move : Move) → Tells v n pre (heal s move)
+  unfolding heal seeing
+  heal-tells s move = fails_if-tells s _ ⊳ choose-tells _ (rest_up-tells s) (recover-tells s)
+
+  pub poison-tells : (s : Side) (move : Move) → Tells v n pre (poison_foe s move)
+  unfolding poison_foe seeing
+  poison-tells s move = fails_if-tells s _ ⊳ fails_if-tells s _ ⊳ fails_if-tells s _ ⊳ must_hit-tells s move ⊳ inflict-tells (other s) _ _
+      ⊳ choose-tells _ (conditions-tells (other s) _ (λ c. refl)) stay-tells
+
+  pub paralyse-tells : (s : Side) (move : Move) → Tells v n pre (paralyse_foe s move)
+  unfolding paralyse_foe seeing
+  paralyse-tells s move = fails_if-tells s _ ⊳ fails_if-tells s _ ⊳ must_hit-tells s move ⊳ inflict-tells (other s) _ _
+
+  pub seed-tells : (s : Side) (move : Move) → Tells v n pre (seed_foe s move)
+  unfolding seed_foe seeing
+  seed-tells s move = must_hit-tells s move ⊳ fails_if-tells s _ ⊳ starts-tells (other s) _ _ (λ c. refl)
+
+  pub pay-tells : (s : Side) (cost : ℕ) → Tells v n pre (pay_for_substitute s cost)
+  unfolding pay_for_substitute seeing
+  pay-tells s cost = starts-tells s _ _ (λ c. refl) ⊳ lose-tells s _ cost
+
+  pub make_substitute-tells : (s : Side) → Tells v n pre (make_substitute s)
+  unfolding make_substitute seeing
+  make_substitute-tells s = fails_if-tells s _ ⊳ fails_if-tells s _ ⊳ given-tells _ (pay-tells s)
+
+  pub splash-tells : (s : Side) → Tells v n pre (splash s)
+  unfolding splash seeing
+  splash-tells s = note-tells _ (λ f. refl)
+
+  pub early_effect-tells : (s : Side) (move : Move) (e : Effect) → Tells v n pre (early_effect s move e)
+  unfolding early_effect seeing
+  early_effect-tells s move effects.Conversion = convert-tells s
+  early_effect-tells s move effects.Mist = mist-tells s
+  early_effect-tells s move effects.FocusEnergy = focus_energy-tells s
+  early_effect-tells s move effects.Screen = screen-tells s move
+  early_effect-tells s move effects.Haze = haze-tells s
+  early_effect-tells s move effects.InflictConfusion = confuse_foe-tells s move
+  early_effect-tells s move effects.Heal = heal-tells s move
+  early_effect-tells s move effects.InflictPoison = poison-tells s move
+  early_effect-tells s move effects.InflictParalysis = paralyse-tells s move
+  early_effect-tells s move effects.LeechSeed = seed-tells s move
+  early_effect-tells s move effects.Substitute = make_substitute-tells s
+  early_effect-tells s move effects.Splash = splash-tells s
+  early_effect-tells s move _ = fail-tells s
+
+  -- After the damage step
+
+  pub ready_to_sleep-tells : (s : Side) (move : Move) → Tells v n pre (ready_to_sleep s move)
+  unfolding ready_to_sleep seeing
+  ready_to_sleep-tells s move = choose-tells _ (conditions-tells (other s) _ (λ c. refl)) (fails_if-tells s _ ⊳ must_hit-tells s move)
+
+  pub put_to_sleep-tells : (r : Ruling) → RulingTells v n pre r → (s : Side) (move : Move) → Tells v n pre (put_to_sleep r s move)
+  unfolding put_to_sleep seeing
+  put_to_sleep-tells r h s move = ready_to_sleep-tells s move ⊳ h.sleeps s
+
+  pub lower_foes-tells : (s : Side) (move : Move) (stat : Stat) (by : ℕ) → Tells v n pre (lower_foes_stat s move stat by)
+  unfolding lower_foes_stat seeing
+  lower_foes-tells s move stat by = fails_if-tells s _ ⊳ must_hit-tells s move ⊳ fails_if-tells s _ ⊳ lower-tells s (other s) stat by (fail-tells s)
+
+  pub bide_for-tells : (s : Side) (b : ℕ) → Tells v n pre (bide_for s b)
+  unfolding bide_for seeing
+  bide_for-tells s b = starts-tells s _ _ (λ c. refl)
+
+  pub bide-tells : (s : Side) → Tells v n pre (start_bide s)
+  unfolding start_bide seeing
+  bide-tells s = draw-tells (bide_for-tells s)
+
+  pub late_effect-tells : (r : Ruling) → RulingTells v n pre r → (s : Side) (move : Move) (e : Effect) → Tells v n pre (late_effect r s move e)
+  unfolding late_effect seeing
+  late_effect-tells r h s move (effects.StatUp stat by) = raise-tells s s stat by (fail-tells s)
+  late_effect-tells r h s move (effects.StatDown stat by) = lower_foes-tells s move stat by
+  late_effect-tells r h s move effects.InflictSleep = put_to_sleep-tells r h s move
+  late_effect-tells r h s move effects.Bide = bide-tells s
+  late_effect-tells r h s move _ = stay-tells
+
+  -- Side effects
+
+  happens-tells : (bound : ℕ) {f : Phase} → Tells v n pre f → (x : ℕ) → Tells v n pre (happens_below bound f x)
+  unfolding happens_below seeing
+  happens-tells bound h x = choose-tells _ h stay-tells
+
+  pub by_chance-tells : (bound : ℕ) {f : Phase} → Tells v n pre f → Tells v n pre (by_chance bound f)
+  unfolding by_chance seeing
+  by_chance-tells bound h = draw-tells (happens-tells bound h)
+
+  pub thaw-tells : (s : Side) (move : Move) → Tells v n pre (thaw s move)
+  unfolding thaw seeing
+  thaw-tells s move = choose-tells _ (cure-tells (other s) _) stay-tells
+
+  pub may_inflict-tells : (s : Side) (move : Move) (bound : ℕ) {f : Phase} → Tells v n pre f → Tells v n pre (may_inflict s move bound f)
+  unfolding may_inflict seeing
+  may_inflict-tells s move bound h = choose-tells _ (thaw-tells s move) (choose-tells _ stay-tells (by_chance-tells bound h))
+
+  pub may_poison-tells : (s : Side) (bound : ℕ) → Tells v n pre (may_poison s bound)
+  unfolding may_poison seeing
+  may_poison-tells s bound = choose-tells _ stay-tells (by_chance-tells bound (inflict-tells (other s) _ _))
+
+  pub may_confuse-tells : (s : Side) (bound : ℕ) → Tells v n pre (may_confuse s bound)
+  unfolding may_confuse seeing
+  may_confuse-tells s bound = by_chance-tells bound (choose-tells _ stay-tells (confuse-tells (other s)))
+
+  pub flinches-tells : (s : Side) → Tells v n pre (flinch s)
+  unfolding flinch seeing
+  flinches-tells s = conditions-tells s _ (λ c. refl) ⊳ conditions-tells s _ (λ c. refl)
+
+  pub kept_away-tells : (r : Ruling) → RulingTells v n pre r → (s : Side) (move : Move) (e : Effect) → Tells v n pre (kept_away_effect r s move e)
+  unfolding kept_away_effect seeing
+  kept_away-tells r h s move (effects.PoisonChance n) = may_poison-tells s n
+  kept_away-tells r h s move effects.Twineedle = may_poison-tells s 52
+  kept_away-tells r h s move (effects.BurnChance n) = may_inflict-tells s move n (inflict-tells (other s) _ _)
+  kept_away-tells r h s move effects.FreezeChance = may_inflict-tells s move 26 (h.freezes s)
+  kept_away-tells r h s move (effects.ParalysisChance n) = may_inflict-tells s move n (inflict-tells (other s) _ _)
+  kept_away-tells r h s move (effects.FlinchChance n) = by_chance-tells n (flinches-tells (other s))
+  kept_away-tells r h s move (effects.StatDownChance stat) = by_chance-tells 85 (lower-tells s (other s) stat 1 stay-tells)
+  kept_away-tells r h s move _ = stay-tells
+
+  disable_for-tells : (s : Side) (b c : ℕ) → Tells v n pre (disable_for s b c)
+  unfolding disable_for seeing
+  disable_for-tells s b c = starts-tells s _ _ (λ c. refl)
+
+  disable_slot-tells : (s : Side) (moves : List KnownMove) (b : ℕ) → Tells v n pre (disable_slot s moves b)
+  unfolding disable_slot seeing
+  disable_slot-tells s moves b = fails_if-tells s _ ⊳ draw-tells (disable_for-tells (other s) b)
+
+  pub disable-tells : (s : Side) (move : Move) → Tells v n pre (disable s move)
+  unfolding disable seeing
+  disable-tells s move = must_hit-tells s move ⊳ fails_if-tells s _ ⊳ given-tells _ (λ moves. until-tells (names_slot moves) (disable_slot-tells s moves))
+
+  pub must_recharge-tells : (s : Side) → Tells v n pre (must_recharge s)
+  unfolding must_recharge with_recharge
+  must_recharge-tells s = told-noise (changed_conditions s with_recharge) (λ f. events.MustRecharge (who_in s f)) (holds-conditions s with_recharge (λ c. refl)) (λ f. refl)
+
+  pub side_effect-tells : (r : Ruling) → RulingTells v n pre r → (s : Side) (move : Move) (e : Effect) → Tells v n pre (side_effect r s move e)
+  unfolding side_effect seeing
+  side_effect-tells r h s move (effects.ConfusionChance n) = may_confuse-tells s n
+  side_effect-tells r h s move effects.Disable = disable-tells s move
+  side_effect-tells r h s move effects.Recharge = must_recharge-tells s
+  side_effect-tells r h s move e = choose-tells _ stay-tells (kept_away-tells r h s move e)

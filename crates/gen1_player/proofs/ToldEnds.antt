@@ -1,0 +1,254 @@
+-- A story stays true through the end of an update, and through a whole update.
+use Rattle.std.proofs.Common.{[], Bool, List, ap, arith, false, length, refl, subst, sym, true, true≢false, ◌++◌, ◌∙◌, ◌∷◌, ◌≡◌, ◌≤◌, ◌||◌}
+use Rattle.gen1_machine.specs.declared.side.Side.{Side}
+use Rattle.gen1_machine.specs.declared.side.Side.TheVariants.{One, Two}
+use Rattle.gen1_machine.specs.declared.terms.Outcome.{Outcome}
+use Rattle.gen1_machine.specs.declared.terms.Outcome.TheVariants as outcomes
+use Rattle.gen1_machine.specs.declared.terms.Request.{Request}
+use Rattle.gen1_machine.specs.declared.terms.Request.TheVariants as requests
+use Rattle.gen1_machine.specs.declared.event.Event.{Event}
+use Rattle.gen1_machine.specs.declared.event.Event.TheVariants as events
+use Rattle.gen1_machine.specs.declared.choice.Choice.{Choice}
+use Rattle.gen1_machine.specs.Sides.{other}
+use Rattle.gen1_machine.specs.State.{who_in, changed_member, with_outcome, with_requests, with_next_turn, fallen, Field, Party}
+use Rattle.gen1_machine.specs.Progress.{on_field, note, told, has_fallen, Progress}
+use Rattle.gen1_machine.specs.Ruling.{Ruling}
+use Rattle.gen1_machine.specs.Falls.{faint_if_fallen, faint_in_order, the_fallen_faint, ask_nothing, battle_ends, end_if_decided, switch_if, ask_for_switches, ask_for_moves, settle, close}
+use Rattle.gen1_machine.specs.SwitchingIn.{send_out, start, switch_event}
+use Rattle.gen1_machine.specs.Step.{update_for, close_update, update}
+use Rattle.gen1_machine.proofs.Showing.{IsOut}
+use Rattle.gen1_machine.proofs.Watching.{Runs, Rests, Lands, Leads, after-leads, before-leads, ◌⊳◌, choose-tells, choose-sees, given-tells, stay-tells, stop-leads}
+use Rattle.gen1_player.proofs.Facts.{is_noise, Sizes, sent, Fits}
+use Rattle.gen1_player.proofs.Stories.{Story, Switching, Sized, Begun, Holds, May, Now, MayFall, at_end, begun-member, holds-noise, may-noise, loosened}
+use Rattle.gen1_player.proofs.ToldTurns.{send_out-at, Goes, ChoiceFits, or-left, or-right, other-out-two, out-one, out-two, sent-sized, send_out-falls, tightened, turn-tells, replace-falls}
+
+-- After an update a story may be behind by a fall, but not before the next turn.
+pub record Waits (v : Story) (n : Sizes) (pre : List Event) (f : Field) (es : List Event) : Type 0 where
+  pub may : May v n pre f es
+  pub turn : f.request_one ≡ requests.Move → f.request_two ≡ requests.Move → Holds v n pre f es
+
+abbrev pub IsWaiting : Story → Sizes → List Event → Progress → Type 0
+IsWaiting v n pre p = Waits v n pre p.field p.events
+
+-- Before the first update no member needs to be out.
+pub record Fresh (v : Story) (n : Sizes) (pre : List Event) (f : Field) (es : List Event) : Type 0 where
+  pub sized : Sized n f
+  pub exact : v.exact f (pre ++ es)
+
+abbrev is_pass : Request → Bool
+is_pass requests.Pass = true
+is_pass _ = false
+
+abbrev is_move : Request → Bool
+is_move requests.Move = true
+is_move _ = false
+
+passes : (r : Request) → r ≡ requests.Pass → r ≡ requests.Move → ⊥
+passes r p m = true≢false (sym (ap is_pass p) ∙ ap is_pass m)
+
+switches : (b : Bool) → switch_if b ≡ requests.Move → ⊥
+switches true e = true≢false (sym (ap is_move e))
+switches false e = true≢false (sym (ap is_move e))
+
+same-begun : {n : Sizes} (f g : Field) → f.one ≡ g.one → f.two ≡ g.two → Begun n f → Begun n g
+same-begun {n} f g one two b = record {
+  both = record { one = subst IsOut one b.both.one; two = subst IsOut two b.both.two };
+  sized = record { one = ap (λ (t : Party). length t.members) (sym one) ∙ b.sized.one; two = ap (λ (t : Party). length t.members) (sym two) ∙ b.sized.two };
+}
+
+-- The first place holds a member.
+first-fits : {n : Sizes} (f : Field) → Begun n f → (s : Side) → Fits n s 1
+first-fits f b One = let e = b.sized.one in (omega arith, omega (arith, e, b.both.one.placed, b.both.one.within))
+first-fits f b Two = let e = b.sized.two in (omega arith, omega (arith, e, b.both.two.placed, b.both.two.within))
+
+module _ {v : Story} {n : Sizes} {pre : List Event} where
+  may-apart : (f g : Field) (es : List Event) → f.one ≡ g.one → f.two ≡ g.two → May v n pre f es → May v n pre g es
+  may-apart f g es one two m = record { begun = same-begun f g one two m.begun; loose = v.loose_apart f g (pre ++ es) one two m.loose }
+
+  holds-apart : (f g : Field) (es : List Event) → f.one ≡ g.one → f.two ≡ g.two → Holds v n pre f es → Holds v n pre g es
+  holds-apart f g es one two m = record { begun = same-begun f g one two m.begun; exact = v.apart f g (pre ++ es) one two m.exact }
+
+  waits-noise : (e : Event) → is_noise e ≡ true → (f : Field) (es : List Event) → Waits v n pre f es → Waits v n pre f (es ++ e ∷ [])
+  waits-noise e h f es m = record { may = may-noise e h f es m.may; turn = λ a b. holds-noise e h f es (m.turn a b) }
+
+  -- The fallen faint
+
+  fallen-may : (s : Side) (f : Field) (es : List Event) → May v n pre f es → May v n pre (changed_member s fallen f) es
+  fallen-may s f es m = record { begun = begun-member s fallen f m.begun; loose = v.loose_falls s f (pre ++ es) m.begun.both m.loose }
+
+  faint-falls : {S : Progress → Type 0} (s : Side) → Leads (MayFall v n pre) (MayFall v n pre) S (faint_if_fallen s)
+  unfolding faint_if_fallen told
+  faint-falls s = choose-tells _ (record {
+    leads = λ p r m.
+        Runs r (may-noise (events.Faint (who_in s (changed_member s fallen p.field))) refl (changed_member s fallen p.field) p.events (fallen-may s p.field p.events m));
+  }) stay-tells
+
+  faints-fall : {S : Progress → Type 0} → Leads (MayFall v n pre) (MayFall v n pre) S the_fallen_faint
+  unfolding the_fallen_faint faint_in_order
+  faints-fall = given-tells _ (λ actor. faint-falls (other actor) ⊳ faint-falls actor)
+
+  -- The battle ends
+
+  outcome-falls : {S : Progress → Type 0} (o : Outcome) → Leads (MayFall v n pre) (MayFall v n pre) S (on_field (with_outcome o))
+  unfolding on_field with_outcome
+  outcome-falls o = record { leads = λ p r m. Runs r (may-apart p.field (record p.field { outcome = o }) p.events refl refl m) }
+
+  asked-nothing : (f : Field) (es : List Event) → May v n pre f es → Waits v n pre (with_requests requests.Pass requests.Pass f) es
+  unfolding with_requests
+  asked-nothing f es m = record {
+    may = may-apart f (record f { request_one = requests.Pass; request_two = requests.Pass }) es refl refl m;
+    turn = λ a b. absurd (passes requests.Pass refl a);
+  }
+
+  ask_nothing-waits : {S : Progress → Type 0} → Leads (MayFall v n pre) (IsWaiting v n pre) S ask_nothing
+  unfolding ask_nothing on_field
+  ask_nothing-waits = record { leads = λ p r m. Runs r (asked-nothing p.field p.events m) }
+
+  note-waits : {S : Progress → Type 0} (event : Event) → is_noise event ≡ true → Leads (IsWaiting v n pre) (IsWaiting v n pre) S (note (λ f. event))
+  unfolding note
+  note-waits event h = record { leads = λ p r m. Runs r (waits-noise event h p.field p.events m) }
+
+  ends-wait : {Q : Progress → Type 0} (o : Outcome) (event : Event) → is_noise event ≡ true → Leads (MayFall v n pre) Q (IsWaiting v n pre) (battle_ends o event)
+  unfolding battle_ends
+  ends-wait o event h = outcome-falls o ⊳ ask_nothing-waits ⊳ note-waits event h ⊳ stop-leads (λ p m. m)
+
+  end_if-waits : (r : Ruling) → Leads (MayFall v n pre) (MayFall v n pre) (IsWaiting v n pre) (end_if_decided r)
+  unfolding end_if_decided
+  end_if-waits r = choose-tells _ (ends-wait outcomes.Tie events.Tie refl) stay-tells
+      ⊳ choose-tells _ (ends-wait outcomes.WinTwo (events.Win Two) refl) stay-tells
+      ⊳ choose-tells _ (ends-wait outcomes.WinOne (events.Win One) refl) stay-tells
+      ⊳ choose-tells _ (ends-wait outcomes.Tie events.Tie refl) stay-tells
+
+  -- The battle goes on
+
+  asked-switches : (one two : Bool) (f : Field) (es : List Event) → May v n pre f es → Waits v n pre (with_requests (switch_if one) (switch_if two) f) es
+  unfolding with_requests
+  asked-switches one two f es m = record {
+    may = may-apart f (record f { request_one = switch_if one; request_two = switch_if two }) es refl refl m;
+    turn = λ a b. absurd (switches one a);
+  }
+
+  ask_switches-wait : {S : Progress → Type 0} → Leads (MayFall v n pre) (IsWaiting v n pre) S ask_for_switches
+  unfolding ask_for_switches on_field
+  ask_switches-wait = given-tells _ (λ one. given-tells _ (λ two. record { leads = λ p r m. Runs r (asked-switches one two p.field p.events m) }))
+
+  next-holds : (f : Field) (es : List Event) → Holds v n pre f es → Holds v n pre (with_next_turn f) es
+  unfolding with_next_turn
+  next-holds f es m = holds-apart f (with_next_turn f) es refl refl m
+
+  turn-holds : (f : Field) (es : List Event) → Holds v n pre f es → Holds v n pre (with_requests requests.Move requests.Move f) es
+  unfolding with_requests
+  turn-holds f es m = holds-apart f (with_requests requests.Move requests.Move f) es refl refl m
+
+  waiting : (p : Progress) → Now v n pre p → IsWaiting v n pre p
+  waiting p m = record { may = loosened p m; turn = λ a b. m }
+
+  next-tells : {S : Progress → Type 0} → Leads (Now v n pre) (Now v n pre) S (on_field with_next_turn)
+  unfolding on_field
+  next-tells = record { leads = λ p r m. Runs r (next-holds p.field p.events m) }
+
+  asked-moves : {S : Progress → Type 0} → Leads (Now v n pre) (Now v n pre) S (told (with_requests requests.Move requests.Move) (λ f. events.Turn f.turn))
+  unfolding told
+  asked-moves = record {
+    leads = λ p r m.
+        let g : Field = with_requests requests.Move requests.Move p.field in
+        Runs r (holds-noise (events.Turn g.turn) refl g p.events (turn-holds p.field p.events m));
+  }
+
+  ask_moves-wait : {S : Progress → Type 0} → Leads (Now v n pre) (IsWaiting v n pre) S ask_for_moves
+  unfolding ask_for_moves
+  ask_moves-wait = next-tells ⊳ after-leads waiting asked-moves
+
+  none-fallen : (p : Progress) → MayFall v n pre p × ((has_fallen One p || has_fallen Two p) ≡ false) → Now v n pre p
+  none-fallen p m = tightened p m.0 (or-left (has_fallen One p) (has_fallen Two p) m.1) (or-right (has_fallen One p) (has_fallen Two p) m.1)
+
+  settle-waits : (r : Ruling) → Leads (MayFall v n pre) (IsWaiting v n pre) (IsWaiting v n pre) (settle r)
+  unfolding settle
+  settle-waits r = end_if-waits r
+      ⊳ choose-sees (λ p. has_fallen One p || has_fallen Two p) (before-leads (λ p m. m.0) ask_switches-wait) (before-leads none-fallen ask_moves-wait)
+
+  close-waits : (r : Ruling) (o : Outcome) → Leads (MayFall v n pre) (IsWaiting v n pre) (IsWaiting v n pre) (close r o)
+  unfolding close
+  close-waits r (outcomes.Fault k) = ask_nothing-waits ⊳ note-waits (events.Fault k) refl
+  close-waits r _ = faints-fall ⊳ settle-waits r
+
+  ended : (q : Progress) → Lands (IsWaiting v n pre) (IsWaiting v n pre) q → IsWaiting v n pre q
+  ended q (Runs r m) = m
+  ended q (Rests r m) = m
+
+  pub close-done : (r : Ruling) (q : Progress) → MayFall v n pre q → IsWaiting v n pre (close_update r q)
+  unfolding close_update
+  close-done r q m = let x : Progress = record q { stopped = false } in ended (close r q.field.outcome x) ((close-waits r q.field.outcome).leads x refl m)
+
+  fallen-or-not : (q : Progress) → Lands (MayFall v n pre) (MayFall v n pre) q → MayFall v n pre q
+  fallen-or-not q (Runs r m) = m
+  fallen-or-not q (Rests r m) = m
+
+  -- The first members come out
+
+  start-falls : Switching v → Fits n One 1 → Fits n Two 1 → Leads (MayFall v n pre) (MayFall v n pre) (MayFall v n pre) start
+  unfolding start
+  start-falls w one two = send_out-falls w One 1 one ⊳ send_out-falls w Two 1 two
+
+  first-tells : {S : Progress → Type 0} → Switching v → 1 ≤ n.one
+      → Leads (λ p. Fresh v n pre p.field p.events) (λ p. Fresh v n pre p.field p.events × IsOut p.field.one) S (send_out One 1)
+  first-tells {S} w one = record {
+    leads = λ p r m.
+        let e = m.sized.one in
+        let high : 1 ≤ length p.field.one.members = omega (arith, one, e) in
+        let f : Field = sent One 1 p.field in
+        subst (λ (x : Progress). Lands (λ p. Fresh v n pre p.field p.events × IsOut p.field.one) S x) (sym (send_out-at One 1 p r)) (Runs r (
+          record {
+            sized = sent-sized n One 1 p.field m.sized;
+            exact = at_end v.exact f pre p.events (switch_event One 1 f) (w.sends One 1 p.field (pre ++ p.events) (omega arith) high m.exact);
+          },
+          out-one 1 p.field (omega arith) high,
+        ));
+  }
+
+  second-tells : {S : Progress → Type 0} → Switching v → 1 ≤ n.two
+      → Leads (λ p. Fresh v n pre p.field p.events × IsOut p.field.one) (Now v n pre) S (send_out Two 1)
+  second-tells {S} w two = record {
+    leads = λ p r m.
+        let e = m.0.sized.two in
+        let high : 1 ≤ length p.field.two.members = omega (arith, two, e) in
+        let f : Field = sent Two 1 p.field in
+        subst (λ (x : Progress). Lands (Now v n pre) S x) (sym (send_out-at Two 1 p r)) (Runs r (record {
+          begun = record {
+            both = record { one = other-out-two 1 p.field m.1; two = out-two 1 p.field (omega arith) high };
+            sized = sent-sized n Two 1 p.field m.0.sized;
+          };
+          exact = at_end v.exact f pre p.events (switch_event Two 1 f) (w.sends Two 1 p.field (pre ++ p.events) (omega arith) high m.0.exact);
+        }));
+  }
+
+  begins-tells : Switching v → 1 ≤ n.one → 1 ≤ n.two → Leads (λ p. Fresh v n pre p.field p.events) (MayFall v n pre) (MayFall v n pre) start
+  unfolding start
+  begins-tells w one two = first-tells w one ⊳ after-leads loosened (second-tells w two)
+
+  -- An update
+
+  update_for-falls : (r : Ruling) → Goes v n pre r → (a b : Request) (one two : Choice) → ChoiceFits n One one → ChoiceFits n Two two
+      → (p : Progress) → p.stopped ≡ false → May v n pre p.field p.events → (a ≡ requests.Move → b ≡ requests.Move → Holds v n pre p.field p.events)
+      → Lands (MayFall v n pre) (MayFall v n pre) (update_for r a b one two p)
+  unfolding update_for
+  update_for-falls r k requests.Move requests.Move one two c d p i m t = (turn-tells r k one two c d).leads p i (t refl refl)
+  update_for-falls r k requests.Pass requests.Pass one two c d p i m t = (start-falls k.switching (first-fits p.field m.begun One) (first-fits p.field m.begun Two)).leads p i m
+  update_for-falls r k _ _ one two c d p i m t = (replace-falls k.switching one two c d).leads p i m
+
+  pub update-done : (r : Ruling) → Goes v n pre r → (one two : Choice) → ChoiceFits n One one → ChoiceFits n Two two
+      → (p : Progress) → p.stopped ≡ false → IsWaiting v n pre p → IsWaiting v n pre (update r one two p)
+  unfolding update
+  update-done r k one two c d p i m =
+      let q : Progress = update_for r p.field.request_one p.field.request_two one two p in
+      close-done r q (fallen-or-not q (update_for-falls r k p.field.request_one p.field.request_two one two c d p i m.may m.turn))
+
+  -- The first update. Before it no member is out.
+  pub first-done : Switching v → (r : Ruling) (one two : Choice) (p : Progress) → p.stopped ≡ false → Fresh v n pre p.field p.events
+      → p.field.request_one ≡ requests.Pass → p.field.request_two ≡ requests.Pass → 1 ≤ n.one → 1 ≤ n.two → IsWaiting v n pre (update r one two p)
+  unfolding update update_for
+  first-done w r one two p i m a b c d =
+      let q : Progress = update_for r requests.Pass requests.Pass one two p in
+      subst (λ (x : Progress). IsWaiting v n pre (close_update r x))
+      (sym (ap (λ (x : Request). update_for r x p.field.request_two one two p) a ∙ ap (λ (x : Request). update_for r requests.Pass x one two p) b))
+      (close-done r q (fallen-or-not q ((begins-tells w c d).leads p i m)))

@@ -1,0 +1,206 @@
+-- A story stays true through the gate, the landing and the hit test.
+use Rattle.std.proofs.Common.{Bool, List, None, Option, Some, false, if◌then◌else◌, refl, true, ℕ, ◌≡◌}
+use Rattle.gen1_stats.specs.declared.status.Status.{Status}
+use Rattle.gen1_stats.specs.declared.status.Status.TheVariants.{Asleep}
+use Rattle.gen1_machine.specs.declared.side.Side.{Side}
+use Rattle.gen1_machine.specs.declared.health.Kind.TheVariants as kinds
+use Rattle.gen1_machine.specs.declared.health.Who.{Who}
+use Rattle.gen1_machine.specs.declared.event.CantReason.{CantReason}
+use Rattle.gen1_machine.specs.declared.event.DamageSource.{DamageSource}
+use Rattle.gen1_machine.specs.declared.event.DamageSource.TheVariants as sources
+use Rattle.gen1_machine.specs.declared.event.Event.{Event}
+use Rattle.gen1_machine.specs.declared.event.Event.TheVariants as events
+use Rattle.gen1_machine.specs.declared.picks.Pick.{Pick}
+use Rattle.gen1_machine.specs.declared.picks.DisabledSlot.{DisabledSlot}
+use Rattle.gen1_machine.specs.Sides.{other}
+use Rattle.gen1_machine.specs.State.{who_in, changed_member, with_sleep_one_less}
+use Rattle.gen1_machine.specs.Moves.{Move}
+use Rattle.gen1_machine.specs.Progress.{set_missed, fail, fails_if, Progress}
+use Rattle.gen1_machine.specs.Damage.{before_types}
+use Rattle.gen1_machine.specs.HitTest.{miss, set_tested, hits_below, test_by, hit_test, hit_or_miss, note_miss, must_hit}
+use Rattle.gen1_machine.specs.Landing.{set_broke, land_on_substitute, land_on_hp, land_by, land_damage, land}
+use Rattle.gen1_machine.specs.HitOnItself.{land_on_foes_substitute, hurt_itself_by, hurt_itself}
+use Rattle.gen1_machine.specs.Gate.{cant, wake, sleep_on, sleep_test, frozen_test, trapped_test, flinch_test, recharge_test, disable_count, may_hurt_itself, confusion_test, disabled_test, may_be_paralysed, paralysis_test, gate_of_status, gate_of_turn, gate_of_move, gate}
+use Rattle.gen1_machine.proofs.Watching.{seeing, ◌⊳◌, choose-tells, given-tells, stay-tells}
+use Rattle.gen1_player.proofs.Facts.{is_noise, Tame, Sizes, confusion-calm, substitute-calm, disable-calm}
+use Rattle.gen1_player.proofs.Stories.{Story, Tells, holds-member, draw-tells, action-tells, told-noise, note-tells, conditions-tells, member-tells, damage-tells, ends-tells, lasts-tells, lose-tells, stop-tells, fault-tells}
+
+miss-noise : (b : Bool) (x y : Who) → is_noise (if b then events.Immune x else events.Miss y) ≡ true
+miss-noise true x y = refl
+miss-noise false x y = refl
+
+sleep-tame : Tame with_sleep_one_less
+unfolding with_sleep_one_less
+sleep-tame m = refl
+
+module _ {v : Story} {n : Sizes} {pre : List Event} where
+  -- Misses and failures
+
+  pub missed-tells : (missed : Bool) → Tells v n pre (set_missed missed)
+  unfolding set_missed seeing
+  missed-tells missed = action-tells _
+
+  pub fail-tells : (s : Side) → Tells v n pre (fail s)
+  unfolding fail seeing
+  fail-tells s = note-tells _ (λ f. refl) ⊳ stop-tells
+
+  pub fails_if-tells : (s : Side) (test : Progress → Bool) → Tells v n pre (fails_if s test)
+  unfolding fails_if seeing
+  fails_if-tells s test = choose-tells test (fail-tells s) stay-tells
+
+  pub cant-tells : (s : Side) (why : CantReason) → Tells v n pre (cant s why)
+  unfolding cant seeing
+  cant-tells s why = note-tells _ (λ f. refl) ⊳ stop-tells
+
+  -- The landing
+
+  pub broke-tells : Tells v n pre set_broke
+  unfolding set_broke seeing
+  broke-tells = action-tells _
+
+  pub on_substitute-tells : (s : Side) (damage hp : ℕ) → Tells v n pre (land_on_substitute s damage hp)
+  unfolding land_on_substitute seeing
+  on_substitute-tells s damage hp = choose-tells _ (broke-tells ⊳ ends-tells s _ _ (λ c. refl)) (lasts-tells s _ _ (substitute-calm damage))
+
+  pub on_hp-tells : (s : Side) (source : DamageSource) (damage : ℕ) → Tells v n pre (land_on_hp s source damage)
+  unfolding land_on_hp seeing
+  on_hp-tells s source damage = given-tells _ (λ m. damage-tells _ ⊳ lose-tells s source damage)
+
+  pub land_by-tells : (s : Side) (damage : ℕ) (o : Option ℕ) → Tells v n pre (land_by s damage o)
+  unfolding land_by seeing
+  land_by-tells s damage (Some hp) = on_substitute-tells s damage hp
+  land_by-tells s damage None = on_hp-tells s sources.Direct damage
+
+  pub land_damage-tells : (s : Side) (damage : ℕ) → Tells v n pre (land_damage s damage)
+  unfolding land_damage seeing
+  land_damage-tells s damage = given-tells _ (land_by-tells s damage)
+
+  pub land-tells : (s : Side) → Tells v n pre (land s)
+  unfolding land seeing
+  land-tells s = choose-tells _ (given-tells _ (land_damage-tells s)) stay-tells
+
+  -- The hit on itself
+
+  pub on_foes_substitute-tells : (s : Side) (damage : ℕ) (o : Option ℕ) → Tells v n pre (land_on_foes_substitute s damage o)
+  unfolding land_on_foes_substitute seeing
+  on_foes_substitute-tells s damage None = stay-tells
+  on_foes_substitute-tells s damage (Some hp) = on_substitute-tells (other s) damage hp
+
+  pub hurt_itself_by-tells : (s : Side) (o : Option ℕ) → Tells v n pre (hurt_itself_by s o)
+  unfolding hurt_itself_by seeing
+  hurt_itself_by-tells s None = fault-tells 1
+  hurt_itself_by-tells s (Some damage) = damage-tells damage ⊳ choose-tells _ (given-tells _ (on_foes_substitute-tells s damage)) (on_hp-tells s sources.Confusion damage)
+
+  pub hurt_itself-tells : (s : Side) → Tells v n pre (hurt_itself s)
+  unfolding hurt_itself seeing
+  hurt_itself-tells s = conditions-tells s _ (λ c. refl) ⊳ conditions-tells s _ (λ c. refl) ⊳ conditions-tells s _ (λ c. refl)
+      ⊳ given-tells _ (λ n. hurt_itself_by-tells s (before_types n)) ⊳ stop-tells
+
+  -- The gate
+
+  pub wake-tells : (s : Side) → Tells v n pre (wake s)
+  unfolding wake
+  wake-tells s = told-noise (changed_member s with_sleep_one_less) (λ f. events.Cure (who_in s f) kinds.Sleep) (holds-member s with_sleep_one_less sleep-tame) (λ f. refl) ⊳ stop-tells
+
+  pub sleep_on-tells : (s : Side) → Tells v n pre (sleep_on s)
+  unfolding sleep_on
+  sleep_on-tells s = member-tells s with_sleep_one_less sleep-tame ⊳ cant-tells s _
+
+  pub sleep-tells : (s : Side) (status : Status) → Tells v n pre (sleep_test s status)
+  unfolding sleep_test
+  sleep-tells s (Asleep turns marked) = choose-tells _ (wake-tells s) (sleep_on-tells s)
+  sleep-tells s _ = stay-tells
+
+  pub frozen-tells : (s : Side) → Tells v n pre (frozen_test s)
+  unfolding frozen_test seeing
+  frozen-tells s = choose-tells _ (cant-tells s _) stay-tells
+
+  pub trapped-tells : (s : Side) → Tells v n pre (trapped_test s)
+  unfolding trapped_test seeing
+  trapped-tells s = choose-tells _ (cant-tells s _) stay-tells
+
+  pub flinch-tells : (s : Side) → Tells v n pre (flinch_test s)
+  unfolding flinch_test seeing
+  flinch-tells s = choose-tells _ (conditions-tells s _ (λ c. refl) ⊳ cant-tells s _) stay-tells
+
+  pub recharge-tells : (s : Side) → Tells v n pre (recharge_test s)
+  unfolding recharge_test seeing
+  recharge-tells s = choose-tells _ (conditions-tells s _ (λ c. refl) ⊳ cant-tells s _) stay-tells
+
+  pub disable_count-tells : (s : Side) (o : Option DisabledSlot) → Tells v n pre (disable_count s o)
+  unfolding disable_count seeing
+  disable_count-tells s None = stay-tells
+  disable_count-tells s (Some d) = choose-tells _ (ends-tells s _ _ (λ c. refl)) (conditions-tells s _ disable-calm)
+
+  pub may_hurt_itself-tells : (s : Side) (b : ℕ) → Tells v n pre (may_hurt_itself s b)
+  unfolding may_hurt_itself seeing
+  may_hurt_itself-tells s b = choose-tells _ (hurt_itself-tells s) stay-tells
+
+  pub confusion-tells : (s : Side) (o : Option ℕ) → Tells v n pre (confusion_test s o)
+  unfolding confusion_test seeing
+  confusion-tells s None = stay-tells
+  confusion-tells s (Some turns) = choose-tells _ (ends-tells s _ _ (λ c. refl)) (lasts-tells s _ _ confusion-calm ⊳ draw-tells (may_hurt_itself-tells s))
+
+  pub disabled-tells : (s : Side) (pick : Pick) → Tells v n pre (disabled_test s pick)
+  unfolding disabled_test seeing
+  disabled-tells s pick = choose-tells _ (conditions-tells s _ (λ c. refl) ⊳ cant-tells s _) stay-tells
+
+  pub may_be_paralysed-tells : (s : Side) (b : ℕ) → Tells v n pre (may_be_paralysed s b)
+  unfolding may_be_paralysed seeing
+  may_be_paralysed-tells s b = choose-tells _ (conditions-tells s _ (λ c. refl) ⊳ cant-tells s _) stay-tells
+
+  pub paralysis-tells : (s : Side) → Tells v n pre (paralysis_test s)
+  unfolding paralysis_test seeing
+  paralysis-tells s = choose-tells _ (draw-tells (may_be_paralysed-tells s)) stay-tells
+
+  pub gate_of_status-tells : (s : Side) → Tells v n pre (gate_of_status s)
+  unfolding gate_of_status seeing
+  gate_of_status-tells s = given-tells _ (sleep-tells s) ⊳ frozen-tells s ⊳ trapped-tells s
+
+  pub gate_of_turn-tells : (s : Side) → Tells v n pre (gate_of_turn s)
+  unfolding gate_of_turn seeing
+  gate_of_turn-tells s = flinch-tells s ⊳ recharge-tells s ⊳ given-tells _ (disable_count-tells s)
+
+  pub gate_of_move-tells : (s : Side) (pick : Pick) → Tells v n pre (gate_of_move s pick)
+  unfolding gate_of_move seeing
+  gate_of_move-tells s pick = given-tells _ (confusion-tells s) ⊳ disabled-tells s pick ⊳ paralysis-tells s ⊳ choose-tells _ stop-tells stay-tells
+
+  pub gate-tells : (s : Side) (pick : Pick) → Tells v n pre (gate s pick)
+  unfolding gate seeing
+  gate-tells s pick = gate_of_status-tells s ⊳ gate_of_turn-tells s ⊳ gate_of_move-tells s pick
+
+  -- The hit test
+
+  pub miss-tells : (s : Side) → Tells v n pre (miss s)
+  unfolding miss seeing
+  miss-tells s = missed-tells true ⊳ damage-tells 0 ⊳ conditions-tells s _ (λ c. refl)
+
+  pub tested-tells : (byte : ℕ) → Tells v n pre (set_tested byte)
+  unfolding set_tested seeing
+  tested-tells byte = action-tells _
+
+  pub hits_below-tells : (s : Side) (byte b : ℕ) → Tells v n pre (hits_below s byte b)
+  unfolding hits_below seeing
+  hits_below-tells s byte b = choose-tells _ stay-tells (miss-tells s)
+
+  pub test_by-tells : (s : Side) (base : ℕ) (o : Option Bool) → Tells v n pre (test_by s base o)
+  unfolding test_by seeing
+  test_by-tells s base (Some true) = tested-tells base
+  test_by-tells s base (Some false) = tested-tells base ⊳ miss-tells s
+  test_by-tells s base None = given-tells _ (λ byte. tested-tells byte ⊳ draw-tells (hits_below-tells s byte))
+
+  pub hit_test-tells : (s : Side) (move : Move) (base : ℕ) → Tells v n pre (hit_test s move base)
+  unfolding hit_test seeing
+  hit_test-tells s move base = given-tells _ (test_by-tells s base)
+
+  pub hit_or_miss-tells : (s : Side) (move : Move) → Tells v n pre (hit_or_miss s move)
+  unfolding hit_or_miss seeing
+  hit_or_miss-tells s move = given-tells _ (hit_test-tells s move)
+
+  pub note_miss-tells : (s : Side) (move : Move) → Tells v n pre (note_miss s move)
+  unfolding note_miss
+  note_miss-tells s move = note-tells _ (λ f. miss-noise _ _ _)
+
+  pub must_hit-tells : (s : Side) (move : Move) → Tells v n pre (must_hit s move)
+  unfolding must_hit seeing
+  must_hit-tells s move = hit_or_miss-tells s move ⊳ choose-tells _ (note_miss-tells s move ⊳ stop-tells) stay-tells

@@ -1,0 +1,5 @@
+use Rattle.gen1_player.proofs.FairPlayers.{fair_player}
+use Rattle.gen1_player.proofs.laws.fair_player.Goals as goal
+
+pub returns : goal.returns
+returns c = fair_player

@@ -1,0 +1,33 @@
+use Rattle.std.proofs.Common.{refl, sym, ◌∙◌}
+use Rattle.gen1_layout.specs.Within.{setting_of}
+use Rattle.gen1_machine.specs.State.{party}
+use Rattle.gen1_requests.proofs.BetweenUpdates.{packs_of}
+use Rattle.gen1_player.proofs.OwnSides.{as_many, fault_fits, shown_at}
+use Rattle.gen1_player.proofs.own.own_side.Goals as goal
+
+pub returns : goal.returns
+returns c s h =
+    let g = setting_of s in let f = s.field in let k = packs_of h in let members = (party c.args.side f).members in
+    rw (
+      c.active-out.ensures s h,
+      c.member.ensures g f k,
+      c.member-2.ensures g f k,
+      c.member-3.ensures g f k,
+      c.member-4.ensures g f k,
+      c.member-5.ensures g f k,
+      c.member-6.ensures g f k,
+      c.held.ensures s h,
+      c.turn.ensures.packs g f k,
+      c.byte_of_request.ensures.value,
+      c.request.ensures.packs g f k,
+      c.byte_of_outcome.ensures.value (λ code is. fault_fits f.outcome k.outcome code (sym (c.outcome.ensures.packs g f k) ∙ is)),
+      c.outcome.ensures.packs g f k,
+      c.count.ensures g f k,
+      shown_at members 0,
+      shown_at members 1,
+      shown_at members 2,
+      shown_at members 3,
+      shown_at members 4,
+      shown_at members 5,
+      as_many members,
+    ) refl

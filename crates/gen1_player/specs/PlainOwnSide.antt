@@ -1,0 +1,79 @@
+-- What a side is shown of itself, as a plain struct (include/gen1.h, "players").
+use Rattle.std.specs.Prelude.{Bool, List, None, [], false, if◌then◌else◌, length, replicate, slice_index_or, ℕ, ◌-◌, ◌==◌, ◌∷◌}
+use Rattle.gen1_tables.specs.Types.{number_of}
+use Rattle.gen1_stats.specs.Members.{Member}
+use Rattle.gen1_machine.specs.Layout.{number_of_bits, outcome_byte, request_byte}
+use Rattle.gen1_machine.specs.LogBytes.{kind_or_0}
+use Rattle.gen1_machine.specs.Rules.{bit_of}
+use Rattle.gen1_machine.specs.State.{known_in}
+use Rattle.gen1_player.specs.OwnSide.{OwnActive, OwnConditions, OwnMember, OwnSide}
+use Rattle.gen1_player.specs.declared.own.Out.{Out}
+use Rattle.gen1_player.specs.declared.own.OwnMember.{OwnMember as PlainMember}
+use Rattle.gen1_player.specs.declared.own.OwnSide.{OwnSide as PlainSide}
+
+-- Zeros in the slots after the last move.
+abbrev pub plain_member : OwnMember → PlainMember
+plain_member m = record {
+  species = m.species;
+  level = m.level;
+  status = kind_or_0 m.kind;
+  unused = 0;
+  moves = (known_in 1 m.moves).id ∷ (known_in 2 m.moves).id ∷ (known_in 3 m.moves).id ∷ (known_in 4 m.moves).id ∷ [];
+  pp = (known_in 1 m.moves).pp ∷ (known_in 2 m.moves).pp ∷ (known_in 3 m.moves).pp ∷ (known_in 4 m.moves).pp ∷ [];
+  hp = m.hp;
+  max_hp = m.max;
+  stats = m.stats;
+}
+
+-- From the lowest bit up, as in the bytes of a battle. The bit of Flinch is always 0.
+abbrev pub shown_bits : OwnConditions → List Bool
+shown_bits c =
+    c.bide ∷ c.thrash ∷ c.trapping ∷ false ∷ c.charging ∷ c.invulnerable ∷ c.confused ∷ c.mist ∷ c.focus_energy ∷ c.substitute
+    ∷ c.recharge ∷ c.rage ∷ c.seeded ∷ c.bad_poison ∷ c.light_screen ∷ c.reflect ∷ c.disabled ∷ []
+
+abbrev pub plain_out : OwnActive → Out
+plain_out a = record {
+  conditions = number_of_bits (shown_bits a.conditions);
+  stats = a.stats;
+  place = a.place;
+  types = number_of a.first_type ∷ number_of a.second_type ∷ [];
+  stages = a.stages.attack ∷ a.stages.defense ∷ a.stages.speed ∷ a.stages.special ∷ a.stages.accuracy ∷ a.stages.evasion ∷ [];
+  disabled_slot = a.disabled_slot;
+}
+
+abbrev pub nobody_out : Out
+nobody_out = record { conditions = 0; stats = replicate 4 0; place = 0; types = replicate 2 0; stages = replicate 6 0; disabled_slot = 0 }
+
+-- Zeros before the first update.
+abbrev pub plain_active : OwnActive → Out
+plain_active a = if a.place == 0 then nobody_out else plain_out a
+
+abbrev pub no_member : OwnMember
+no_member = record { species = 0; level = 0; hp = 0; max = 0; kind = None; stats = replicate 4 0; moves = [] }
+
+-- The member at a place, counted from 1.
+abbrev pub own_at : ℕ → OwnSide → OwnMember
+own_at place o = slice_index_or o.members (place - 1) no_member
+
+-- 1 for a member, 0 for a place without one.
+abbrev pub is_present : Member → ℕ
+is_present m = if m.species == 0 then 0 else 1
+
+-- Zeros in the places after the last member.
+abbrev pub plain_side : OwnSide → PlainSide
+plain_side o = record {
+  members =
+      plain_member (own_at 1 o) ∷ plain_member (own_at 2 o) ∷ plain_member (own_at 3 o) ∷ plain_member (own_at 4 o)
+      ∷ plain_member (own_at 5 o) ∷ plain_member (own_at 6 o) ∷ [];
+  conditions = (plain_active o.active).conditions;
+  stats = (plain_active o.active).stats;
+  turn = o.turn;
+  place = (plain_active o.active).place;
+  types = (plain_active o.active).types;
+  stages = (plain_active o.active).stages;
+  disabled_slot = (plain_active o.active).disabled_slot;
+  held = bit_of o.held;
+  request = request_byte o.request;
+  outcome = outcome_byte o.outcome;
+  count = length o.members;
+}

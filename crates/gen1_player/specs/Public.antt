@@ -1,0 +1,238 @@
+-- What the log of a battle makes public of both sides (docs/MECHANICS.md, "What the log makes public"). It is made from the events alone.
+-- The records are the plain structs of the code: a flag is 1 where it holds and 0 where it doesn't.
+use Rattle.std.specs.Prelude.{Bool, List, None, Option, Some, [], if◌then◌else◌, min, nat_le, replicate, slice_index_or, slice_set, true, ℕ, ◌&&◌, ◌+◌, ◌-◌, ◌==◌, ◌||◌, ◌∷◌}
+use Rattle.std.specs.List.{position}
+use Rattle.gen1_tables.specs.declared.effect.Effect.{Effect}
+use Rattle.gen1_tables.specs.declared.effect.Effect.TheVariants as effects
+use Rattle.gen1_tables.specs.declared.effect.Stat.{Stat}
+use Rattle.gen1_tables.specs.Effects.{traps}
+use Rattle.gen1_tables.specs.Species.{species_row}
+use Rattle.gen1_tables.specs.Types.{number_of}
+use Rattle.gen1_machine.specs.declared.side.Side.{Side}
+use Rattle.gen1_machine.specs.declared.side.Side.TheVariants.{One, Two}
+use Rattle.gen1_machine.specs.declared.terms.Outcome.TheVariants as outcomes
+use Rattle.gen1_machine.specs.declared.health.Kind.{Kind}
+use Rattle.gen1_machine.specs.declared.health.Kind.TheVariants as kinds
+use Rattle.gen1_machine.specs.declared.event.CantReason.{CantReason}
+use Rattle.gen1_machine.specs.declared.event.CantReason.TheVariants as reasons
+use Rattle.gen1_machine.specs.declared.event.DamageSource.{DamageSource}
+use Rattle.gen1_machine.specs.declared.event.DamageSource.TheVariants as sources
+use Rattle.gen1_machine.specs.declared.event.Volatile.{Volatile}
+use Rattle.gen1_machine.specs.declared.event.Volatile.TheVariants as volatiles
+use Rattle.gen1_machine.specs.declared.event.Event.{Event}
+use Rattle.gen1_machine.specs.declared.event.Event.TheVariants as events
+use Rattle.gen1_machine.specs.Health.{Health}
+use Rattle.gen1_machine.specs.Layout.{outcome_byte}
+use Rattle.gen1_machine.specs.LogBytes.{kind_or_0}
+use Rattle.gen1_machine.specs.Moves.{move_at, toxic}
+use Rattle.gen1_machine.specs.Numbers.{kind_number}
+use Rattle.gen1_machine.specs.Sides.{other}
+use Rattle.gen1_machine.specs.State.{level_stages}
+use Rattle.gen1_machine.specs.CurrentStats.{stage_of, with_stage}
+use Rattle.gen1_machine.specs.View.{won_by}
+use Rattle.gen1_player.specs.declared.announced.Announced.{Announced}
+use Rattle.gen1_player.specs.declared.public.Public.{Public}
+use Rattle.gen1_player.specs.declared.public_side.PublicSide.{PublicSide}
+use Rattle.gen1_player.specs.declared.seen.Seen.{Seen}
+use Rattle.gen1_player.specs.declared.seen.SeenMove.{SeenMove}
+
+-- A slot of a member's moves from which no use was seen.
+abbrev pub not_used : SeenMove
+not_used = record { id = 0; uses = 0 }
+
+-- A place from which no member has appeared: its species is 0. A member shows at most five moves, four and Struggle.
+abbrev pub not_seen : Seen
+not_seen = record { hp = 0; max = 0; species = 0; level = 0; status = 0; moves = replicate 5 not_used; unused = 0 }
+
+abbrev pub nothing_announced : Announced
+nothing_announced = record {
+  substitute = 0;
+  confused = 0;
+  mist = 0;
+  focus_energy = 0;
+  light_screen = 0;
+  reflect = 0;
+  seeded = 0;
+  toxic = 0;
+  disabled = 0;
+  rage = 0;
+  bide = 0;
+  charging = 0;
+  recharging = 0;
+}
+
+-- No member is out: the place is 0. The last move is 0 for none.
+abbrev pub first_public_side : PublicSide
+first_public_side = record {
+  members = replicate 6 not_seen;
+  stages = level_stages;
+  place = 0;
+  first_type = 0;
+  second_type = 0;
+  last_move = 0;
+  announced = nothing_announced;
+  unused = 0;
+}
+
+-- Before the first event nothing is public.
+abbrev pub first_public : Public
+first_public = record { one = first_public_side; two = first_public_side; turn = 0; outcome = outcome_byte outcomes.Ongoing; unused = 0 }
+
+abbrev pub public_side : Side → Public → PublicSide
+public_side One p = p.one
+public_side Two p = p.two
+
+abbrev pub on_public_side : Side → (PublicSide → PublicSide) → Public → Public
+on_public_side One f p = record p { one = f p.one }
+on_public_side Two f p = record p { two = f p.two }
+
+-- An event changes nothing of a side while no member of that side is out.
+abbrev pub if_seen_out : (PublicSide → PublicSide) → PublicSide → PublicSide
+if_seen_out f x = if x.place == 0 then x else f x
+
+unfoldable pub on_out : Side → (PublicSide → PublicSide) → Public → Public
+on_out s f = on_public_side s (if_seen_out f)
+
+-- The member at a place, counted from 1.
+abbrev pub seen_at : ℕ → PublicSide → Seen
+seen_at place x = slice_index_or x.members (place - 1) not_seen
+
+-- A change of the active member.
+abbrev pub on_seen : (Seen → Seen) → PublicSide → PublicSide
+on_seen f x = record x { members = slice_set x.members (x.place - 1) (f (seen_at x.place x)) }
+
+abbrev pub on_announced : (Announced → Announced) → PublicSide → PublicSide
+on_announced f x = record x { announced = f x.announced }
+
+-- Moves that a member was seen to use
+
+-- One more use in a slot; none without a slot. The count stops at 255.
+abbrev pub used_in : Option ℕ → ℕ → List SeenMove → List SeenMove
+used_in None move slots = slots
+used_in (Some k) move slots = slice_set slots k (record { id = move; uses = min 255 ((slice_index_or slots k not_used).uses + 1) })
+
+-- The slot of a move: its own, or the first free one.
+abbrev pub is_slot : ℕ → SeenMove → Bool
+is_slot move m = m.id == move || m.id == 0
+
+-- One more use of a move
+abbrev pub used_once_more : ℕ → List SeenMove → List SeenMove
+used_once_more move slots = used_in (position (is_slot move) slots) move slots
+
+-- A member that comes out has nothing from before.
+abbrev pub comes_out : ℕ → ℕ → ℕ → Health → PublicSide → PublicSide
+comes_out species place level h x =
+    if nat_le 1 place && nat_le place 6
+    then record x {
+      members = slice_set x.members (place - 1) (record (seen_at place x) { species = species; level = level; hp = h.hp; max = h.max; status = kind_or_0 h.kind });
+      stages = level_stages;
+      place = place;
+      first_type = number_of (species_row species).first_type;
+      second_type = number_of (species_row species).second_type;
+      last_move = 0;
+      announced = nothing_announced;
+    }
+    else x
+
+-- A move that its user was seen to use. It has not recharged, charged or stored energy in this action.
+abbrev pub uses_move : ℕ → PublicSide → PublicSide
+uses_move move x = on_announced (λ a. record a { bide = 0; charging = 0; recharging = 0 })
+    (on_seen (λ m. record m { moves = used_once_more move m.moves }) (record x { last_move = move }))
+
+-- Trapping moves and moves that put to sleep end the recharging of the foe (docs/MECHANICS.md, "Late effects", "Going on").
+abbrev pub ends_recharging : Effect → Bool
+ends_recharging effects.InflictSleep = true
+ends_recharging effect = traps effect
+
+abbrev pub suffers_move : ℕ → PublicSide → PublicSide
+suffers_move move x = if ends_recharging (move_at move).effect then on_announced (λ a. record a { recharging = 0 }) x else x
+
+-- What keeps a member from acting ends some of what it was doing.
+abbrev pub is_kept_by : CantReason → Announced → Announced
+is_kept_by reasons.Flinched a = record a { recharging = 0 }
+is_kept_by reasons.Recharging a = record a { recharging = 0 }
+is_kept_by reasons.Disabled a = record a { charging = 0 }
+is_kept_by reasons.Paralysed a = record a { bide = 0; charging = 0 }
+is_kept_by _ a = a
+
+-- A hit on itself ends the same as full paralysis.
+abbrev pub is_hurt_by : DamageSource → Announced → Announced
+is_hurt_by sources.Confusion a = record a { bide = 0; charging = 0 }
+is_hurt_by _ a = a
+
+-- Poison that follows Toxic is bad poison. A freeze ends recharging.
+abbrev pub gets_status : Kind → ℕ → Announced → Announced
+gets_status kinds.Poison move a = if move == toxic then record a { toxic = 1 } else a
+gets_status kinds.Freeze move a = record a { recharging = 0 }
+gets_status _ move a = a
+
+abbrev pub set_volatile : Volatile → ℕ → Announced → Announced
+set_volatile volatiles.Confusion on a = record a { confused = on }
+set_volatile volatiles.Bide on a = record a { bide = on }
+set_volatile volatiles.Substitute on a = record a { substitute = on }
+set_volatile volatiles.LeechSeed on a = record a { seeded = on }
+set_volatile volatiles.Mist on a = record a { mist = on }
+set_volatile volatiles.FocusEnergy on a = record a { focus_energy = on }
+set_volatile volatiles.LightScreen on a = record a { light_screen = on }
+set_volatile volatiles.Reflect on a = record a { reflect = on }
+set_volatile volatiles.Disable on a = record a { disabled = on }
+set_volatile volatiles.Rage on a = record a { rage = on }
+set_volatile _ on a = a
+
+-- Haze
+abbrev pub ends_by_haze : Announced → Announced
+ends_by_haze a = record a {
+  confused = 0;
+  mist = 0;
+  focus_energy = 0;
+  light_screen = 0;
+  reflect = 0;
+  seeded = 0;
+  toxic = 0;
+  disabled = 0;
+}
+
+abbrev pub is_cleared : PublicSide → PublicSide
+is_cleared x = on_announced ends_by_haze (record x { stages = level_stages })
+
+-- Conversion copies the types of the foe.
+abbrev pub takes_types : PublicSide → PublicSide → PublicSide
+takes_types foe x = record x { first_type = foe.first_type; second_type = foe.second_type }
+
+abbrev pub begins : Side → Volatile → Public → Public
+begins s volatiles.TypeChange p = on_out s (takes_types (public_side (other s) p)) p
+begins s what p = on_out s (on_announced (set_volatile what 1)) p
+
+abbrev pub rises : Stat → ℕ → PublicSide → PublicSide
+rises stat n x = record x { stages = with_stage stat (min 12 (stage_of stat x.stages + n)) x.stages }
+
+abbrev pub drops : Stat → ℕ → PublicSide → PublicSide
+drops stat n x = record x { stages = with_stage stat (stage_of stat x.stages - n) x.stages }
+
+-- What an event makes public
+unfoldable pub hears : Event → Public → Public
+hears (events.Turn n) p = record p { turn = n }
+hears (events.Switch w place level h) p = on_public_side w.side (comes_out w.species place level h) p
+hears (events.Move w move foe) p = on_out (other w.side) (suffers_move move) (on_out w.side (uses_move move) p)
+hears (events.Cant w why) p = on_out w.side (on_announced (is_kept_by why)) p
+hears (events.Damage w h source) p = on_out w.side (λ x. on_announced (is_hurt_by source) (on_seen (λ m. record m { hp = h.hp }) x)) p
+hears (events.Heal w h) p = on_out w.side (on_seen (λ m. record m { hp = h.hp })) p
+hears (events.Status w kind) p =
+    on_out w.side (λ x. on_announced (gets_status kind (public_side (other w.side) p).last_move) (on_seen (λ m. record m { status = kind_number kind }) x)) p
+hears (events.Cure w kind) p = on_out w.side (on_seen (λ m. record m { status = 0 })) p
+hears (events.Faint w) p = on_out w.side (on_seen (λ m. record m { hp = 0; status = 0 })) p
+hears (events.Boost w stat n) p = on_out w.side (rises stat n) p
+hears (events.Unboost w stat n) p = on_out w.side (drops stat n) p
+hears events.ClearAll p = on_out Two is_cleared (on_out One is_cleared p)
+hears (events.Start w what) p = begins w.side what p
+hears (events.End w what) p = on_out w.side (on_announced (set_volatile what 0)) p
+hears (events.Prepare w move) p = on_out w.side (on_announced (λ a. record a { charging = 1 })) p
+hears (events.MustRecharge w) p = on_out w.side (on_announced (λ a. record a { recharging = 1 })) p
+hears (events.Win s) p = record p { outcome = outcome_byte (won_by s) }
+hears events.Tie p = record p { outcome = outcome_byte outcomes.Tie }
+hears (events.Fault n) p = record p { outcome = outcome_byte (outcomes.Fault n) }
+hears _ p = p
+
+unfoldable pub hears_all : List Event → Public → Public
+hears_all [] p = p
+hears_all (event ∷ more) p = hears_all more (hears event p)

@@ -1,0 +1,31 @@
+//! Laws on what a player is shown (docs/PROVED.md). Each function has an empty body. Its contract is the law.
+ghost use Rattle.gen1_player.specs.FairPlayer.{FairPlayer};
+ghost use Rattle.gen1_player.specs.Fair.{Fair, HidesTheCounts, HidesTheFoe, OffersWhatIsShown};
+
+/// What a side is offered follows from what it is shown of itself (docs/MECHANICS.md, "Offered choices", "What a side is shown of
+/// itself").
+pub fn offers_what_is_shown()
+    ensures { OffersWhatIsShown }
+{}
+
+/// Whatever the foe is, a side is shown the same of itself, except for whether the foe's trapping holds it.
+pub fn hides_the_foe()
+    ensures { HidesTheFoe }
+{}
+
+/// Hidden counts of a side change nothing of what it is shown.
+pub fn hides_the_counts()
+    ensures { HidesTheCounts }
+{}
+
+/// In two battles of the same own team in which a side gets the same logs and is shown the same of itself, it is offered the same, and
+/// whatever a player computes is the same.
+pub fn fair()
+    ensures { Fair }
+{}
+
+/// The player of a side is the same in any two battles of its team in which the side gets the same logs, and is shown the same of itself
+/// after each update.
+pub fn fair_player()
+    ensures { FairPlayer }
+{}

@@ -1,0 +1,127 @@
+//! What the log of a battle makes public of both sides (docs/MECHANICS.md, "What the log makes public"), as a plain struct that its caller keeps.
+ghost use Rattle.std.specs.Prelude.{None, Some, ◌≡◌};
+ghost use Rattle.gen1_machine.specs.Layout.{outcome_byte};
+ghost use Rattle.gen1_machine.specs.View.{won_by};
+ghost use Rattle.gen1_player.specs.Public.{first_public, hears, public_side};
+ghost use Rattle.gen1_player.specs.Sides.{side_named};
+
+use crate::public_side::PublicSide;
+use gen1_machine::{Event, Side};
+
+/// What the events of a battle from its start make public.
+#[repr(C)]
+#[derive(Clone, Copy, Debug, PartialEq, Eq, Drop)]
+pub struct Public {
+    pub one: PublicSide,
+    pub two: PublicSide,
+    /// 0 to 9,999.
+    pub turn: u16,
+    /// 0 to 5, as in the bytes of a battle (docs/LAYOUT.md, "Header").
+    pub outcome: u8,
+    /// 0.
+    pub unused: u8,
+}
+
+impl Public {
+    /// What is public before the first event: nothing.
+    pub fn new() -> Self
+        ensures { result ≡ first_public }
+    {
+        Public {
+            one: PublicSide::nothing(),
+            two: PublicSide::nothing(),
+            turn: 0,
+            outcome: 0,
+            unused: 0,
+        }
+    }
+
+    /// Applies the next event. It takes any bytes: what an event does not name stays as it was.
+    pub fn apply(&mut self, event: &Event)
+        ensures { self.new ≡ hears event.now self.old }
+    {
+        match side_named(event) {
+            Some(side) => self.hear_of(side, event),
+            None => self.hear(event),
+        }
+    }
+
+    // Applies an event that names a side.
+    fn hear_of(&mut self, side: Side, event: &Event)
+        requires named { side_named event.now ≡ Some side }
+        ensures { self.new ≡ hears event.now self.old }
+    {
+        match side {
+            Side::One => {
+                let foe = self.two;
+                self.one.hear(event, &foe);
+                self.two.overhear(event);
+            }
+            Side::Two => {
+                let foe = self.one;
+                self.two.hear(event, &foe);
+                self.one.overhear(event);
+            }
+        }
+    }
+
+    // Applies any other event.
+    fn hear(&mut self, event: &Event)
+        requires of_no_side { side_named event.now ≡ None }
+        ensures { self.new ≡ hears event.now self.old }
+    {
+        match *event {
+            Event::Turn(number) => self.turn = number.number(),
+            Event::ClearAll => {
+                self.one.clear();
+                self.two.clear();
+            }
+            Event::Win(side) => self.outcome = won(side),
+            Event::Tie => self.outcome = 3,
+            Event::Fault(code) => self.outcome = 3 + code.number(),
+            _ => {}
+        }
+    }
+
+    /// Returns what is public of a side.
+    pub fn side(&self, side: Side) -> &PublicSide
+        ensures { result.now ≡ public_side side self.now }
+    {
+        match side {
+            Side::One => &self.one,
+            Side::Two => &self.two,
+        }
+    }
+}
+
+fn won(side: Side) -> u8
+    ensures { result ≡ outcome_byte (won_by side) }
+{
+    match side {
+        Side::One => 1,
+        Side::Two => 2,
+    }
+}
+
+// The side that an event names, if it changes what is public of it.
+fn side_named(event: &Event) -> Option<Side>
+    ensures { result ≡ side_named event.now }
+{
+    match event {
+        Event::Switch(who, _, _, _) => Some(who.side),
+        Event::Move(who, _, _) => Some(who.side),
+        Event::Cant(who, _) => Some(who.side),
+        Event::Damage(who, _, _) => Some(who.side),
+        Event::Heal(who, _) => Some(who.side),
+        Event::Status(who, _) => Some(who.side),
+        Event::Cure(who, _) => Some(who.side),
+        Event::Faint(who) => Some(who.side),
+        Event::Boost(who, _, _) => Some(who.side),
+        Event::Unboost(who, _, _) => Some(who.side),
+        Event::Start(who, _) => Some(who.side),
+        Event::End(who, _) => Some(who.side),
+        Event::Prepare(who, _) => Some(who.side),
+        Event::MustRecharge(who) => Some(who.side),
+        _ => None,
+    }
+}

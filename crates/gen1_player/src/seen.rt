@@ -1,0 +1,76 @@
+//! A member that has appeared, as the log showed it last (docs/MECHANICS.md, "What the log makes public").
+ghost use Rattle.std.specs.Prelude.{IfSome, length, ◌<◌, ◌≡◌};
+ghost use Rattle.std.specs.List.{position};
+ghost use Rattle.gen1_player.specs.Public.{is_slot, not_seen, used_once_more};
+
+/// A move that a member was seen to use.
+#[repr(C)]
+#[derive(Clone, Copy, Debug, PartialEq, Eq, Drop)]
+pub struct SeenMove {
+    /// The number of the move, 1 to 165; 0 in a free slot.
+    pub id: u8,
+    /// How often the member used it, 1 to 255; 255 for that many and more. 0 in a free slot.
+    pub uses: u8,
+}
+
+/// A member as the log showed it last. All numbers are 0 for a place from which no member has appeared.
+#[repr(C)]
+#[derive(Clone, Copy, Debug, PartialEq, Eq, Drop)]
+pub struct Seen {
+    /// 0 to `max`.
+    pub hp: u16,
+    /// 11 to 999.
+    pub max: u16,
+    /// 1 to 151.
+    pub species: u8,
+    /// 1 to 100.
+    pub level: u8,
+    /// The number of its kind of status, 1 to 5; 0 without one.
+    pub status: u8,
+    /// In the order of their first use. A member uses at most five moves, four and Struggle.
+    pub moves: [SeenMove; 5],
+    /// 0.
+    pub unused: u8,
+}
+
+impl Seen {
+    /// A place from which no member has appeared.
+    pub(crate) fn none() -> Self
+        ensures { result ≡ not_seen }
+    {
+        Seen {
+            hp: 0,
+            max: 0,
+            species: 0,
+            level: 0,
+            status: 0,
+            moves: [SeenMove { id: 0, uses: 0 }; 5],
+            unused: 0,
+        }
+    }
+
+    /// The member after one more use of a move.
+    pub(crate) fn after_use(self, id: u8) -> Self
+        ensures { result ≡ record self { moves = used_once_more id self.moves } }
+    {
+        let mut seen = self;
+        if let Some(slot) = slot_of(&seen.moves, id) {
+            let uses = seen.moves[slot].uses.saturating_add(1);
+            seen.moves[slot] = SeenMove { id, uses };
+        }
+        seen
+    }
+}
+
+fn slot_of(slots: &[SeenMove], id: u8) -> Option<usize>
+    ensures value { result ≡ position (is_slot id) slots.now }
+    ensures bound { IfSome result (λ slot. slot < length slots.now) }
+{
+    slots.iter().position(|it| is_slot(it, id))
+}
+
+fn is_slot(slot: &SeenMove, id: u8) -> bool
+    ensures { result ≡ is_slot id slot.now }
+{
+    slot.id == id || slot.id == 0
+}

@@ -1,0 +1,21 @@
+//! What holds of all that a log makes public (docs/MECHANICS.md, "Player's view"), as functions that do nothing.
+ghost use Rattle.gen1_player.specs.True.{ConditionsAgree, MembersAgree, PublicAgrees, PublicAgreesWithView};
+
+/// After any run of a battle of two teams from its start, what its log made public agrees with the battle: active places, stages,
+/// Substitute, confusion, screens, turn, outcome, and HP and kind of status of each member that has appeared.
+pub fn public_agrees()
+    ensures view { PublicAgreesWithView }
+    ensures state { PublicAgrees }
+{}
+
+/// After any run from the start, Mist, Focus Energy, Disable, rage and, of a living member, Leech Seed are announced exactly if they
+/// are on, and the types are those of the active member.
+pub fn conditions_agree()
+    ensures { ConditionsAgree }
+{}
+
+/// After any run from the start, the member that is out has appeared. A member that has appeared has the species, level and maximum HP
+/// of the member at its place, and it was seen to use its own moves or Struggle.
+pub fn members_agree()
+    ensures { MembersAgree }
+{}

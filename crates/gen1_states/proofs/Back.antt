@@ -1,0 +1,236 @@
+-- A battle that was made of a plain state has this plain state.
+use Rattle.std.proofs.Common.{Bool, List, None, Option, Some, [], ap, arith, cond, inl, inr, length, lit<, refl, slice_index, slice_index_or, subst, suc, sym, zero, ℕ, ◌+◌, ◌<◌, ◌==◌, ◌∙◌, ◌∷◌, ◌≡◌, ◌⊎◌}
+use Rattle.gen1_stats.specs.declared.status.Status.{Status}
+use Rattle.gen1_stats.specs.declared.status.Status.TheVariants.{Asleep, Burned, Frozen, Healthy, Paralysed, Poisoned}
+use Rattle.gen1_tables.specs.declared.effect.Stat.TheVariants.{Attack, Defense, Special, Speed}
+use Rattle.gen1_machine.specs.declared.side.Side.{Side}
+use Rattle.gen1_machine.specs.declared.side.Side.TheVariants.{One, Two}
+use Rattle.gen1_machine.specs.Conditions.{Storing}
+use Rattle.gen1_machine.specs.Layout.{energy_of}
+use Rattle.gen1_machine.specs.LogBytes.{kind_or_0}
+use Rattle.gen1_machine.specs.Rules.{Rules}
+use Rattle.gen1_machine.specs.State.{State, active_in, kind_of, member_at as at_place, member_in, party}
+use Rattle.gen1_machine.specs.Valid.{IsStarted, IsStatus, IsStoring, IsUnstarted}
+use Rattle.gen1_layout.specs.Parts.{Parts, parts_of}
+use Rattle.gen1_layout.specs.Within.{Stands}
+use Rattle.gen1_layout.proofs.Counts.{number_small}
+use Rattle.gen1_layout.proofs.Packing.{parts-bytes_of}
+use Rattle.gen1_layout.proofs.WaysBack.{hp_fits_at, limit_packs, members_in, now_fits, stats_fit_at, status_ok_at, turn_packs}
+use Rattle.gen1_states.specs.Bytes.{active_bytes, bytes_of, header_bytes, member_bytes, side_after, status_byte}
+use Rattle.gen1_states.specs.Laws.{AreWords, ComesBack, IsPlainActive, IsPlainMember, IsPlainSide}
+use Rattle.gen1_states.specs.Plain.{first_side, member_at, no_member, no_side, second_side}
+use Rattle.gen1_states.specs.Reading.{active_now, active_state, member_state, no_active, side_state, sleep_of, state_of}
+use Rattle.gen1_states.specs.declared.plain.ActiveState.{ActiveState}
+use Rattle.gen1_states.specs.declared.plain.BattleState.{BattleState}
+use Rattle.gen1_states.specs.declared.plain.MemberState.{MemberState}
+use Rattle.gen1_states.specs.declared.plain.SideState.{SideState}
+use Rattle.gen1_states.proofs.Between.{not_zero, packs_of}
+use Rattle.gen1_states.proofs.Fields.{active_equal, member_equal, two_same, word_same}
+use Rattle.gen1_states.proofs.Lists.{listed}
+use Rattle.gen1_states.proofs.There.{bytes_same}
+use Rattle.gen1_states.proofs.Viewed.{ring_numbers}
+
+-- The plain state of a battle fits the fields' types
+
+words : (a b c d : ℕ) → a < 65536 → b < 65536 → c < 65536 → d < 65536 → AreWords (a ∷ b ∷ c ∷ d ∷ [])
+words a b c d fa fb fc fd zero = fa
+words a b c d fa fb fc fd (suc zero) = fb
+words a b c d fa fb fc fd (suc (suc zero)) = fc
+words a b c d fa fb fc fd (suc (suc (suc zero))) = fd
+words a b c d fa fb fc fd (suc (suc (suc (suc k)))) = lit< tt
+
+told : (rules : Rules) (status : Status) → IsStatus rules status → status_byte (kind_or_0 (kind_of status)) (sleep_of status) < 255
+told rules Healthy h = lit< tt
+told rules (Asleep zero marked) h = absurd (omega (arith, h.0.0))
+told rules (Asleep (suc zero) marked) h = lit< tt
+told rules (Asleep (suc (suc zero)) marked) h = lit< tt
+told rules (Asleep (suc (suc (suc zero))) marked) h = lit< tt
+told rules (Asleep (suc (suc (suc (suc zero)))) marked) h = lit< tt
+told rules (Asleep (suc (suc (suc (suc (suc zero))))) marked) h = lit< tt
+told rules (Asleep (suc (suc (suc (suc (suc (suc zero)))))) marked) h = lit< tt
+told rules (Asleep (suc (suc (suc (suc (suc (suc (suc zero))))))) marked) h = lit< tt
+told rules (Asleep (suc (suc (suc (suc (suc (suc (suc (suc n)))))))) marked) h = absurd (omega (arith, h.0.1))
+told rules Poisoned h = lit< tt
+told rules Burned h = lit< tt
+told rules Frozen h = lit< tt
+told rules Paralysed h = lit< tt
+
+plain_member : {p : Parts} {s : State} → Stands p s → (side : Side) (place : ℕ) → IsPlainMember (member_state (at_place place (party side s.field)))
+plain_member h side place =
+    let k = packs_of h in
+    let fit = stats_fit_at k side place in
+    record {
+      moves = refl;
+      pp = refl;
+      stats = refl;
+      hp = hp_fits_at k side place;
+      max_hp = fit.0;
+      words = words _ _ _ _ fit.1 fit.2 fit.3 fit.4;
+    }
+
+energy_fits : (bide : Option Storing) → IsStoring bide → energy_of bide < 65536
+energy_fits None h = lit< tt
+energy_fits (Some b) h = omega (arith, h.1)
+
+plain_nobody : IsPlainActive no_active
+plain_nobody = record {
+  types = refl;
+  stages = refl;
+  stats = refl;
+  conditions = lit< tt;
+  energy = lit< tt;
+  words = words 0 0 0 0 (lit< tt) (lit< tt) (lit< tt) (lit< tt);
+}
+
+plain_out : (s : State) (side : Side) → energy_of (active_in side s.field).conditions.underway.bide < 65536
+    → IsPlainActive (active_state (member_in side s.field) (active_in side s.field))
+plain_out s side energy =
+    let m = member_in side s.field in
+    let a = active_in side s.field in
+    record {
+      types = refl;
+      stages = refl;
+      stats = refl;
+      conditions = (let small = number_small a.conditions in omega (arith, small));
+      energy = energy;
+      words = words _ _ _ _ (now_fits Attack m a) (now_fits Defense m a) (now_fits Speed m a) (now_fits Special m a);
+    }
+
+out_energy : (s : State) (side : Side) → IsStarted s.terms s.field → energy_of (active_in side s.field).conditions.underway.bide < 65536
+out_energy s One v = energy_fits _ v.field.one.active.conditions.underway.bide
+out_energy s Two v = energy_fits _ v.field.two.active.conditions.underway.bide
+
+plain_now : (s : State) (side : Side) → IsUnstarted s.terms s.field ⊎ IsStarted s.terms s.field → IsPlainActive (active_now side s.field)
+plain_now s side (inl u) =
+    subst (λ (n : ℕ). IsPlainActive (cond (n == 0) no_active (active_state (member_in side s.field) (active_in side s.field)))) (sym u.turn) plain_nobody
+plain_now s side (inr v) =
+    let out : s.field.turn ≡ 0 → ⊥ = λ z. let low = v.turn in omega arith in
+    subst (λ (b : Bool). IsPlainActive (cond b no_active (active_state (member_in side s.field) (active_in side s.field)))) (sym (not_zero s.field.turn out))
+    (plain_out s side (out_energy s side v))
+
+-- A side
+
+six_members : (ms : List MemberState) → length ms ≡ 6
+    → ms ≡ slice_index_or ms 0 no_member ∷ slice_index_or ms 1 no_member ∷ slice_index_or ms 2 no_member ∷ slice_index_or ms 3 no_member
+    ∷ slice_index_or ms 4 no_member ∷ slice_index_or ms 5 no_member ∷ []
+six_members [] long = absurd (omega arith)
+six_members (a ∷ []) long = absurd (omega arith)
+six_members (a ∷ b ∷ []) long = absurd (omega arith)
+six_members (a ∷ b ∷ c ∷ []) long = absurd (omega arith)
+six_members (a ∷ b ∷ c ∷ d ∷ []) long = absurd (omega arith)
+six_members (a ∷ b ∷ c ∷ d ∷ e ∷ []) long = absurd (omega arith)
+six_members (a ∷ b ∷ c ∷ d ∷ e ∷ f ∷ []) long = refl
+six_members (a ∷ b ∷ c ∷ d ∷ e ∷ f ∷ g ∷ more) long = absurd (omega arith)
+
+side_of : List MemberState → ActiveState → SideState
+side_of members active = record { members = members; active = active }
+
+side_made : {a b c d e f a' b' c' d' e' f' : MemberState} {x x' : ActiveState}
+    → a ≡ a' → b ≡ b' → c ≡ c' → d ≡ d' → e ≡ e' → f ≡ f' → x ≡ x'
+    → side_of (a ∷ b ∷ c ∷ d ∷ e ∷ f ∷ []) x ≡ side_of (a' ∷ b' ∷ c' ∷ d' ∷ e' ∷ f' ∷ []) x'
+side_made ea eb ec ed ee ef ex = rw (ea, eb, ec, ed, ee, ef, ex) refl
+
+-- The bytes of a side, part by part.
+record SameBytes (z y : SideState) : Type 0 where
+  members : (k : ℕ) → k < 6 → member_bytes (member_at k z) ≡ member_bytes (member_at k y)
+  active : active_bytes z.active ≡ active_bytes y.active
+
+side_equal : {p : Parts} {s : State} → Stands p s → (side : Side) (y : SideState) → IsPlainSide y → SameBytes (side_state side s.field) y
+    → side_state side s.field ≡ y
+unfolding side_of
+side_equal {s = s} h side y plain same =
+    let ok = λ (place : ℕ). status_ok_at (packs_of h) side place in
+    let member : (k : ℕ) → k < 6 → member_bytes (member_state (at_place (k + 1) (party side s.field))) ≡ member_bytes (member_at k y)
+    → member_state (at_place (k + 1) (party side s.field)) ≡ member_at k y =
+    λ k low e. member_equal _ _ (plain_member h side (k + 1)) (plain.members k low) (told s.terms.rules _ (ok (k + 1))) e in
+    side_made (member 0 (omega arith) (same.members 0 (omega arith))) (member 1 (omega arith) (same.members 1 (omega arith)))
+    (member 2 (omega arith) (same.members 2 (omega arith))) (member 3 (omega arith) (same.members 3 (omega arith)))
+    (member 4 (omega arith) (same.members 4 (omega arith))) (member 5 (omega arith) (same.members 5 (omega arith)))
+    (active_equal _ _ (plain_now s side h.valid.field) plain.active same.active)
+    ∙ ap (λ (ms : List MemberState). side_of ms y.active) (sym (six_members y.members plain.count))
+
+-- The whole
+
+sides_split : (sides : List SideState) → length sides ≡ 2 → sides ≡ slice_index_or sides 0 no_side ∷ slice_index_or sides 1 no_side ∷ []
+sides_split [] long = absurd (omega arith)
+sides_split (one ∷ []) long = absurd (omega arith)
+sides_split (one ∷ two ∷ []) long = refl
+sides_split (one ∷ two ∷ three ∷ more) long = absurd (omega arith)
+
+same_one : (z y : BattleState) → parts_of (bytes_of z) ≡ parts_of (bytes_of y) → SameBytes (first_side z) (first_side y)
+unfolding bytes_of side_after
+same_one z y e = record { members = at; active = ap (λ (q : Parts). q.one.active) e }
+  where
+    at : (k : ℕ) → k < 6 → member_bytes (member_at k (first_side z)) ≡ member_bytes (member_at k (first_side y))
+    at zero low = ap (λ (q : Parts). slice_index_or q.one.members 0 []) e
+    at (suc zero) low = ap (λ (q : Parts). slice_index_or q.one.members 1 []) e
+    at (suc (suc zero)) low = ap (λ (q : Parts). slice_index_or q.one.members 2 []) e
+    at (suc (suc (suc zero))) low = ap (λ (q : Parts). slice_index_or q.one.members 3 []) e
+    at (suc (suc (suc (suc zero)))) low = ap (λ (q : Parts). slice_index_or q.one.members 4 []) e
+    at (suc (suc (suc (suc (suc zero))))) low = ap (λ (q : Parts). slice_index_or q.one.members 5 []) e
+    at (suc (suc (suc (suc (suc (suc k)))))) low = absurd (omega arith)
+
+same_two : (z y : BattleState) → parts_of (bytes_of z) ≡ parts_of (bytes_of y) → SameBytes (second_side z) (second_side y)
+unfolding bytes_of side_after
+same_two z y e = record { members = at; active = ap (λ (q : Parts). q.two.active) e }
+  where
+    at : (k : ℕ) → k < 6 → member_bytes (member_at k (second_side z)) ≡ member_bytes (member_at k (second_side y))
+    at zero low = ap (λ (q : Parts). slice_index_or q.two.members 0 []) e
+    at (suc zero) low = ap (λ (q : Parts). slice_index_or q.two.members 1 []) e
+    at (suc (suc zero)) low = ap (λ (q : Parts). slice_index_or q.two.members 2 []) e
+    at (suc (suc (suc zero))) low = ap (λ (q : Parts). slice_index_or q.two.members 3 []) e
+    at (suc (suc (suc (suc zero)))) low = ap (λ (q : Parts). slice_index_or q.two.members 4 []) e
+    at (suc (suc (suc (suc (suc zero))))) low = ap (λ (q : Parts). slice_index_or q.two.members 5 []) e
+    at (suc (suc (suc (suc (suc (suc k)))))) low = absurd (omega arith)
+
+same_header : (z y : BattleState) → parts_of (bytes_of z) ≡ parts_of (bytes_of y) → header_bytes z ≡ header_bytes y
+unfolding bytes_of side_after
+same_header z y e = ap (λ (q : Parts). q.header) e
+
+ten_same : (xs ys : List ℕ) → length xs ≡ 10 → length ys ≡ 10
+    → slice_index xs 0 ≡ slice_index ys 0 → slice_index xs 1 ≡ slice_index ys 1 → slice_index xs 2 ≡ slice_index ys 2 → slice_index xs 3 ≡ slice_index ys 3
+    → slice_index xs 4 ≡ slice_index ys 4 → slice_index xs 5 ≡ slice_index ys 5 → slice_index xs 6 ≡ slice_index ys 6 → slice_index xs 7 ≡ slice_index ys 7
+    → slice_index xs 8 ≡ slice_index ys 8 → slice_index xs 9 ≡ slice_index ys 9 → xs ≡ ys
+ten_same xs ys long_x long_y e0 e1 e2 e3 e4 e5 e6 e7 e8 e9 =
+    listed 10 xs long_x ∙ rw (e0, e1, e2, e3, e4, e5, e6, e7, e8, e9) refl ∙ sym (listed 10 ys long_y)
+
+numbers_same : (z y : BattleState) → header_bytes z ≡ header_bytes y → length z.numbers ≡ 10 → length y.numbers ≡ 10 → z.numbers ≡ y.numbers
+numbers_same z y e long_z long_y =
+    let at = λ (k : ℕ). ap (λ (bytes : List ℕ). slice_index bytes k) e in
+    ten_same z.numbers y.numbers long_z long_y (at 6) (at 7) (at 8) (at 9) (at 10) (at 11) (at 12) (at 13) (at 14) (at 15)
+
+abbrev state_from : List SideState → ℕ → ℕ → ℕ → ℕ → ℕ → List ℕ → ℕ → List ℕ → BattleState
+state_from sides turn limit last_damage rules outcome requests index numbers = record {
+  sides = sides;
+  turn = turn;
+  limit = limit;
+  last_damage = last_damage;
+  rules = rules;
+  outcome = outcome;
+  requests = requests;
+  index = index;
+  numbers = numbers;
+}
+
+state_made : {a0 b0 : List SideState} {a1 a2 a3 a4 a5 a7 b1 b2 b3 b4 b5 b7 : ℕ} {a6 a8 b6 b8 : List ℕ} → a0 ≡ b0 → a1 ≡ b1 → a2 ≡ b2 → a3 ≡ b3
+    → a4 ≡ b4 → a5 ≡ b5 → a6 ≡ b6 → a7 ≡ b7 → a8 ≡ b8 → state_from a0 a1 a2 a3 a4 a5 a6 a7 a8 ≡ state_from b0 b1 b2 b3 b4 b5 b6 b7 b8
+state_made e0 e1 e2 e3 e4 e5 e6 e7 e8 = rw (e0, e1, e2, e3, e4, e5, e6, e7, e8) refl
+
+pub comes_back : ComesBack
+comes_back b s plain h =
+    let k = packs_of h in
+    let z = state_of s in
+    let same : parts_of (bytes_of z) ≡ parts_of (bytes_of b) =
+    ap parts_of (bytes_same h) ∙ parts-bytes_of s (members_in k One).size.1 (members_in k Two).size.1 ∙ sym h.same in
+    let header = same_header z b same in
+    let at = λ (n : ℕ). ap (λ (bytes : List ℕ). slice_index bytes n) header in
+    let one = side_equal h One (first_side b) plain.one (same_one z b same) in
+    let two = side_equal h Two (second_side b) plain.two (same_two z b same) in
+    let sides : z.sides ≡ b.sides =
+    ap (λ (x : SideState). x ∷ second_side z ∷ []) one ∙ ap (λ (x : SideState). first_side b ∷ x ∷ []) two ∙ sym (sides_split b.sides plain.sides) in
+    let damage = k.last_damage in
+    state_made sides (word_same z.turn b.turn (turn_packs k) plain.turn (at 1) (at 2))
+    (word_same z.limit b.limit (limit_packs k) plain.limit (at 20) (at 21))
+    (word_same z.last_damage b.last_damage (omega arith) plain.last_damage (at 3) (at 4))
+    (at 19) (at 16) (two_same z.requests b.requests refl plain.requests (at 17) (at 18)) (at 5)
+    (numbers_same z b header (ap length (ring_numbers s h.valid.seed.0)) plain.numbers)

@@ -1,0 +1,114 @@
+-- The bytes of a battle's plain state are the packing of its state.
+use Rattle.std.proofs.Common.{Bool, List, [], ap, append_assoc, arith, cond, flat_map, get_or, inl, inr, length, refl, replicate, suc, sym, zero, ℕ, ◌++◌, ◌==◌, ◌∙◌, ◌∷◌, ◌≡◌, ◌≤◌, ◌⊎◌}
+use Rattle.std.proofs.lemmas.List.{append-nil}
+use Rattle.gen1_stats.specs.Members.{nobody, Member}
+use Rattle.gen1_stats.specs.declared.status.Status.{Status}
+use Rattle.gen1_stats.specs.declared.status.Status.TheVariants.{Asleep, Burned, Frozen, Healthy, Paralysed, Poisoned}
+use Rattle.gen1_machine.specs.declared.side.Side.{Side}
+use Rattle.gen1_machine.specs.declared.side.Side.TheVariants.{One, Two}
+use Rattle.gen1_machine.specs.Layout.{active_block, active_block_of, header_block, member_block, member_blocks, party_bytes}
+use Rattle.gen1_machine.specs.Layout.{bytes_of as packing}
+use Rattle.gen1_machine.specs.Rules.{Rules}
+use Rattle.gen1_machine.specs.State.{Active, Field, State, active_in, member_at, member_in, nobody_out, party}
+use Rattle.gen1_machine.specs.Valid.{IsStarted, IsStatus, IsUnstarted}
+use Rattle.gen1_layout.specs.Parts.{Parts}
+use Rattle.gen1_layout.specs.Within.{Stands}
+use Rattle.gen1_layout.proofs.WaysBack.{members_in, status_ok_at}
+use Rattle.gen1_states.specs.Bytes.{active_bytes, bytes_of, header_bytes, member_bytes, side_after}
+use Rattle.gen1_states.specs.Reading.{active_now, active_state, member_state, no_active, side_state, state_of}
+use Rattle.gen1_states.proofs.Between.{not_zero, packs_of}
+use Rattle.gen1_states.proofs.Viewed.{viewed}
+
+-- A member
+
+member_by : (rules : Rules) (m : Member) (status : Status) → IsStatus rules status
+    → member_bytes (member_state (record m { status = status })) ≡ member_block (record m { status = status })
+member_by rules m Healthy h = refl
+member_by rules m (Asleep zero marked) h = absurd (omega (arith, h.0.0))
+member_by rules m (Asleep (suc zero) marked) h = refl
+member_by rules m (Asleep (suc (suc zero)) marked) h = refl
+member_by rules m (Asleep (suc (suc (suc zero))) marked) h = refl
+member_by rules m (Asleep (suc (suc (suc (suc zero)))) marked) h = refl
+member_by rules m (Asleep (suc (suc (suc (suc (suc zero))))) marked) h = refl
+member_by rules m (Asleep (suc (suc (suc (suc (suc (suc zero)))))) marked) h = refl
+member_by rules m (Asleep (suc (suc (suc (suc (suc (suc (suc zero))))))) marked) h = refl
+member_by rules m (Asleep (suc (suc (suc (suc (suc (suc (suc (suc n)))))))) marked) h = absurd (omega (arith, h.0.1))
+member_by rules m Poisoned h = refl
+member_by rules m Burned h = refl
+member_by rules m Frozen h = refl
+member_by rules m Paralysed h = refl
+
+member_same : (rules : Rules) (m : Member) → IsStatus rules m.status → member_bytes (member_state m) ≡ member_block m
+member_same rules m h = member_by rules m m.status h
+
+-- The members of a side
+
+abbrev nth : ℕ → List Member → List ℕ
+nth k ms = member_block (get_or ms k nobody)
+
+blocks_are : (ms : List Member) → length ms ≤ 6 → member_blocks ms ≡ nth 0 ms ∷ nth 1 ms ∷ nth 2 ms ∷ nth 3 ms ∷ nth 4 ms ∷ nth 5 ms ∷ []
+blocks_are [] few = refl
+blocks_are (a ∷ []) few = refl
+blocks_are (a ∷ b ∷ []) few = refl
+blocks_are (a ∷ b ∷ c ∷ []) few = refl
+blocks_are (a ∷ b ∷ c ∷ d ∷ []) few = refl
+blocks_are (a ∷ b ∷ c ∷ d ∷ e ∷ []) few = refl
+blocks_are (a ∷ b ∷ c ∷ d ∷ e ∷ f ∷ []) few = refl
+blocks_are (a ∷ b ∷ c ∷ d ∷ e ∷ f ∷ g ∷ more) few = absurd (omega arith)
+
+-- The blocks of a side after other bytes, one after the other and in a row.
+abbrev row : List ℕ → List ℕ → List ℕ → List ℕ → List ℕ → List ℕ → List ℕ → List ℕ → List ℕ
+row before a b c d e f g = ((((((before ++ a) ++ b) ++ c) ++ d) ++ e) ++ f) ++ g
+
+flat : (before a b c d e f g : List ℕ)
+    → row before a b c d e f g ≡ before ++ (flat_map (λ (block : List ℕ). block) (a ∷ b ∷ c ∷ d ∷ e ∷ f ∷ []) ++ g)
+flat before a b c d e f g = simp (append_assoc, append-nil) refl
+
+rows : (before : List ℕ) {a b c d e f g a' b' c' d' e' f' g' : List ℕ} → a ≡ a' → b ≡ b' → c ≡ c' → d ≡ d' → e ≡ e' → f ≡ f' → g ≡ g'
+    → row before a b c d e f g ≡ row before a' b' c' d' e' f' g'
+rows before ea eb ec ed ee ef eg = rw (ea, eb, ec, ed, ee, ef, eg) refl
+
+-- The active member
+
+nobody_same : (side : Side) (f : Field) → f.turn ≡ 0 → (party side f).active ≡ nobody_out
+    → active_bytes (active_now side f) ≡ active_block_of (party side f)
+nobody_same side f turn none =
+    ap (λ (n : ℕ). active_bytes (cond (n == 0) no_active (active_state (member_in side f) (active_in side f)))) turn
+    ∙ sym (ap (λ (a : Active). cond (a.place == 0) (replicate 36 0) (active_block (member_at a.place (party side f)) a)) none)
+
+active_same : (side : Side) (f : Field) → (f.turn ≡ 0 → ⊥) → ((party side f).active.place ≡ 0 → ⊥)
+    → active_bytes (active_now side f) ≡ active_block_of (party side f)
+active_same side f out some =
+    ap (λ (b : Bool). active_bytes (cond b no_active (active_state (member_in side f) (active_in side f)))) (not_zero f.turn out)
+    ∙ sym (ap (λ (b : Bool). cond b (replicate 36 0) (active_block (member_in side f) (active_in side f))) (not_zero (party side f).active.place some))
+
+now_same : (s : State) (side : Side) → IsUnstarted s.terms s.field ⊎ IsStarted s.terms s.field
+    → active_bytes (active_now side s.field) ≡ active_block_of (party side s.field)
+now_same s One (inl u) = nobody_same One s.field u.turn u.nobody_one
+now_same s Two (inl u) = nobody_same Two s.field u.turn u.nobody_two
+now_same s One (inr v) = active_same One s.field (λ z. let low = v.turn in omega arith) (λ z. let low = v.field.one.place.0 in omega arith)
+now_same s Two (inr v) = active_same Two s.field (λ z. let low = v.turn in omega arith) (λ z. let low = v.field.two.place.0 in omega arith)
+
+-- The whole
+
+side_same : {p : Parts} {s : State} (before : List ℕ) (side : Side) → Stands p s
+    → side_after before (side_state side s.field) ≡ before ++ party_bytes (party side s.field)
+unfolding side_after
+side_same {s = s} before side h =
+    let k = packs_of h in
+    let t = party side s.field in
+    let member = λ (place : ℕ). member_same s.terms.rules (member_at place t) (status_ok_at k side place) in
+    rows before (member 1) (member 2) (member 3) (member 4) (member 5) (member 6) (now_same s side h.valid.field)
+    ∙ flat before _ _ _ _ _ _ _
+    ∙ ap (λ (blocks : List (List ℕ)). before ++ (flat_map (λ (block : List ℕ). block) blocks ++ active_block_of t))
+    (sym (blocks_are t.members (members_in k side).size.1))
+
+header_same : (s : State) → length s.seed ≡ 10 → header_bytes (state_of s) ≡ header_block s
+header_same s ten = sym (ap header_bytes (viewed s ten))
+
+pub bytes_same : {p : Parts} {s : State} → Stands p s → bytes_of (state_of s) ≡ packing s
+unfolding bytes_of packing
+bytes_same {s = s} h =
+    ap (λ (bytes : List ℕ). side_after (side_after bytes (side_state One s.field)) (side_state Two s.field)) (header_same s h.valid.seed.0)
+    ∙ ap (λ (bytes : List ℕ). side_after bytes (side_state Two s.field)) (side_same (header_block s) One h)
+    ∙ side_same (header_block s ++ party_bytes s.field.one) Two h

@@ -1,0 +1,5 @@
+use Rattle.gen1_states.proofs.Back.{comes_back}
+use Rattle.gen1_states.proofs.laws.plain_states_come_back.Goals as goal
+
+pub returns : goal.returns
+returns c = comes_back

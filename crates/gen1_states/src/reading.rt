@@ -1,0 +1,156 @@
+//! The plain state of a battle (docs/LAYOUT.md, "Plain states").
+ghost use Rattle.std.specs.Prelude.{◌≡◌, ◌≤◌};
+ghost use Rattle.gen1_layout.specs.Words.{Reads, ReadsPacked, active_in, member_at, member_in, party};
+ghost use Rattle.gen1_stats.specs.declared.status.Status.{Status};
+ghost use Rattle.gen1_machine.specs.LogBytes.{kind_or_0};
+ghost use Rattle.gen1_machine.specs.State.{State, kind_of};
+ghost use Rattle.gen1_layout.specs.Within.{Stands};
+ghost use Rattle.gen1_states.specs.Reading.{active_now, active_state, member_state, no_active, side_state, sleep_of, state_of};
+
+use crate::plain::{ActiveState, BattleState, MemberState, SideState};
+use bitflags::Flags;
+use gen1_layout::Packed;
+use gen1_machine::Side;
+use gen1_stats::Status;
+use gen1_tables::Stat;
+
+/// The state that a battle's bytes represent, every field of it.
+pub fn state_of(battle: &Packed) -> BattleState
+    ensures { (s : State) → Stands battle.now s → result ≡ state_of s }
+{
+    let header = battle.header();
+    BattleState {
+        sides: [side_state(battle, Side::One), side_state(battle, Side::Two)],
+        turn: battle.turn(),
+        limit: battle.limit(),
+        last_damage: battle.last_damage(),
+        rules: header[19],
+        outcome: header[16],
+        requests: [header[17], header[18]],
+        index: header[5],
+        numbers: [
+            header[6], header[7], header[8], header[9], header[10], header[11], header[12],
+            header[13], header[14], header[15],
+        ],
+    }
+}
+
+fn side_state(battle: &Packed, side: Side) -> SideState
+    ensures { (s : State) → Stands battle.now s → result ≡ side_state side s.field }
+{
+    SideState {
+        members: [
+            member_state(battle, side, 1),
+            member_state(battle, side, 2),
+            member_state(battle, side, 3),
+            member_state(battle, side, 4),
+            member_state(battle, side, 5),
+            member_state(battle, side, 6),
+        ],
+        active: active_now(battle, side),
+    }
+}
+
+fn member_state(battle: &Packed, side: Side, place: u8) -> MemberState
+    requires low { 1 ≤ place }
+    requires high { place ≤ 6 }
+    ensures { ReadsPacked battle.now result λ f. member_state (member_at place (party side f)) }
+{
+    let block = battle.member(side, place);
+    let status = battle.status_at(side, place);
+    MemberState {
+        species: block[0],
+        level: block[1],
+        status: kind_of(status),
+        sleep: sleep_of(status),
+        marked: block[23],
+        moves: [block[15], block[16], block[17], block[18]],
+        pp: [block[19], block[20], block[21], block[22]],
+        hp: battle.hp_at(side, place),
+        max_hp: battle.max_hp_at(side, place),
+        stats: battle.own_stats_at(side, place),
+    }
+}
+
+fn kind_of(status: Status) -> u8
+    ensures { result ≡ kind_or_0 (kind_of status) }
+{
+    match status {
+        Status::Healthy => 0,
+        Status::Asleep { .. } => 1,
+        Status::Poisoned => 2,
+        Status::Burned => 3,
+        Status::Frozen => 4,
+        Status::Paralysed => 5,
+    }
+}
+
+fn sleep_of(status: Status) -> u8
+    ensures { result ≡ sleep_of status }
+{
+    match status {
+        Status::Asleep { turns, marked: _ } => turns,
+        _ => 0,
+    }
+}
+
+fn active_now(battle: &Packed, side: Side) -> ActiveState
+    ensures { (s : State) → Stands battle.now s → result ≡ active_now side s.field }
+{
+    if battle.turn() == 0 {
+        no_active()
+    } else {
+        active_state(battle, side)
+    }
+}
+
+fn no_active() -> ActiveState
+    ensures { result ≡ no_active }
+{
+    ActiveState {
+        conditions: 0,
+        stats: [0; 4],
+        energy: 0,
+        place: 0,
+        types: [0; 2],
+        stages: [0; 6],
+        current_move: 0,
+        picked_move: 0,
+        kept_accuracy: 0,
+        substitute: 0,
+        confusion: 0,
+        disabled_slot: 0,
+        disabled_turns: 0,
+        bad_poison: 0,
+        turns: 0,
+    }
+}
+
+fn active_state(battle: &Packed, side: Side) -> ActiveState
+    ensures stands { Reads battle.now result λ f. active_state (member_in side f)
+        (active_in side f) }
+{
+    let block = battle.active(side);
+    ActiveState {
+        conditions: battle.conditions(side).bits(),
+        stats: [
+            battle.current_stat(side, Stat::Attack),
+            battle.current_stat(side, Stat::Defense),
+            battle.current_stat(side, Stat::Speed),
+            battle.current_stat(side, Stat::Special),
+        ],
+        energy: battle.energy(side),
+        place: block[0],
+        types: [block[1], block[2]],
+        stages: [block[3], block[4], block[5], block[6], block[7], block[8]],
+        current_move: block[29],
+        picked_move: block[30],
+        kept_accuracy: block[31],
+        substitute: block[21],
+        confusion: block[22],
+        disabled_slot: block[23],
+        disabled_turns: block[24],
+        bad_poison: block[25],
+        turns: block[26],
+    }
+}
