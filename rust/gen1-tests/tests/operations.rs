@@ -554,6 +554,142 @@ mod hits {
         }
     }
 
+    mod knock_outs {
+        //! Chances to knock out, drain and recoil, worked out on paper or by another program ([docs/MECHANICS.md, "Landing"](https://hibsuloy.example/gen1/blob/main/docs/MECHANICS.md#landing), "Many
+        //! hits", "Recoil, drain and explosion").
+        use crate::battles::{FOE, USER, assert_same, named, persian_and_tauros, two_tauros};
+        use gen1::generated::layout::{Conditions, Packed};
+        use gen1::generated::odds::{drained, knock_out, recoil};
+        use gen1_tests::testing::Fail;
+
+        fn ways(battle: &Packed, name: &str) -> Result<[u64; 4], Fail> {
+            let chances = knock_out(battle, USER, named(name)?);
+            Ok([
+                chances.once,
+                chances.once_of,
+                chances.twice,
+                chances.twice_of,
+            ])
+        }
+
+        // Body Slam of a Tauros deals 95 to 112 to another, and 184 to 217 if it is critical, as 55 of 256 draws are. 255 of 256
+        // draws hit. With 100 HP left, 28 of the 39 factors are enough: 255 * 8 * (55 * 39 + 201 * 28) ways. The other numbers
+        // are from a sum over all pairs of uses in fractions, in Python.
+        #[test]
+        fn body_slam() -> Result<(), Fail> { let rt = gen1_tests::testing::HostRuntime;
+            let mut battle = two_tauros()?;
+            let all = 20_447_232;
+            let numbers = [
+                (100, 15_856_920, 417_362_401_198_080),
+                (207, 1_346_400, 284_909_644_252_800),
+                (220, 0, 166_329_072_604_800),
+            ];
+            for (hp, once, twice) in numbers {
+                battle.put_hp(FOE, hp);
+                assert_same(
+                    &rt,
+                    ways(&battle, "Body Slam")?,
+                    [once, all, twice, all * all],
+                );
+            }
+            Ok(())
+        }
+
+        #[test]
+        fn fixed_damage() -> Result<(), Fail> { let rt = gen1_tests::testing::HostRuntime;
+            let mut battle = two_tauros()?;
+            battle.put_hp(FOE, 100);
+            let [hit, all] = [255, 256];
+            let twice = all * all - 1;
+            assert_same(
+                &rt,
+                ways(&battle, "Night Shade")?,
+                [hit, all, twice, all * all],
+            );
+            battle.put_hp(FOE, 101);
+            assert_same(
+                &rt,
+                ways(&battle, "Night Shade")?,
+                [0, all, hit * hit, all * all],
+            );
+            // 204 of 256 draws hit. Of the numbers 1 to 149, 49 are at least 101. Of their pairs, 100 * 99 / 2 and no more have
+            // a sum of 100 or less.
+            let chances = ways(&battle, "Psywave")?;
+            let both = 204 * 204 * (149 * 149 - 4950);
+            let one = 2 * 204 * 52 * 149 * 49;
+            assert_same(
+                &rt,
+                chances,
+                [204 * 49, 256 * 149, both + one, 256 * 149 * 256 * 149],
+            );
+            Ok(())
+        }
+
+        // Super Fang leaves at least 1 HP, and halves what is left: 4, 2, 1. At 2 HP the second use is enough. It hits with 229 of
+        // 256 draws.
+        #[test]
+        fn super_fang() -> Result<(), Fail> { let rt = gen1_tests::testing::HostRuntime;
+            let mut battle = two_tauros()?;
+            battle.put_hp(FOE, 4);
+            assert_same(&rt, ways(&battle, "Super Fang")?, [0, 256, 0, 65_536]);
+            battle.put_hp(FOE, 2);
+            assert_same(
+                &rt,
+                ways(&battle, "Super Fang")?,
+                [0, 256, 229 * 229, 65_536],
+            );
+            // It takes 2 of a substitute, which is half of the HP, and 4 by two uses.
+            battle.put_hp(FOE, 4);
+            battle.put_substitute(FOE, Some(3));
+            let chances = knock_out(&battle, USER, named("Super Fang")?);
+            assert_same(
+                &rt,
+                (chances.once, chances.twice, chances.breaks_substitute),
+                (0, 229 * 229, 1),
+            );
+            Ok(())
+        }
+
+        // A damage equal to its HP leaves a substitute at 0 HP.
+        #[test]
+        fn substitutes() -> Result<(), Fail> { let rt = gen1_tests::testing::HostRuntime;
+            let mut battle = two_tauros()?;
+            for (hp, once) in [(99, 255), (100, 0)] {
+                battle.put_substitute(FOE, Some(hp));
+                assert_same(&rt, ways(&battle, "Seismic Toss")?[0], once);
+            }
+            // 76 of 256 draws hit, and Persian is the faster.
+            let mut battle = persian_and_tauros()?;
+            assert_same(&rt, ways(&battle, "Fissure")?[0], 76);
+            battle.put_substitute(FOE, Some(88));
+            assert_same(&rt, ways(&battle, "Fissure")?[0], 76);
+            battle.put_flag(FOE, Conditions::INVULNERABLE, true);
+            assert_same(&rt, ways(&battle, "Fissure")?, [0, 256, 0, 65_536]);
+            Ok(())
+        }
+
+        #[test]
+        fn drain_and_recoil() -> Result<(), Fail> { let rt = gen1_tests::testing::HostRuntime;
+            for (name, damage, gain, cost) in [
+                ("Mega Drain", 75, 37, 0),
+                ("Absorb", 1, 1, 0),
+                ("Dream Eater", 200, 100, 0),
+                ("Double-Edge", 75, 0, 18),
+                ("Take Down", 3, 0, 1),
+                ("Struggle", 75, 0, 37),
+                ("Strength", 75, 0, 0),
+            ] {
+                let id = named(name)?;
+                assert_same(
+                    &rt,
+                    (name, drained(id, damage), recoil(id, damage)),
+                    (name, gain, cost),
+                );
+            }
+            Ok(())
+        }
+    }
+
     mod landing {
         //! HP, landings, critical draws and hit tests: side 1's Persian against side 2's Tauros, which has 353 HP.
         use crate::battles::{FOE, USER, assert_same, named, persian_and_tauros, species, tells};
@@ -813,39 +949,249 @@ mod hits {
     }
 
     mod odds {
-        //! The odds of a use of a move ([docs/MECHANICS.md, "Critical hits"](https://hibsuloy.example/gen1/blob/main/docs/MECHANICS.md#critical-hits), "Hit test").
-        use crate::battles::{assert_same, named, persian_and_tauros};
-        use gen1::generated::layout::Conditions;
-        use gen1::generated::machine::Side;
-        use gen1::generated::odds::{odds_of, takes_hit_test};
+        //! The odds of a use of a move, worked out on paper ([docs/MECHANICS.md, "Critical hits"](https://hibsuloy.example/gen1/blob/main/docs/MECHANICS.md#critical-hits), "Hit test", "Early effects", "Late
+        //! effects", "Side effects").
+        use crate::battles::{FOE, USER, assert_same, named, persian_and_tauros, two_tauros};
+        use gen1::generated::layout::{Conditions, Packed};
+        use gen1::generated::machine::{DisabledSlot, Side, UsedMove};
+        use gen1::generated::odds::{Odds, Reason, odds_of, takes_hit_test};
+        use gen1::generated::stats::Status;
+        use gen1::generated::tables::Element;
         use gen1_tests::testing::Abort;
         use gen1_tests::testing::Fail;
+
+        fn odds(battle: &Packed, side: Side, name: &str) -> Result<Odds, Fail> {
+            Ok(odds_of(battle, side, named(name)?))
+        }
+
+        fn assert_hits(
+            rt: &impl Abort,
+            battle: &Packed,
+            side: Side,
+            name: &str,
+            draws: u16,
+        ) -> Result<(), Fail> {
+            let odds = odds(battle, side, name)?;
+            assert_same(rt, (name, odds.hit_draws, odds.reason), (name, draws, 0));
+            Ok(())
+        }
+
+        fn assert_fails(
+            rt: &impl Abort,
+            battle: &Packed,
+            side: Side,
+            name: &str,
+            why: Reason,
+        ) -> Result<(), Fail> {
+            let odds = odds(battle, side, name)?;
+            assert_same(
+                rt,
+                (name, odds.hit_draws, odds.reason),
+                (name, 0, why.number()),
+            );
+            Ok(())
+        }
 
         // Persian's base Speed is 115, so 57 of 256 draws are critical, and 255 with Slash. With Focus Energy they are 14 and
         // 112.
         #[test]
         fn chances_of_persian() -> Result<(), Fail> { let rt = gen1_tests::testing::HostRuntime;
             let mut battle = persian_and_tauros()?;
-            let [strength, slash] = [named("Strength")?, named("Slash")?];
             for (focused, few, many) in [(false, 57, 255), (true, 14, 112)] {
-                battle.put_flag(Side::One, Conditions::FOCUS_ENERGY, focused);
-                let found = odds_of(&battle, Side::One, strength).critical_draws;
-                assert_same(&rt, found, few);
-                let found = odds_of(&battle, Side::One, slash).critical_draws;
-                assert_same(&rt, found, many);
+                battle.put_flag(USER, Conditions::FOCUS_ENERGY, focused);
+                assert_same(&rt, odds(&battle, USER, "Strength")?.critical_draws, few);
+                assert_same(&rt, odds(&battle, USER, "Slash")?.critical_draws, many);
             }
-            // 100, 70 and 55 percent in 255ths. Swift hits without a draw, and Dream Eater misses a foe that is awake.
+            Ok(())
+        }
+
+        // 100, 70, 60, 55 and 30 percent in 255ths. Swift hits without a draw.
+        #[test]
+        fn accuracies() -> Result<(), Fail> { let rt = gen1_tests::testing::HostRuntime;
+            let battle = persian_and_tauros()?;
             let accuracies = [
                 ("Strength", 255),
                 ("Thunder", 178),
+                ("Hypnosis", 153),
                 ("Sing", 140),
+                ("Fissure", 76),
                 ("Swift", 256),
-                ("Dream Eater", 0),
+                ("Rage", 255),
+                ("Swords Dance", 256),
+                ("Splash", 256),
+                ("Bide", 256),
+                ("Haze", 256),
             ];
-            for (name, expected) in accuracies {
-                let found = odds_of(&battle, Side::One, named(name)?).hit_draws;
-                assert_same(&rt, (name, found), (name, expected));
+            for (name, draws) in accuracies {
+                assert_hits(&rt, &battle, USER, name, draws)?;
             }
+            Ok(())
+        }
+
+        // Persian's Speed is 328, and that of Tauros 318.
+        #[test]
+        fn one_hit_moves() -> Result<(), Fail> { let rt = gen1_tests::testing::HostRuntime;
+            let mut battle = persian_and_tauros()?;
+            assert_hits(&rt, &battle, USER, "Fissure", 76)?;
+            let fissure = odds(&battle, USER, "Fissure")?;
+            assert_same(&rt, (fissure.least, fissure.most), (65535, 65535));
+            assert_fails(&rt, &battle, FOE, "Fissure", Reason::Slower)?;
+            battle.put_types(FOE, Element::Ghost, Element::Poison);
+            assert_fails(&rt, &battle, USER, "Guillotine", Reason::Immune)
+        }
+
+        #[test]
+        fn the_foes_types() -> Result<(), Fail> { let rt = gen1_tests::testing::HostRuntime;
+            let mut battle = two_tauros()?;
+            battle.put_types(FOE, Element::Rock, Element::Ground);
+            assert_fails(&rt, &battle, USER, "Thunderbolt", Reason::Immune)?;
+            assert_fails(&rt, &battle, USER, "Thunder Wave", Reason::OwnType)?;
+            assert_hits(&rt, &battle, USER, "Stun Spore", 191)?;
+            battle.put_types(FOE, Element::Grass, Element::Poison);
+            assert_fails(&rt, &battle, USER, "Leech Seed", Reason::OwnType)?;
+            assert_fails(&rt, &battle, USER, "Toxic", Reason::OwnType)?;
+            battle.put_types(FOE, Element::Ghost, Element::Ghost);
+            // Swift is of type Normal. Fixed damage knows no types.
+            assert_fails(&rt, &battle, USER, "Swift", Reason::Immune)?;
+            assert_hits(&rt, &battle, USER, "Seismic Toss", 255)
+        }
+
+        #[test]
+        fn the_foes_status() -> Result<(), Fail> { let rt = gen1_tests::testing::HostRuntime;
+            let mut battle = two_tauros()?;
+            assert_fails(&rt, &battle, USER, "Dream Eater", Reason::Awake)?;
+            let asleep = Status::Asleep {
+                turns: 3,
+                marked: false,
+            };
+            battle.put_status(FOE, asleep);
+            assert_hits(&rt, &battle, USER, "Dream Eater", 255)?;
+            for name in ["Spore", "Toxic", "Thunder Wave"] {
+                assert_fails(&rt, &battle, USER, name, Reason::HasStatus)?;
+            }
+            // A foe that has to recharge falls asleep in any case.
+            battle.put_flag(FOE, Conditions::RECHARGE, true);
+            assert_hits(&rt, &battle, USER, "Sing", 256)
+        }
+
+        #[test]
+        fn the_foes_conditions() -> Result<(), Fail> { let rt = gen1_tests::testing::HostRuntime;
+            let mut battle = two_tauros()?;
+            battle.put_flag(FOE, Conditions::MIST, true);
+            assert_fails(&rt, &battle, USER, "Growl", Reason::Mist)?;
+            battle.put_flag(FOE, Conditions::MIST, false);
+            battle.put_flag(FOE, Conditions::SEEDED, true);
+            assert_fails(&rt, &battle, USER, "Leech Seed", Reason::Seeded)?;
+            battle.put_confused(FOE, Some(2));
+            assert_fails(&rt, &battle, USER, "Confuse Ray", Reason::Confused)?;
+            battle.put_disabled(FOE, Some(DisabledSlot { slot: 1, turns: 3 }));
+            assert_fails(&rt, &battle, USER, "Disable", Reason::Disabled)?;
+            battle.put_flag(FOE, Conditions::INVULNERABLE, true);
+            for name in ["Strength", "Sing", "Disable", "Growl", "Conversion"] {
+                assert_fails(&rt, &battle, USER, name, Reason::Invulnerable)?;
+            }
+            assert_hits(&rt, &battle, USER, "Swift", 256)
+        }
+
+        #[test]
+        fn behind_a_substitute() -> Result<(), Fail> { let rt = gen1_tests::testing::HostRuntime;
+            let mut battle = two_tauros()?;
+            battle.put_substitute(FOE, Some(88));
+            for name in ["Toxic", "Supersonic", "Growl"] {
+                assert_fails(&rt, &battle, USER, name, Reason::Substitute)?;
+            }
+            for name in ["Strength", "Thunder Wave", "Spore"] {
+                assert_hits(&rt, &battle, USER, name, 255)?;
+            }
+            assert_fails(&rt, &battle, FOE, "Substitute", Reason::AlreadyUp)
+        }
+
+        #[test]
+        fn what_concerns_the_user_alone() -> Result<(), Fail> { let rt = gen1_tests::testing::HostRuntime;
+            let mut battle = two_tauros()?;
+            assert_fails(&rt, &battle, USER, "Recover", Reason::Health)?;
+            battle.put_hp(USER, 98);
+            // 353 - 98 is 255.
+            assert_fails(&rt, &battle, USER, "Rest", Reason::Health)?;
+            battle.put_hp(USER, 87);
+            assert_hits(&rt, &battle, USER, "Rest", 256)?;
+            // A quarter of 353 is 88.
+            assert_fails(&rt, &battle, USER, "Substitute", Reason::Health)?;
+            battle.put_hp(USER, 88);
+            assert_hits(&rt, &battle, USER, "Substitute", 256)?;
+            battle.put_flag(USER, Conditions::REFLECT, true);
+            assert_fails(&rt, &battle, USER, "Reflect", Reason::AlreadyUp)?;
+            assert_hits(&rt, &battle, USER, "Light Screen", 256)?;
+            battle.put_evasion(USER, 12);
+            assert_fails(&rt, &battle, USER, "Double Team", Reason::Stage)?;
+            battle.put_accuracy(FOE, 0);
+            assert_fails(&rt, &battle, USER, "Sand Attack", Reason::Stage)?;
+            assert_fails(&rt, &battle, USER, "Roar", Reason::AlwaysFails)?;
+            battle.put_hp(FOE, 0);
+            assert_fails(&rt, &battle, USER, "Swift", Reason::Fallen)
+        }
+
+        // Rage with Strength in slot 1 as the current move, whose accuracy byte has become 10. Dig would be a new use.
+        #[test]
+        fn a_kept_accuracy() -> Result<(), Fail> { let rt = gen1_tests::testing::HostRuntime;
+            let mut battle = two_tauros()?;
+            battle.put_flag(USER, Conditions::RAGE, true);
+            battle.put_current_move(USER, UsedMove::Slot(1));
+            battle.put_kept_accuracy(USER, 10);
+            assert_hits(&rt, &battle, USER, "Strength", 10)?;
+            assert_hits(&rt, &battle, USER, "Dig", 255)
+        }
+
+        #[test]
+        fn damage_by_rules_of_their_own() -> Result<(), Fail> { let rt = gen1_tests::testing::HostRuntime;
+            let mut battle = two_tauros()?;
+            battle.put_last_damage(75);
+            battle.put_picked_move(FOE, UsedMove::Slot(1));
+            let damages = [
+                ("Sonic Boom", 20, 20),
+                ("Dragon Rage", 40, 40),
+                ("Night Shade", 100, 100),
+                ("Seismic Toss", 100, 100),
+                // Half of 353.
+                ("Super Fang", 176, 176),
+                // One and a half times 100.
+                ("Psywave", 1, 149),
+                ("Counter", 150, 150),
+                ("Strength", 0, 0),
+                ("Growl", 0, 0),
+            ];
+            for (name, least, most) in damages {
+                let odds = odds(&battle, USER, name)?;
+                assert_same(&rt, (name, odds.least, odds.most), (name, least, most));
+                let code = if name == "Strength" { 0 } else { 48 };
+                assert_same(&rt, (name, odds.usual.code), (name, code));
+            }
+            // Dig is of type Ground.
+            battle.put_picked_move(FOE, UsedMove::Slot(2));
+            assert_fails(&rt, &battle, USER, "Counter", Reason::NothingToCounter)?;
+            battle.put_picked_move(FOE, UsedMove::Struggle);
+            assert_hits(&rt, &battle, USER, "Counter", 255)?;
+            battle.put_last_damage(0);
+            assert_fails(&rt, &battle, USER, "Counter", Reason::NothingToCounter)
+        }
+
+        #[test]
+        fn numbers_of_hits() -> Result<(), Fail> { let rt = gen1_tests::testing::HostRuntime;
+            let battle = two_tauros()?;
+            let several = [0, 0, 3, 3, 1, 1];
+            let hits = [
+                ("Fury Attack", several),
+                ("Pin Missile", several),
+                ("Double Kick", [0, 0, 8, 0, 0, 0]),
+                ("Twineedle", [0, 0, 8, 0, 0, 0]),
+                ("Strength", [0, 8, 0, 0, 0, 0]),
+            ];
+            for (name, expected) in hits {
+                let odds = odds(&battle, USER, name)?;
+                assert_same(&rt, (name, odds.hits), (name, expected));
+            }
+            assert_same(&rt, odds(&battle, USER, "Dig")?.charges_first, 1);
+            assert_same(&rt, odds(&battle, USER, "Strength")?.charges_first, 0);
             Ok(())
         }
 

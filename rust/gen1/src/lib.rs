@@ -30,10 +30,11 @@
 //! |---|---|
 //! | teams | [`member`], [`MemberSpec`], [`Team`], [`Species`], [`MoveId`], [`text`] |
 //! | battles | [`Battle`], [`Choice`], [`Update`], [`Event`], [`Line`] |
-//! | the whole state of a battle | [`Battle::state`], [`State`] |
-//! | damage and exact chances | [`Battle::damage`], [`Battle::odds`] |
+//! | the whole state of a battle | [`Battle::state`], [`State`], [`Battle::from_state`], [`Battle::with_hp`] |
+//! | damage and exact chances | [`Battle::damage`], [`Battle::odds`], [`Battle::knock_out`] |
 //! | searches | [`Battle::offered_mask`], [`Battle::update_silent`], [`Battle::reseed`], [`Battle::key`] |
 //! | events without a list, logs | [`Battle::update_with`], [`EventSink`], [`events_of`] |
+//! | what a player knows | [`Player`], [`Teller`], [`Battle::own_side`], [`Battle::from_player`] |
 //! | what a spectator knows | [`Spectator`] |
 //! | two players who choose independently | [`Room`] |
 //!
@@ -86,11 +87,14 @@ pub mod adapter;
 mod additions;
 mod battle;
 mod event;
+mod from_state;
 #[doc(hidden)]
 pub mod generated;
+mod guess;
 mod lines;
 mod mask;
 mod odds;
+mod player;
 mod room;
 #[cfg(feature = "serde")]
 mod serde_impls;
@@ -99,10 +103,6 @@ mod state;
 mod teams;
 mod update;
 
-/// A list with a fixed capacity, stored inline: the type of lists in [`MemberSpec::moves`], [`State`] and [`Choices`].
-#[doc(no_inline)]
-pub use arrayvec::ArrayVec;
-pub use battle::Battle;
 #[doc(inline)]
 pub use crate::generated::engine::{BattleResult, Choices, LoadFault, Refusal, write_log};
 #[doc(inline)]
@@ -116,16 +116,29 @@ pub use crate::generated::machine::{
     TurnNumber, UsedMove, Volatile, Who,
 };
 #[doc(inline)]
+pub use crate::generated::odds::Reason as OddsReason;
+#[doc(inline)]
+pub use crate::generated::player::{
+    Announced, OwnMember, OwnSide, Public, PublicSide, Seen, SeenMove, SeenStages,
+};
+#[doc(inline)]
 pub use crate::generated::room::{Reply, RoomRefusal, Submitted};
 #[doc(inline)]
 pub use crate::generated::stats::{KnownMove, Member, MemberSpec, Status, Team, TeamRefusal};
 #[doc(inline)]
 pub use crate::generated::tables::{Effect, Element, MoveId, Species, Stat};
 pub use additions::{OutOfRange, UnknownName, UnknownText};
+/// A list with a fixed capacity, stored inline: the type of lists in [`MemberSpec::moves`], [`State`] and [`Choices`].
+#[doc(no_inline)]
+pub use arrayvec::ArrayVec;
+pub use battle::Battle;
 pub use event::LineFault;
+pub use from_state::{StateFault, StateField};
+pub use guess::{Guess, GuessFault};
 pub use lines::{Events, Line, Lines, events_of};
 pub use mask::OfferedMask;
-pub use odds::{DamageRefusal, Odds};
+pub use odds::{Chances, DamageRefusal, Odds};
+pub use player::{Player, Teller};
 pub use room::Room;
 pub use spectator::Spectator;
 pub use state::{ActiveState, MemberState, SideState, State};

@@ -1,8 +1,8 @@
 //! The damage of a move and its odds, in the current state of a battle.
-use crate::{Battle, MoveId, Side};
+use crate::{Battle, MoveId, OddsReason, Side};
 use core::fmt;
 use crate::generated::layout::Packed;
-use crate::generated::odds::Damages;
+use crate::generated::odds::{self, Damages};
 
 /// Why there are no damage numbers.
 #[derive(Clone, Copy, Debug, PartialEq, Eq)]
@@ -29,7 +29,26 @@ impl fmt::Display for DamageRefusal {
 
 impl core::error::Error for DamageRefusal {}
 
-/// The odds of a move: its damage, and its chances of a critical hit and of a hit.
+/// The chance that one use of a move knocks out the foe, or two uses in a row, for independent draws.
+///
+/// A chance is a number of ways out of all of them, which are equally likely.
+#[derive(Clone, Copy, Debug, PartialEq, Eq)]
+#[cfg_attr(feature = "serde", derive(serde::Serialize, serde::Deserialize))]
+#[non_exhaustive]
+pub struct Chances {
+    /// In how many ways the foe has no HP left after one use.
+    pub once: u64,
+    /// The ways of one use, at most 20,447,232.
+    pub once_of: u64,
+    /// In how many ways the foe has no HP left after two uses.
+    pub twice: u64,
+    /// The ways of two uses.
+    pub twice_of: u64,
+    /// Whether the foe has a Substitute. The chances are then those of breaking it.
+    pub breaks_substitute: bool,
+}
+
+/// The odds of a use of a move: its damage, and its chances of a critical hit and of a hit.
 ///
 /// Chances are exact. They are given as how many of the 256 numbers that may be drawn have that result.
 #[derive(Clone, Debug, PartialEq, Eq)]
@@ -42,10 +61,19 @@ pub struct Odds {
     /// The damage of a critical hit, in the same form.
     #[cfg_attr(feature = "serde", serde(with = "crate::serde_impls::damages"))]
     pub critical: Result<[u16; 39], DamageRefusal>,
-    /// How many of 256 draws make the hit critical, from 0 to 255; 0 for a move without the usual damage.
+    /// The least and the most damage of a use without the usual damage, such as Night Shade, Psywave and Counter. The numbers from the
+    /// least to the most are equally likely. Both are 0 for any other use.
+    pub fixed: [u16; 2],
+    /// How many of 256 draws make the hit critical, from 0 to 255; 0 without the usual damage.
     pub critical_draws: u16,
-    /// How many of 256 draws pass the hit test, from 0 to 256. It has no meaning for a move that takes no hit test.
+    /// How many of 256 draws of the hit test make the use hit, from 0 to 256. A use that hits without a test has 256.
     pub hit_draws: u16,
+    /// Why the use can't hit; `None` if it can.
+    pub reason: Option<OddsReason>,
+    /// In how many of 8 cases a use that hits makes 0 to 5 hits. Each hit deals the same damage.
+    pub hits: [u8; 6],
+    /// Whether the user would only charge now. The odds are then those of its strike.
+    pub charges_first: bool,
     /// Whether the move takes the hit test when it is used. Moves that fail, or that affect only their user, take none.
     pub takes_hit_test: bool,
 }
@@ -86,7 +114,8 @@ impl Battle {
 
     /// The odds of a side's move, in the current state of both members that are out ([docs/MECHANICS.md, "Critical hits"](https://hibsuloy.example/gen1/blob/main/docs/MECHANICS.md#critical-hits), "Hit test").
     ///
-    /// The member need not know the move. The accuracy is that of a new use; the one that Thrash and Rage keep is ignored.
+    /// The member need not know the move. A move that goes on under Thrash or Rage is tested with the accuracy that they keep. What may
+    /// keep the member from acting at all, such as paralysis, is not counted.
     ///
     /// ```
     /// use gen1::{Battle, Choice, Side, Team, member};
@@ -107,18 +136,57 @@ impl Battle {
     /// [`DamageRefusal::NobodyOut`] only. If a move has no damage, [`Odds::usual`] and [`Odds::critical`] say why.
     pub fn odds(&self, side: Side, id: MoveId) -> Result<Odds, DamageRefusal> {
         let packed = self.out()?;
-        let odds = crate::generated::odds::odds_of(packed, side, id);
+        let odds = odds::odds_of(packed, side, id);
         let damages = |of: Damages| match of.code {
             0 => Ok(of.numbers),
-            3 => Err(DamageRefusal::NoUsualDamage(id)),
+            48 => Err(DamageRefusal::NoUsualDamage(id)),
             _ => Err(DamageRefusal::DividedByZero),
         };
+        let numbered = |reason: &OddsReason| reason.number() == odds.reason;
         Ok(Odds {
             usual: damages(odds.usual),
             critical: damages(odds.critical),
+            fixed: [odds.least, odds.most],
             critical_draws: odds.critical_draws,
             hit_draws: odds.hit_draws,
-            takes_hit_test: crate::generated::odds::takes_hit_test(id),
+            reason: OddsReason::ALL.into_iter().find(numbered),
+            hits: odds.hits,
+            charges_first: odds.charges_first != 0,
+            takes_hit_test: odds::takes_hit_test(id),
+        })
+    }
+
+    /// The exact chance that a side's move knocks out the foe, with one use and with two in a row, in the current state of both members
+    /// that are out. Against a Substitute it is the chance to break it.
+    ///
+    /// The draws are taken as independent. Nothing else that happens between the two uses counts, such as residual damage.
+    ///
+    /// ```
+    /// use gen1::{Battle, Choice, MoveId, Side, Team, member};
+    ///
+    /// # fn main() -> Result<(), Box<dyn std::error::Error>> {
+    /// let one = Team::new(&[member("Tauros", &["Hyper Beam"])?])?;
+    /// let two = Team::new(&[member("Alakazam", &["Psychic"])?])?;
+    /// let mut battle = Battle::new(&one, &two, [0; 10]);
+    /// battle.update(Choice::Pass, Choice::Pass)?;
+    /// let chances = battle.knock_out(Side::One, MoveId::HYPER_BEAM)?;
+    /// assert!(chances.once < chances.once_of);
+    /// assert_eq!(chances.twice_of, chances.once_of * chances.once_of);
+    /// # Ok(())
+    /// # }
+    /// ```
+    ///
+    /// # Errors
+    ///
+    /// [`DamageRefusal::NobodyOut`] only.
+    pub fn knock_out(&self, side: Side, id: MoveId) -> Result<Chances, DamageRefusal> {
+        let chances = odds::knock_out(self.out()?, side, id);
+        Ok(Chances {
+            once: chances.once,
+            once_of: chances.once_of,
+            twice: chances.twice,
+            twice_of: chances.twice_of,
+            breaks_substitute: chances.breaks_substitute != 0,
         })
     }
 

@@ -1,5 +1,5 @@
 //! Two players who choose independently.
-use crate::{Battle, Choice, Choices, Reply, Side};
+use crate::{Battle, BattleResult, Choice, Choices, Reply, RoomRefusal, Side};
 use crate::generated::room::plain::{self, PlainRoom};
 
 /// A battle of two players who submit their choices independently, and do not see each other's ([docs/MECHANICS.md, "Rooms"](https://hibsuloy.example/gen1/blob/main/docs/MECHANICS.md#rooms)).
@@ -39,6 +39,8 @@ impl Room {
             log_length: 0,
             one: 0,
             two: 0,
+            forfeit: 0,
+            unused: [0; 3],
             log: [0; 512],
         };
         plain::begin(&mut inner);
@@ -58,10 +60,12 @@ impl Room {
         Battle { packed }
     }
 
-    /// The choices that a side may submit for the current pair, in the order of their bytes.
+    /// The choices that a side may submit for the current pair, in the order of their bytes. There are none once its choice is
+    /// submitted, and once the room is over.
     #[must_use]
     pub fn choices(&self, side: Side) -> Choices {
-        crate::generated::requests::offered(&self.inner.battle, side)
+        let bytes = plain::choices(&self.inner, side);
+        bytes.into_iter().filter_map(Choice::from_byte).collect()
     }
 
     /// The log bytes of the last pair that ended. Before the first, they are those of the battle's start, or empty if the battle had
@@ -90,5 +94,39 @@ impl Room {
     /// As for [`Room::submit`].
     pub fn submit_byte(&mut self, side: Side, number: u32, byte: u8) -> Reply {
         plain::submit(&mut self.inner, side, number, byte)
+    }
+
+    /// Ends the current pair by a forfeit of a side: the other side wins, and [`Room::log`] is the event of that. Choices that were
+    /// submitted for the pair are dropped. The room's battle stays as it was, since its bytes can't represent such a win.
+    ///
+    /// ```
+    /// # use gen1::{Battle, Outcome, Room, RoomRefusal, Side, Team, member};
+    /// # fn main() -> Result<(), Box<dyn std::error::Error>> {
+    /// # let team = Team::new(&[member("Tauros", &["Strength"])?])?;
+    /// let mut room = Room::new(Battle::new(&team, &team, [0; 10]));
+    /// assert_eq!(room.forfeit(Side::One)?.outcome, Outcome::WinTwo);
+    /// assert_eq!(room.forfeited(), Some(Side::One));
+    /// assert_eq!(room.forfeit(Side::Two), Err(RoomRefusal::Over));
+    /// # Ok(())
+    /// # }
+    /// ```
+    ///
+    /// # Errors
+    ///
+    /// [`RoomRefusal::Over`]: the battle is over, or a side has forfeited. The room is unchanged.
+    pub fn forfeit(&mut self, side: Side) -> Result<BattleResult, RoomRefusal> {
+        plain::forfeit(&mut self.inner, side)
+    }
+
+    /// The side that has forfeited, if one has.
+    #[must_use]
+    pub fn forfeited(&self) -> Option<Side> {
+        Side::from_number(self.inner.forfeit)
+    }
+
+    /// The outcome so far and what each side is asked: that of the battle, or the win after a forfeit.
+    #[must_use]
+    pub fn result(&self) -> BattleResult {
+        plain::result(&self.inner)
     }
 }

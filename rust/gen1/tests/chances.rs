@@ -1,5 +1,5 @@
 //! Exact chances: the numbers of docs/MECHANICS.md, "Critical hits" and "Hit test", and each draw tried.
-use gen1::{Battle, Choice, DamageRefusal, Event, MoveId, Side, Team, member};
+use gen1::{Battle, Choice, DamageRefusal, Event, MoveId, OddsReason, Side, Team, member};
 
 fn facing(one: (&str, &[&str]), two: &str, seed: [u8; 10]) -> Battle {
     let [one, two] = [one, (two, &["Splash"])]
@@ -22,7 +22,15 @@ fn chances_are_those_of_the_rules() {
         (255, 57)
     );
     let hits = |name| battle.odds(Side::One, id(name)).unwrap().hit_draws;
-    assert_eq!((hits("Swift"), hits("Dream Eater")), (256, 0));
+    assert_eq!((hits("Night Shade"), hits("Dream Eater")), (255, 0));
+    // Normal has no effect on a Ghost.
+    let reason = |battle: &Battle, name| battle.odds(Side::One, id(name)).unwrap().reason;
+    assert_eq!(reason(&battle, "Swift"), Some(OddsReason::Immune));
+    assert_eq!(reason(&battle, "Dream Eater"), Some(OddsReason::Awake));
+    let other = facing(("Slowbro", &["Fissure"]), "Alakazam", [0; 10]);
+    assert_eq!(other.odds(Side::One, id("Swift")).unwrap().hit_draws, 256);
+    // Slowbro is slower than Alakazam.
+    assert_eq!(reason(&other, "Fissure"), Some(OddsReason::Slower));
     // 80, 70 and 55 % in 255ths, rounded down.
     assert_eq!(
         (hits("Hydro Pump"), hits("Thunder"), hits("Sing")),

@@ -12,6 +12,12 @@ impl Conditions {
         Flags::bits(&self)
     }
 
+    /// The conditions whose bits are set. Bits above the seventeenth are ignored.
+    #[must_use]
+    pub fn from_bits(bits: u32) -> Self {
+        <Conditions as Flags>::from_bits_retain(bits & 0x1_ffff)
+    }
+
     /// Whether no condition is on.
     #[must_use]
     pub fn is_empty(self) -> bool {
@@ -23,6 +29,13 @@ impl Conditions {
         let all = Conditions::flags().iter();
         all.filter(move |flag| self.has(*flag.value()))
             .map(|flag| flag.name())
+    }
+}
+
+/// No condition.
+impl Default for Conditions {
+    fn default() -> Self {
+        Conditions::from_bits(0)
     }
 }
 
@@ -42,7 +55,7 @@ impl FromStr for Conditions {
 
     /// Reads what `Display` writes: names with blanks between them, in any order.
     fn from_str(text: &str) -> Result<Self, UnknownText> {
-        let mut conditions = <Conditions as Flags>::from_bits_retain(0);
+        let mut conditions = Conditions::default();
         for name in text.split_whitespace() {
             let flag = Conditions::flags().iter().find(|flag| flag.name() == name);
             let flag = flag.ok_or(UnknownText("no condition has this name"))?;

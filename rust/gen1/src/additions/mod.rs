@@ -5,10 +5,13 @@ mod engine;
 mod events;
 mod layout;
 mod machine;
+mod odds;
+mod player;
 mod room;
 mod stats;
 mod tables;
 
 pub use machine::UnknownText;
+pub(crate) use player::elements_at;
 pub use tables::{OutOfRange, UnknownName};
 pub(crate) use tables::{as_number, ordered_by_key};

@@ -1,0 +1,126 @@
+//! Added to the sources (docs/PLAIN.md, "What is added"): names for the numbers that a player holds.
+use crate::generated::machine::Kind;
+use crate::generated::player::{OwnMember, OwnSide, PublicSide, Seen};
+use crate::generated::tables::{Element, MoveId, Species};
+use core::fmt;
+
+impl Seen {
+    /// The species of the member; `None` if it has not appeared.
+    #[must_use]
+    pub fn species(&self) -> Option<Species> {
+        Species::new(self.species)
+    }
+
+    /// The kind of its status.
+    #[must_use]
+    pub fn status(&self) -> Option<Kind> {
+        Kind::from_number(self.status)
+    }
+
+    /// The moves that it was seen to use, and how often: 1 to 255, where 255 is that many and more.
+    pub fn moves(&self) -> impl Iterator<Item = (MoveId, u8)> + '_ {
+        self.moves
+            .iter()
+            .filter_map(|seen| Some((MoveId::new(seen.id)?, seen.uses)))
+    }
+}
+
+impl PublicSide {
+    /// The active member, as the log showed it last; `None` before the first came out.
+    #[must_use]
+    pub fn member_out(&self) -> Option<&Seen> {
+        self.members.get(usize::from(self.place).checked_sub(1)?)
+    }
+
+    /// Both types of the active member; the first is there twice if it has one type. Before the first came out both are Normal.
+    #[must_use]
+    pub fn types(&self) -> [Element; 2] {
+        elements_at([self.first_type, self.second_type])
+    }
+
+    /// The move that the active member used last; `None` since it came out.
+    #[must_use]
+    pub fn last_move(&self) -> Option<MoveId> {
+        MoveId::new(self.last_move)
+    }
+}
+
+/// The types with two numbers, and Normal for a number that has none.
+pub(crate) fn elements_at(numbers: [u8; 2]) -> [Element; 2] {
+    const ELEMENTS: [Element; 15] = [
+        Element::Normal,
+        Element::Fighting,
+        Element::Flying,
+        Element::Poison,
+        Element::Ground,
+        Element::Rock,
+        Element::Bug,
+        Element::Ghost,
+        Element::Fire,
+        Element::Water,
+        Element::Grass,
+        Element::Electric,
+        Element::Psychic,
+        Element::Ice,
+        Element::Dragon,
+    ];
+    numbers.map(|number| {
+        let found = ELEMENTS
+            .into_iter()
+            .find(|element| element.number() == number);
+        found.unwrap_or(Element::Normal)
+    })
+}
+
+impl OwnMember {
+    /// The species of the member; `None` for a place without one.
+    #[must_use]
+    pub fn species(&self) -> Option<Species> {
+        Species::new(self.species)
+    }
+
+    /// The kind of its status.
+    #[must_use]
+    pub fn status(&self) -> Option<Kind> {
+        Kind::from_number(self.status)
+    }
+
+    /// Its moves with their PP, in the order of their slots.
+    pub fn moves(&self) -> impl Iterator<Item = (MoveId, u8)> + '_ {
+        let slots = self.moves.iter().zip(&self.pp);
+        slots.filter_map(|(id, pp)| Some((MoveId::new(*id)?, *pp)))
+    }
+}
+
+impl OwnSide {
+    /// The active member; `None` before the first update.
+    #[must_use]
+    pub fn member_out(&self) -> Option<&OwnMember> {
+        self.members.get(usize::from(self.place).checked_sub(1)?)
+    }
+}
+
+impl fmt::Debug for OwnMember {
+    fn fmt(&self, f: &mut fmt::Formatter<'_>) -> fmt::Result {
+        f.debug_struct("OwnMember")
+            .field("species", &self.species())
+            .field("level", &self.level)
+            .field("hp", &self.hp)
+            .field("max_hp", &self.max_hp)
+            .field("status", &self.status())
+            .finish_non_exhaustive()
+    }
+}
+
+impl fmt::Debug for OwnSide {
+    fn fmt(&self, f: &mut fmt::Formatter<'_>) -> fmt::Result {
+        let members = &self.members[..usize::from(self.count).min(6)];
+        f.debug_struct("OwnSide")
+            .field("members", &members)
+            .field("place", &self.place)
+            .field("stats", &self.stats)
+            .field("stages", &self.stages)
+            .field("conditions", &self.conditions)
+            .finish_non_exhaustive()
+    }
+}

@@ -1,0 +1,225 @@
+//! What one side of a battle may know.
+use crate::generated::player::{self as plain, OwnSide, Public, PublicSide};
+use crate::{Battle, Choice, Event, LogBuf, LogFault, OfferedMask, Outcome, Side, Team};
+use core::fmt;
+
+/// What one side of a battle may know ([docs/MECHANICS.md, "Player's view"][view]): its own side in full, and of the foe what the battle
+/// has shown.
+///
+/// [view]: https://hibsuloy.example/gen1/blob/main/docs/MECHANICS.md#players-view
+///
+/// A player is made of its own team, of the log that its side is told ([`Teller`]), of what it is shown of itself
+/// ([`Battle::own_side`]) and of its choices, and of nothing else. So no stat, DV, PP, hidden count or number to be drawn of the foe
+/// reaches it. Give one to whatever plays, in place of the [`Battle`].
+///
+/// # Example
+///
+/// ```
+/// use gen1::{Battle, Choice, Player, Side, Species, Team, Teller, member};
+///
+/// # fn main() -> Result<(), Box<dyn std::error::Error>> {
+/// let one = Team::new(&[member("Tauros", &["Body Slam"])?])?;
+/// let two = Team::new(&[member("Alakazam", &["Psychic"])?, member("Chansey", &["Ice Beam"])?])?;
+/// let mut battle = Battle::new(&one, &two, [1, 36, 255, 7, 31, 100, 179, 254, 127, 10]);
+/// let (mut teller, mut player) = (Teller::new(Side::One), Player::new(Side::One, &one));
+///
+/// let update = battle.update(Choice::Pass, Choice::Pass)?;
+/// teller.report(&battle, &update.log(), &mut player)?;
+/// assert_eq!(player.foe().members[0].species(), Some(Species::ALAKAZAM));
+/// assert_eq!(player.foe().members[0].moves().count(), 0);
+/// assert_eq!(player.foe().members[1].species(), None);
+///
+/// let update = battle.update(player.choices()[0], Choice::MOVE_1)?;
+/// teller.report(&battle, &update.log(), &mut player)?;
+/// assert_eq!(player.foe().members[0].moves().next().unwrap().0.name(), "Psychic");
+/// # Ok(())
+/// # }
+/// ```
+#[derive(Clone, Copy)]
+pub struct Player {
+    inner: plain::Player,
+    side: Side,
+}
+
+impl Player {
+    /// The player of a side before the first update. It knows its own team, and nothing of the foe.
+    #[must_use]
+    pub fn new(side: Side, team: &Team) -> Self {
+        let inner = plain::Player::new(side, team, 0);
+        Player { inner, side }
+    }
+
+    /// As [`Player::new`], with the number of the foe's members, 1 to 6, where the players know it. A larger number counts as 6.
+    #[must_use]
+    pub fn with_foes(side: Side, team: &Team, foes: u8) -> Self {
+        let inner = plain::Player::new(side, team, foes.min(6));
+        Player { inner, side }
+    }
+
+    /// Takes the next bytes of the log that the side is told, which may be cut anywhere.
+    ///
+    /// # Errors
+    ///
+    /// The bytes are not a log. Then nothing has changed.
+    pub fn feed(&mut self, told: &[u8]) -> Result<(), LogFault> {
+        self.inner.feed(told)
+    }
+
+    /// Replaces what the player was last shown of itself, and its choices.
+    pub fn show(&mut self, own: &OwnSide, offered: OfferedMask) {
+        self.inner.show(own, offered.bits());
+    }
+
+    /// The side that the player plays.
+    #[must_use]
+    pub fn side(&self) -> Side {
+        self.side
+    }
+
+    /// What the side was last shown of itself; zeros before the first time.
+    #[must_use]
+    pub fn own(&self) -> &OwnSide {
+        &self.inner.own
+    }
+
+    /// What the log has made public of a side. The members of the player's own side are in the order of their places, those of the foe
+    /// in the order in which they appeared.
+    #[must_use]
+    pub fn public(&self, side: Side) -> &PublicSide {
+        self.inner.public.side(side)
+    }
+
+    /// What the log has made public of the foe.
+    #[must_use]
+    pub fn foe(&self) -> &PublicSide {
+        self.public(self.side.other())
+    }
+
+    /// How many members the foe has, 1 to 6; `None` if the player was not told.
+    #[must_use]
+    pub fn foes(&self) -> Option<u8> {
+        (self.inner.foes > 0).then_some(self.inner.foes)
+    }
+
+    /// The choices that the side is offered, in the order of their bytes. There are none before [`Player::show`], and once the battle is
+    /// over.
+    #[must_use]
+    pub fn choices(&self) -> crate::Choices {
+        self.offered().iter().map(Choice::from).collect()
+    }
+
+    /// The same choices as twelve bits.
+    #[must_use]
+    pub fn offered(&self) -> OfferedMask {
+        OfferedMask(self.inner.offered & 0xfff)
+    }
+
+    /// The turn, 1 to 9,999; 0 before the first.
+    #[must_use]
+    pub fn turn(&self) -> u16 {
+        self.inner.public.turn
+    }
+
+    /// The outcome so far.
+    #[must_use]
+    pub fn outcome(&self) -> Outcome {
+        match self.inner.public.outcome {
+            1 => Outcome::WinOne,
+            2 => Outcome::WinTwo,
+            3 => Outcome::Tie,
+            4 => Outcome::Fault(1),
+            5 => Outcome::Fault(2),
+            _ => Outcome::Ongoing,
+        }
+    }
+}
+
+impl fmt::Debug for Player {
+    fn fmt(&self, f: &mut fmt::Formatter<'_>) -> fmt::Result {
+        f.debug_struct("Player")
+            .field("side", &self.side)
+            .field("turn", &self.turn())
+            .field("own", &self.public(self.side))
+            .field("foe", self.foe())
+            .finish_non_exhaustive()
+    }
+}
+
+/// What the host of a battle keeps to tell one side of the events ([docs/MECHANICS.md, "Player's view"][view]).
+///
+/// [view]: https://hibsuloy.example/gen1/blob/main/docs/MECHANICS.md#players-view
+///
+/// A side must not see the foe's places, so its log names the foe's members by the order of their appearance. It may also hide exact HP.
+/// All else is told as it is.
+#[derive(Clone, Copy, Debug, PartialEq, Eq)]
+pub struct Teller {
+    inner: plain::Teller,
+    side: Side,
+}
+
+impl Teller {
+    /// The teller of a side before the first event of a battle. HP of the foe is told as it is.
+    #[must_use]
+    pub fn new(side: Side) -> Self {
+        let inner = plain::Teller::new(side, false);
+        Teller { inner, side }
+    }
+
+    /// As [`Teller::new`], but HP of the foe's members is told in 48ths: the maximum is 48.
+    #[must_use]
+    pub fn in_pixels(side: Side) -> Self {
+        let inner = plain::Teller::new(side, true);
+        Teller { inner, side }
+    }
+
+    /// What the side is told of the next event of the battle.
+    pub fn tell(&mut self, event: &Event) -> Event {
+        self.inner.tell(event)
+    }
+
+    /// The log bytes that the side is told of the log of an update: as many bytes as it has.
+    ///
+    /// # Errors
+    ///
+    /// The bytes are not the log of an update. Then nothing has changed.
+    pub fn tell_log(&mut self, log: &[u8]) -> Result<LogBuf, LogFault> {
+        if log.len() > 512 {
+            return Err(LogFault::Truncated);
+        }
+        self.inner.tell_log(log)
+    }
+
+    /// Tells a player of the log of an update, and shows it its own side and its choices as the battle is now.
+    ///
+    /// # Errors
+    ///
+    /// The bytes are not the log of an update. Then nothing has changed.
+    pub fn report(
+        &mut self,
+        battle: &Battle,
+        log: &[u8],
+        player: &mut Player,
+    ) -> Result<(), LogFault> {
+        let told = self.tell_log(log)?;
+        player.feed(&told)?;
+        player.show(&battle.own_side(self.side), battle.offered_mask(self.side));
+        Ok(())
+    }
+}
+
+impl Battle {
+    /// What a side is shown of itself ([docs/MECHANICS.md, "What a side is shown of itself"][own]). Nothing of it depends on the foe, but
+    /// whether its trapping move holds the active member.
+    ///
+    /// [own]: https://hibsuloy.example/gen1/blob/main/docs/MECHANICS.md#what-a-side-is-shown-of-itself
+    #[must_use]
+    pub fn own_side(&self, side: Side) -> OwnSide {
+        plain::own_side(&self.packed, side)
+    }
+}
+
+impl Default for Public {
+    fn default() -> Self {
+        Public::new()
+    }
+}

@@ -1,0 +1,182 @@
+//! Players: battles of a player's view are accepted and offer the same, and nothing hidden reaches a player.
+use gen1::{
+    Battle, Choice, Guess, LogBuf, MemberSpec, MoveId, Player, Side, Species, State, Team, Teller,
+};
+
+/// Knuth's generator: the upper bits of its states.
+struct Dice(u64);
+
+impl Dice {
+    fn below(&mut self, bound: usize) -> usize {
+        self.0 = self.0.wrapping_mul(6364136223846793005).wrapping_add(1442695040888963407);
+        (self.0 >> 33) as usize % bound
+    }
+
+    fn numbers(&mut self) -> [u8; 10] {
+        std::array::from_fn(|_| self.below(256) as u8)
+    }
+
+    fn member(&mut self) -> MemberSpec {
+        let species = Species::new(1 + self.below(151) as u8).unwrap();
+        let mut spec = gen1::member(species.name(), &["Struggle"]).unwrap();
+        spec.moves.clear();
+        spec.level = 50 + self.below(51) as u8;
+        while spec.moves.len() < 4 {
+            let id = MoveId::new(1 + self.below(164) as u8).unwrap();
+            let is_known = spec.moves.iter().any(|(known, _)| *known == id);
+            if !is_known && !matches!(id.number(), 102 | 118 | 119 | 144) {
+                spec.moves.push((id, 3));
+            }
+        }
+        spec
+    }
+
+    fn team(&mut self) -> Team {
+        let count = 1 + self.below(6);
+        let members: Vec<MemberSpec> = (0..count).map(|_| self.member()).collect();
+        Team::new(&members).unwrap()
+    }
+}
+
+/// The foe's team in the order in which its members appeared.
+struct Appearance {
+    specs: Vec<MemberSpec>,
+    order: Vec<usize>,
+}
+
+impl Appearance {
+    fn note(&mut self, place: usize) {
+        if !self.order.contains(&place) {
+            self.order.push(place);
+        }
+    }
+
+    fn team(&self) -> Team {
+        let rest = (0..self.specs.len()).filter(|at| !self.order.contains(at));
+        let members: Vec<MemberSpec> =
+            self.order.iter().copied().chain(rest).map(|at| self.specs[at].clone()).collect();
+        Team::new(&members).unwrap()
+    }
+}
+
+#[test]
+fn a_battle_of_a_players_view_offers_the_same() {
+    let mut dice = Dice(7);
+    let mut seen = 0;
+    for _ in 0..150 {
+        let specs: [Vec<MemberSpec>; 2] =
+            std::array::from_fn(|_| (0..1 + dice.below(6)).map(|_| dice.member()).collect());
+        let teams = [0, 1].map(|at| Team::new(&specs[at]).unwrap());
+        let mut battle = Battle::new(&teams[0], &teams[1], dice.numbers());
+        let mut tellers = Side::BOTH.map(Teller::new);
+        let mut players = [0, 1].map(|at| Player::new(Side::BOTH[at], &teams[at]));
+        let mut foes = [1, 0].map(|at| Appearance { specs: specs[at].clone(), order: Vec::new() });
+        let mut pair = [Choice::Pass; 2];
+        for _ in 0..60 {
+            let update = battle.update(pair[0], pair[1]).unwrap();
+            let state = battle.state();
+            for at in 0..2 {
+                foes[at].note(usize::from(state.sides[1 - at].active.as_ref().unwrap().place.number()) - 1);
+                tellers[at].report(&battle, &update.log(), &mut players[at]).unwrap();
+                if battle.is_over() {
+                    continue;
+                }
+                let guess = Guess::new(foes[at].team(), [9; 10]);
+                let copy = Battle::from_player(&players[at], &guess)
+                    .unwrap_or_else(|fault| panic!("{fault}: {state:#?}"));
+                assert_eq!(copy.choices(Side::BOTH[at]), battle.choices(Side::BOTH[at]));
+                let copied = copy.state();
+                for side in 0..2 {
+                    for (own, member) in copied.sides[side].members.iter().zip(&state.sides[side].members) {
+                        if side == at {
+                            assert_eq!((own.hp, own.status, &own.moves), (member.hp, member.status, &member.moves));
+                        }
+                    }
+                }
+                seen += 1;
+            }
+            if battle.is_over() {
+                break;
+            }
+            pair = Side::BOTH.map(|side| {
+                let choices = battle.choices(side);
+                choices[dice.below(choices.len())]
+            });
+        }
+    }
+    assert!(seen > 3000, "{seen} views");
+}
+
+/// The same battle with another foe of side 1: what no player can know is different.
+fn with_another_foe(state: &State, dice: &mut Dice) -> State {
+    let mut state = state.clone();
+    state.numbers = dice.numbers();
+    for member in &mut state.sides[1].members {
+        for stat in &mut member.stats {
+            *stat = 5 + dice.below(995) as u16;
+        }
+        for known in &mut member.moves {
+            known.pp = dice.below(64) as u8;
+        }
+        member.sleep = member.sleep.map(|_| 1 + dice.below(7) as u8);
+    }
+    if let Some(active) = state.sides[1].active.as_mut() {
+        active.stats = [0; 4];
+        active.confusion = active.confusion.map(|_| 1 + dice.below(5) as u8);
+        active.substitute = active.substitute.map(|_| dice.below(250) as u8);
+    }
+    if let Some(active) = state.sides[0].active.as_mut() {
+        active.confusion = active.confusion.map(|_| 1 + dice.below(5) as u8);
+    }
+    for member in &mut state.sides[0].members {
+        member.sleep = member.sleep.map(|_| 1 + dice.below(7) as u8);
+    }
+    state
+}
+
+#[test]
+fn hidden_numbers_change_nothing_that_a_player_is_shown() {
+    let mut dice = Dice(23);
+    let mut changed = 0;
+    while changed < 20_000 {
+        let (one, two) = (dice.team(), dice.team());
+        let mut battle = Battle::new(&one, &two, dice.numbers());
+        let mut pair = [Choice::Pass; 2];
+        for _ in 0..40 {
+            battle.update(pair[0], pair[1]).unwrap();
+            if battle.is_over() {
+                break;
+            }
+            let other = Battle::from_state(&with_another_foe(&battle.state(), &mut dice)).unwrap();
+            assert_ne!(other.as_bytes(), battle.as_bytes());
+            assert_eq!(other.choices(Side::One), battle.choices(Side::One));
+            let [shown, instead] = [&battle, &other].map(|it| format!("{:?}", it.own_side(Side::One)));
+            assert_eq!(shown, instead);
+            changed += 1;
+            pair = Side::BOTH.map(|side| {
+                let choices = battle.choices(side);
+                choices[dice.below(choices.len())]
+            });
+        }
+    }
+}
+
+#[test]
+fn a_side_is_told_neither_places_nor_exact_hp() {
+    let mut dice = Dice(5);
+    let members: Vec<MemberSpec> = (0..6).map(|_| dice.member()).collect();
+    let team = Team::new(&members).unwrap();
+    let mut battle = Battle::new(&team, &team, dice.numbers());
+    let mut teller = Teller::in_pixels(Side::One);
+    let mut player = Player::new(Side::One, &team);
+    let log: LogBuf = battle.update(Choice::Pass, Choice::Pass).unwrap().log();
+    teller.report(&battle, &log, &mut player).unwrap();
+    let last = *battle.choices(Side::Two).last().unwrap();
+    let update = battle.update(player.choices()[0], last).unwrap();
+    teller.report(&battle, &update.log(), &mut player).unwrap();
+    // The sixth member is the second that appeared.
+    assert_eq!(last, Choice::from_byte(0x26).unwrap());
+    assert_eq!(player.foe().place, 2);
+    assert_eq!(player.foe().members[1].max, 48);
+    assert_eq!(player.public(Side::One).members[0].max, team.members()[0].max_hp());
+}
