@@ -41,7 +41,10 @@ pub fn bench(measure: &Measure) -> Result<(), Fault> {
         ))
     };
     let mut events = EventList::new();
-    put(format!("gen1 {}, nothing of it proved\n", crate::version()))?;
+    put(format!(
+        "gen1 {}, nothing of it proved\n",
+        crate::words::version()
+    ))?;
     row(
         "engine",
         "no events; choices recorded before",

@@ -40,10 +40,58 @@ impl Fault {
         Fault::new(1, line, format!("team {side}{comma} {why}"))
     }
 
-    /// The pair with this number, from 0, is refused.
-    pub fn pair(pair: usize, why: Refusal) -> Fault {
+    /// The pair with this number, from 0, is refused; `more` says what was chosen and what is offered.
+    pub fn pair(pair: usize, why: Refusal, more: &str) -> Fault {
         let line = format!("pair {pair} refused {}", why.number());
-        Fault::new(1, line, format!("at .choices[{pair}]: {why}"))
+        Fault::new(1, line, format!("at .choices[{pair}]: {why}{more}"))
+    }
+
+    /// A key that nothing reads is refused by `--strict`.
+    pub fn unknown_key(why: &str) -> Fault {
+        Fault::new(1, "json", why)
+    }
+
+    /// A text is not a team.
+    pub fn text(why: &str) -> Fault {
+        Fault::new(1, "text", why)
+    }
+
+    /// A text is not a list of choices.
+    pub fn choices(why: &str) -> Fault {
+        Fault::new(1, "choices", why)
+    }
+
+    /// A line of the protocol of Showdown's simulator is not a command.
+    pub fn protocol(line: usize, why: &str) -> Fault {
+        Fault::new(1, "showdown", format!("line {line}: {why}"))
+    }
+
+    /// No name has the pattern.
+    pub fn names(why: &str) -> Fault {
+        Fault::new(1, "names", why)
+    }
+
+    /// An option that is needed where FILE is a text of choices.
+    pub fn missing(option: &str) -> Fault {
+        let why = "the input is not a JSON object, so --one, --two and --seed are needed";
+        Fault::new(2, format!("{option} is missing"), why)
+    }
+
+    /// Two inputs would be standard input.
+    pub fn one_standard_input() -> Fault {
+        let why = "give the other inputs as files; without FILE the input is standard input too";
+        Fault::new(2, "only one input can be standard input", why)
+    }
+
+    /// The words or options of a calculation do not fit together.
+    pub fn words(line: &str, why: &str) -> Fault {
+        Fault::new(2, line, why)
+    }
+
+    /// Some lines of an input have errors, which are in the output.
+    pub fn lines(count: u64) -> Fault {
+        let why = "the output has an object with the key \"error\" for each of them";
+        Fault::new(1, format!("lines refused {count}"), why)
     }
 
     /// The bytes are not a log: the event with this number, from 1, begins at this byte, from 0.
@@ -98,9 +146,34 @@ impl Fault {
         }
     }
 
+    /// The same error with what else is known of its input.
+    pub fn with_notes(mut self, notes: &[String]) -> Fault {
+        for note in notes {
+            self.explanation += "; ";
+            self.explanation += note;
+        }
+        self
+    }
+
+    /// The line of the error without `error: `.
+    pub fn line(&self) -> &str {
+        &self.line
+    }
+
+    /// Where the error is and what was expected.
+    pub fn explanation(&self) -> &str {
+        &self.explanation
+    }
+
+    /// Whether the error is one of the forms that only this program has, so that its explanation is always printed.
+    fn is_own(&self) -> bool {
+        let own = ["text", "choices", "names", "page", "showdown"];
+        self.status == 2 || own.contains(&self.line.as_str()) || self.line.starts_with("lines ")
+    }
+
     /// Prints the error to standard error, followed by its explanation if `explains` is true, and returns the exit status.
     pub fn report(&self, explains: bool) -> ExitCode {
-        let text = match (self.line.as_str(), explains) {
+        let text = match (self.line.as_str(), explains || self.is_own()) {
             ("", _) => String::new(),
             (line, true) => format!("error: {line}\n{}\n", self.explanation),
             (line, false) => format!("error: {line}\n"),
@@ -126,4 +199,10 @@ impl From<serde_json::Error> for Fault {
         let text = text.strip_suffix(&place).unwrap_or(&text).trim_end();
         Fault::new(1, "json", format!("{place}: {text}"))
     }
+}
+
+/// Prints a note to standard error.
+pub fn note(text: &str) {
+    // If standard error cannot be written, the note is lost.
+    let _ = std::io::stderr().write_all(format!("note: {text}\n").as_bytes());
 }

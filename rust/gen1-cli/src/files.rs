@@ -1,7 +1,7 @@
 //! Files and the standard streams.
 use crate::fault::Fault;
 use std::fs::{self, File};
-use std::io::{self, BufRead, Read, Write};
+use std::io::{self, BufRead, BufReader, Read, Write};
 use std::path::{Path, PathBuf};
 
 /// The maximum length of an input, and of a line of `play`, in bytes.
@@ -40,6 +40,82 @@ pub fn read_line() -> Result<Vec<u8>, Fault> {
     within_limit(line, None)
 }
 
+/// Reads the lines of a file or of standard input, as many at a time as are there.
+pub struct LineReader {
+    name: String,
+    length: Option<u64>,
+    taken: u64,
+    lines: u64,
+    input: BufReader<Box<dyn Read>>,
+}
+
+/// How many bytes are read at once.
+const PIECE: usize = 1 << 20;
+
+impl LineReader {
+    pub fn open(file: Option<&Path>) -> Result<LineReader, Fault> {
+        let name = name_of(file);
+        let opened = named(file).map(File::open).transpose();
+        let opened = opened.map_err(|why| Fault::read(&name, &why))?;
+        let length = opened.as_ref().and_then(|file| file.metadata().ok());
+        let length = length.filter(|it| it.is_file()).map(|it| it.len());
+        let input: Box<dyn Read> = match opened {
+            Some(file) => Box::new(file),
+            None => Box::new(io::stdin()),
+        };
+        let input = BufReader::with_capacity(PIECE, input);
+        Ok(LineReader {
+            name,
+            length,
+            taken: 0,
+            lines: 0,
+            input,
+        })
+    }
+
+    /// The length of the input, if it is a file.
+    pub fn length(&self) -> Option<u64> {
+        self.length
+    }
+
+    /// How many bytes were read.
+    pub fn taken(&self) -> u64 {
+        self.taken
+    }
+
+    /// The next line, and those after it that need no more reading; none at the end. Line feeds are left out.
+    pub fn next_lines(&mut self) -> Result<Vec<Vec<u8>>, Fault> {
+        let mut lines = Vec::new();
+        while lines.is_empty() || self.input.buffer().contains(&b'\n') {
+            let Some(line) = self.next_line()? else {
+                break;
+            };
+            lines.push(line);
+        }
+        Ok(lines)
+    }
+
+    fn next_line(&mut self) -> Result<Option<Vec<u8>>, Fault> {
+        let mut line = Vec::new();
+        let mut input = self.input.by_ref().take(LIMIT + 1);
+        let count = input
+            .read_until(b'\n', &mut line)
+            .map_err(|why| Fault::read(&self.name, &why))?;
+        self.taken += count as u64;
+        self.lines += 1;
+        if line.last() == Some(&b'\n') {
+            line.pop();
+        }
+        match line.len() as u64 > LIMIT {
+            true => Err(Fault::too_long(&format!(
+                "{}, line {}",
+                self.name, self.lines
+            ))),
+            false => Ok((count > 0).then_some(line)),
+        }
+    }
+}
+
 fn within_limit(input: Vec<u8>, file: Option<&Path>) -> Result<Vec<u8>, Fault> {
     if input.len() as u64 > LIMIT {
         return Err(Fault::too_long(&name_of(file)));
@@ -49,15 +125,20 @@ fn within_limit(input: Vec<u8>, file: Option<&Path>) -> Result<Vec<u8>, Fault> {
 
 /// Writes a text or bytes to standard output at once.
 pub fn put(text: impl AsRef<[u8]>) -> Result<(), Fault> {
-    let text = text.as_ref();
-    if text.is_empty() {
-        return Ok(());
-    }
-    is_open()?;
+    put_all([text])
+}
+
+/// Writes texts to standard output, one after the other.
+pub fn put_all<T: AsRef<[u8]>>(texts: impl IntoIterator<Item = T>) -> Result<(), Fault> {
     let mut out = io::stdout().lock();
-    out.write_all(text)
-        .and_then(|()| out.flush())
-        .map_err(|why| unwritten(&why))
+    for text in texts {
+        let text = text.as_ref();
+        if !text.is_empty() {
+            is_open()?;
+            out.write_all(text).map_err(|why| unwritten(&why))?;
+        }
+    }
+    out.flush().map_err(|why| unwritten(&why))
 }
 
 /// An error of standard output.

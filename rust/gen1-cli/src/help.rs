@@ -1,9 +1,9 @@
-//! What help prints after the arguments (docs/PROGRAM.md).
+//! What help prints after the arguments (docs/PROGRAM.md, docs/COMMAND_LINE.md).
 
 pub const PROGRAM: &str = "\
 FILE is the input. Without it, or with -, the input is standard input.
 examples/tauros.json of the repository is an input to start with: gen1 run examples/tauros.json
-docs/PROGRAM.md describes each input and output.
+docs/PROGRAM.md and docs/COMMAND_LINE.md describe each input and output.
 
 Exit status:
   0  done
@@ -22,21 +22,48 @@ pub const RUN: &str = r#"The input is a JSON object:
   seed      ten numbers from 0 to 255
   one, two  the teams of both sides: up to six members. dvs are those of Attack,
             Defense, Speed and Special; exp is that of HP and the same four; a
-            move has its name and its PP ups
+            move has its name and its PP ups. Or a string: Showdown's export text
+            or a packed line
   choices   a pair for each update, side 1's choice and side 2's: 0 passes, 17 to
             20 are the moves, 33 to 38 switch to member 1 to 6, 16 goes on where no
-            move can be chosen. The first pair is [0,0]
+            move can be chosen. Or in words: "pass", "move 1", "move Body Slam",
+            "switch 3", "switch Chansey". The first pair is [0,0]
   rules     may be left out: 1 sleep clause, 2 freeze clause, 3 both
-  limit     may be left out: the last turn, from 1 to 9999"#;
+  limit     may be left out: the last turn, from 1 to 9999
+
+Without JSON: --one, --two and --seed give teams and seed, and each line of FILE has
+the choices of both sides with a comma between them, as in: move 1, switch Chansey"#;
 
 pub const PRINT: &str =
     "The input is what `gen1 log` writes: gen1 log examples/tauros.json | gen1 print";
 
-pub const CALC: &str = r#"The input is a JSON object, with members as in `gen1 run --help`:
-  {"attacker": MEMBER, "defender": MEMBER, "move": "Body Slam", "critical": false}
+pub const CALC: &str = r#"In words, one line for each move:
+  gen1 calc Tauros Body Slam vs Alakazam
+  gen1 calc --attacker team.txt --defender Alakazam --defender-stages spc=+2 --reflect
 
-Both members have just been sent out. The numbers are in rising order of the random
-factor, from 217 to 255. examples/body_slam.json is an input to start with."#;
+A member has just been sent out, at level 100 with maximum DVs and experience unless
+a team text says otherwise. KO chances are those of uses, which may miss or be critical,
+in the state that is given.
+
+Or of a JSON object, with members as in `gen1 run --help`; the 39 numbers are in rising
+order of the random factor, from 217 to 255:
+  {"attacker": MEMBER, "defender": MEMBER, "move": "Body Slam", "critical": false}
+examples/body_slam.json is an input to start with."#;
+
+pub const SHOWDOWN: &str = r#"Commands are lines of standard input (docs/SHOWDOWN.md):
+  >start {"formatid":"gen1ou","seed":[1,2,3,4]}
+  >player p1 {"name":"Alice","team":"Tauros||||bodyslam|||||||"}
+  >player p2 {"name":"Bob","team":"Alakazam||||psychic|||||||"}
+  >p1 move 1
+  >p2 move Psychic
+After them come blocks of lines, each with an empty line at its end: update, sideupdate
+with a player's request or error, and end."#;
+
+pub const TEAM: &str = "\
+The form of the input is recognized: JSON begins with [, the first line of a packed line
+has a bar, and anything else is an export text. Without an option the export text is
+printed. It has neither PP ups nor experience: the EVs that are printed give the same
+stats. docs/TEAM_TEXT.md describes both texts.";
 
 pub const ROOM: &str = r#"The input is that of `gen1 run --help`, with submissions instead of choices:
   "submissions": [[1,0,17],[2,0,17]]

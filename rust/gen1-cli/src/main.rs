@@ -1,106 +1,84 @@
-//! First-generation link battles at the command line (docs/PROGRAM.md).
+//! First-generation link battles at the command line (docs/PROGRAM.md, docs/COMMAND_LINE.md).
 #![deny(unsafe_code)]
 
+mod batch;
 mod bench;
+mod calc;
 mod closed;
 mod commands;
+mod draws;
+mod explain;
 mod fault;
 mod files;
+mod game;
 mod help;
 mod input;
+mod json;
+mod names;
 mod play;
 mod random;
 mod replay;
 mod screen;
+mod sentences;
+mod shell;
+mod showdown;
+mod team;
+mod words;
 
-use clap::{Args, Parser, Subcommand};
+use clap::Parser;
 use fault::Fault;
+use input::{Given, Input};
 use std::io::IsTerminal;
-use std::path::PathBuf;
 use std::process::ExitCode;
+use words::{Battle, Command, Words};
 
-/// Which build of the engine this is.
-const BUILD: &str = "plain build; docs/PLAIN.md";
-
-/// The version and the build.
-fn version() -> &'static str {
-    format!("{} ({BUILD})", env!("CARGO_PKG_VERSION")).leak()
+/// Reads the input of a battle and runs a command on it. Keys that nothing reads are named in the explanation.
+fn on_battle(of: &Battle, run: impl FnOnce(&Given) -> Result<(), Fault>) -> Result<(), Fault> {
+    let given = Given::read(&of.input, &of.terms)?;
+    noted(&of.input, &given.notes, run(&given))
 }
 
-/// Plays link battles of the first generation
-#[derive(Parser)]
-#[command(name = "gen1", version = version(), after_help = help::PROGRAM)]
-struct Words {
-    #[command(subcommand)]
-    command: Command,
-}
-
-#[derive(Subcommand)]
-enum Command {
-    /// Plays the choices of an input, and prints a line for each event of the battle
-    #[command(after_help = help::RUN)]
-    Run(Input),
-    /// Plays the choices of an input, and writes the events as bytes, the log, which print reads
-    #[command(after_help = help::RUN)]
-    Log(Input),
-    /// Reads a log, and prints a line for each event
-    #[command(after_help = help::PRINT)]
-    Print(Input),
-    /// Prints the 39 possible damages of a move between two members
-    #[command(after_help = help::CALC)]
-    Calc(Input),
-    /// Plays a battle of two players who submit their choices separately, and prints each reply
-    #[command(after_help = help::ROOM)]
-    Room(Input),
-    /// Plays the choices of an input, and prints the state of the battle after them
-    #[command(after_help = help::RUN)]
-    State(Look),
-    /// Plays against the computer, in the terminal
-    #[command(after_help = help::PLAY)]
-    Play(play::Game),
-    /// Makes a page that replays a battle in a browser
-    #[command(after_help = help::REPLAY)]
-    Replay(replay::Replay),
-    /// Plays random battles, and prints how long an update takes
-    #[command(after_help = help::BENCH)]
-    Bench(bench::Measure),
-}
-
-#[derive(Args)]
-struct Input {
-    /// After the line of an error, says where it is and what was expected; the default in a terminal
-    #[arg(long)]
-    explain: bool,
-    /// The input; without FILE, or with -, standard input
-    file: Option<PathBuf>,
-}
-
-#[derive(Args)]
-struct Look {
-    #[command(flatten)]
-    input: Input,
-    /// Prints the 384 bytes of the battle as hexadecimal digits
-    #[arg(long)]
-    bytes: bool,
-}
-
-impl Input {
-    fn read(&self) -> Result<Vec<u8>, Fault> {
-        files::read(self.file.as_deref())
+/// Adds notes to an error. Without an error they are printed if errors are explained.
+fn noted(input: &Input, notes: &[String], done: Result<(), Fault>) -> Result<(), Fault> {
+    match done {
+        Err(fault) => Err(fault.with_notes(notes)),
+        Ok(()) => {
+            if input.explains() {
+                notes.iter().for_each(|note| fault::note(note));
+            }
+            Ok(())
+        }
     }
 }
 
 fn done(command: &Command) -> Result<(), Fault> {
     match command {
-        Command::Run(input) => commands::run(&input.read()?),
-        Command::Log(input) => commands::log(&input.read()?),
+        Command::Run(run) if run.batch.lines => batch::run(
+            &run.batch,
+            run.battle.input.file.as_deref(),
+            &run.battle.terms,
+            run.battle.input.strict,
+            run.json,
+        ),
+        Command::Run(run) if run.json => on_battle(&run.battle, commands::run_json),
+        Command::Run(run) if run.showdown => on_battle(&run.battle, commands::run_showdown),
+        Command::Run(run) => on_battle(&run.battle, commands::run),
+        Command::Log(battle) => on_battle(battle, commands::log),
         Command::Print(input) => commands::print(&input.read()?),
-        Command::Calc(input) => commands::calc(&input.read()?),
-        Command::Room(input) => commands::room(&input.read()?),
-        Command::State(look) => commands::state(&look.input.read()?, look.bytes),
+        Command::Calc(asked) => calc::calc(asked),
+        Command::Room(room) => on_battle(&room.battle, |given| commands::room(given, room.json)),
+        Command::State(look) => on_battle(&look.battle, |given| {
+            commands::state(given, look.bytes, look.json)
+        }),
+        Command::Explain(asked) => on_battle(&asked.battle, explain::explain),
+        Command::Team(asked) => team::convert(asked),
+        Command::Names(asked) => names::names(asked),
+        Command::Showdown(asked) => showdown::simulate(asked),
         Command::Play(game) => play::play(game),
         Command::Replay(asked) => replay::replay(asked),
         Command::Bench(measure) => bench::bench(measure),
+        Command::Completions(asked) => shell::completions(asked),
+        Command::Manual => shell::manual(),
     }
 }
 
@@ -108,13 +86,13 @@ impl Command {
     /// Whether an error is explained: if `--explain` is given, and always for subcommands whose output is for people.
     fn explains(&self) -> bool {
         match self {
-            Command::Run(input)
-            | Command::Log(input)
-            | Command::Print(input)
-            | Command::Calc(input)
-            | Command::Room(input) => input.explain,
-            Command::State(look) => look.input.explain,
-            Command::Play(_) | Command::Replay(_) | Command::Bench(_) => true,
+            Command::Run(run) => run.battle.input.asks(),
+            Command::Log(battle) => battle.input.asks(),
+            Command::Print(input) => input.asks(),
+            Command::Calc(asked) => asked.asks(),
+            Command::Room(room) => room.battle.input.asks(),
+            Command::State(look) => look.battle.input.asks(),
+            _ => true,
         }
     }
 }

@@ -2,7 +2,8 @@
 use crate::commands::text_of;
 use crate::fault::Fault;
 use crate::files::{name_of, put, read, read_line};
-use crate::input::battle_and;
+use crate::input::chosen::Chosen;
+use crate::input::{Given, ReadTerms};
 use crate::random::Random;
 use crate::screen;
 use clap::{Args, ValueEnum};
@@ -69,9 +70,10 @@ pub fn play(game: &Game) -> Result<(), Fault> {
 /// The battle that a file describes.
 fn battle_in(path: &Path) -> Result<Battle, Fault> {
     let input = read(Some(path))?;
-    let (battle, ()) =
-        battle_and(&input, |_| Ok(())).map_err(|why| why.within(&name_of(Some(path))))?;
-    Ok(battle)
+    let given = Given::of_json(&input, ReadTerms::default(), false);
+    let start = given.and_then(|given| given.start(|_| Ok(())));
+    let (start, ()) = start.map_err(|why| why.within(&name_of(Some(path))))?;
+    Ok(start.battle)
 }
 
 /// The choice of the person; `None` at the end of the input.
@@ -102,6 +104,13 @@ fn asked(battle: &Battle) -> Result<Option<Choice>, Fault> {
         let number = word.parse::<usize>().ok();
         if let Some(choice) = number.and_then(|number| choices.get(number.checked_sub(1)?)) {
             return Ok(Some(*choice));
+        }
+        let chosen = Chosen::in_text(word).map(|chosen| chosen.byte(battle, Side::One));
+        let named = chosen.ok().and_then(Choice::from_byte);
+        if let Some(choice) = named.filter(|_| number.is_none()) {
+            if choices.contains(&choice) {
+                return Ok(Some(choice));
+            }
         }
         put("That is none of them. ")?;
     }
@@ -135,7 +144,9 @@ fn won(battle: &Battle, choice: Choice, random: &mut Random) -> u32 {
         if copy.update_silent(one, other).is_err() {
             break;
         }
-        two = random.choice(copy.offered_mask(Side::Two)).map(Offered::choice);
+        two = random
+            .choice(copy.offered_mask(Side::Two))
+            .map(Offered::choice);
     }
     match copy.outcome().winner() {
         Some(winner) => 2 * u32::from(winner == Side::Two),

@@ -1,9 +1,13 @@
-//! A page that holds a battle (web/README.md, "A file that holds its battle").
+//! A page that holds a battle (web/README.md, "A file that holds its battle"; docs/SHOWDOWN.md).
 use crate::commands::{events_of, hex};
 use crate::fault::Fault;
 use crate::files::{name_of, named, put, read, replace};
-use crate::input::battle_and_choices;
+use crate::game;
+use crate::input::chosen::Chosen;
+use crate::input::{Given, ReadTerms};
+use crate::showdown;
 use clap::Args;
+use gen1::{LogBuf, write_log};
 use std::fs;
 use std::path::{Path, PathBuf};
 
@@ -16,8 +20,11 @@ pub struct Replay {
     /// The input of run, or a log; without FILE, or with -, standard input
     file: Option<PathBuf>,
     /// The page, as web/build makes it
-    #[arg(long, value_name = "HTML")]
-    page: PathBuf,
+    #[arg(long, value_name = "HTML", required_unless_present = "showdown")]
+    page: Option<PathBuf>,
+    /// Makes a page for Showdown's viewer, which it loads from the network (docs/SHOWDOWN.md); FILE is an input of run
+    #[arg(long, conflicts_with = "page")]
+    showdown: bool,
     /// The file to write, not one that is read; without it, or with -, standard output
     #[arg(long, value_name = "FILE")]
     out: Option<PathBuf>,
@@ -25,18 +32,31 @@ pub struct Replay {
 
 /// Writes the page with the battle in it.
 pub fn replay(asked: &Replay) -> Result<(), Fault> {
-    let (file, page) = (asked.file.as_deref(), Some(asked.page.as_path()));
+    let (file, page) = (asked.file.as_deref(), asked.page.as_deref());
     let out = named(asked.out.as_deref());
-    if is_same(named(file), out) || is_same(named(page), out) {
+    if is_same(named(file), out) || is_same(page.and_then(|page| named(Some(page))), out) {
         return Err(Fault::out());
     }
-    let battle = battle_in(&read(file)?).map_err(|why| why.within(&name_of(file)))?;
-    let text = read(page)?;
-    let whole = filled(&text, &battle).ok_or_else(|| Fault::page().within(&name_of(page)))?;
+    let input = read(file)?;
+    let whole = match page {
+        Some(_) => own_page(&input, file, page)?,
+        None => showdowns_page(&input).map_err(|why| why.within(&name_of(file)))?,
+    };
     match out {
         Some(path) => replace(path, whole.as_bytes()),
         None => put(whole),
     }
+}
+
+/// The page of the repository with the battle in it.
+fn own_page(input: &[u8], file: Option<&Path>, page: Option<&Path>) -> Result<String, Fault> {
+    let battle = battle_in(input).map_err(|why| why.within(&name_of(file)))?;
+    let text = read(page)?;
+    filled(&text, &battle).ok_or_else(|| Fault::page().within(&name_of(page)))
+}
+
+fn showdowns_page(input: &[u8]) -> Result<String, Fault> {
+    showdown::page_of(&Given::of_json(input, ReadTerms::default(), false)?)
 }
 
 /// Whether two names are of one file.
@@ -62,7 +82,20 @@ fn battle_in(input: &[u8]) -> Result<String, Fault> {
         events_of(input)?;
         return Ok(format!(r#"{{"log":"{}"}}"#, hex(input)));
     }
-    battle_and_choices(input)?;
-    // JSON that was read is UTF-8.
-    Ok(String::from_utf8_lossy(input).into())
+    let given = Given::of_json(input, ReadTerms::default(), false)?;
+    let (start, pairs) = given.start_and_choices()?;
+    let is_byte = |chosen: &Chosen| matches!(chosen, Chosen::Byte(_));
+    if pairs.iter().flatten().all(is_byte) && !given.has_text() {
+        // JSON that was read is UTF-8.
+        return Ok(String::from_utf8_lossy(input).into());
+    }
+    // The page knows neither choices in words nor teams as text, and is given the log instead.
+    let (mut battle, mut digits) = (start.battle, String::new());
+    game::play(&mut battle, &pairs, |step| {
+        let mut log = LogBuf::new();
+        write_log(step.events, &mut log);
+        digits += &hex(&log);
+        Ok(())
+    })?;
+    Ok(format!(r#"{{"log":"{digits}"}}"#))
 }

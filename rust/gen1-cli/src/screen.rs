@@ -1,4 +1,5 @@
 //! Battles as text for people.
+use crate::input::chosen::{move_of, species_of};
 use gen1::{Battle, Choice, KnownMove, MemberState, Side};
 
 /// The width of an HP bar in characters.
@@ -106,4 +107,18 @@ pub fn choice(battle: &Battle, side: Side, it: Choice) -> String {
             .get(usize::from(place.number()) - 1)
             .map_or(it.to_string(), |it| format!("switch to {}", member(it))),
     }
+}
+
+/// A choice with the name of its move or member, as `move 1 (Body Slam)`.
+pub fn named(battle: &Battle, side: Side, it: Choice) -> String {
+    match name_of(battle, side, it) {
+        Some(name) => format!("{it} ({name})"),
+        None => it.to_string(),
+    }
+}
+
+/// The name of the move or the member that a choice means; none for a pass and for move 0.
+pub fn name_of(battle: &Battle, side: Side, it: Choice) -> Option<&'static str> {
+    let species = species_of(battle, side, it).map(gen1::Species::name);
+    species.or(move_of(battle, side, it).map(gen1::MoveId::name))
 }

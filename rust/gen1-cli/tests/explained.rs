@@ -32,7 +32,7 @@ fn a_misfit_is_told_with_its_way() {
         ),
         (
             battle(TAUROS, r#""choice":[]"#),
-            r#".: expected an object with the key "choices", found an object without it"#,
+            r#".: expected an object with the key "choices", found an object without it; at .: unknown key "choice"; did you mean "choices"?"#,
         ),
         (
             battle("{}", r#""choices":[]"#),
@@ -40,7 +40,7 @@ fn a_misfit_is_told_with_its_way() {
         ),
         (
             battle(&member(r#""tauros""#, "[]"), r#""choices":[]"#),
-            r#".two[0].species: expected the name of a species, found "tauros""#,
+            r#".two[0].species: expected the name of a species, found "tauros"; did you mean "Tauros"?"#,
         ),
         (
             battle(
@@ -54,7 +54,7 @@ fn a_misfit_is_told_with_its_way() {
                 &member(r#""Tauros""#, r#"[["Tackle",0],["tackle",0]]"#),
                 r#""choices":[]"#,
             ),
-            r#".two[0].moves[1][0]: expected the name of a move, found "tackle""#,
+            r#".two[0].moves[1][0]: expected the name of a move, found "tackle"; did you mean "Tackle"?"#,
         ),
     ];
     for (input, words) in cases {
@@ -88,7 +88,7 @@ fn refusals_are_told_in_words() {
     let due = "error: team 2 place 1 refusal 3\nteam 2, member 1: the level is not 1 to 100\n";
     assert_eq!(told(&["run", "--explain"], input.as_bytes()), due);
     let input = battle(TAUROS, r#""choices":[[0,17]]"#);
-    let due = "error: pair 0 refused 3\nat .choices[0]: side 2's choice is not offered\n";
+    let due = "error: pair 0 refused 3\nat .choices[0]: side 2's choice is not offered: chosen is 17 (move 1); offered: pass\n";
     assert_eq!(told(&["run", "--explain"], input.as_bytes()), due);
 }
 
@@ -131,4 +131,16 @@ fn a_log_is_printed_as_the_battle_was() {
     let printed = ran(&["print"], &log);
     assert!(printed.status.success());
     assert_eq!(printed.stdout, ran(&["run"], input.as_bytes()).stdout);
+}
+
+#[test]
+fn unknown_keys_are_noted() {
+    let input = battle(TAUROS, r#""choices":[[0,0]],"rulez":1"#);
+    let explained = ran(&["run", "--explain"], input.as_bytes());
+    let due = "note: at .: unknown key \"rulez\"; did you mean \"rules\"?\n";
+    assert_eq!(String::from_utf8_lossy(&explained.stderr), due);
+    let plain = ran(&["run"], input.as_bytes());
+    assert_eq!(explained.stdout, plain.stdout);
+    assert_eq!((plain.status.code(), plain.stderr), (Some(0), vec![]));
+    assert!(explained.status.success());
 }

@@ -1,8 +1,16 @@
-//! The program's input as JSON (docs/PROGRAM.md, "Input", "Explanations").
-use crate::fault::Fault;
-use gen1::{ArrayVec, Battle, MemberSpec, MoveId, Rules, Side, Species, Team, TurnLimit};
+//! Values of a JSON input (docs/PROGRAM.md, "Input", "Explanations").
+use super::near::{did_you_mean, nearest_name};
+use gen1::{ArrayVec, MemberSpec, MoveId, Rules, Side, Species, TurnLimit};
 use serde_json::Value;
 use std::fmt;
+
+/// A text in quotation marks, or its length if it is long.
+pub fn shown(text: &str) -> String {
+    match text.len() {
+        ..=60 => Value::from(text).to_string(),
+        length => format!("a text of {length} bytes"),
+    }
+}
 
 /// A value of an input that is not what is expected there.
 #[derive(Debug)]
@@ -13,22 +21,32 @@ pub struct Misfit {
 }
 
 impl Misfit {
-    fn new(value: &Value, expected: &str) -> Misfit {
+    pub fn new(value: &Value, expected: &str) -> Misfit {
         let found = match value {
             Value::Array(items) => format!("a list of length {}", items.len()),
             Value::Object(_) => "an object".into(),
-            Value::String(text) if text.len() > 60 => format!("a text of {} bytes", text.len()),
+            Value::String(text) => shown(text),
             other => other.to_string(),
         };
-        let why = format!("expected {expected}, found {found}");
+        Misfit::because(format!("expected {expected}, found {found}"))
+    }
+
+    /// A value that is not as expected for this reason.
+    pub fn because(why: String) -> Misfit {
         Misfit {
             path: String::new(),
             why,
         }
     }
 
+    /// The same with the name that may be meant, if there is one.
+    pub fn or(mut self, name: Option<&str>) -> Misfit {
+        self.why += &did_you_mean(name);
+        self
+    }
+
     /// The same value, seen from the value that contains it.
-    fn under(mut self, step: &str) -> Misfit {
+    pub fn under(mut self, step: &str) -> Misfit {
         self.path.insert_str(0, step);
         self
     }
@@ -36,12 +54,8 @@ impl Misfit {
 
 impl fmt::Display for Misfit {
     fn fmt(&self, f: &mut fmt::Formatter<'_>) -> fmt::Result {
-        let path = if self.path.is_empty() {
-            "."
-        } else {
-            &self.path
-        };
-        write!(f, "at {path}: {}", self.why)
+        let dot = if self.path.starts_with('.') { "" } else { "." };
+        write!(f, "at {dot}{}: {}", self.path, self.why)
     }
 }
 
@@ -70,8 +84,24 @@ single_values! {
     Rules: |value| Rules::new(whole(value)?), "a whole number from 0 to 3";
     TurnLimit: |value| TurnLimit::new(whole(value)?), "a whole number from 1 to 9999";
     Side: |value| Side::from_number(whole(value)?), "the number of a side, 1 or 2";
-    Species: |value| Species::from_name(value.as_str()?), "the name of a species";
-    MoveId: |value| MoveId::from_name(value.as_str()?), "the name of a move";
+}
+
+/// Implements `Typed` for names, which are exact.
+macro_rules! names {
+    ($($kind:ty: $expected:literal;)*) => {$(
+        impl Typed for $kind {
+            fn of(value: &Value) -> Result<Self, Misfit> {
+                let text = value.as_str().unwrap_or_default();
+                <$kind>::from_name(text)
+                    .ok_or_else(|| Misfit::new(value, $expected).or(nearest_name::<$kind>(text)))
+            }
+        }
+    )*};
+}
+
+names! {
+    Species: "the name of a species";
+    MoveId: "the name of a move";
 }
 
 /// A whole number in the range of its type.
@@ -150,7 +180,7 @@ pub fn key<T: Typed>(value: &Value, key: &str) -> Result<T, Misfit> {
 }
 
 /// As [`key`], for a key that may be absent.
-fn optional_key<T: Typed + Default>(value: &Value, name: &str) -> Result<T, Misfit> {
+pub fn optional_key<T: Typed + Default>(value: &Value, name: &str) -> Result<T, Misfit> {
     value
         .get(name)
         .map_or(Ok(T::default()), |_| key(value, name))
@@ -167,29 +197,4 @@ impl Typed for MemberSpec {
             moves: key(value, "moves")?,
         })
     }
-}
-
-/// The team of a side, 1 or 2.
-pub fn team(side: u8, members: &[MemberSpec]) -> Result<Team, Fault> {
-    Team::new(members).map_err(|why| Fault::team(side, why))
-}
-
-/// The battle of an input, and what `rest` reads of it. All of the input is read before a team is checked, side 1's first.
-pub fn battle_and<T>(
-    input: &[u8],
-    rest: impl FnOnce(&Value) -> Result<T, Misfit>,
-) -> Result<(Battle, T), Fault> {
-    let value = serde_json::from_slice(input)?;
-    let seed = key(&value, "seed")?;
-    let [one, two] = [key::<Vec<_>>(&value, "one")?, key(&value, "two")?];
-    let rules = optional_key(&value, "rules")?;
-    let limit = optional_key(&value, "limit")?;
-    let rest = rest(&value)?;
-    let [one, two] = [team(1, &one)?, team(2, &two)?];
-    Ok((Battle::with_limit(&one, &two, seed, rules, limit), rest))
-}
-
-/// The battle of an input with a pair of choices for each update.
-pub fn battle_and_choices(input: &[u8]) -> Result<(Battle, Vec<[u8; 2]>), Fault> {
-    battle_and(input, |value| key(value, "choices"))
 }

@@ -1,0 +1,133 @@
+//! `gen1 explain`: a battle in sentences, with each draw, what it decided, and what another byte would have decided.
+//!
+//! What a draw decided is found by trying: the update is made from copies of the battle in which the draw gives another byte.
+use crate::draws::{NUMBERS, drawn, with_draw};
+use crate::fault::Fault;
+use crate::files::put;
+use crate::game::{self, Step};
+use crate::input::Given;
+use crate::screen;
+use crate::sentences::sentence;
+use crate::words::Battle;
+use clap::Args;
+use gen1::{Event, EventList, Side};
+
+/// The arguments of `explain`.
+#[derive(Args)]
+pub struct Explain {
+    #[command(flatten)]
+    pub battle: Battle,
+}
+
+/// How many ranges of bytes are listed in full.
+const RANGES: usize = 8;
+
+/// Prints each update of a battle.
+pub fn explain(given: &Given) -> Result<(), Fault> {
+    let (start, pairs) = given.start_and_choices()?;
+    let mut battle = start.battle;
+    game::play(&mut battle, &pairs, |step| put(update(step)))
+}
+
+/// An update: its choices, its events in sentences, and its draws.
+fn update(step: &Step) -> String {
+    let [one, two] = step.choices;
+    let named = |side, choice| screen::named(step.before, side, choice);
+    let (one, two) = (named(Side::One, one), named(Side::Two, two));
+    let gap = if step.number > 0 { "\n" } else { "" };
+    let mut text = format!("{gap}Update {}: side 1 {one}, side 2 {two}.\n", step.number);
+    for event in step.events {
+        text += &format!("  {}\n", sentence(event));
+    }
+    for (at, byte) in drawn(step.before, step.after).into_iter().enumerate() {
+        text += &format!("    draw {} is {byte}", at + 1);
+        text += &decided(step, at);
+    }
+    text
+}
+
+/// What a draw decided.
+fn decided(step: &Step, at: usize) -> String {
+    if at >= NUMBERS {
+        return ": a number of this update again, renewed\n".into();
+    }
+    let others = others(step, at);
+    if others.is_empty() {
+        return ": no other byte would have changed the events\n".into();
+    }
+    let lines = others
+        .iter()
+        .map(|(said, bytes)| format!("      {}: {said}\n", ranges(bytes)));
+    format!("; with another byte:\n{}", lines.collect::<String>())
+}
+
+/// What other bytes would have decided, in the order of their first bytes.
+fn others(step: &Step, at: usize) -> Vec<(String, Vec<u8>)> {
+    let mut ways: Vec<(String, Vec<u8>)> = Vec::new();
+    let mut events = EventList::new();
+    for byte in 0..=255 {
+        let Some(mut battle) = with_draw(step.before, at, byte) else {
+            continue;
+        };
+        let [one, two] = step.choices;
+        // The choices that are offered do not depend on the numbers.
+        if battle.update_with(one, two, &mut events).is_err() {
+            continue;
+        }
+        let said = difference(step.events, &events);
+        match ways.iter_mut().find(|(known, _)| *known == said) {
+            _ if said.is_empty() => (),
+            Some((_, bytes)) => bytes.push(byte),
+            None => ways.push((said, vec![byte])),
+        }
+    }
+    ways
+}
+
+/// The first difference between two lists of events; empty if they are the same.
+fn difference(told: &[Event], other: &[Event]) -> String {
+    if let Some((one, two)) = told.iter().zip(other).find(|(one, two)| one != two) {
+        let changes_hp = |it: &Event| matches!(it, Event::Damage(..) | Event::Heal(..));
+        if changes_hp(one) && changes_hp(two) && one.who() == two.who() {
+            return one.who().map_or_else(String::new, |who| {
+                format!("side {}'s {} has other HP", who.side, who.species)
+            });
+        }
+        return format!("instead of \"{}\": {}", sentence(one), sentence(two));
+    }
+    match (told.get(other.len()), other.get(told.len())) {
+        (Some(more), _) => format!("without \"{}\"", sentence(more)),
+        (None, Some(more)) => format!("then also: {}", sentence(more)),
+        (None, None) => String::new(),
+    }
+}
+
+/// Numbers in rising order as ranges, `0-56, 60`; of many ranges only the first few.
+fn ranges(numbers: &[u8]) -> String {
+    let runs: Vec<_> = numbers.chunk_by(|one, two| one + 1 == *two).collect();
+    let text = |run: &&[u8]| match run {
+        [one] => one.to_string(),
+        [first, .., last] => format!("{first}-{last}"),
+        [] => String::new(),
+    };
+    match runs.len() {
+        count if count > RANGES => {
+            let first: Vec<_> = runs[..RANGES / 2].iter().map(text).collect();
+            format!("{}, .. ({} of 256)", first.join(", "), numbers.len())
+        }
+        _ => runs.iter().map(text).collect::<Vec<_>>().join(", "),
+    }
+}
+
+#[cfg(test)]
+mod tests {
+    use super::ranges;
+
+    #[test]
+    fn ranges_of_bytes() {
+        assert_eq!(ranges(&[0, 1, 2, 60]), "0-2, 60");
+        let odd: Vec<u8> = (0..20).map(|it| 2 * it).collect();
+        assert_eq!(ranges(&odd), "0, 2, 4, 6, .. (20 of 256)");
+        assert_eq!(ranges(&[254, 255]), "254-255");
+    }
+}

@@ -1,0 +1,110 @@
+//! The command line: subcommands and their arguments.
+use crate::input::{Input, Terms};
+use crate::{batch, bench, calc, explain, help, names, play, replay, shell, showdown, team};
+use clap::{Args, Parser, Subcommand};
+
+/// Which build of the engine this is.
+const BUILD: &str = "plain build; docs/PLAIN.md";
+
+/// The version and the build.
+pub fn version() -> &'static str {
+    format!("{} ({BUILD})", env!("CARGO_PKG_VERSION")).leak()
+}
+
+/// Plays link battles of the first generation
+#[derive(Parser)]
+#[command(name = "gen1", version = version(), after_help = help::PROGRAM)]
+pub struct Words {
+    #[command(subcommand)]
+    pub command: Command,
+}
+
+#[derive(Subcommand)]
+pub enum Command {
+    /// Plays the choices of an input, and prints a line for each event of the battle
+    #[command(after_help = help::RUN)]
+    Run(Run),
+    /// Plays the choices of an input, and writes the events as bytes, the log, which print reads
+    #[command(after_help = help::RUN)]
+    Log(Battle),
+    /// Reads a log, and prints a line for each event
+    #[command(after_help = help::PRINT)]
+    Print(Input),
+    /// Prints the possible damages of moves and the chances to knock out
+    #[command(after_help = help::CALC)]
+    Calc(calc::Calc),
+    /// Plays a battle of two players who submit their choices separately, and prints each reply
+    #[command(after_help = help::ROOM)]
+    Room(Room),
+    /// Plays the choices of an input, and prints the state of the battle after them
+    #[command(after_help = help::RUN)]
+    State(Look),
+    /// Prints a battle in sentences, with each draw and what it decided
+    #[command(after_help = help::RUN)]
+    Explain(explain::Explain),
+    /// Converts a team between export text, packed line and JSON
+    #[command(after_help = help::TEAM)]
+    Team(team::Convert),
+    /// Lists the names of species or moves
+    Names(names::Names),
+    /// Speaks the text protocol of Showdown's simulator over standard input and output
+    #[command(after_help = help::SHOWDOWN)]
+    Showdown(showdown::Simulator),
+    /// Plays against the computer, in the terminal
+    #[command(after_help = help::PLAY)]
+    Play(play::Game),
+    /// Makes a page that replays a battle in a browser
+    #[command(after_help = help::REPLAY)]
+    Replay(replay::Replay),
+    /// Plays random battles, and prints how long an update takes
+    #[command(after_help = help::BENCH)]
+    Bench(bench::Measure),
+    /// Prints the completions of the command line for a shell
+    Completions(shell::Completions),
+    /// Prints the manual page gen1(1)
+    Manual,
+}
+
+/// A battle: an input, or teams and seed on the command line and choices in the input.
+#[derive(Args)]
+pub struct Battle {
+    #[command(flatten)]
+    pub input: Input,
+    #[command(flatten)]
+    pub terms: Terms,
+}
+
+#[derive(Args)]
+pub struct Run {
+    #[command(flatten)]
+    pub battle: Battle,
+    /// Prints an object for each update in place of lines
+    #[arg(long)]
+    pub json: bool,
+    /// Prints the battle as Showdown's battle log (docs/SHOWDOWN.md)
+    #[arg(long, conflicts_with_all = ["json", "lines"])]
+    pub showdown: bool,
+    #[command(flatten)]
+    pub batch: batch::Batch,
+}
+
+#[derive(Args)]
+pub struct Room {
+    #[command(flatten)]
+    pub battle: Battle,
+    /// Prints an object for each reply in place of lines
+    #[arg(long)]
+    pub json: bool,
+}
+
+#[derive(Args)]
+pub struct Look {
+    #[command(flatten)]
+    pub battle: Battle,
+    /// Prints the 384 bytes of the battle as hexadecimal digits
+    #[arg(long)]
+    pub bytes: bool,
+    /// Prints an object with the state, what both sides may choose, and the bytes
+    #[arg(long, conflicts_with = "bytes")]
+    pub json: bool,
+}
