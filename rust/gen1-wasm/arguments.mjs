@@ -1,7 +1,7 @@
 // Checks and converts the caller's arguments before a call of the library, whose numbers are bytes. Each error says what is lawful.
 import { ArgumentError, ArgumentTypeError } from "./errors.mjs";
 
-/** The choices in the order of their bits in a mask (include/gen1.h, GEN1_BIT), which is also the order of their bytes. */
+/** The choices in the order of their bits in a mask (include/gen1.h, GEN1_CHOICE_BIT), which is also the order of their bytes. */
 export const CHOICES = Object.freeze(["pass", "move 0", "move 1", "move 2", "move 3", "move 4",
   "switch 1", "switch 2", "switch 3", "switch 4", "switch 5", "switch 6"]);
 const BYTES = CHOICES.map((_, bit) => (bit === 0 ? 0 : bit < 6 ? bit + 0x0f : bit + 0x1b));

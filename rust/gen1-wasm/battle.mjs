@@ -4,7 +4,8 @@ import { ArgumentError, ArgumentTypeError, DamageError, LoadError, LogError, Ref
 import { CODES } from "./header.mjs";
 import { Library } from "./memory.mjs";
 import { moveOf } from "./teams.mjs";
-import { oddsOf, resultOf, stateOf } from "./views.mjs";
+import { bytesOfState, indexOf, memberAt } from "./states.mjs";
+import { chancesOf, oddsOf, ownSideOf, resultOf, STATS, STATUSES, stateOf } from "./views.mjs";
 
 export const BATTLE_SIZE = 384;
 const FACTORS = 39;
@@ -70,6 +71,51 @@ export class Battle {
     return stateOf(this.#library.readStruct("gen1_state", state));
   }
 
+  /** What a side is shown of itself. */
+  ownSide(side) {
+    const [battle, own] = [this.#put(), this.#library.roomOf("gen1_own_side")];
+    this.#library.calls.gen1_get_own_side(battle, sideOf(side), own);
+    return ownSideOf(this.#library.readStruct("gen1_own_side", own));
+  }
+
+  /** Another battle: this one with the state as `change`, which is passed a copy of it, has changed it. */
+  withState(change) {
+    if (typeof change !== "function") throw wrongType(change, "change", "a function that changes a state");
+    const { state } = this;
+    change(state);
+    return new Battle(this.#library, bytesOfState(this.#library, state));
+  }
+
+  /** This battle with other HP of a member. */
+  withHp(side, place, hp) {
+    const given = whole(hp, "hp");
+    return this.withState((state) => {
+      memberAt(state, sideOf(side), place).hp = given;
+    });
+  }
+
+  /** This battle with another status of a member; a sleep lasts `turns`. If the member is out, its current stats are computed anew. */
+  withStatus(side, place, status, turns = 0) {
+    indexOf(STATUSES, status, "status");
+    const sleep = status === "sleep" ? whole(turns, "turns") : 0;
+    return this.withState((state) => {
+      Object.assign(memberAt(state, sideOf(side), place), { status, sleep, marked: false });
+      const { active } = side === 1 ? state.one : state.two;
+      if (active?.place === place) active.stats = [0, 0, 0, 0];
+    });
+  }
+
+  /** This battle with another stage of the active member, whose current stats are computed anew. */
+  withStage(side, stat, stage) {
+    const [at, given] = [indexOf(STATS, stat, "stat"), whole(stage, "stage")];
+    return this.withState((state) => {
+      const { active } = sideOf(side) === 1 ? state.one : state.two;
+      if (!active) throw new ArgumentError(`side is ${side}, of which nobody is out: the battle is before its first update`, "side");
+      active.stages[at] = given;
+      active.stats = [0, 0, 0, 0];
+    });
+  }
+
   /** The choices that a side, 1 or 2, is offered; none if the battle is over. */
   choices(side) {
     return offeredBy(this.#library, "gen1_choices", this.#put(), sideOf(side));
@@ -86,35 +132,37 @@ export class Battle {
     const [code, text] = this.#library.written("gen1_choice_words", CODES.WORDS_ROOM, this.#put(), side, byte);
     if (!code) return text;
     const what = `side ${side}'s choice`;
-    throw new ArgumentError(`${what}: ${this.#library.sentence(CODES.ABOUT_CHOICE, code)}: ${choiceText(byte)}`, what);
+    throw new ArgumentError(`${what}: ${this.#library.sentence(code)}: ${choiceText(byte)}`, what);
   }
 
   /** Updates the battle with a choice of each side, and returns the result and the log. */
   update(one, two) {
-    const log = this.#updated(one, two, CODES.LOG_ROOM);
-    return new Update(this.#library, this.result, log);
+    const pair = [choiceByte(one, 1), choiceByte(two, 2)];
+    const library = this.#library;
+    const [battle, log, length] = [this.#put(), library.room(CODES.LOG_ROOM), library.room(8)];
+    this.#take(battle, library.calls.gen1_update(battle, ...pair, log, library.size(CODES.LOG_ROOM), length), pair);
+    const told = library.read(log, library.sizeAt(length));
+    return new Update(library, this.result, told);
   }
 
   /** As `update` without a log, which is faster. Returns the result. */
   updateSilent(one, two) {
-    this.#updated(one, two, 0);
+    const pair = [choiceByte(one, 1), choiceByte(two, 2)];
+    const battle = this.#put();
+    this.#take(battle, this.#library.calls.gen1_update_silent(battle, ...pair), pair);
     return this.result;
   }
 
-  #updated(one, two, room) {
-    const pair = [choiceByte(one, 1), choiceByte(two, 2)];
-    const library = this.#library;
-    const [battle, log, length] = [this.#put(), library.room(room), library.room(8)];
-    const code = library.calls.gen1_update(battle, ...pair, log, library.size(room), length);
+  // Takes the battle that an update has changed, unless its code refuses the pair.
+  #take(battle, code, pair) {
     if (code) throw this.#refused(code, pair);
-    this.#bytes = library.read(battle, BATTLE_SIZE);
-    return library.read(log, library.sizeAt(length));
+    this.#bytes = this.#library.read(battle, BATTLE_SIZE);
   }
 
   #refused(code, pair) {
-    const sentence = this.#library.sentence(CODES.ABOUT_UPDATE, code);
-    if (code === CODES.OVER) return new RefusedError(`${sentence}: ${this.result.outcome}`, code, { reason: sentence });
-    const side = code === CODES.NOT_OFFERED_ONE ? 1 : 2;
+    const sentence = this.#library.sentence(code);
+    if (code === CODES.ERROR_OVER) return new RefusedError(`${sentence}: ${this.result.outcome}`, code, { reason: sentence });
+    const side = code === CODES.ERROR_NOT_OFFERED_ONE ? 1 : 2;
     const [choice, offered] = [pair[side - 1], this.choices(side)];
     return new RefusedError(notOffered(sentence, choice, offered), code, { side, choice, offered, reason: sentence });
   }
@@ -125,7 +173,7 @@ export class Battle {
     const place = whole(index, "index");
     const [battle, given] = [this.#put(), this.#library.put(numbers)];
     const code = this.#library.calls.gen1_reseed(battle, given, place >= 0 && place <= 255 ? place : 255);
-    if (code) throw new ArgumentError(`${this.#library.sentence(CODES.ABOUT_RESEED, code)}: index is ${place}`, "index");
+    if (code) throw new ArgumentError(`${this.#library.sentence(code)}: index is ${place}`, "index");
     this.#bytes = this.#library.read(battle, BATTLE_SIZE);
   }
 
@@ -145,6 +193,15 @@ export class Battle {
     const code = this.#library.calls.gen1_odds_now(battle, sideOf(side), number, odds);
     if (code) throw damageError(this.#library, code, move);
     return oddsOf(this.#library, number, odds);
+  }
+
+  /** The chances that a side's move knocks out the foe's active member, in one use and in two. */
+  knockOut(side, move) {
+    const number = moveOf(this.#library, move);
+    const [battle, chances] = [this.#put(), this.#library.roomOf("gen1_chances")];
+    const code = this.#library.calls.gen1_knock_out(battle, sideOf(side), number, chances);
+    if (code) throw damageError(this.#library, code, move);
+    return chancesOf(this.#library.readStruct("gen1_chances", chances));
   }
 
   /** The damage of a side's move in the current state, at each factor from 217 to 255. */
@@ -187,21 +244,21 @@ function seedOf(value) {
 
 /** Why there are no damage numbers of a move. */
 export function damageError(library, code, move) {
-  const sentence = library.sentence(CODES.ABOUT_DAMAGE, code);
+  const sentence = library.sentence(code);
   return new DamageError(`no damage of ${shown(move)}: ${sentence}`, code, sentence);
 }
 
 /** Why `count` bytes are not a battle. */
 export function loadError(library, code, count) {
-  const was = code === CODES.LOAD_LENGTH ? `: there are ${count}` : "";
-  const sentence = library.sentence(CODES.ABOUT_LOAD, code);
-  return new LoadError(`the bytes are not a battle: test ${code} of 7 fails: ${sentence}${was} (docs/LAYOUT.md, "Loading")`, code, sentence);
+  const was = code === CODES.ERROR_LOAD_LENGTH ? `: there are ${count}` : "";
+  const sentence = library.sentence(code);
+  return new LoadError(`the bytes are not a battle: test ${code - CODES.ERROR_LOAD_LENGTH + 1} of 7 fails: ${sentence}${was} (docs/LAYOUT.md, "Loading")`, code, sentence);
 }
 
-/** Why bytes are not a log. The wrong event begins at byte `at` of these, or, below 0, in the bytes before them. */
-export function logError(library, code, at) {
+// Why bytes are not a log. The wrong event begins at byte `at` of these, or, below 0, in the bytes before them.
+function logError(library, code, at) {
   const where = at < 0 ? `${-at} bytes before these` : `byte ${at}`;
-  const sentence = library.sentence(CODES.ABOUT_LOG, code);
+  const sentence = library.sentence(code);
   return new LogError(`${where}: ${sentence}`, code, at, sentence);
 }
 
@@ -213,7 +270,7 @@ function told(library, log, reader) {
   const read = reader(bytes, library.size(log.length), at);
   for (;;) {
     const [code, next] = read();
-    if (code === CODES.LOG_END) return found;
+    if (code === CODES.ERROR_LOG_END) return found;
     if (code) throw logError(library, code, library.sizeAt(at));
     found.push(next());
   }
@@ -244,8 +301,16 @@ export function linesOf(library, log) {
   });
 }
 
-/** The offset of the first event in log bytes that cannot be read. */
-export function faultPlace(library, log) {
+/** Why bytes are not a log that goes on after `held`, the bytes of an incomplete event. */
+export function logErrorAfter(library, code, held, given) {
+  const all = new Uint8Array(held.length + given.length);
+  all.set(held);
+  all.set(given, held.length);
+  return logError(library, code, faultPlace(library, all) - held.length);
+}
+
+// The offset of the first event in log bytes that cannot be read.
+function faultPlace(library, log) {
   library.begin();
   const [bytes, at, event] = [library.put(log), library.room(8), library.roomOf("gen1_event")];
   while (library.calls.gen1_next_event(bytes, library.size(log.length), at, event) === 0);

@@ -1,6 +1,7 @@
 // Compares the module with recorded battles (tests/battles), in any JavaScript host.
 import * as library from "./gen1.mjs";
 import { badInput, badSources } from "./faults.mjs";
+import { CODES } from "./header.mjs";
 import { bytesOfHex, equal, hexOf, holds } from "./holding.mjs";
 import { uses } from "./uses.mjs";
 import { worked } from "./worked.mjs";
@@ -11,6 +12,8 @@ const KINDS_OF_STATUS = { 0: "none", 8: "poison", 16: "burn", 32: "freeze", 64: 
 const VIEWED = 3;
 const wordOf = (bytes, at) => bytes[at] + 256 * bytes[at + 1];
 const wordsOf = (bytes, ...places) => places.map((at) => wordOf(bytes, at));
+// The refusals of a room, in the order of their numbers in recordings, from 1 on (docs/PROGRAM.md, "room").
+const ROOM_REFUSALS = [CODES.ERROR_OVER, CODES.ERROR_STALE, CODES.ERROR_CHOSEN, CODES.ERROR_NOT_OFFERED];
 const linesOf = (texts) => texts.map((line) => `${line}\n`).join("");
 
 // What `run` prints of an input, and how it ends.
@@ -27,7 +30,7 @@ function run(gen1, asked) {
     try {
       text += linesOf(battle.update(one, two).lines);
     } catch (fault) {
-      return [text, `error: pair ${number} refused ${fault.code}\n`];
+      return [text, `error: pair ${number} refused ${fault.code - CODES.ERROR_OVER + 1}\n`];
     }
   }
   return [text, ""];
@@ -92,20 +95,26 @@ function shownOf({ one, two, turn, outcome }) {
 function traceCase(gen1, one) {
   const battle = gen1.battle(one.object);
   const spectator = gen1.spectator(one.object.one, one.object.two);
+  const players = [1, 2].map((side) => [gen1.teller({ side }), gen1.player({ side, team: side === 1 ? one.object.one : one.object.two })]);
   for (const [number, update] of one.updates.entries()) {
     let log = "";
     let refused = null;
     try {
       log = hexOf(battle.update(...update.pair).log);
     } catch (fault) {
-      refused = fault.code;
+      refused = fault.code - CODES.ERROR_OVER + 1;
     }
     equal([refused, log], [update.refused, update.log]);
     equal(hexOf(battle.bytes), update.bytes);
     stands(battle, update);
     const [given, middle] = [bytesOfHex(log), log.length >> 2];
     for (const piece of [given.subarray(0, middle), given.subarray(middle)]) spectator.feed(piece);
-    if (number % VIEWED === 0) viewed(battle, spectator, stateOf(bytesOfHex(update.bytes)));
+    for (const [teller, player] of players) teller.report(battle, given, player);
+    if (number % VIEWED) continue;
+    const state = stateOf(bytesOfHex(update.bytes));
+    viewed(battle, spectator, state);
+    equal(hexOf(gen1.battleOfState(battle.state).bytes), update.bytes);
+    for (const [, player] of players) isKnown(battle, player, state);
   }
   roomCase(gen1, one.object, one.updates.filter((it) => it.refused === null));
 }
@@ -122,6 +131,28 @@ function stands(battle, update) {
 function viewed(battle, spectator, state) {
   equal(sorted(battle.state), sorted(state));
   equal(spectator.state, shownOf(state));
+}
+
+// What a side is shown of itself in a state (docs/MECHANICS.md, "What a side is shown of itself").
+function ownOf({ one, two, turn, requests, outcome }, side) {
+  const [{ members, active }, foe] = side === 1 ? [one, two] : [two, one];
+  const shown = members.map(({ sleep, marked, ...rest }) => rest);
+  if (!active) return { members: shown, active, turn, request: requests[side - 1], outcome };
+  const { place, types, stats, stages, disabledSlot } = active;
+  const [conditions, held] = [active.conditions.filter((it) => it !== "flinch"), foe.active.conditions.includes("trapping")];
+  return { members: shown, active: { place, types, stats, stages, conditions, disabledSlot, held }, turn, request: requests[side - 1], outcome };
+}
+
+// What a player knows of a battle's state.
+function isKnown(battle, player, state) {
+  const { side, own, foe, ownPublic, turn, outcome } = player.view;
+  const [mine, other] = side === 1 ? [state.one, state.two] : [state.two, state.one];
+  equal([sorted(own), turn, outcome], [sorted(ownOf(state, side)), state.turn, state.outcome]);
+  equal(player.choices, battle.choices(side));
+  const healthOf = (it) => [it.species, it.level, it.status, it.hp, it.maxHp];
+  equal(ownPublic.members.map(healthOf), mine.members.map(healthOf));
+  if (!other.active) return;
+  equal([healthOf(foe.members[foe.active.place - 1]), foe.active.stages], [healthOf(other.members[other.active.place - 1]), other.active.stages]);
 }
 
 // An object with its keys sorted, also in the objects in it.
@@ -152,7 +183,7 @@ function submissionsCase(gen1, one) {
       told.push(...(update ? ["|room|advanced", ...update.lines] : ["|room|waiting"]));
     } catch (fault) {
       if (!(fault instanceof library.RoomError)) throw fault;
-      told.push(`|room|refused|${fault.code}${fault.code === 2 ? `|${fault.current}` : ""}`);
+      told.push(`|room|refused|${ROOM_REFUSALS.indexOf(fault.code) + 1}${fault.code === CODES.ERROR_STALE ? `|${fault.current}` : ""}`);
     }
   }
   equal(linesOf(told), one.stdout);
@@ -180,20 +211,21 @@ function logCase(gen1, one) {
     text = linesOf(gen1.lines(bytesOfHex(one.hex)));
     equal(gen1.events(bytesOfHex(one.hex)).length, gen1.lines(bytesOfHex(one.hex)).length);
   } catch (error) {
-    fault = `error: log ${error.code}\n`;
+    fault = `error: log ${error.code - CODES.ERROR_LOG_TAG + 1}\n`;
   }
   equal([text, fault], [one.stdout, one.stderr]);
 }
 
 // A byte string, by the number of the load fault and its hexadecimal digits.
 function loadCase(gen1, [fault, hex = ""]) {
+  const wanted = Number(fault) ? Number(fault) + CODES.ERROR_LOAD_LENGTH - 1 : 0;
   let code = 0;
   try {
     holds(gen1.load(bytesOfHex(hex)).bytes.length === 384, "no 384 bytes");
   } catch (error) {
     code = error.code;
   }
-  equal([code, gen1.testBytes(bytesOfHex(hex))], [Number(fault), Number(fault)]);
+  equal([code, gen1.testBytes(bytesOfHex(hex))], [wanted, wanted]);
 }
 
 const KINDS = {

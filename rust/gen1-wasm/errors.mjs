@@ -41,7 +41,7 @@ export class TeamError extends Gen1Error {
   }
 }
 
-/** A text is not a team. Places are from 1, or 0 for none. With code 14 `rule` is the code of a TeamError. */
+/** A text is not a team. Places are from 1, or 0 for none. With code 77 `rule` is the code of a TeamError. */
 export class TextError extends Gen1Error {
   constructor(message, { code, line, member, field, rule }, reason) {
     super(message, code, reason);
@@ -49,8 +49,20 @@ export class TextError extends Gen1Error {
   }
 }
 
-/** Bytes are not a battle. `code` is the number of the first of the seven tests that they fail. */
+/** Bytes are not a battle. `code`, 16 to 22, is that of the first of the seven tests that they fail. */
 export class LoadError extends Gen1Error {}
+
+/**
+ * A state cannot be that of a battle. `field` is where the state has the first field that is wrong, such as `state.two.members[0].hp`, and empty if the
+ * fields do not fit together. The side and place are 0 if it is not about one, and `index` is from 1 in a list, else 0. A `value` from `low`
+ * to `high` does not fit other fields.
+ */
+export class StateError extends Gen1Error {
+  constructor(message, code, { field, side, place, index, value, low, high }) {
+    super(message, code);
+    Object.assign(this, { field, side, place, index, value, low, high });
+  }
+}
 
 /** A choice was refused: the side (0 if the battle is over), the byte of the choice, and what is offered. */
 export class RefusedError extends Gen1Error {

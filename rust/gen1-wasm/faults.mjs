@@ -2,7 +2,8 @@
 import * as library from "./gen1.mjs";
 import { equal, hexOf, holds, thrown } from "./holding.mjs";
 
-const { ArgumentError, ArgumentTypeError, DamageError, LoadError, LogError, ModuleError, RefusedError, RoomError, TeamError, TextError } = library;
+const { ArgumentError, ArgumentTypeError, DamageError, LoadError, LogError, ModuleError } = library;
+const { RefusedError, RoomError, StateError, TeamError, TextError } = library;
 const SEED = [1, 36, 255, 7, 31, 100, 179, 254, 127, 10];
 const TAUROS = { species: "Tauros", moves: [["Strength", 3]] };
 const TERMS = { one: [TAUROS], two: [TAUROS], seed: SEED };
@@ -95,15 +96,15 @@ function terms(gen1, check) {
 function bytes(gen1, check) {
   check("bytes", () => {
     for (const count of [0, 383, 385])
-      equal(thrown(() => gen1.load(new Uint8Array(count)), LoadError, new RegExp(`test 1 of 7 fails: there are not 384 bytes: there are ${count} `)).code, 1);
-    equal(thrown(() => gen1.load(new Uint8Array(384)), LoadError, /test 2 of 7 fails: the version, byte 0, is not 1, 2 or 3/).code, 2);
-    equal([0, 383, 384].map((count) => gen1.testBytes(new Uint8Array(count))), [1, 1, 2]);
+      equal(thrown(() => gen1.load(new Uint8Array(count)), LoadError, new RegExp(`test 1 of 7 fails: there are not 384 bytes: there are ${count} `)).code, 16);
+    equal(thrown(() => gen1.load(new Uint8Array(384)), LoadError, /test 2 of 7 fails: the version, byte 0, is not 1, 2 or 3/).code, 17);
+    equal([0, 383, 384].map((count) => gen1.testBytes(new Uint8Array(count))), [16, 16, 17]);
     for (const it of [undefined, null, "a battle", 384, Array(384).fill(0), new Uint16Array(192)])
       for (const call of [gen1.load, gen1.testBytes, gen1.lines, gen1.events])
         wrong(() => call.call(gen1, it), /^(bytes|log) is .*, not bytes, as a Uint8Array$/);
   });
   check("logs", () => {
-    for (const [more, code, text] of [[[0], 1, /no tag/], [[29], 1, /no tag/], [[26, 3], 2, /out of its range/], [[26], 3, /end within/]])
+    for (const [more, code, text] of [[[0], 32, /no tag/], [[29], 32, /no tag/], [[26, 3], 33, /out of its range/], [[26], 34, /end within/]])
       for (const call of [gen1.lines, gen1.events]) {
         const fault = thrown(() => call.call(gen1, Uint8Array.of(26, 1, ...more)), LogError, text);
         equal([fault.code, fault.at, fault.message.startsWith("byte 2: ")], [code, 2, true]);
@@ -112,20 +113,20 @@ function bytes(gen1, check) {
   check("texts", () => {
     for (const it of [undefined, null, 5, ["Tauros"], Uint8Array.of(1)])
       for (const call of [gen1.teamFromText, gen1.teamFromPacked]) wrong(() => call.call(gen1, it), /^text is .*, not a text$/);
-    const lines = [["Tauros\n- Body Slm\n", 2, 10], ["\n\nTaurus\n- Body Slam\n", 3, 1], ["Tauros @ Leftovers\n- Body Slam\n", 1, 2],
-      ["Tauros\nLevel: 101\n- Body Slam\n", 2, 4], ["Tauros\nEVs: 256 Atk\n", 2, 5], ["Tauros\nIVs: 32 Atk\n", 2, 7],
-      ["Tauros\nEVs: 4 SpA / 8 SpD\n", 2, 6], ["Tauros\n- Pound\n- Cut\n- Surf\n- Fly\n- Dig\n", 6, 11], ["Tauros\nsomething\n", 2, 12],
-      ["Tauros\n- Pound\n\n".repeat(7), 19, 3]];
+    const lines = [["Tauros\n- Body Slm\n", 2, 73], ["\n\nTaurus\n- Body Slam\n", 3, 64], ["Tauros @ Leftovers\n- Body Slam\n", 1, 65],
+      ["Tauros\nLevel: 101\n- Body Slam\n", 2, 67], ["Tauros\nEVs: 256 Atk\n", 2, 68], ["Tauros\nIVs: 32 Atk\n", 2, 70],
+      ["Tauros\nEVs: 4 SpA / 8 SpD\n", 2, 69], ["Tauros\n- Pound\n- Cut\n- Surf\n- Fly\n- Dig\n", 6, 74], ["Tauros\nsomething\n", 2, 75],
+      ["Tauros\n- Pound\n\n".repeat(7), 19, 66]];
     for (const [text, line, code] of lines) {
       const fault = thrown(() => gen1.teamFromText(text), TextError, new RegExp(`^line ${line}: expected: `));
       equal([fault.line, fault.code, fault.rule], [line, code, 0]);
     }
     for (const [text, member, rule] of [["", 0, 1], ["Tauros\n- Mimic\n", 1, 6], ["Tauros\n", 1, 5]]) {
       const fault = thrown(() => gen1.teamFromText(text), TextError, /^(member 1: )?(the team|a move|the member)/);
-      equal([fault.code, fault.member, fault.rule], [14, member, rule]);
+      equal([fault.code, fault.member, fault.rule], [77, member, rule]);
     }
     const fault = thrown(() => gen1.teamFromPacked("Tauros||||pond|||||||"), TextError, /^member 1, field 5: expected: the name of a move/);
-    equal([fault.member, fault.field, fault.code], [1, 5, 10]);
+    equal([fault.member, fault.field, fault.code], [1, 5, 73]);
     equal(thrown(() => gen1.teamFromPacked("Tauros||||"), TextError, /twelve fields/).member, 1);
   });
 }
@@ -134,7 +135,9 @@ function bytes(gen1, check) {
 function choices(battle, check) {
   check("sides", () => {
     const asked = [(side) => battle.choices(side), (side) => battle.offeredMask(side), (side) => battle.damage(side, "Pound"),
-      (side) => battle.odds(side, "Pound"), (side) => battle.words(side, "pass")];
+      (side) => battle.odds(side, "Pound"), (side) => battle.words(side, "pass"), (side) => battle.knockOut(side, "Pound"),
+      (side) => battle.ownSide(side), (side) => battle.withHp(side, 1, 5), (side) => battle.withStatus(side, 1, "burn"),
+      (side) => battle.withStage(side, "speed", 1)];
     for (const call of asked) {
       for (const side of [0, 3, ...BIG]) outside(() => call(side), /^side is -?\d.*, not 1 or 2$/);
       for (const side of [undefined, ...NO_NUMBERS]) wrong(() => call(side), /^side is .*, not a whole number$/);
@@ -156,7 +159,7 @@ function choices(battle, check) {
         const pair = side === 1 ? [choice, 17] : [17, choice];
         const text = new RegExp(`^the choice of side ${side} was not offered: .*; offered: move 1$`);
         const fault = thrown(() => battle.update(...pair), RefusedError, text);
-        equal([fault.code, fault.side, fault.choice, fault.offered], [side + 1, side, choice, ["move 1"]]);
+        equal([fault.code, fault.side, fault.choice, fault.offered], [side + 24, side, choice, ["move 1"]]);
       }
     thrown(() => battle.update("move 1", "switch 2"), RefusedError, /^the choice of side 2 was not offered: switch 2; offered: move 1$/);
     for (const byte of [1, 15, 21, 32, 39, 255]) outside(() => library.choiceOf(byte), /is not a choice/);
@@ -170,9 +173,10 @@ function choices(battle, check) {
 function moves(gen1, battle, check) {
   check("moves", () => {
     for (const move of [0, 166, ...BIG])
-      for (const call of [() => battle.damage(1, move), () => battle.odds(1, move), () => gen1.odds(TAUROS, TAUROS, move)])
-        thrown(call, DamageError, /^no damage of -?\d.*: the move is not 1 to 165$/);
-    for (const call of [(move) => battle.damage(1, move), (move) => battle.odds(1, move), (move) => gen1.damage(TAUROS, TAUROS, move)]) {
+      for (const call of [() => battle.damage(1, move), () => battle.odds(1, move), () => battle.knockOut(1, move), () => gen1.odds(TAUROS, TAUROS, move)])
+        thrown(call, DamageError, /^no damage of -?\d.*: a move is not 1 to 165$/);
+    const calls = [(move) => battle.damage(1, move), (move) => battle.odds(1, move), (move) => battle.knockOut(1, move)];
+    for (const call of [...calls, (move) => gen1.damage(TAUROS, TAUROS, move)]) {
       outside(() => call("Pond"), /^move is "Pond", which is not in docs\/TABLES.md$/);
       outside(() => call("body slam"), /did you mean "Body Slam"\?$/);
       for (const it of [undefined, null, true, [1], {}, 1n]) wrong(() => call(it), /^move is .*, not a name or a number$/);
@@ -181,6 +185,7 @@ function moves(gen1, battle, check) {
     thrown(() => battle.damage(1, "Splash"), DamageError, /^no damage of "Splash": the move does not have the usual damage/);
     thrown(() => gen1.battle(TERMS).damage(1, "Pound"), DamageError, /nobody is out/);
     thrown(() => gen1.battle(TERMS).odds(1, "Pound"), DamageError, /nobody is out/);
+    thrown(() => gen1.battle(TERMS).knockOut(1, "Pound"), DamageError, /nobody is out/);
   });
 }
 
@@ -218,12 +223,125 @@ function reasons(gen1, check) {
   check("reasons", () => {
     equal(reasonOf(() => gen1.battle({ ...TERMS, one: [] })), "the team has no member: it has 1 to 6");
     equal(reasonOf(() => gen1.load(new Uint8Array(1))), "there are not 384 bytes");
-    equal(reasonOf(() => gen1.odds(TAUROS, TAUROS, 166)), "the move is not 1 to 165");
+    equal(reasonOf(() => gen1.odds(TAUROS, TAUROS, 166)), "a move is not 1 to 165");
     equal(reasonOf(() => battle.update("move 1", "pass")), "the choice of side 1 was not offered");
     equal(reasonOf(() => room.submit(1, 7, 17)), "the number is not that of the current pair of choices");
     equal(reasonOf(() => gen1.teamFromText("Tauros\n- Body Slm\n")), "the name of a move of the first generation");
     equal(reasonOf(() => gen1.teamFromText("Tauros\n- Pound\n- Pound\n")), "a move is there twice");
     equal(/^the bytes end within an event/.test(reasonOf(() => gen1.events(Uint8Array.of(26)))), true);
+  });
+}
+
+// Changes of a state of two Tauros with Strength, each with the error's text. TAUROS has 353 HP and Attack 298.
+const ONE = (changed) => (state) => void Object.assign(state.one, changed);
+const MEMBER = (changed) => ({ two: { members: [member] } }) => void Object.assign(member, changed);
+const ACTIVE = (changed) => ({ one: { active } }) => void Object.assign(active, changed);
+const WHOLE = (changed) => (state) => void Object.assign(state, changed);
+const NO_STATES = [
+  [MEMBER({ hp: 400 }), /^state\.two\.members\[0\]\.hp is 400, not 0 to 353$/], [MEMBER({ hp: 65536 }), /\.hp is 65536, not 0 to 353$/],
+  [MEMBER({ hp: -1 }), /\.hp is -1, not 0 to 353$/], [MEMBER({ level: 300 }), /\.level is 300, not 1 to 100$/],
+  [MEMBER({ maxHp: 1000 }), /\.maxHp is 1000, not \d+ to 999$/], [MEMBER({ species: 152 }), /\.species is 152, not 1 to 151$/],
+  [MEMBER({ stats: [298, 288, 1000, 238] }), /\.stats\[2\] is 1000, not \d to 999$/], [MEMBER({ pp: [64] }), /\.pp\[0\] is 64, not 0 to 63$/],
+  [MEMBER({ status: "sleep" }), /\.sleep is 0, not 1 to 7$/],
+  [MEMBER({ sleep: 3 }), /\.sleep is 3, not 0$/],
+  [MEMBER({ moves: [166] }), /\.moves\[0\] is 166, not /],
+  [MEMBER({ marked: true }), /\.marked is true, not false$/], [MEMBER({ moves: ["Mimic"] }), /\.moves\[0\] is "Mimic", which does not fit/],
+  [ACTIVE({ stages: [0, 0, 7, 0, 0, 0] }), /^state\.one\.active\.stages\[2\] is 7, not -6 to 6$/], [ACTIVE({ place: 2 }), /\.place is 2, not 1$/],
+  [ACTIVE({ stages: [-7, 0, 0, 0, 0, 0] }), /\.stages\[0\] is -7, not -6 to 6$/], [ACTIVE({ substitute: 1 }), /\.substitute is 1, not 0$/],
+  [ACTIVE({ conditions: ["confused"] }), /\.confusion is 0, not 1 to 5$/], [ACTIVE({ currentMove: 2 }), /\.currentMove is 2, which does not fit/],
+  [ACTIVE({ conditions: ["rage"], keptAccuracy: 255 }), /\.conditions\[0\] is "rage", which the current move does not cause$/],
+  [ACTIVE({ stats: [299, 288, 318, 238] }), /\.active\.stats\[0\] is 299, (not|which does not fit)/],
+  [ONE({ active: null }), /^state\.one\.active\.place is 0, not 1$/], [WHOLE({ limit: 10000 }), /^state\.limit is 10000, not 1 to 9999$/],
+  [WHOLE({ index: 9 }), /^state\.index is 9, not 0 to 8$/], [WHOLE({ rules: 4 }), /^state\.rules is 4, not 0 to 3$/],
+  [WHOLE({ turn: 1001 }), /^state\.turn is 1001, not \d to 1000$/],
+  [WHOLE({ requests: ["switch", "move"] }), /^state\.requests\[0\] is "switch", not "move"$/],
+  [WHOLE({ outcome: "tie" }), /^state\.(outcome|requests\[0\]) is /], [MEMBER({ hp: 0 }), /^state\.outcome is "ongoing", /],
+];
+// Changes that no state of the library can have: each with the class of the error and its text.
+const UNREADABLE = [
+  [MEMBER({ status: "confused" }), ArgumentError, /^state\.two\.members\[0\]\.status is "confused", not one of "none", "sleep", /],
+  [MEMBER({ species: "Taurus" }), ArgumentError, /\.species is "Taurus", which is not in docs\/TABLES.md$/],
+  [MEMBER({ pp: [1, 2] }), ArgumentError, /\.pp has 2 numbers, not 1$/],
+  [MEMBER({ moves: Array(5).fill("Pound") }), ArgumentError, /\.moves has 5 moves, not at most 4$/],
+  [MEMBER({ marked: 1 }), ArgumentTypeError, /\.marked is 1, not true or false$/],
+  [MEMBER({ hp: 1.5 }), ArgumentTypeError, /\.hp is 1.5, not a whole number$/],
+  [MEMBER({ stats: 5 }), ArgumentTypeError, /\.stats is 5, not a list of 4 numbers$/],
+  [ACTIVE({ energy: 65536 }), ArgumentError, /\.energy is 65536, not 0 to 65535$/],
+  [ACTIVE({ conditions: ["sleepy"] }), ArgumentError, /\.conditions\[0\] is "sleepy", not one of/],
+  [ACTIVE({ types: ["Normal", "Steel"] }), ArgumentError, /\.types\[1\] is "Steel", not one of/],
+  [ONE({ members: [] }), ArgumentError, /\.members has 0 members, not 1 to 6$/],
+  [ONE({ members: 5 }), ArgumentTypeError, /\.members is 5, not a list$/],
+  [ONE({ active: 5 }), ArgumentTypeError, /\.active is 5, not the state of the active member, or null$/],
+  [WHOLE({ one: null }), ArgumentTypeError, /^state\.one is null, not the state of a side$/],
+  [WHOLE({ numbers: [1] }), ArgumentError, /^state\.numbers has 1 numbers, not 10$/],
+  [WHOLE({ lastDamage: -1 }), ArgumentError, /^state\.lastDamage is -1, not 0 to 65535$/],
+  [WHOLE({ outcome: "won" }), ArgumentError, /^state\.outcome is "won", not one of/],
+];
+
+function states(gen1, battle, check) {
+  check(`${NO_STATES.length} states that no battle can have`, () => {
+    for (const [change, text] of NO_STATES) {
+      const fault = thrown(() => battle.withState(change), StateError, text);
+      equal([fault.code, fault.reason, fault.message.startsWith(fault.field)], [23, fault.message, true]);
+    }
+    const { field, side, place, index, value, low, high } = thrown(() => battle.withHp(2, 1, 400), StateError, /./);
+    equal([field, side, place, index, value, low, high], ["state.two.members[0].hp", 2, 1, 0, 400, 0, 353]);
+  });
+  check(`${UNREADABLE.length} changes of a state that are none`, () => {
+    for (const [change, type, text] of UNREADABLE) thrown(() => battle.withState(change), type, text);
+    for (const it of [...NO_OBJECTS, []]) wrong(() => gen1.battleOfState(it), /^state is .*, not a state: an object as battle.state is$/);
+    for (const it of [...NO_OBJECTS, {}]) wrong(() => battle.withState(it), /^change is .*, not a function that changes a state$/);
+  });
+  check("changes of one field", () => {
+    for (const place of [0, 7, ...BIG]) outside(() => battle.withHp(1, place, 5), /^place is -?\d.*, not 1 to 6$/);
+    for (const call of [() => battle.withHp(1, 2, 5), () => battle.withStatus(1, 2, "burn")]) outside(call, /^place is 2: side 1 has only 1 member$/);
+    outside(() => battle.withStatus(1, 1, "asleep"), /^status is "asleep", not one of "none"/);
+    for (const turns of [0, 8, 256]) thrown(() => battle.withStatus(1, 1, "sleep", turns), StateError, new RegExp(`sleep is ${turns}, not 1 to 7$`));
+    outside(() => battle.withStage(1, "luck", 1), /^stat is "luck", not one of "attack", "defense"/);
+    for (const stage of [-7, 7, 300]) {
+      const { value, index } = thrown(() => battle.withStage(2, "accuracy", stage), StateError, /stages\[4\] is -?\d+, not -6 to 6$/);
+      equal([value, index], [stage, 5]);
+    }
+    for (const it of NO_NUMBERS) {
+      wrong(() => battle.withHp(1, 1, it), /^hp is .*, not a whole number$/);
+      wrong(() => battle.withStage(1, "speed", it), /^stage is .*, not a whole number$/);
+    }
+    outside(() => gen1.battle(TERMS).withStage(1, "speed", 1), /^side is 1, of which nobody is out/);
+  });
+}
+
+function players(gen1, check) {
+  const [player, teller] = [gen1.player({ side: 1, team: [TAUROS] }), gen1.teller({ side: 1 })];
+  const battle = gen1.battle(TERMS);
+  const { log } = battle.update("pass", "pass");
+  check("players and tellers that are none", () => {
+    for (const it of NO_OBJECTS) for (const call of [gen1.player, gen1.teller]) wrong(() => call.call(gen1, it), /^terms is .*, not an object with side/);
+    for (const call of [(side) => gen1.player({ side, team: [TAUROS] }), (side) => gen1.teller({ side })]) {
+      for (const side of [0, 3, ...BIG]) outside(() => call(side), /^side is -?\d.*, not 1 or 2$/);
+      for (const side of [undefined, ...NO_NUMBERS]) wrong(() => call(side), /^side is .*, not a whole number$/);
+    }
+    for (const foes of [7, ...BIG]) outside(() => gen1.player({ side: 1, team: [TAUROS], foes }), /^foes is -?\d.*, not 0 to 6$/);
+    thrown(() => gen1.player({ side: 1, team: [] }), TeamError, /^team: the team has no member/);
+    const weak = () => gen1.player({ side: 2, team: [{ ...TAUROS, level: 0 }] });
+    const { side, place } = thrown(weak, TeamError, /^team: member 1: the level is not 1 to 100: level is 0$/);
+    equal([side, place], [2, 1]);
+    for (const pixels of [null, 1, "yes"]) wrong(() => gen1.teller({ side: 1, pixels }), /^pixels is .*, not true or false$/);
+  });
+  check("what players and tellers refuse", () => {
+    const before = [player.view, hexOf(teller.clone().tell(log))];
+    for (const it of [undefined, null, 5, "a log", [1]]) wrong(() => player.feed(it), /^told is .*, not bytes, as a Uint8Array$/);
+    for (const it of [undefined, null, 5, "a log", [1]]) wrong(() => teller.tell(it), /^log is .*, not bytes, as a Uint8Array$/);
+    for (const call of [(bytes) => player.feed(bytes), (bytes) => teller.tell(bytes)])
+      equal(thrown(() => call(Uint8Array.of(26, 1, 0)), LogError, /^byte 2: a byte in a tag's place is no tag/).at, 2);
+    thrown(() => teller.tell(log.subarray(0, 3)), LogError, /^byte 0: the bytes end within an event/);
+    outside(() => teller.tell(new Uint8Array(513)), /^log has 513 bytes, but that of an update has at most 512$/);
+    for (const it of [...NO_OBJECTS, player]) {
+      wrong(() => teller.report(it, log, player), /^battle is .*, not a Battle$/);
+      wrong(() => player.show(it), /^battle is .*, not a Battle$/);
+    }
+    for (const it of [...NO_OBJECTS, battle]) wrong(() => teller.report(battle, log, it), /^player is .*, not a Player$/);
+    outside(() => teller.report(battle, log, gen1.player({ side: 2, team: [TAUROS] })), /^player plays side 2, but side 1 is told$/);
+    equal([player.view, hexOf(teller.clone().tell(log))], before);
   });
 }
 
@@ -235,6 +353,7 @@ function calls(gen1, check) {
   choices(battle, check);
   moves(gen1, battle, check);
   seeds(battle, check);
+  states(gen1, battle, check);
   check("nothing has changed", () => equal(hexOf(battle.bytes), before));
   check("a loaded battle goes on alike", () => {
     const copy = gen1.load(battle.bytes);
@@ -250,7 +369,7 @@ function rooms(gen1, check) {
   const before = seen();
   check("what a room refuses", () => {
     const fault = thrown(() => room.submit(1, 0, 20), RoomError, /^side 1: the choice is not offered to the side: move 4; offered: move 1$/);
-    equal([fault.code, fault.side, fault.choice, fault.number, fault.current, fault.offered], [4, 1, 20, 0, 0, ["move 1"]]);
+    equal([fault.code, fault.side, fault.choice, fault.number, fault.current, fault.offered], [54, 1, 20, 0, 0, ["move 1"]]);
     thrown(() => room.submit(1, 7, 17), RoomError, /^the number is not that of the current pair of choices: 7; the current pair is 0$/);
     const chosen = room.clone();
     chosen.submit(1, 0, 17);
@@ -273,7 +392,7 @@ function rooms(gen1, check) {
     equal([spectator.state, spectator.held], [gen1.spectator([TAUROS], [TAUROS]).state, new Uint8Array(0)]);
   });
   check("constructors", () => {
-    for (const kind of [library.Gen1, library.Battle, library.Update, library.Room, library.Spectator])
+    for (const kind of [library.Gen1, library.Battle, library.Update, library.Room, library.Spectator, library.Player, library.Teller])
       wrong(() => new kind(), /is created by .*, not by new/);
   });
 }
@@ -296,5 +415,5 @@ export async function badSources(check) {
 
 /** Runs all checks of bad input. */
 export function badInput(gen1, check) {
-  for (const part of [members, terms, bytes, reasons, calls, rows, rooms]) part(gen1, check);
+  for (const part of [members, terms, bytes, reasons, calls, rows, rooms, players]) part(gen1, check);
 }

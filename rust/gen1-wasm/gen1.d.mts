@@ -9,6 +9,8 @@ export type Side = 1 | 2;
 export type Outcome = "ongoing" | "win one" | "win two" | "tie" | "fault 1" | "fault 2";
 export type Request = "pass" | "move" | "switch";
 export type Status = "none" | "sleep" | "poison" | "burn" | "freeze" | "paralysis";
+/** A stat with stages. */
+export type Stat = "attack" | "defense" | "speed" | "special" | "accuracy" | "evasion";
 /** A condition of the member that is out (docs/MECHANICS.md, "Conditions"). */
 export type Condition = "bide" | "thrash" | "trapping" | "flinch" | "charging" | "invulnerable" | "confused" | "mist" | "focus energy"
   | "substitute" | "recharge" | "rage" | "seeded" | "bad poison" | "light screen" | "reflect" | "disabled";
@@ -166,14 +168,125 @@ export interface Damages {
   code: number;
 }
 
-/** The odds of a move: its damage, and its chances of a hit and of a critical hit. Chances are exact multiples of 1/256. */
+/**
+ * The odds of one use of a move by a member that acts now: its damage, and its chances of a hit and of a critical hit. Chances of draws are
+ * exact multiples of 1/256. What keeps a member from acting at all, such as sleep, is not counted.
+ */
 export interface Odds {
   usual: Damages;
   critical: Damages;
   criticalChance: number;
+  /** 0 if the use cannot hit, or not work; `reason` says why. */
   hitChance: number;
+  /** Why the use cannot hit, one of REASONS; null if it can. */
+  reason: string | null;
+  /** Without the usual damage: the least and the most damage, from which to which all are equally likely. Null if there is none. */
+  fixed: [number, number] | null;
+  /** The chances that a use that hits makes 0 to 5 hits, each with the same damage: multiples of 1/8. */
+  hits: number[];
+  /** Whether the user would only charge now. The odds are then those of its strike. */
+  chargesFirst: boolean;
   /** Whether the move takes the hit test. Moves that fail, or that affect only their user, take none. */
   takesHitTest: boolean;
+}
+
+/**
+ * The chance that one use of a move knocks out the foe, or two uses in a row, with draws that are equally likely: in `once` of `onceOf` ways,
+ * and in `twice` of `twiceOf`, which are exact. Nothing else that happens between the uses is counted.
+ */
+export interface KnockOut {
+  once: number;
+  /** At most 20447232. */
+  onceOf: number;
+  twice: number;
+  /** The square of `onceOf`. */
+  twiceOf: number;
+  /** Whether the foe has a substitute, so that the chances are those of breaking it. */
+  breaksSubstitute: boolean;
+  /** `once` divided by `onceOf`. */
+  chanceOnce: number;
+  /** `twice` divided by `twiceOf`. */
+  chanceTwice: number;
+}
+
+/** A member of a side as it is shown to the side itself. */
+export type OwnMember = Omit<MemberState, "sleep" | "marked">;
+
+/** The active member as it is shown to its side, without counters. */
+export interface OwnActive {
+  /** 1 to 6. */
+  place: number;
+  types: string[];
+  /** Attack, Defense, Speed and Special after stages and penalties, 1 to 999. */
+  stats: number[];
+  /** -6 to 6: Attack, Defense, Speed, Special, accuracy, evasion. */
+  stages: number[];
+  conditions: Exclude<Condition, "flinch">[];
+  /** 1 to 4; 0 if no slot is disabled. */
+  disabledSlot: number;
+  /** Whether the foe's trapping move holds it. */
+  held: boolean;
+}
+
+/** What a side is shown of itself. */
+export interface OwnSide {
+  members: OwnMember[];
+  /** Null before the first update. */
+  active: OwnActive | null;
+  turn: number;
+  request: Request;
+  outcome: Outcome;
+}
+
+/** A member as the log showed it last. */
+export interface SeenMember {
+  species: string;
+  level: number;
+  status: Status;
+  /** In 48ths if the teller hides exact HP. */
+  hp: number;
+  maxHp: number;
+  /** The moves that it used, in the order of their first use, and how often, 1 to 255. */
+  moves: { name: string; uses: number }[];
+}
+
+/** A condition that the log announces. */
+export type Announced = "substitute" | "confused" | "mist" | "focus energy" | "light screen" | "reflect" | "seeded" | "toxic" | "disabled" | "rage"
+  | "bide" | "charging" | "recharging";
+
+/** The active member as the log has shown it. */
+export interface SeenActive {
+  /** The place in `members` from 1. */
+  place: number;
+  types: string[];
+  /** -6 to 6: Attack, Defense, Speed, Special, accuracy, evasion. */
+  stages: number[];
+  /** Null for none since it came out. */
+  lastMove: string | null;
+  /** Those that were announced and have not ended. */
+  announced: Announced[];
+}
+
+/** What the log has made public of a side. */
+export interface PublicSide {
+  /** Of the own side in the order of the places, of the foe those that appeared, in the order of their appearance. */
+  members: SeenMember[];
+  /** Null before the first member comes out. */
+  active: SeenActive | null;
+}
+
+/** What a player knows (docs/MECHANICS.md, "Player's view"). */
+export interface PlayerView {
+  side: Side;
+  turn: number;
+  outcome: Outcome;
+  /** What it was last shown of its own side; null before the first time. */
+  own: OwnSide | null;
+  /** What the log has made public of its own side. */
+  ownPublic: PublicSide;
+  foe: PublicSide;
+  /** How many members the foe has; null if it was not told. */
+  foes: number | null;
 }
 
 /** A species (docs/TABLES.md): base stats from 5 to 250, and two types. A single type is listed twice. */
@@ -241,11 +354,26 @@ export class TextError extends Gen1Error {
   readonly member: number;
   /** The field of a packed line. */
   readonly field: number;
-  /** With code 14 the code of a TeamError; else 0. */
+  /** With code 77 the code of a TeamError; else 0. */
   readonly rule: number;
 }
-/** Bytes are not a battle. `code` is the number of the first of the seven tests that they fail (docs/LAYOUT.md, "Loading"). */
+/** Bytes are not a battle. `code`, 16 to 22, is that of the first of the seven tests that they fail (docs/LAYOUT.md, "Loading"). */
 export class LoadError extends Gen1Error {}
+/** A state cannot be that of a battle. */
+export class StateError extends Gen1Error {
+  /** Where the state has the first wrong field: `state.two.members[0].hp`. Empty if the fields do not fit together. */
+  readonly field: string;
+  /** 1 or 2; 0 for a field of the whole battle. */
+  readonly side: number;
+  /** The place of the member; 0 for a field of the active member or of the whole battle. */
+  readonly place: number;
+  /** Which one of a list, from 1; else 0. */
+  readonly index: number;
+  /** What the field has. From `low` to `high` it does not fit other fields. */
+  readonly value: unknown;
+  readonly low: number;
+  readonly high: number;
+}
 /** A choice was refused. */
 export class RefusedError extends Gen1Error {
   /** The side that chose; 0 if the battle is over. */
@@ -288,6 +416,16 @@ export class Battle {
   readonly state: State;
   /** An independent copy. It draws the same numbers, unless it is reseeded. */
   clone(): Battle;
+  /** What a side is shown of itself. Nothing of it depends on the foe, but whether its trapping move holds the active member. */
+  ownSide(side: Side): OwnSide;
+  /** Another battle: this one with the state as `change`, which is passed a copy of it, has changed it. Throws StateError. */
+  withState(change: (state: State) => void): Battle;
+  /** This battle with other HP of a member. Throws StateError. */
+  withHp(side: Side, place: number, hp: number): Battle;
+  /** This battle with another status of a member; a sleep lasts `turns`, 1 to 7. Current stats follow the status. Throws StateError. */
+  withStatus(side: Side, place: number, status: Status, turns?: number): Battle;
+  /** This battle with another stage, -6 to 6, of the active member. Current stats follow the stages. Throws StateError. */
+  withStage(side: Side, stat: Stat, stage: number): Battle;
   /** The choices that a side is offered; none if the battle is over. */
   choices(side: Side): ChoiceName[];
   /** The offered choices as a mask, whose bit N is for CHOICES[N]. */
@@ -307,6 +445,8 @@ export class Battle {
   playout(seed: number | bigint, rounds: number): Playouts;
   /** The odds of a side's move in the current state. Throws DamageError if no member is out. */
   odds(side: Side, move: string | number): Odds;
+  /** The chances that a side's move knocks out the foe's active member, in one use and in two. Throws DamageError if no member is out. */
+  knockOut(side: Side, move: string | number): KnockOut;
   /** The damage of a side's move: 39 numbers, at the factors from 217 to 255. Throws DamageError. */
   damage(side: Side, move: string | number, critical?: boolean): number[];
 }
@@ -339,6 +479,38 @@ export class Spectator {
   feed(log: Uint8Array | ArrayBuffer): void;
 }
 
+/**
+ * What one side of a battle may know: its own team, what it is told of the log, what it is shown of its side, and its choices. `gen1.player`
+ * creates it.
+ */
+export class Player {
+  private constructor();
+  readonly side: Side;
+  /** What it knows, decoded each time when it is read. */
+  readonly view: PlayerView;
+  /** Its choices when it was last shown its side; none before, and once the battle is over. */
+  readonly choices: ChoiceName[];
+  clone(): Player;
+  /** Reads the next bytes that its side is told, in pieces of any size. Throws LogError, and then the player is unchanged. */
+  feed(told: Uint8Array | ArrayBuffer): void;
+  /** Shows it its own side and its choices as they are now in the battle, and nothing else of it. */
+  show(battle: Battle): void;
+}
+
+/** What the host of a battle keeps to tell one side of the events. `gen1.teller` creates it. */
+export class Teller {
+  private constructor();
+  readonly side: Side;
+  clone(): Teller;
+  /**
+   * The bytes that its side is told of the log of an update, which name the foe's members by their appearance. It is passed the log of every
+   * update, in their order. Throws LogError, and then the teller is unchanged.
+   */
+  tell(log: Uint8Array | ArrayBuffer): Uint8Array;
+  /** Tells a player of its side the log of an update, and shows it its own side and its choices. Throws LogError. */
+  report(battle: Battle, log: Uint8Array | ArrayBuffer, player: Player): void;
+}
+
 /** The library. `load` creates it. Its calls throw ArgumentTypeError and ArgumentError for invalid arguments. */
 export class Gen1 {
   private constructor();
@@ -352,12 +524,21 @@ export class Gen1 {
   battle(terms: Terms): Battle;
   /** Loads a battle from its 384 bytes. Throws LoadError. */
   load(bytes: Uint8Array | ArrayBuffer): Battle;
-  /** The number of the first of the seven tests of loading that bytes fail, or 0 if they are a battle. Costs less than a `load` that throws. */
+  /** The code of the LoadError for bytes, or 0 if they are a battle. Costs less than a `load` that throws. */
   testBytes(bytes: Uint8Array | ArrayBuffer): number;
+  /**
+   * Creates the battle in a state, such as `battle.state` with other values. If the four `stats` of an active member are 0, they follow from its
+   * stages and its status. Throws StateError.
+   */
+  battleOfState(state: State): Battle;
   /** Creates a room with a copy of the battle, which is started at once if it has not begun. */
   room(battle: Battle): Room;
   /** Creates a spectator of a battle of two teams, before its start. Throws TeamError. */
   spectator(one: Team, two: Team): Spectator;
+  /** Creates a player of a side, before the first update. `foes` is the number of the foe's members, if it is to know it. Throws TeamError. */
+  player(terms: { side: Side; team: Team; foes?: number }): Player;
+  /** Creates a teller of a side, before the first event. With `pixels` it tells HP of the foe's members in 48ths. */
+  teller(terms: { side: Side; pixels?: boolean }): Teller;
   /** The members in a team builder's text (docs/TEAM_TEXT.md). Throws TextError. */
   teamFromText(text: string): WholeMember[];
   /** The members in a packed line (docs/TEAM_TEXT.md). Throws TextError. */
@@ -402,6 +583,10 @@ export const TYPES: readonly string[];
 export const STATUSES: readonly Status[];
 /** Each at the index that is its bit. */
 export const CONDITIONS: readonly Condition[];
+/** The stats with stages, in the order of a list of stages. */
+export const STATS: readonly Stat[];
+/** Why a use of a move cannot hit. Each at the index that is its number less 1. */
+export const REASONS: readonly string[];
 /** Each at the index that is its number. */
 export const OUTCOMES: readonly Outcome[];
 /** Each at the index that is its number. */

@@ -12,11 +12,13 @@ import { Battle, BATTLE_SIZE, damageError, eventsOf, linesOf, loadError, Update 
 import { ModuleError } from "./errors.mjs";
 import { CODES } from "./header.mjs";
 import { Library } from "./memory.mjs";
+import { Player, playerOf, Teller, tellerOf } from "./players.mjs";
 import { Room, roomOf } from "./room.mjs";
 import { Spectator, spectatorOf } from "./spectator.mjs";
+import { bytesOfState } from "./states.mjs";
 import { MOVES, SPECIES, TYPES } from "./tables.mjs";
 import { baseOf, memberBytes, membersFrom, moveDataOf, moveOf, teamBytes, teamError } from "./teams.mjs";
-import { CONDITIONS, oddsOf, OUTCOMES, REQUESTS, STATUSES } from "./views.mjs";
+import { CONDITIONS, oddsOf, OUTCOMES, REASONS, REQUESTS, STATS, STATUSES } from "./views.mjs";
 
 export const LOG_ROOM = CODES.LOG_ROOM;
 const HIT_SIDES = ["", "attacker: ", "defender: "];
@@ -65,9 +67,14 @@ export class Gen1 {
     return new Battle(this.#library, this.#library.read(battle, BATTLE_SIZE));
   }
 
-  /** The number of the first test of loading that bytes fail, or 0 if they are a battle. Costs less than a `load` that throws. */
+  /** The code of the LoadError for bytes, or 0 if they are a battle. Costs less than a `load` that throws. */
   testBytes(bytes) {
     return this.#loaded(bytes)[0];
+  }
+
+  /** Creates the battle in a state: an object as `battle.state` is. Active members whose four stats are 0 get theirs from stages and status. */
+  battleOfState(state) {
+    return new Battle(this.#library, bytesOfState(this.#library, state));
   }
 
   #loaded(bytes) {
@@ -88,6 +95,16 @@ export class Gen1 {
     return new Spectator(this.#library, spectatorOf(this.#library, one, two));
   }
 
+  /** Creates a player of a side with its team, before the first update; `foes` is the number of the foe's members, if it is to know. */
+  player(terms) {
+    return new Player(this.#library, playerOf(this.#library, terms));
+  }
+
+  /** Creates a teller of a side, before the first event. With `pixels` it tells HP of the foe in 48ths. */
+  teller(terms) {
+    return new Teller(this.#library, tellerOf(this.#library, terms));
+  }
+
   /** The members in a team builder's text (docs/TEAM_TEXT.md), as `battle` takes them. */
   teamFromText(text) {
     return membersFrom(this.#library, "gen1_team_from_text", text);
@@ -106,7 +123,7 @@ export class Gen1 {
     library.begin();
     const [odds, ...pair] = [library.roomOf("gen1_odds"), ...members.map((member) => library.put(member))];
     const answer = library.calls.gen1_odds_between(...pair, number, odds);
-    if (answer === CODES.NO_SUCH_MOVE) throw damageError(library, CODES.DAMAGE_MOVE, move);
+    if (answer === CODES.ERROR_MOVE) throw damageError(library, answer, move);
     if (answer) throw teamError(library, answer, [[attacker], [defender]], {}, (side) => HIT_SIDES[side]);
     return oddsOf(library, number, odds);
   }
@@ -177,6 +194,10 @@ export async function load(source) {
 }
 
 export {
-  ArgumentError, ArgumentTypeError, DamageError, Gen1Error, LoadError, LogError, ModuleError, RefusedError, RoomError, TeamError, TextError,
+  ArgumentError, ArgumentTypeError, DamageError, Gen1Error, LoadError, LogError, ModuleError, RefusedError, RoomError, StateError, TeamError,
+  TextError,
 } from "./errors.mjs";
-export { Battle, byteOf, CHOICES, choiceOf, CONDITIONS, MOVES, OUTCOMES, REQUESTS, Room, SPECIES, Spectator, STATUSES, TYPES, Update };
+export {
+  Battle, byteOf, CHOICES, choiceOf, CONDITIONS, MOVES, OUTCOMES, Player, REASONS, REQUESTS, Room, SPECIES, Spectator, STATS, STATUSES, Teller, TYPES,
+  Update,
+};

@@ -7,9 +7,10 @@ const DECODER = new TextDecoder();
 const PAGE = 65536;
 // All exports that are used. A module of an older version may lack some.
 const NEEDED = [
-  "memory", "__heap_base", ...["version", "new", "load", "choices", "offered", "update", "result", "next_event", "next_line", "damage", "odds_now",
-    "odds_between", "takes_hit_test", "playout", "team_from_text", "team_from_packed", "species_from_name", "move_from_name", "text", "get_state",
-    "choice_words", "reseed", "room_begin", "room_choices", "room_submit", "spectator_begin", "spectator_feed"].map((call) => `gen1_${call}`),
+  "memory", "__heap_base", ...["version", "new", "load", "choices", "offered", "update", "update_silent", "result", "next_event", "next_line", "damage", "odds_now",
+    "odds_between", "takes_hit_test", "playout", "team_from_text", "team_from_packed", "species_from_name", "move_from_name", "error_text", "get_state", "set_state", "knock_out",
+    "choice_words", "reseed", "room_begin", "room_choices", "room_submit", "spectator_begin", "spectator_feed", "player_begin", "player_feed", "player_show",
+    "get_own_side", "teller_begin", "tell"].map((call) => `gen1_${call}`),
 ];
 
 /** The exports of a module, with space for the arguments of one call at a time after the module's own data. */
@@ -108,9 +109,9 @@ export class Library {
     return [code, code ? "" : this.textAt(text, this.sizeAt(length))];
   }
 
-  /** A code in words. `about` is one of CODES.ABOUT_NEW to CODES.ABOUT_ROOM. */
-  sentence(about, code) {
+  /** A code in words, which is one of CODES.ERROR_.. */
+  sentence(code) {
     this.begin();
-    return this.written("gen1_text", CODES.SENTENCE_ROOM, about, code)[1];
+    return this.written("gen1_error_text", CODES.SENTENCE_ROOM, code)[1];
   }
 }

@@ -77,12 +77,12 @@ export class Room {
   }
 
   #refused(code, side, number, choice) {
-    const [offered, current, sentence] = [this.choices(side), this.number, this.#library.sentence(CODES.ABOUT_ROOM, code)];
+    const [offered, current, sentence] = [this.choices(side), this.number, this.#library.sentence(code)];
     const said = {
-      [CODES.ROOM_OVER]: () => `${sentence}: ${this.result.outcome}`,
-      [CODES.ROOM_STALE]: () => `${sentence}: ${number}; the current pair is ${current}`,
-      [CODES.ROOM_CHOSEN]: () => `${sentence}: side ${side} can submit nothing more for pair ${number}`,
-      [CODES.ROOM_NOT_OFFERED]: () => `side ${side}: ${notOffered(sentence, choice, offered)}`,
+      [CODES.ERROR_OVER]: () => `${sentence}: ${this.result.outcome}`,
+      [CODES.ERROR_STALE]: () => `${sentence}: ${number}; the current pair is ${current}`,
+      [CODES.ERROR_CHOSEN]: () => `${sentence}: side ${side} can submit nothing more for pair ${number}`,
+      [CODES.ERROR_NOT_OFFERED]: () => `side ${side}: ${notOffered(sentence, choice, offered)}`,
     }[code]();
     return new RoomError(said, code, { side, choice, offered, number, current, reason: sentence });
   }

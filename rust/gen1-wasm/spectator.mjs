@@ -1,6 +1,6 @@
 // What a spectator knows of a battle from both teams and the log alone (docs/MECHANICS.md, "Spectator's view").
 import { octets } from "./arguments.mjs";
-import { faultPlace, logError, made } from "./battle.mjs";
+import { logErrorAfter, made } from "./battle.mjs";
 import { fieldOf, layoutOf, readStruct } from "./structs.mjs";
 import { teamBytes, teamError } from "./teams.mjs";
 import { shownOf } from "./views.mjs";
@@ -51,15 +51,7 @@ export class Spectator {
     library.begin();
     const spectator = library.put(this.#bytes);
     const code = library.calls.gen1_spectator_feed(spectator, library.put(given), library.size(given.length));
-    if (code) throw this.#noLog(code, given);
+    if (code) throw logErrorAfter(library, code, this.held, given);
     this.#bytes = library.read(spectator, this.#bytes.length);
-  }
-
-  #noLog(code, given) {
-    const { held } = this;
-    const all = new Uint8Array(held.length + given.length);
-    all.set(held);
-    all.set(given, held.length);
-    return logError(this.#library, code, faultPlace(this.#library, all) - held.length);
   }
 }

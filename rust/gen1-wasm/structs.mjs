@@ -1,17 +1,18 @@
 // The structs of include/gen1.h in the module's memory, by C's layout rules, from the fields in header.mjs.
 import { STRUCTS } from "./header.mjs";
 
-const NUMBERS = { uint8_t: 1, uint16_t: 2, uint32_t: 4 };
-const READERS = { 1: "getUint8", 2: "getUint16", 4: "getUint32" };
-const WRITERS = { 1: "setUint8", 2: "setUint16", 4: "setUint32" };
+// Of each type of number its bytes, and what a DataView calls it. A size_t is 4 or 8 bytes.
+const NUMBERS = { uint8_t: [1, "Uint8"], int8_t: [1, "Int8"], uint16_t: [2, "Uint16"], uint32_t: [4, "Uint32"], uint64_t: [8, "BigUint64"] };
+// Fields that are only filled.
+const FILLS = ["reserved", "unused", "zeros"];
 const layouts = [new Map(), new Map()];
 
 const up = (place, alignment) => Math.ceil(place / alignment) * alignment;
 
 // The size of a type: the bytes of a number, or the layout of a struct.
 function typeOf(type, isLong) {
-  const size = type === "size_t" ? (isLong ? 8 : 4) : NUMBERS[type];
-  return size ? { size, alignment: size } : layoutOf(type, isLong);
+  const number = NUMBERS[type === "size_t" ? (isLong ? "uint64_t" : "uint32_t") : type];
+  return number ? { size: number[0], alignment: number[0], kind: number[1] } : layoutOf(type, isLong);
 }
 
 function made(name, isLong) {
@@ -22,7 +23,7 @@ function made(name, isLong) {
     place = at + of.size * (count ?? 1);
     alignment = Math.max(alignment, of.alignment);
     const key = field.replace(/_(.)/g, (_, letter) => letter.toUpperCase());
-    return { name: field, key, at, count, size: of.size, struct: of.fields ? type : null };
+    return { name: field, key, at, count, size: of.size, kind: of.kind, struct: of.fields ? type : null };
   });
   return { size: up(place, alignment), alignment, fields };
 }
@@ -34,9 +35,9 @@ export function layoutOf(name, isLong) {
   return known.get(name);
 }
 
-// A value of a field. A size_t is always below 4 GB here, so its lower half is enough.
+// A value of a field. No number of 8 bytes is above 2 ** 53 here.
 function read(field, view, at, isLong) {
-  return field.struct ? readStruct(field.struct, view, at, isLong) : view[READERS[Math.min(field.size, 4)]](at, true);
+  return field.struct ? readStruct(field.struct, view, at, isLong) : Number(view[`get${field.kind}`](at, true));
 }
 
 function valueOf(field, view, place, isLong) {
@@ -50,6 +51,7 @@ function valueOf(field, view, place, isLong) {
 export function readStruct(name, view, at, isLong) {
   const found = {};
   for (const field of layoutOf(name, isLong).fields) {
+    if (FILLS.includes(field.key)) continue;
     found[field.key] = valueOf(field, view, at + field.at, isLong);
   }
   return found;
@@ -70,7 +72,7 @@ export function writeStruct(name, view, at, isLong, object) {
     values.forEach((value, turn) => {
       const place = at + field.at + turn * field.size;
       if (field.struct) writeStruct(field.struct, view, place, isLong, value);
-      else view[WRITERS[field.size]](place, value, true);
+      else view[`set${field.kind}`](place, value, true);
     });
   }
 }

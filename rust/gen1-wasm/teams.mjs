@@ -13,8 +13,8 @@ const SPECIES_KIND = { names: SPECIES, rows: SPECIES_ROWS, find: "gen1_species_f
 const MOVE_KIND = { names: MOVES, rows: MOVE_ROWS, find: "gen1_move_from_name" };
 // The field that a code of gen1_new is about; for other codes it is the moves.
 const FIELDS = {
-  [CODES.EMPTY]: "members", [CODES.TOO_MANY]: "members", [CODES.LEVEL]: "level", [CODES.DV]: "dvs", [CODES.NO_SUCH_SPECIES]: "species",
-  [CODES.RULES]: "rules", [CODES.TURN_LIMIT]: "limit",
+  [CODES.ERROR_TEAM_EMPTY]: "members", [CODES.ERROR_TEAM_TOO_LONG]: "members", [CODES.ERROR_LEVEL]: "level", [CODES.ERROR_DV]: "dvs",
+  [CODES.ERROR_SPECIES]: "species", [CODES.ERROR_RULES]: "rules", [CODES.ERROR_TURN_LIMIT]: "limit",
 };
 
 // The number of a name, which must match exactly, or a number as a byte; 255, which the library refuses, for a number out of range.
@@ -30,9 +30,14 @@ function numberOf(library, value, kind, what) {
   throw new ArgumentError(`${what} is ${shown(value)}, which is not in docs/TABLES.md${meant}`, what);
 }
 
-/** The number of a move. */
-export function moveOf(library, value) {
-  return numberOf(library, value, MOVE_KIND, "move");
+/** The number of a move. `what` names the argument. */
+export function moveOf(library, value, what = "move") {
+  return numberOf(library, value, MOVE_KIND, what);
+}
+
+/** The number of a species. `what` names the argument. */
+export function speciesOf(library, value, what) {
+  return numberOf(library, value, SPECIES_KIND, what);
 }
 
 // The row of a name or number.
@@ -76,7 +81,8 @@ function memberOf(library, given, what) {
   };
 }
 
-function bytesOf(struct, isLong, fields) {
+/** The bytes of a struct with these fields. Missing ones are 0. */
+export function bytesOf(struct, isLong, fields) {
   const view = new DataView(new ArrayBuffer(layoutOf(struct, isLong).size));
   writeStruct(struct, view, 0, isLong, fields);
   return new Uint8Array(view.buffer);
@@ -101,7 +107,7 @@ export function teamError(library, answer, teams, terms = {}, where = ofTeams) {
   const [code, place, side] = [answer & 255, (answer >> 8) & 255, answer >> 16];
   const [field, team] = [FIELDS[code] ?? "moves", teams[side - 1]];
   const was = field === "members" ? `there are ${team.length}` : `${field} is ${shown(place ? team[place - 1][field] : terms[field])}`;
-  const reason = library.sentence(CODES.ABOUT_NEW, code);
+  const reason = library.sentence(code);
   return new TeamError(`${where(side, place)}${reason}: ${was}`, code, { side, place, field, reason });
 }
 
@@ -114,7 +120,7 @@ function memberFrom(of) {
 function textError(library, of) {
   const places = Object.entries({ line: of.line, member: of.member, field: of.field }).filter(([, number]) => number);
   const where = places.map(([name, number]) => `${name} ${number}`).join(", ");
-  const reason = of.rule ? library.sentence(CODES.ABOUT_NEW, of.rule) : TEXT_FAULTS[of.code];
+  const reason = of.rule ? library.sentence(of.rule) : TEXT_FAULTS[of.code];
   const said = of.rule ? reason : `expected: ${reason}`;
   return new TextError(where ? `${where}: ${said}` : said, of, reason);
 }

@@ -4,29 +4,47 @@ import * as library from "./gen1.mjs";
 import { equal, holds, thrown } from "./holding.mjs";
 
 /** @typedef {import("./gen1.mjs").Gen1} Gen1 */
-const { Battle, CHOICES, CONDITIONS, OUTCOMES, REQUESTS, Room, Spectator, STATUSES, Update } = library;
+const { Battle, CHOICES, CONDITIONS, OUTCOMES, Player, REQUESTS, Room, Spectator, STATS, STATUSES, Teller, Update } = library;
 
 /** @type {Record<Exclude<keyof typeof library, "default">, true>} */
 const EXPORTS = {
   ArgumentError: true, ArgumentTypeError: true, Battle: true, byteOf: true, CHOICES: true, choiceOf: true, CONDITIONS: true, DamageError: true,
   Gen1: true, Gen1Error: true, HAS_LONG_MEMORIES: true, load: true, LOG_ROOM: true, LoadError: true, LogError: true, ModuleError: true, MOVES: true,
-  OUTCOMES: true, RefusedError: true, REQUESTS: true, Room: true, RoomError: true, SPECIES: true, Spectator: true, STATUSES: true, TeamError: true,
-  TextError: true, TYPES: true, Update: true,
+  OUTCOMES: true, Player: true, REASONS: true, RefusedError: true, REQUESTS: true, Room: true, RoomError: true, SPECIES: true, Spectator: true,
+  StateError: true, STATS: true, STATUSES: true, TeamError: true, Teller: true, TextError: true, TYPES: true, Update: true,
 };
 /** @type {Record<keyof Gen1, true>} */
 const OF_GEN1 = {
-  is64: true, build: true, version: true, battle: true, load: true, testBytes: true, room: true, spectator: true, teamFromText: true, teamFromPacked: true, odds: true,
-  damage: true, base: true, moveData: true, events: true, lines: true,
+  is64: true, build: true, version: true, battle: true, load: true, testBytes: true, battleOfState: true, room: true, spectator: true, player: true,
+  teller: true, teamFromText: true, teamFromPacked: true, odds: true, damage: true, base: true, moveData: true, events: true, lines: true,
 };
 /** @type {Record<keyof import("./gen1.mjs").Battle, true>} */
 const OF_BATTLE = {
   bytes: true, result: true, isOver: true, state: true, clone: true, choices: true, offeredMask: true, words: true, update: true, updateSilent: true,
-  reseed: true, playout: true, odds: true, damage: true,
+  reseed: true, playout: true, odds: true, damage: true, knockOut: true, ownSide: true, withState: true, withHp: true, withStatus: true, withStage: true,
 };
 /** @type {Record<keyof import("./gen1.mjs").Room, true>} */
 const OF_ROOM = { battle: true, result: true, number: true, log: true, clone: true, choices: true, submit: true };
 /** @type {Record<keyof import("./gen1.mjs").Spectator, true>} */
 const OF_SPECTATOR = { state: true, held: true, clone: true, feed: true };
+/** @type {Record<keyof import("./gen1.mjs").Player, true>} */
+const OF_PLAYER = { side: true, view: true, choices: true, clone: true, feed: true, show: true };
+/** @type {Record<keyof import("./gen1.mjs").Teller, true>} */
+const OF_TELLER = { side: true, clone: true, tell: true, report: true };
+/** @type {Record<keyof import("./gen1.mjs").PlayerView, true>} */
+const OF_VIEW = { side: true, turn: true, outcome: true, own: true, ownPublic: true, foe: true, foes: true };
+/** @type {Record<keyof import("./gen1.mjs").OwnSide, true>} */
+const OF_OWN_SIDE = { members: true, active: true, turn: true, request: true, outcome: true };
+/** @type {Record<keyof import("./gen1.mjs").OwnMember, true>} */
+const OF_OWN_MEMBER = { species: true, level: true, status: true, moves: true, pp: true, hp: true, maxHp: true, stats: true };
+/** @type {Record<keyof import("./gen1.mjs").OwnActive, true>} */
+const OF_OWN_ACTIVE = { place: true, types: true, stats: true, stages: true, conditions: true, disabledSlot: true, held: true };
+/** @type {Record<keyof import("./gen1.mjs").SeenMember, true>} */
+const OF_SEEN = { species: true, level: true, status: true, hp: true, maxHp: true, moves: true };
+/** @type {Record<keyof import("./gen1.mjs").SeenActive, true>} */
+const OF_SEEN_ACTIVE = { place: true, types: true, stages: true, lastMove: true, announced: true };
+/** @type {Record<keyof import("./gen1.mjs").KnockOut, true>} */
+const OF_KNOCK_OUT = { once: true, onceOf: true, twice: true, twiceOf: true, breaksSubstitute: true, chanceOnce: true, chanceTwice: true };
 /** @type {Record<keyof import("./gen1.mjs").Update, true>} */
 const OF_UPDATE = { result: true, log: true, events: true, lines: true };
 /** @type {Record<keyof import("./gen1.mjs").State, true>} */
@@ -43,7 +61,9 @@ const OF_SHOWN = { one: true, two: true, turn: true, outcome: true };
 /** @type {Record<keyof import("./gen1.mjs").ShownSide, true>} */
 const OF_SHOWN_SIDE = { members: true, place: true, stages: true, substitute: true, confused: true, lightScreen: true, reflect: true };
 /** @type {Record<keyof import("./gen1.mjs").Odds, true>} */
-const OF_ODDS = { usual: true, critical: true, criticalChance: true, hitChance: true, takesHitTest: true };
+const OF_ODDS = {
+  usual: true, critical: true, criticalChance: true, hitChance: true, reason: true, fixed: true, hits: true, chargesFirst: true, takesHitTest: true,
+};
 /** @type {Record<keyof import("./gen1.mjs").Base, true>} */
 const OF_BASE = { hp: true, attack: true, defense: true, speed: true, special: true, types: true };
 /** @type {Record<keyof import("./gen1.mjs").MoveData, true>} */
@@ -65,6 +85,8 @@ const ALL_CONDITIONS = {
 };
 /** @type {Record<import("./gen1.mjs").Status, true>} */
 const ALL_STATUSES = { none: true, sleep: true, poison: true, burn: true, freeze: true, paralysis: true };
+/** @type {Record<import("./gen1.mjs").Stat, true>} */
+const ALL_STATS = { attack: true, defense: true, speed: true, special: true, accuracy: true, evasion: true };
 /** @type {Record<import("./gen1.mjs").Outcome, true>} */
 const ALL_OUTCOMES = { ongoing: true, "win one": true, "win two": true, tie: true, "fault 1": true, "fault 2": true };
 /** @type {Record<import("./gen1.mjs").Request, true>} */
@@ -94,9 +116,9 @@ function offers(one, wanted) {
 
 function lists() {
   hasKeys(library, EXPORTS);
-  equal([CONDITIONS, STATUSES], [Object.keys(ALL_CONDITIONS), Object.keys(ALL_STATUSES)]);
+  equal([CONDITIONS, STATUSES, STATS], [ALL_CONDITIONS, ALL_STATUSES, ALL_STATS].map(Object.keys));
   equal([OUTCOMES, REQUESTS, CHOICES], [Object.keys(ALL_OUTCOMES), Object.keys(ALL_REQUESTS), Object.keys(ALL_CHOICES)]);
-  equal([library.SPECIES.length, library.MOVES.length, library.TYPES.length, library.LOG_ROOM], [151, 165, 15, 512]);
+  equal([library.SPECIES.length, library.MOVES.length, library.TYPES.length, library.REASONS.length, library.LOG_ROOM], [151, 165, 15, 23, 512]);
   equal(CHOICES.map((choice) => library.choiceOf(library.byteOf(choice))), CHOICES);
 }
 
@@ -115,6 +137,7 @@ function battles(gen1) {
   hasKeys(one.active ?? {}, OF_ACTIVE);
   hasKeys(update.events[0], OF_EVENT);
   hasKeys(battle.odds(1, "Strength"), OF_ODDS);
+  hasKeys(battle.knockOut(1, "Strength"), OF_KNOCK_OUT);
   hasKeys(gen1.base("Tauros"), OF_BASE);
   hasKeys(gen1.moveData("Strength"), OF_MOVE_DATA);
   hasKeys(battle.playout(1n, 1), OF_PLAYOUTS);
@@ -140,21 +163,63 @@ function roomsAndSpectators(gen1) {
   hasKeys(spectator.state.two.members[0], { hp: true, status: true });
 }
 
+/** @param {Gen1} gen1 */
+function statesAndPlayers(gen1) {
+  const battle = gen1.battle(TERMS);
+  const [player, teller] = [gen1.player({ side: 1, team: TERMS.one, foes: 2 }), gen1.teller({ side: 1, pixels: true })];
+  offers(player, OF_PLAYER);
+  offers(teller, OF_TELLER);
+  teller.report(battle, battle.update("pass", "pass").log, player);
+  const { own, ownPublic, foe } = player.view;
+  hasKeys(player.view, OF_VIEW);
+  hasKeys(own ?? {}, OF_OWN_SIDE);
+  hasKeys(own?.members[0] ?? {}, OF_OWN_MEMBER);
+  hasKeys(own?.active ?? {}, OF_OWN_ACTIVE);
+  hasKeys(ownPublic, { members: true, active: true });
+  hasKeys(foe.members[0], OF_SEEN);
+  hasKeys(foe.active ?? {}, OF_SEEN_ACTIVE);
+  equal([own, player.choices], [battle.ownSide(1), battle.choices(1)]);
+  /** @type {import("./gen1.mjs").Battle[]} */
+  const changed = [
+    gen1.battleOfState(battle.state), battle.withState((state) => void (state.turn = 2)), battle.withHp(1, 1, 5), battle.withStatus(2, 2, "sleep", 7),
+    battle.withStage(1, "evasion", -6),
+  ];
+  holds(changed.every((it) => it instanceof Battle) && player.clone() instanceof Player && teller.clone() instanceof Teller, "another class");
+}
+
 // Each of these is refused by its types, else tsc calls the directive above it unused; and by the module.
+const NO_CONSTRUCTORS = [
+  // @ts-expect-error
+  () => new library.Gen1(),
+  // @ts-expect-error
+  () => new Battle(),
+  // @ts-expect-error
+  () => new Room(),
+  // @ts-expect-error
+  () => new Spectator(),
+  // @ts-expect-error
+  () => new Update(),
+  // @ts-expect-error
+  () => new Player(),
+  // @ts-expect-error
+  () => new Teller(),
+];
+
 /** @param {Gen1} gen1 */
 function refused(gen1) {
   const battle = gen1.battle(TERMS);
   const calls = [
+    ...NO_CONSTRUCTORS,
     // @ts-expect-error
-    () => new library.Gen1(),
+    () => gen1.player({ side: 1 }),
     // @ts-expect-error
-    () => new Battle(),
+    () => gen1.teller({ side: 3 }),
     // @ts-expect-error
-    () => new Room(),
+    () => gen1.battleOfState({ ...battle.state, outcome: "won" }),
     // @ts-expect-error
-    () => new Spectator(),
+    () => battle.withStatus(1, 1, "confused"),
     // @ts-expect-error
-    () => new Update(),
+    () => battle.withState({ turn: 2 }),
     // @ts-expect-error
     () => gen1.battle({ one: [{ species: "Tauros" }], two: [TAUROS], seed: TERMS.seed }),
     // @ts-expect-error
@@ -185,5 +250,6 @@ export function uses(gen1) {
   lists();
   battles(gen1);
   roomsAndSpectators(gen1);
+  statesAndPlayers(gen1);
   refused(gen1);
 }

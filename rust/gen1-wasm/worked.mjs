@@ -66,7 +66,10 @@ function odds(gen1, check) {
   });
   check("chances of a hit", () => {
     // The accuracies of docs/TABLES.md in 255ths: 100 % is 255, 80 % 204, 70 % 178, 55 % 140; each draw below that hits.
-    equal(["Swift", "Dream Eater", "Strength", "Hydro Pump", "Thunder", "Sing"].map((move) => 256 * chances(move).hitChance), [256, 0, 255, 204, 178, 140]);
+    const drawn = (foe) => ["Swift", "Dream Eater", "Strength", "Hydro Pump", "Thunder", "Sing"].map((move) => 256 * gen1.odds(persian, foe, move).hitChance);
+    equal(drawn({ ...gengar, species: "Snorlax" }), [256, 0, 255, 204, 178, 140]);
+    // Gengar is immune to the type Normal of Swift and Strength; Sing, which deals no damage, ignores that.
+    equal(drawn(gengar), [0, 0, 0, 204, 178, 140]);
   });
   check("moves that take no hit test", () => {
     const tested = ["Swift", "Toxic", "Growl", "Counter", "Roar", "Rest", "Bide", "Amnesia"].map((move) => chances(move).takesHitTest);
@@ -82,13 +85,154 @@ function odds(gen1, check) {
   });
   check("moves without the usual damage", () => {
     for (const move of ["Splash", "Seismic Toss", "Super Fang"]) {
-      const none = { numbers: [], code: CODES.DAMAGE_UNUSUAL };
+      const none = { numbers: [], code: CODES.ERROR_UNUSUAL };
       equal([chances(move).usual, chances(move).critical, chances(move).criticalChance], [none, none, 0]);
       thrown(() => gen1.damage(persian, gengar, move), library.DamageError, new RegExp(`no damage of "${move}": .*usual damage`));
     }
     equal(chances("Strength").usual, { numbers: Array(39).fill(0), code: 0 });
   });
   check("each draw of a move", () => everyDraw(gen1));
+}
+
+// A battle after its first update. All members are at level 100 with DVs 15 and maximum experience.
+function begun(gen1, one, two, moves = ["Splash"]) {
+  const [ones, twos] = [one, two].map((species) => [{ species, moves: moves.map((move) => [move, 3]) }]);
+  const battle = gen1.battle({ one: ones, two: twos, seed: SEED });
+  battle.updateSilent("pass", "pass");
+  return battle;
+}
+
+// docs/MECHANICS.md, "Hit test" to "Charging": why a use cannot hit, fixed damage, many hits, charging.
+function uses(gen1, check) {
+  const battle = begun(gen1, "Snorlax", "Tauros", ["Splash", "Fly"]);
+  const reasonOf = (it, move, side = 1) => [it.odds(side, move).hitChance, it.odds(side, move).reason];
+  check("reasons why a use cannot hit", () => {
+    equal(reasonOf(battle, "Body Slam"), [255 / 256, null]);
+    const foe = (change) => battle.withState(({ two: { members: [member], active } }) => change(active, member));
+    const conditions = (...names) => foe((active) => active.conditions.push(...names));
+    const cases = [
+      [battle, "Metronome", "the engine leaves the move out"], [battle, "Roar", "the move always fails"],
+      [begun(gen1, "Snorlax", "Gengar"), "Body Slam", "the foe is immune to the move's type"], [battle, "Fissure", "the user is slower than the foe"],
+      [battle, "Counter", "there is no damage to counter"], [battle, "Dream Eater", "the foe is awake"],
+      [conditions("invulnerable"), "Body Slam", "the foe is out of reach"], [conditions("mist"), "Growl", "Mist guards the foe"],
+      [battle.withStatus(2, 1, "burn"), "Thunder Wave", "the foe has a status"], [begun(gen1, "Snorlax", "Grimer"), "Toxic", "the foe's type guards it"],
+      [battle.withStage(2, "attack", -6), "Growl", "the stage or the stat is at its end"], [battle, "Recover", "the user's HP don't allow it"],
+      [battle.withHp(1, 1, 100).withState(({ one }) => one.active.conditions.push("reflect")), "Reflect", "the user has it already"],
+    ];
+    for (const [it, move, reason] of cases) equal([move, ...reasonOf(it, move)], [move, 0, reason]);
+    equal(cases.every(([, , reason]) => library.REASONS.includes(reason)), true);
+    // The same Fissure by the faster side: 30 % of 255 is 76.
+    equal(reasonOf(battle, "Fissure", 2), [76 / 256, null]);
+  });
+  check("fixed damage", () => {
+    const fixed = (move) => battle.odds(1, move).fixed;
+    // Half of 353 HP is 176; Psywave deals 1 up to less than 150 at level 100.
+    equal(["Seismic Toss", "Super Fang", "Sonic Boom", "Dragon Rage", "Psywave"].map(fixed), [[100, 100], [176, 176], [20, 20], [40, 40], [1, 149]]);
+    equal([fixed("Body Slam"), fixed("Splash")], [null, null]);
+  });
+  check("many hits, and charging", () => {
+    const hits = (move) => battle.odds(1, move).hits.map((chance) => 8 * chance);
+    equal(["Body Slam", "Double Kick", "Fury Attack"].map(hits), [[0, 8, 0, 0, 0, 0], [0, 0, 8, 0, 0, 0], [0, 0, 3, 3, 1, 1]]);
+    equal(["Fly", "Body Slam"].map((move) => battle.odds(1, move).chargesFirst), [true, false]);
+  });
+}
+
+// The chances of a knock-out, for a Tauros with 353 HP, and 55 of 256 critical hits.
+function knockOuts(gen1, check) {
+  const battle = begun(gen1, "Tauros", "Tauros");
+  const isWays = ({ once, onceOf, chanceOnce }, ways, of) => equal([once * of, chanceOnce], [onceOf * ways, ways / of]);
+  check("chances of a knock-out", () => {
+    // Seismic Toss deals 100, and misses with one draw of 256.
+    const toss = (hp) => battle.withHp(2, 1, hp).knockOut(1, "Seismic Toss");
+    equal([100, 101, 200, 201].map((hp) => toss(hp).chanceOnce), [255 / 256, 0, 0, 0]);
+    equal([100, 101, 200, 201].map((hp) => toss(hp).chanceTwice), [65535 / 65536, 65025 / 65536, 65025 / 65536, 0]);
+    equal(toss(100).twiceOf, toss(100).onceOf ** 2);
+    // Body Slam deals 95 to 112, and 112 at the factor 255 alone; each critical hit deals more. So 201 draws with 1 of 39 factors, and 55 with all.
+    isWays(battle.withHp(2, 1, 112).knockOut(1, "Body Slam"), 255 * (201 + 55 * 39), 256 * 256 * 39);
+    isWays(battle.withHp(2, 1, 95).knockOut(1, "Body Slam"), 255, 256);
+  });
+  check("chances of breaking a substitute", () => {
+    const guarded = battle.withState(({ two: { active } }) => {
+      active.conditions.push("substitute");
+      active.substitute = 89;
+    });
+    const { breaksSubstitute, chanceOnce } = guarded.knockOut(1, "Seismic Toss");
+    equal([breaksSubstitute, chanceOnce, battle.knockOut(1, "Seismic Toss").breaksSubstitute], [true, 255 / 256, false]);
+  });
+}
+
+// States that are changed. A Tauros has Attack 298, Defense 288, Speed 318, Special 238 (docs/MECHANICS.md, "Stats" to "Penalties").
+function states(gen1, check) {
+  const battle = begun(gen1, "Tauros", "Tauros", ["Splash", "Strength"]);
+  const current = (it, side = "one") => it.state[side].active.stats;
+  check("changed states", () => {
+    const before = hexOf(battle.bytes);
+    equal(hexOf(gen1.battleOfState(battle.state).bytes), before);
+    equal(battle.withHp(2, 1, 30).state.two.members[0].hp, 30);
+    equal(current(battle.withStatus(1, 1, "burn")), [149, 288, 318, 238]);
+    equal(current(battle.withStatus(2, 1, "paralysis"), "two"), [298, 288, 79, 238]);
+    equal(current(battle.withStage(1, "speed", 2)), [298, 288, 636, 238]);
+    // Stages and a penalty: 636 is quartered to 159; Attack at stage -1 is 196, and halved 98.
+    equal(current(battle.withStatus(1, 1, "paralysis").withStage(1, "speed", 2)), [298, 288, 159, 238]);
+    equal(current(battle.withStage(1, "attack", -1).withStatus(1, 1, "burn")), [98, 288, 318, 238]);
+    const { status, sleep } = battle.withStatus(2, 1, "sleep", 3).state.two.members[0];
+    equal([status, sleep, battle.withStage(2, "evasion", -6).state.two.active.stages], ["sleep", 3, [0, 0, 0, 0, 0, -6]]);
+    const puzzle = battle.withState((state) => {
+      state.one.members[0].pp = [0, 1];
+      state.limit = 7;
+    });
+    equal([puzzle.choices(1), puzzle.state.limit, hexOf(battle.bytes)], [["move 2"], 7, before]);
+  });
+}
+
+// Of side 1 a Tauros, of side 2 a Starmie, Chansey and Gengar. Tauros uses Swords Dance while Gengar comes in from place 3, and then Seismic
+// Toss while Gengar uses Focus Energy. Their HP are 353, and 323, 703 and 323.
+function played(gen1, pixels, ...more) {
+  const one = [{ species: "Tauros", moves: [["Swords Dance", 3], ["Seismic Toss", 3]] }];
+  const two = ["Starmie", "Chansey", "Gengar"].map((species, place) => ({ species, moves: [["Focus Energy", 3], ...(place ? more : [])] }));
+  const battle = gen1.battle({ one, two, seed: SEED });
+  const [teller, player] = [gen1.teller({ side: 1, pixels }), gen1.player({ side: 1, team: one, foes: 3 })];
+  for (const pair of [["pass", "pass"], ["move 1", "switch 3"], ["move 2", "move 1"]]) teller.report(battle, battle.update(...pair).log, player);
+  return player;
+}
+
+// docs/MECHANICS.md, "Player's view".
+function players(gen1, check) {
+  check("what a player knows of the foe", () => {
+    const { turn, outcome, foes, foe } = played(gen1, false).view;
+    const starmie = { species: "Starmie", level: 100, status: "none", hp: 323, maxHp: 323, moves: [] };
+    const gengar = { ...starmie, species: "Gengar", hp: 223, moves: [{ name: "Focus Energy", uses: 1 }] };
+    equal([turn, outcome, foes, foe.members], [3, "ongoing", 3, [starmie, gengar]]);
+    const active = { place: 2, types: ["Ghost", "Poison"], stages: [0, 0, 0, 0, 0, 0], lastMove: "Focus Energy", announced: ["focus energy"] };
+    equal(foe.active, active);
+    // In 48ths 323 is 48, and 223 is 48 * 223 / 323 = 33.
+    equal(played(gen1, true).view.foe.members, [{ ...starmie, hp: 48, maxHp: 48 }, { ...gengar, hp: 33, maxHp: 48 }]);
+  });
+  check("what a player knows of itself", () => {
+    const player = played(gen1, true);
+    const { own, ownPublic } = player.view;
+    const tauros = { species: "Tauros", level: 100, status: "none", moves: ["Swords Dance", "Seismic Toss"], pp: [47, 31], hp: 353, maxHp: 353 };
+    equal([own.members, own.turn, own.request], [[{ ...tauros, stats: [298, 288, 318, 238] }], 3, "move"]);
+    const active = { place: 1, types: ["Normal", "Normal"], stats: [596, 288, 318, 238], stages: [2, 0, 0, 0, 0, 0], conditions: [] };
+    equal(own.active, { ...active, disabledSlot: 0, held: false });
+    equal([player.choices, ownPublic.members[0].moves.map(({ uses }) => uses)], [["move 1", "move 2"], [1, 1]]);
+  });
+  check("before the start, and what stays hidden", () => {
+    const player = gen1.player({ side: 2, team: PAIR });
+    const { own, ownPublic, foe, foes } = player.view;
+    equal([own, foe, foes, player.choices, player.side], [null, { members: [], active: null }, null, [], 2]);
+    equal([ownPublic.members.map(({ hp, moves }) => [hp, moves]), ownPublic.active], [[[353, []], [703, []]], null]);
+    equal(played(gen1, false).view, played(gen1, false, ["Psychic", 0]).view);
+  });
+  check("what is told in pieces", () => {
+    const battle = gen1.battle({ one: PAIR, two: PAIR, seed: SEED });
+    const [teller, whole] = [gen1.teller({ side: 2 }), gen1.player({ side: 2, team: PAIR })];
+    const told = teller.tell(battle.update("pass", "pass").log);
+    const pieces = whole.clone();
+    whole.feed(told);
+    for (const byte of told) pieces.feed(Uint8Array.of(byte));
+    equal([hexOf(told), pieces.view], [hexOf(LOG.subarray(0, 23)), whole.view]);
+  });
 }
 
 // Whether a move misses in the first two updates, with the lowest accuracy against the highest evasion. Vaporeon is not immune to any type.
@@ -103,7 +247,7 @@ function misses(gen1, move, seed) {
   let isMissing = false;
   for (let update = 0; update < 2 && !changed.isOver; update++) {
     const { events } = changed.update(changed.choices(1)[0], changed.choices(2)[0]);
-    isMissing ||= events.some(({ tag, side }) => tag === CODES.MISS && side === 1);
+    isMissing ||= events.some(({ tag, side }) => tag === CODES.EVENT_MISS && side === 1);
   }
   return isMissing;
 }
@@ -119,8 +263,8 @@ function everyDraw(gen1) {
       const battle = begun.clone();
       battle.reseed([...draws, 0, 0, 0, 0, 0, 0, 0]);
       const tags = battle.update("move 1", "move 1").events.map(({ tag }) => tag);
-      critical += tags.includes(CODES.CRIT) ? 1 : 0;
-      missed += tags.includes(CODES.MISS) ? 1 : 0;
+      critical += tags.includes(CODES.EVENT_CRIT) ? 1 : 0;
+      missed += tags.includes(CODES.EVENT_MISS) ? 1 : 0;
     }
   // Tauros has base Speed 110, and the draw is compared with half of it.
   const { criticalChance, hitChance } = gen1.odds(user, foe, "Thunder");
@@ -141,11 +285,11 @@ function rooms(gen1, check) {
     const room = gen1.room(gen1.battle(BATTLE));
     equal([room.number, hexOf(room.log), room.result.requests], [0, hexOf(LOG.subarray(0, 23)), ["move", "move"]]);
     const submissions = [[1, 0, 17], [1, 0, "move 1"], [2, 1, 17], [2, 0, "move 1"], [2, 0, 17], [1, 1, 20]];
-    equal(submissions.map((it) => replied(room, ...it)), ["waiting", 3, 2, "advanced", 2, 4]);
+    equal(submissions.map((it) => replied(room, ...it)), ["waiting", 53, 52, "advanced", 52, 54]);
     equal([room.number, hexOf(room.log)], [1, hexOf(LOG.subarray(23, 59))]);
     const kept = room.clone();
     equal([[1, 1, 17], [2, 1, 17]].map((it) => replied(room, ...it)), ["waiting", "advanced"]);
-    equal([room.result.outcome, room.choices(1), room.choices(2), replied(room, 1, 2, 17)], ["win one", [], [], 1]);
+    equal([room.result.outcome, room.choices(1), room.choices(2), replied(room, 1, 2, 17)], ["win one", [], [], 24]);
     equal([kept.number, kept.choices(1), kept.battle.isOver], [1, ["move 1"], false]);
   });
   check("a side of which nothing is asked passes by itself", () => {
@@ -153,7 +297,7 @@ function rooms(gen1, check) {
     const room = gen1.room(gen1.battle({ one, two: [{ species: "Gengar", moves: [["Splash", 3]] }], seed: SEED }));
     equal([[1, 0, 17], [2, 0, 17]].map((it) => replied(room, ...it)), ["waiting", "advanced"]);
     equal([room.result.requests, room.choices(2)], [["switch", "pass"], []]);
-    equal([[2, 1, 0], [1, 1, 17], [1, 1, "switch 2"]].map((it) => replied(room, ...it)), [3, 4, "advanced"]);
+    equal([[2, 1, 0], [1, 1, 17], [1, 1, "switch 2"]].map((it) => replied(room, ...it)), [53, 54, "advanced"]);
   });
 }
 
@@ -194,7 +338,7 @@ function spectators(gen1, check) {
     const before = [spectator.state, hexOf(spectator.held)];
     equal(before[1], "030180");
     const fault = thrown(() => spectator.feed(Uint8Array.of(255, 255, 255)), library.LogError, /^3 bytes before these: a field of an event is out of its range$/);
-    equal([fault.code, fault.at, spectator.state, hexOf(spectator.held)], [2, -3, ...before]);
+    equal([fault.code, fault.at, spectator.state, hexOf(spectator.held)], [33, -3, ...before]);
   });
 }
 
@@ -277,7 +421,7 @@ function searching(gen1, check) {
       return gen1.testBytes(bytes);
     };
     const places = [[5, 8], [0, 4], [5, 9], [24 + 5, 255], [168 + 22, 1], [168 + 9, 1], [17, 2]];
-    equal(places.map((it) => changed(...it)), [0, 2, 3, 4, 5, 6, 7]);
+    equal(places.map((it) => changed(...it)), [0, 17, 18, 19, 20, 21, 22]);
   });
   check("playouts", () => {
     for (const seed of [0n, 7n, 2n ** 64n - 1n]) equal(battle.playout(seed, 5), playedOut(battle, seed, 5));
@@ -289,14 +433,14 @@ function searching(gen1, check) {
 function layouts(check) {
   check("structs", () => {
     const sizes = (isLong) => ["gen1_battle", "gen1_team", "gen1_event", "gen1_room", "gen1_spectator", "gen1_odds"].map((it) => layoutOf(it, isLong).size);
-    for (const isLong of [false, true]) equal(sizes(isLong), [384, 146, 18, CODES.ROOM_SIZE, CODES.SPECTATOR_SIZE, 164]);
+    for (const isLong of [false, true]) equal(sizes(isLong), [384, 146, 18, CODES.ROOM_SIZE, CODES.SPECTATOR_SIZE, 176]);
     const places = (isLong) => layoutOf("gen1_text_fault", isLong).fields.map((field) => field.at);
-    equal([places(false), places(true)], [[0, 4, 8, 12, 13], [0, 8, 16, 24, 25]]);
+    equal([places(false), places(true)], [[0, 4, 8, 12, 13, 14], [0, 8, 16, 24, 25, 26]]);
   });
 }
 
 /** Runs all worked examples. */
 export function worked(gen1, check) {
-  for (const part of [logs, odds, rooms, spectators, texts, rows, searching]) part(gen1, check);
+  for (const part of [logs, odds, uses, knockOuts, states, players, rooms, spectators, texts, rows, searching]) part(gen1, check);
   layouts(check);
 }
