@@ -11,7 +11,7 @@ from conftest import LIB, random_team
 
 np = pytest.importorskip("numpy")
 
-from gen1 import BadArgument, BadType, Battle, BattleArray, Conditions, Error  # noqa: E402
+from gen1 import BadArgument, BadType, Battle, BattleArray, Conditions, Error, Refusal  # noqa: E402
 from gen1.arrays import ACTIONS, CHOICES, bits  # noqa: E402
 from gen1.layout import ACTIVE, BATTLE, MEMBER  # noqa: E402
 from gen1.observations import COLUMNS  # noqa: E402
@@ -156,7 +156,7 @@ def test_steps_against_single_updates():
         results = array.step(ones, twos)
         for at, (battle, pair) in enumerate(zip(battles, pairs)):
             held = ctypes.create_string_buffer(battle.bytes, 384)
-            code = LIB.gen1_update(held, *pair, None, ctypes.c_size_t(0), ctypes.byref(ctypes.c_size_t(0))) & 0xFF
+            code = LIB.gen1_update_silent(held, *pair) & 0xFF
             battles[at] = Battle.load(held.raw)
             assert (array.codes[at], results[at]) == (code, LIB.gen1_result(held) & 0xFF)
         assert [array[at] for at in range(len(array))] == battles
@@ -182,7 +182,7 @@ def test_battles_that_are_over_stay(team):
     assert array.over.all() and not array.masks().any()
     before = array.copy()
     array.random_step(dice)
-    assert array == before and (array.codes == 1).all()
+    assert array == before and (array.codes == Refusal.OVER).all()
     which = np.arange(50) % 2 == 0
     seeds = dice.integers(0, 256, (50, 10))
     array.reset(which, seeds)

@@ -7,7 +7,7 @@ import gen1
 import pytest
 from conftest import BIG, NO_NUMBERS
 from gen1 import BadArgument, BadBytes, BadLog, BadTeam, BadType, Battle, Choice, Member, Move, NoDamage, Refused, Species, Team
-from gen1.names import DamageFault, LoadFault, NewFault, Refusal
+from gen1.names import DamageFault, LoadFault, LogFault, NewFault, Refusal
 
 
 def said(fault):
@@ -63,8 +63,17 @@ def test_damage_is_numbers_or_an_exception(battle):
 
 
 @pytest.mark.parametrize("side", [0, 3, *BIG])
-def test_sides_out_of_range(battle, side):
-    for call in (battle.choices, lambda it: battle.damage(it, "Pound")):
+def test_sides_out_of_range(battle, tauros, side):
+    for call in (
+        battle.choices,
+        battle.own_side,
+        gen1.Teller,
+        gen1.Room(battle).forfeit,
+        lambda it: battle.damage(it, "Pound"),
+        lambda it: battle.knock_out(it, "Pound"),
+        lambda it: battle.with_hp(it, 1, 5),
+        lambda it: gen1.Player(it, [tauros]),
+    ):
         with pytest.raises(BadArgument) as fault:
             call(side)
         assert "1 or 2" in said(fault)
@@ -85,6 +94,17 @@ def test_no_numbers(battle, team, it):
         lambda: Member("Tauros", ["Pound"], exp=[it] * 5),
         lambda: Choice.move(it),
         lambda: Choice.switch(it),
+        lambda: battle.own_side(it),
+        lambda: battle.knock_out(it, "Pound"),
+        lambda: battle.with_hp(it, 1, 5),
+        lambda: battle.with_hp(1, it, 5),
+        lambda: battle.with_hp(1, 1, it),
+        lambda: battle.with_status(1, 1, it),
+        lambda: battle.with_stage(1, it, 1),
+        lambda: battle.with_stage(1, 1, it),
+        lambda: battle.with_state(turn=it),
+        lambda: gen1.Room(battle).forfeit(it),
+        lambda: gen1.Teller(it),
     )
     for call in calls:
         with pytest.raises(BadType) as fault:
@@ -107,7 +127,7 @@ def test_choices_that_are_not_offered(battle, choice):
             with pytest.raises(Refused) as fault:
                 call(*pair)
             it = fault.value
-            assert (it.code, it.side, it.choice) == (Refusal(side + 1), side, choice) and it.offered == battle.choices(side)
+            assert (it.code, it.side, it.choice) == ((Refusal.NOT_OFFERED_ONE, Refusal.NOT_OFFERED_TWO)[side - 1], side, choice) and it.offered == battle.choices(side)
             assert f"side {side}" in said(fault) and "move 1" in said(fault) and battle.bytes == before
 
 
@@ -241,11 +261,41 @@ def test_no_bytes(given):
 
 def test_logs_with_a_fault():
     good = bytes([0x1A, 1])
-    for given, code, at in ((good + b"\0", 1, 2), (good + b"\x1d", 1, 2), (good + b"\x1a\x03", 2, 2), (good + b"\x1a", 3, 2)):
+    for given, code, at in (
+        (good + b"\0", LogFault.TAG, 2), (good + b"\x1d", LogFault.TAG, 2), (good + b"\x1a\x03", LogFault.FIELD, 2), (good + b"\x1a", LogFault.CUT, 2)
+    ):
         for call in (gen1.lines, gen1.events):
             with pytest.raises(BadLog) as fault:
                 call(given)
             assert (fault.value.code, fault.value.at) == (code, at) and f"byte {at}" in said(fault)
+
+
+def test_events_as_bytes():
+    """The bytes of docs/MECHANICS.md, "Log bytes"; and events whose fields are wrong."""
+    tauros, foe = (gen1.Who(side, Species.TAUROS) for side in (gen1.Side.ONE, gen1.Side.TWO))
+    fallen = gen1.Health(0, 353, gen1.Status.NONE)
+    log = bytes.fromhex("030180460280 070280 050280000061010000 190280 1a01")
+    told = [gen1.MoveEvent(tauros, Move.STRENGTH, foe), gen1.CritEvent(foe), gen1.DamageEvent(foe, fallen, gen1.Source.DIRECT)]
+    told += [gen1.FaintEvent(foe), gen1.WinEvent(gen1.Side.ONE)]
+    assert gen1.log_bytes(told) == log and gen1.events(log) == tuple(told) and gen1.log_bytes([]) == b""
+    for number in (-1, 0, 10_000, 65_536, *BIG[4:], LONG):
+        with pytest.raises(BadArgument) as fault:
+            gen1.log_bytes([gen1.TieEvent(), gen1.TurnEvent(number)])
+        assert said(fault).startswith("events[1] must have fields in their ranges: ") and len(said(fault)) < 150
+    for wrong in (
+        gen1.SwitchEvent(tauros, 7, 100, fallen),
+        gen1.SwitchEvent(tauros, 256, 100, fallen),
+        gen1.StatusEvent(tauros, gen1.Status.NONE),
+        gen1.HealEvent(tauros, gen1.Health(354, 353, gen1.Status.NONE)),
+        gen1.CritEvent(gen1.Who(3, Species.TAUROS)),
+        gen1.HitCountEvent(tauros, 6),
+        gen1.FaultEvent(3),
+    ):
+        with pytest.raises(BadArgument):
+            gen1.log_bytes([wrong])
+    for wrong in (None, 5, b"\x1b", [None], [tauros], [gen1.Event()], [gen1.CritEvent(None)], [gen1.HealEvent(tauros, 5)], [gen1.TurnEvent("1")]):
+        with pytest.raises(BadType):
+            gen1.log_bytes(wrong)
 
 
 def test_damages_out_of_range(battle, team, tauros):
@@ -278,6 +328,24 @@ def test_numbers_and_names_of_any_length(team, tauros, battle):
         lambda: battle.reseed(bytes(10), LONG),
         lambda: battle.playout(LONG, 1),
         lambda: battle.damage(1, LONG),
+        lambda: battle.odds(1, LONG),
+        lambda: battle.knock_out(LONG, "Pound"),
+        lambda: battle.with_hp(1, 1, LONG),
+        lambda: battle.with_hp(1, LONG, 1),
+        lambda: battle.with_status(1, 1, -LONG),
+        lambda: battle.with_status(1, 1, 1, LONG),
+        lambda: battle.with_stage(1, 1, -LONG),
+        lambda: battle.with_stage(1, LONG, 1),
+        lambda: battle.with_state(turn=LONG),
+        lambda: battle.with_state(last_damage=-LONG),
+        lambda: battle.with_state(rules=LONG),
+        lambda: battle.own_side(LONG),
+        lambda: gen1.Player(1, [tauros], LONG),
+        lambda: gen1.Player(LONG, [tauros]),
+        lambda: gen1.Player(1, [tauros]).public(LONG),
+        lambda: gen1.Player(1, [tauros]).show(battle.own_side(1), [LONG]),
+        lambda: gen1.Teller(-LONG),
+        lambda: gen1.Room(battle).forfeit(LONG),
         lambda: Battle(team, team, bytes(10), rules=LONG),
         lambda: Battle(team, team, bytes(10), limit=-LONG),
         lambda: Battle(team, team, [LONG] * 10),
@@ -376,6 +444,9 @@ def test_a_fault_that_is_pickled_is_the_same(team, tauros):
         lambda: Battle(team, team, range(10)).damage(1, "Pound"),
         lambda: room.submit(3, 0, 17),
         lambda: room.submit(None, 0, 17),
+        lambda: room.battle.with_hp(2, 1, 400),
+        lambda: (room.forfeit(1), room.forfeit(2)),
+        lambda: gen1.Teller(1).tell(b"\x1a\x03"),
     )
     for call in calls:
         with pytest.raises(gen1.Error) as fault:

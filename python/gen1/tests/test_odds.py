@@ -12,6 +12,7 @@ from gen1 import (
     BadTeam,
     BadType,
     Battle,
+    Chances,
     Choice,
     Damages,
     DamageFault,
@@ -20,15 +21,18 @@ from gen1 import (
     Move,
     NoDamage,
     Odds,
+    OddsReason,
     Outcome,
     Playouts,
     Team,
     base,
     damage,
+    drained,
     move_data,
     odds,
+    recoil,
 )
-from gen1._structs import OddsStruct, PlayoutsStruct
+from gen1._structs import ChancesStruct, OddsStruct, PlayoutsStruct
 
 if RECORDED.is_dir():
     from battles import cases, recorded
@@ -59,15 +63,107 @@ def test_recorded_damages():
 
 def test_chances_of_the_rules():
     """docs/MECHANICS.md, "Critical hits" and "Hit test": Persian's b, accuracies in 255ths, and hit tests without a draw."""
-    persian, gengar = Member("Persian", ["Slash", "Strength"]), Member("Gengar", ["Splash"])
-    assert odds(persian, gengar, "Slash").critical_chance == Fraction(255, 256)
-    assert odds(persian, gengar, "Strength").critical_chance == Fraction(57, 256)
-    focused = facing(Member("Persian", ["Focus Energy"]), gengar)
+    persian, chansey = Member("Persian", ["Slash", "Strength"]), Member("Chansey", ["Splash"])
+    assert odds(persian, chansey, "Slash").critical_chance == Fraction(255, 256)
+    assert odds(persian, chansey, "Strength").critical_chance == Fraction(57, 256)
+    focused = facing(Member("Persian", ["Focus Energy"]), chansey)
     focused.update_silent(Choice.MOVE_1, Choice.MOVE_1)
     assert [focused.odds(1, it).critical_chance for it in ("Slash", "Strength")] == [Fraction(112, 256), Fraction(14, 256)]
-    assert odds(persian, gengar, "Swift").hit_chance == 1 and odds(persian, gengar, "Dream Eater").hit_chance == 0
+    assert odds(persian, chansey, "Swift").hit_chance == 1 and odds(persian, chansey, "Swift").reason is None
     for move in ("Strength", "Hydro Pump", "Thunder", "Sing"):
-        assert odds(persian, gengar, move).hit_chance == Fraction(move_data(move).accuracy * 255 // 100, 256)
+        assert odds(persian, chansey, move).hit_chance == Fraction(move_data(move).accuracy * 255 // 100, 256)
+
+
+def test_uses_that_cannot_hit():
+    """docs/MECHANICS.md, "Types", "Hit test", "Early effects" and "Fixed damage and one-hit moves"."""
+    tauros, gengar, snorlax = (Member(it, ["Splash"]) for it in ("Tauros", "Gengar", "Snorlax"))
+    for user, foe, move, reason in (
+        (tauros, gengar, "Strength", OddsReason.IMMUNE),
+        (tauros, gengar, "Swift", OddsReason.IMMUNE),
+        (tauros, snorlax, "Dream Eater", OddsReason.AWAKE),
+        (tauros, snorlax, "Roar", OddsReason.ALWAYS_FAILS),
+        (snorlax, tauros, "Guillotine", OddsReason.SLOWER),
+        (tauros, snorlax, "Transform", OddsReason.LEFT_OUT),
+        (tauros, snorlax, "Counter", OddsReason.NOTHING_TO_COUNTER),
+        (tauros, gengar, "Toxic", OddsReason.OWN_TYPE),
+        (tauros, snorlax, "Rest", OddsReason.HEALTH),
+    ):
+        found = odds(user, foe, move)
+        assert (found.hit_chance, found.reason) == (0, reason), move
+        assert facing(user, foe).knock_out(1, move) == Chances(Fraction(0), Fraction(0), False)
+    hit = odds(tauros, snorlax, "Guillotine")
+    assert (hit.hit_chance, hit.reason, hit.fixed) == (Fraction(76, 256), None, (65535, 65535))
+    assert OddsReason.SLOWER.label == "a one-hit move, and the user is slower than the foe"
+
+
+def test_fixed_damage_hits_and_charging():
+    """docs/MECHANICS.md, "Fixed damage and one-hit moves", "Many hits" and "Charging"; Chansey has 703 HP."""
+    gengar, chansey = Member("Gengar", ["Splash"], level=73), Member("Chansey", ["Splash"])
+    fixed = {"Night Shade": (73, 73), "Seismic Toss": (73, 73), "Sonic Boom": (20, 20), "Dragon Rage": (40, 40), "Psywave": (1, 108), "Super Fang": (351, 351)}
+    for move, damage_of in {**fixed, "Strength": (0, 0), "Splash": (0, 0)}.items():
+        assert odds(gengar, chansey, move).fixed == damage_of, move
+    # Of the two low bits of a draw, 2 and 3 are drawn once more: 2 and 3 hits have 1/4 + 1/2 * 1/4, 4 and 5 hits 1/2 * 1/4.
+    hits = {"Strength": (0, 8, 0, 0, 0, 0), "Double Kick": (0, 0, 8, 0, 0, 0), "Twineedle": (0, 0, 8, 0, 0, 0), "Fury Attack": (0, 0, 3, 3, 1, 1)}
+    for move, eighths in hits.items():
+        assert odds(gengar, chansey, move).hits == eighths, move
+    charges = [it for it in ("Solar Beam", "Fly", "Dig", "Sky Attack", "Hyper Beam", "Bide") if odds(gengar, chansey, it).charges_first]
+    assert charges == ["Solar Beam", "Fly", "Dig", "Sky Attack"]
+
+
+def test_drain_and_recoil():
+    """docs/MECHANICS.md, "Recoil, drain and explosion": a half given; a quarter lost, with Struggle a half; each at least 1."""
+    for move in ("Absorb", "Mega Drain", "Leech Life", "Dream Eater"):
+        assert [drained(move, it) for it in (1, 2, 101, 65_535)] == [1, 1, 50, 32_767] and recoil(move, 100) == 0
+    for move in ("Take Down", "Double-Edge", "Submission"):
+        assert [recoil(move, it) for it in (1, 4, 103, 65_535)] == [1, 1, 25, 16_383] and drained(move, 100) == 0
+    assert recoil("Struggle", 103) == 51 and recoil(Move.BODY_SLAM, 100) == drained(34, 100) == 0
+    for call in (drained, recoil):
+        for it in (-1, 65_536, *BIG[4:]):
+            with pytest.raises(BadArgument) as fault:
+                call("Absorb", it)
+            assert str(fault.value).startswith("damage must be 0 to 65,535, not ")
+        for it in NO_NUMBERS:
+            with pytest.raises(BadType):
+                call("Absorb", it)
+        for it in (0, 166, *BIG, "Pond"):
+            with pytest.raises(BadTeam):
+                call(it, 1)
+
+
+def strikes():
+    """Body Slam of Tauros on Tauros: each damage and its chance, from the numbers 112 and 217 of docs/MECHANICS.md, "Damage formula".
+
+    It is critical by 55 of 256 draws, hits by 255, and the factors 217 to 255 are equally likely.
+    """
+    found = [(0, Fraction(1, 256))]
+    for whole, chance in ((112, Fraction(201, 256)), (217, Fraction(55, 256))):
+        found += [(whole * factor // 255, chance * Fraction(255, 256) / 39) for factor in range(217, 256)]
+    return found
+
+
+def test_chances_to_knock_out():
+    tauros = Member("Tauros", ["Body Slam", "Substitute"])
+    for hp in (1, 95, 112, 113, 190, 217, 218, 224, 225, 300, 353):
+        once = sum(chance for damage_of, chance in strikes() if damage_of >= hp)
+        twice = sum(chance * other for one, chance in strikes() for two, other in strikes() if one + two >= hp)
+        found = facing(tauros, tauros).with_hp(2, 1, hp).knock_out(1, "Body Slam")
+        assert found == Chances(once, twice, False), hp
+    # By hand: 1 of 39 usual hits deals 112, and each critical one more.
+    assert facing(tauros, tauros).with_hp(2, 1, 112).knock_out(1, "Body Slam").once == Fraction(255 * (201 + 55 * 39), 256 * 256 * 39)
+    shade = facing(Member("Gengar", ["Splash"]), tauros).with_hp(2, 1, 200).knock_out(1, "Night Shade")
+    assert shade == Chances(Fraction(0), Fraction(255 * 255, 256 * 256), False)
+
+
+def test_chances_to_break_a_substitute():
+    """A Substitute of Tauros has 353 / 4 = 88 HP, and breaks if the damage is above them; the least of Body Slam is 95."""
+    tauros = Member("Tauros", ["Body Slam", "Substitute"])
+    battle = facing(tauros, tauros)
+    battle.update_silent(Choice.MOVE_2, Choice.MOVE_2)
+    assert [battle.state.side(it).active.substitute for it in (1, 2)] == [88, 88]
+    found = battle.knock_out(1, "Body Slam")
+    assert (found.once, found.breaks_substitute) == (Fraction(255, 256), True)
+    tougher = Battle.from_state(battle.state.with_active(2, substitute=112))
+    assert tougher.knock_out(1, "Body Slam").once == Fraction(255 * 55, 256 * 256)
 
 
 def test_moves_that_take_no_hit_test():
@@ -120,6 +216,11 @@ def test_odds_of_random_battles():
             before, found = battle.bytes, battle.odds(side, move)
             assert LIB.gen1_odds_now(battle.bytes, side, int(move), ctypes.byref(raw)) & 0xFF == 0 and battle.bytes == before
             assert (found.critical_chance, found.hit_chance) == (Fraction(raw.critical_draws, 256), Fraction(raw.hit_draws, 256))
+            assert (found.reason or 0, found.fixed, found.hits) == (raw.reason, (raw.least, raw.most), tuple(raw.hits))
+            ways = ChancesStruct()
+            assert LIB.gen1_knock_out(battle.bytes, side, int(move), ctypes.byref(ways)) & 0xFF == 0
+            chances = Fraction(ways.once, ways.once_of), Fraction(ways.twice, ways.twice_of)
+            assert battle.knock_out(side, move) == Chances(*chances, ways.breaks_substitute == 1) and battle.bytes == before
             for critical, told in ((False, found.usual), (True, found.critical)):
                 try:
                     assert told == Damages(battle.damage(side, move, critical), None)
@@ -136,7 +237,9 @@ def test_odds_with_wrong_arguments(battle, team, tauros):
     before = battle.bytes
     calls = [(lambda it=it: battle.odds(it, "Pound"), BadArgument) for it in (0, 3, *BIG)]
     calls += [(lambda it=it: battle.odds(it, "Pound"), BadType) for it in NO_NUMBERS]
-    for call in (lambda it: battle.odds(1, it), lambda it: odds(tauros, tauros, it)):
+    calls += [(lambda it=it: battle.knock_out(it, "Pound"), BadArgument) for it in (0, 3, *BIG)]
+    calls += [(lambda it=it: battle.knock_out(it, "Pound"), BadType) for it in NO_NUMBERS]
+    for call in (lambda it: battle.odds(1, it), lambda it: battle.knock_out(1, it), lambda it: odds(tauros, tauros, it)):
         calls += [(lambda call=call, it=it: call(it), BadTeam) for it in (0, 166, *BIG, "Pond", "1")]
         calls += [(lambda call=call, it=it: call(it), BadType) for it in NO_NUMBERS if it != "1"]
     for it in (None, 5, "Tauros", tauros.to_dict(), team):
@@ -145,9 +248,10 @@ def test_odds_with_wrong_arguments(battle, team, tauros):
         with pytest.raises(kind) as fault:
             call()
         assert isinstance(fault.value, Error) and len(str(fault.value)) > 10 and battle.bytes == before, at
-    with pytest.raises(NoDamage) as fault:
-        Battle(team, team, range(10)).odds(1, "Pound")
-    assert fault.value.code is DamageFault.NOBODY and "before its first update" in str(fault.value)
+    for call in (Battle(team, team, range(10)).odds, Battle(team, team, range(10)).knock_out):
+        with pytest.raises(NoDamage) as fault:
+            call(1, "Pound")
+        assert fault.value.code is DamageFault.NOBODY and "before its first update" in str(fault.value)
 
 
 # Playouts

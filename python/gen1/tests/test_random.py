@@ -52,7 +52,7 @@ def test_battles():
             code, log = raw_update(held, *pair)
             try:
                 update = battle.update(*pair)
-                assert (code, log) == (0, update.log) and raw_lines(log) == (4, "".join(f"{it}\n" for it in update.lines))
+                assert (code, log) == (0, update.log) and raw_lines(log) == (35, "".join(f"{it}\n" for it in update.lines))
             except Refused as fault:
                 assert fault.code == code
             assert battle.bytes == held.raw
@@ -91,6 +91,6 @@ def test_logs(team):
             given[dice.randrange(len(given))] = dice.randint(0, 255)
         code, text = raw_lines(bytes(given))
         try:
-            assert "".join(f"{it}\n" for it in lines(given)) == text and code == 4 and len(events(given)) == text.count("\n")
+            assert "".join(f"{it}\n" for it in lines(given)) == text and code == 35 and len(events(given)) == text.count("\n")
         except BadLog as fault:
             assert fault.code == code

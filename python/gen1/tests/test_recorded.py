@@ -5,8 +5,8 @@ from dataclasses import fields
 
 import pytest
 from conftest import RECORDED, ROOT, recorded_only
-from gen1 import BadArgument, BadBytes, BadLog, BadTeam, Battle, Member, NoDamage, Refused, Team, damage, events, lines
-from gen1.names import EventKind
+from gen1 import BadArgument, BadBytes, BadLog, BadTeam, Battle, Member, NoDamage, Refused, Team, damage, events, lines, log_bytes
+from gen1.names import EventKind, LoadFault, LogFault, Refusal
 
 pytestmark = recorded_only
 
@@ -48,11 +48,11 @@ def test_updates(name):
                 answer = battle.update(*update["pair"])
                 log = answer.log
                 assert answer.result == battle.result
-                assert b"".join(map(code_of, answer.events)) == log
+                assert b"".join(map(code_of, answer.events)) == log_bytes(answer.events) == log
                 assert [answer.result.outcome, *answer.result.requests] == update["result"]
                 assert before.update_silent(*update["pair"]) == battle.result and before == battle
             except Refused as why:
-                refused = why.code
+                refused = why.code - Refusal.OVER + 1
                 assert battle == before and why.offered == (battle.choices(why.side) if why.side else ())
             where = f"{name}, line {at + 1}, pair {update['pair']}"
             assert refused == update["refused"], where
@@ -71,7 +71,7 @@ def test_runs(name):
             try:
                 out += battle.update(*pair).lines
             except Refused as why:
-                fault = f"error: pair {at} refused {why.code:d}\n"
+                fault = f"error: pair {at} refused {why.code - Refusal.OVER + 1}\n"
                 break
         assert "".join(f"{line}\n" for line in out) == case["stdout"], case["name"]
         assert fault == case.get("stderr", ""), case["name"]
@@ -92,7 +92,7 @@ def test_loads():
         try:
             got = (0, Battle.load(given).bytes)
         except BadBytes as fault:
-            got = (fault.code, None)
+            got = (fault.code - LoadFault.LENGTH + 1, None)
         assert got == (test, None if test else newest_form(given)), number
 
 
@@ -101,9 +101,9 @@ def test_logs():
         given = bytes.fromhex(case["hex"]) if "hex" in case else case["input"].encode()
         try:
             got = ("".join(f"{line}\n" for line in lines(given)), "")
-            assert b"".join(map(code_of, events(given))) == given
+            assert b"".join(map(code_of, events(given))) == log_bytes(events(given)) == given
         except BadLog as fault:
-            got = ("", f"error: log {fault.code:d}\n")
+            got = ("", f"error: log {fault.code - LogFault.TAG + 1}\n")
             with pytest.raises(BadLog) as also:
                 events(given)
             assert (also.value.code, also.value.at) == (fault.code, fault.at)

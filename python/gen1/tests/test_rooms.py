@@ -11,7 +11,7 @@ import time
 
 import pytest
 from conftest import BIG, LIB, NO_NUMBERS, RECORDED, random_team, recorded_only
-from gen1 import BadArgument, BadType, Battle, Choice, Error, Member, Outcome, Request, Room, RoomRefusal, RoomRefused, Side, Team, Update
+from gen1 import BadArgument, BadType, Battle, Choice, Error, Member, Outcome, Request, Result, Room, RoomRefusal, RoomRefused, Side, Team, Update
 from gen1._structs import RoomStruct
 
 if RECORDED.is_dir():
@@ -28,7 +28,7 @@ def two_tauros():
 
 
 def reply(room, *submission):
-    """The reply of a room: "waiting", "advanced", or the number of its refusal."""
+    """The reply of a room: "waiting", "advanced", or the number of its refusal, from 1 on (docs/MECHANICS.md, "Rooms")."""
     before = copy.copy(room)
     try:
         told = room.submit(*submission)
@@ -36,7 +36,7 @@ def reply(room, *submission):
         it = fault
         assert room == before and (it.side, it.number, it.current, it.choice) == (*submission[:2], room.number, submission[2])
         assert it.offered == room.choices(it.side) and len(str(it)) > 10 and "\n" not in str(it)
-        return int(it.code)
+        return list(RoomRefusal).index(it.code) + 1
     if told is None:
         assert (room.number, room.log, room.battle) == (before.number, before.log, before.battle)
         return "waiting"
@@ -52,7 +52,7 @@ def lines_of(room, *submission):
         return ["|room|advanced", *Update(room.result, room.log).lines]
     if answer == "waiting":
         return ["|room|waiting"]
-    current = f"|{room.number}" if answer == RoomRefusal.STALE else ""
+    current = f"|{room.number}" if answer == 2 else ""
     return [f"|room|refused|{answer}{current}"]
 
 
@@ -160,6 +160,48 @@ def test_no_answer_tells_what_the_foe_has_chosen(team):
         assert len({(reply(room, *submission), room.log, room.number, room.choices(1), room.choices(2), repr(room)) for room in rooms}) == 1
 
 
+@pytest.mark.parametrize("side, winner", [(1, Outcome.WIN_TWO), (2, Outcome.WIN_ONE)])
+@pytest.mark.parametrize("chosen", [(), (1,), (2,)])
+def test_forfeits(side, winner, chosen):
+    """docs/MECHANICS.md, "Rooms": one event, the win of the other side; nothing more is taken, and the battle is as it was."""
+    room = two_tauros()
+    for it in chosen:
+        room.submit(it, 0, 17)
+    before = room.copy()
+    assert (room.forfeited, room.result.is_over) == (None, False)
+    update = room.forfeit(side)
+    assert (update.log, update.lines) == (bytes([26, 3 - side]), [f"|win|p{3 - side}"])
+    assert (room.log, room.number, room.forfeited, room.battle) == (update.log, 1, side, before.battle)
+    assert update.result == room.result == Result(winner, (Request.NOTHING, Request.NOTHING)) and room.forfeited is Side(side)
+    assert room.choices(1) == room.choices(2) == () and before.forfeited is None and room != before
+    for call in (lambda: room.forfeit(1), lambda: room.forfeit(2), lambda: room.submit(1, 1, 17)):
+        kept = pickle.loads(pickle.dumps(room))
+        with pytest.raises(RoomRefused) as fault:
+            call()
+        assert fault.value.code is RoomRefusal.OVER and str(fault.value) == f"the battle is over: {winner.label}" and room == kept
+    with pytest.raises(RoomRefused) as fault:
+        room.forfeit(1)
+    assert (fault.value.side, fault.value.number, fault.value.current, fault.value.choice, fault.value.offered) == (1, 1, 1, None, ())
+
+
+def test_rooms_whose_other_sides_forfeited_are_not_equal():
+    one, two = two_tauros(), two_tauros()
+    one.forfeit(1)
+    two.forfeit(2)
+    assert one != two and one == one.copy() and repr(one) == "<Room, pair 1, win two>"
+
+
+def test_no_forfeit_of_a_battle_that_is_over():
+    room = two_tauros()
+    for pair in (0, 1):
+        room.submit(1, pair, 17)
+        room.submit(2, pair, 17)
+    before = room.copy()
+    with pytest.raises(RoomRefused) as fault:
+        room.forfeit(1)
+    assert fault.value.code is RoomRefusal.OVER and room == before and room.forfeited is None
+
+
 def test_random_rooms():
     """Rooms against direct calls of the library, with any numbers and bytes; each pair is the update of a single battle."""
     dice = random.Random(7)
@@ -182,7 +224,7 @@ def test_random_rooms():
             choice = dice.choice(offered[side - 1]) if offered[side - 1] and dice.random() < 0.9 else dice.randint(0, 255)
             code = LIB.gen1_room_submit(ctypes.byref(raw), side, number, choice) & 0xFF
             before, answer = room.number, reply(room, side, number, choice)
-            assert (answer if isinstance(answer, int) else 0) == code
+            assert (list(RoomRefusal)[answer - 1] if isinstance(answer, int) else 0) == code
             assert (room.number, room.battle.bytes, room.log) == (raw.number, bytes(raw.battle), bytes(raw.log[: raw.log_length]))
             chosen |= {} if code else {side: choice}
             if room.number != before:
@@ -237,7 +279,7 @@ def test_both_players_in_threads_of_their_own(hurried):
 
 
 def test_the_struct_is_that_of_the_header():
-    assert ctypes.sizeof(RoomStruct) == 904 and ctypes.alignment(RoomStruct) == 4
+    assert ctypes.sizeof(RoomStruct) == 908 and ctypes.alignment(RoomStruct) == 4
 
 
 @pytest.mark.parametrize("copied", [copy.copy, copy.deepcopy, Room.copy, lambda it: pickle.loads(pickle.dumps(it))])
@@ -276,15 +318,17 @@ def test_arguments_that_are_wrong():
     for it in NO_NUMBERS:
         calls += [(lambda it=it: room.submit(it, 0, 17), BadType), (lambda it=it: room.submit(1, it, 17), BadType)]
         calls += [(lambda it=it: room.submit(1, 0, it), BadType), (lambda it=it: room.choices(it), BadType)]
+        calls += [(lambda it=it: room.forfeit(it), BadType)]
     for it in BIG:
         calls += [(lambda it=it: room.submit(it, 0, 17), BadArgument), (lambda it=it: room.submit(1, 0, it), BadArgument)]
         calls += [(lambda it=it: room.choices(it), BadArgument)]
     calls += [(lambda it=it: room.submit(it, 0, 17), BadArgument) for it in (0, 3)]
+    calls += [(lambda it=it: room.forfeit(it), BadArgument) for it in (0, 3, *BIG)]
     calls += [(lambda it=it: room.submit(1, it, 17), BadArgument) for it in (-1, 1 << 32, 1 << 64)]
     for at, (call, kind) in enumerate(calls):
         with pytest.raises(kind) as fault:
             call()
         assert isinstance(fault.value, Error) and " must be " in str(fault.value) and room == before, at
-    for name in ("battle", "number", "log", "result", "unknown"):
+    for name in ("battle", "number", "log", "result", "forfeited", "unknown"):
         with pytest.raises(AttributeError):
             setattr(room, name, None)

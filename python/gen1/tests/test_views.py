@@ -2,9 +2,10 @@
 
 import random
 import re
+from fractions import Fraction
 
 import pytest
-from conftest import RECORDED, ROOT, random_team, recorded_only
+from conftest import BIG, NO_NUMBERS, RECORDED, ROOT, random_team, recorded_only
 from gen1 import (
     BadArgument,
     BadTeam,
@@ -25,6 +26,7 @@ from gen1 import (
     TextFault,
     Type,
     base,
+    effectiveness,
     move_data,
 )
 
@@ -114,8 +116,11 @@ def test_rows_of_the_tables():
         it = base(int(number))
         assert [it.types[0].label, it.types[1].label] == [one, two] and it == base(name)
         assert [it.hp, it.attack, it.defense, it.speed, it.special] == list(map(int, stats))
-    for number, name, kind, power, accuracy, pp, _ in rows("Moves"):
+    for number, name, kind, power, accuracy, pp, effect in rows("Moves"):
         it = move_data(name)
+        assert it.effect.name.replace("_", "") == re.search(r"\w+", effect)[0].upper()
+        assert it.priority == {"Quick Attack": 1, "Counter": -1}.get(name, 0)
+        assert it.high_critical == (name in ("Karate Chop", "Razor Leaf", "Crabhammer", "Slash"))
         assert (it.type.label, it.power, it.accuracy, it.pp) == (kind, int(power), int(accuracy), int(pp))
         assert it == move_data(int(number))
     for call in (base, move_data):
@@ -132,6 +137,26 @@ EVs: 252 HP / 4 Atk / 100 SpA / 100 SpD
 IVs: 6 HP / 0 Atk / 20 Def
 - Body Slam
 """
+
+
+def test_effectiveness():
+    """docs/TABLES.md, "Type rows", for a few; and each of both numbers."""
+    for attack, foe, factor in (("WATER", "FIRE", 2), ("FIRE", "WATER", Fraction(1, 2)), ("NORMAL", "GHOST", 0), ("GHOST", "PSYCHIC", 0), ("NORMAL", "NORMAL", 1)):
+        assert effectiveness(Type[attack], Type[foe]) == factor == effectiveness(int(Type[attack]), int(Type[foe]))
+    for it in (-1, 15, *BIG):
+        for call in (lambda it=it: effectiveness(it, 0), lambda it=it: effectiveness(0, it)):
+            with pytest.raises(BadArgument):
+                call()
+    for it in NO_NUMBERS:
+        with pytest.raises(BadType):
+            effectiveness(it, 0)
+
+
+def test_stats_of_members():
+    """docs/MECHANICS.md, "Stats"."""
+    assert Member("Tauros", ["Strength"]).stats[:4] == (353, 298, 288, 318) and Member("Chansey", ["Strength"]).stats[0] == 703
+    # Level 1 without DVs and experience: Chansey has 250 * 2 * 1 / 100 + 1 + 10 HP, and 5 * 2 * 1 / 100 + 5 Attack.
+    assert Member("Chansey", ["Pound"], level=1, dvs=[0] * 4, exp=[0] * 5).stats[:2] == (16, 5)
 
 
 def test_a_team_from_text():

@@ -17,7 +17,7 @@ from typing import TYPE_CHECKING
 
 from gen1._library import LIBRARY_BUILD as library_build
 from gen1._library import LIBRARY_VERSION as library_version
-from gen1._odds import Damages, Odds, damage, odds
+from gen1._odds import Chances, Damages, Odds, damage, drained, odds, recoil
 from gen1.battle import Battle, Playouts, Result, Update
 from gen1.choices import Choice, Rules, Side
 from gen1.errors import (
@@ -25,6 +25,7 @@ from gen1.errors import (
     BadBytes,
     BadLog,
     BadPlace,
+    BadState,
     BadTeam,
     BadText,
     BadType,
@@ -70,15 +71,18 @@ from gen1.events import (
     WinEvent,
     events,
     lines,
+    log_bytes,
 )
 from gen1.names import (
     Conditions,
     DamageFault,
+    Effect,
     EventKind,
     LoadFault,
     LogFault,
     Move,
     NewFault,
+    OddsReason,
     Outcome,
     Reason,
     Refusal,
@@ -87,15 +91,18 @@ from gen1.names import (
     Source,
     Species,
     Stat,
+    StateField,
     Status,
     TextFault,
     Type,
     Volatile,
 )
+from gen1.own_sides import OwnMember, OwnSide
+from gen1.players import Announced, Player, PublicSide, Seen, SeenMove, Teller
 from gen1.rooms import Room
 from gen1.spectators import ShownMember, ShownSide, ShownState, Spectator
 from gen1.states import ActiveState, MemberState, SideState, State
-from gen1.tables import Base, MoveData, base, move_data
+from gen1.tables import Base, MoveData, base, effectiveness, move_data
 from gen1.teams import Member, Team
 
 try:
@@ -127,10 +134,12 @@ def __dir__() -> list[str]:
 __all__ = [
     "ActivateEvent",
     "ActiveState",
+    "Announced",
     "BadArgument",
     "BadBytes",
     "BadLog",
     "BadPlace",
+    "BadState",
     "BadTeam",
     "BadText",
     "BadType",
@@ -140,6 +149,7 @@ __all__ = [
     "BattleEnv",
     "BoostEvent",
     "CantEvent",
+    "Chances",
     "Choice",
     "ClearAllEvent",
     "Conditions",
@@ -148,6 +158,7 @@ __all__ = [
     "DamageEvent",
     "DamageFault",
     "Damages",
+    "Effect",
     "EndEvent",
     "Error",
     "Event",
@@ -173,11 +184,16 @@ __all__ = [
     "NoDamage",
     "NumpyMissing",
     "Odds",
+    "OddsReason",
     "OfOne",
     "OneHitEvent",
     "Outcome",
+    "OwnMember",
+    "OwnSide",
+    "Player",
     "Playouts",
     "PrepareEvent",
+    "PublicSide",
     "Reason",
     "Refusal",
     "Refused",
@@ -188,6 +204,8 @@ __all__ = [
     "RoomRefusal",
     "RoomRefused",
     "Rules",
+    "Seen",
+    "SeenMove",
     "ShownMember",
     "ShownSide",
     "ShownState",
@@ -199,11 +217,13 @@ __all__ = [
     "StartEvent",
     "Stat",
     "State",
+    "StateField",
     "Status",
     "StatusEvent",
     "SuperEffectiveEvent",
     "SwitchEvent",
     "Team",
+    "Teller",
     "TextFault",
     "TieEvent",
     "TurnEvent",
@@ -216,10 +236,14 @@ __all__ = [
     "WinEvent",
     "base",
     "damage",
+    "drained",
+    "effectiveness",
     "events",
     "library_build",
     "library_version",
     "lines",
+    "log_bytes",
     "move_data",
     "odds",
+    "recoil",
 ]

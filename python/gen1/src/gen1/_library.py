@@ -11,15 +11,29 @@ from ctypes.util import find_library
 from pathlib import Path
 from typing import Any
 
-from gen1._structs import DAMAGES, BattleBytes, OddsStruct, PlayoutsStruct, RoomStruct, SpectatorStruct, StateStruct
+from gen1._structs import (
+    DAMAGES,
+    BattleBytes,
+    ChancesStruct,
+    MoveStruct,
+    OddsStruct,
+    OwnSideStruct,
+    PlayerStruct,
+    PlayoutsStruct,
+    RoomStruct,
+    SpectatorStruct,
+    StateFaultStruct,
+    StateStruct,
+    TellerStruct,
+)
 from gen1.errors import LibraryMissing
 from gen1.names import HEADER_VERSION
 
 BATTLE_BYTES = 384
 LINE_ROOM = 96
 WORDS_ROOM = 32
-LOG_END = 4
-WORDS_CHOICE = 2
+LOG_END = 35
+WORDS_CHOICE = 43
 
 SeedBytes = c_uint8 * 10
 
@@ -40,7 +54,7 @@ class MemberStruct(Structure):
 class TeamStruct(Structure):
     """gen1_team."""
 
-    _fields_ = [("members", MemberStruct * 6), ("count", c_uint8)]
+    _fields_ = [("members", MemberStruct * 6), ("count", c_uint8), ("reserved", c_uint8)]
 
 
 class EventStruct(Structure):
@@ -58,6 +72,7 @@ class EventStruct(Structure):
         ("status", c_uint8),
         ("detail", c_uint8),
         ("amount", c_uint8),
+        ("reserved", c_uint8),
         ("hp", c_uint16),
         ("max_hp", c_uint16),
         ("turn", c_uint16),
@@ -120,24 +135,42 @@ def _build(library: ctypes.CDLL) -> str:
 LIBRARY_VERSION = _version()
 LIBRARY_BUILD = _build(SHORT)
 _BATTLE, _TEAM, _ROOM, _SPECTATOR = POINTER(BattleBytes), POINTER(TeamStruct), POINTER(RoomStruct), POINTER(SpectatorStruct)
+_PLAYER, _TELLER, _OWN = POINTER(PlayerStruct), POINTER(TellerStruct), POINTER(OwnSideStruct)
 _SIZES, _BYTES, _TEXT, _MEMBER = POINTER(c_size_t), ctypes.c_char_p, POINTER(c_char), POINTER(MemberStruct)
 new = bind("gen1_new", c_uint32, _BATTLE, _TEAM, _TEAM, SeedBytes, c_uint8, c_uint16)
 load = bind("gen1_load", c_uint8, _BATTLE, _BYTES, c_size_t)
 choices = bind("gen1_choices", c_uint8, _BATTLE, c_uint8, c_uint8 * 9)
 update = bind("gen1_update", c_uint8, _BATTLE, c_uint8, c_uint8, ctypes.c_void_p, c_size_t, _SIZES)
+update_silent = bind("gen1_update_silent", c_uint8, _BATTLE, c_uint8, c_uint8)
 result = bind("gen1_result", c_uint8, _BATTLE)
 next_event = bind("gen1_next_event", c_uint8, _BYTES, c_size_t, _SIZES, POINTER(EventStruct))
+event_bytes = bind("gen1_event_bytes", c_uint8, POINTER(EventStruct), c_uint8 * 10, _SIZES)
 next_line = bind("gen1_next_line", c_uint8, _BYTES, c_size_t, _SIZES, _TEXT, c_size_t, _SIZES)
 damage = bind("gen1_damage", c_uint8, _BATTLE, c_uint8, c_uint8, c_bool, c_uint16 * DAMAGES)
 odds_now = bind("gen1_odds_now", c_uint8, _BATTLE, c_uint8, c_uint8, POINTER(OddsStruct))
+knock_out = bind("gen1_knock_out", c_uint8, _BATTLE, c_uint8, c_uint8, POINTER(ChancesStruct))
 odds_between = bind("gen1_odds_between", c_uint32, _MEMBER, _MEMBER, c_uint8, POINTER(OddsStruct))
 takes_hit_test = bind("gen1_takes_hit_test", c_uint8, c_uint8)
+drained = bind("gen1_drained", c_uint16, c_uint8, c_uint16)
+recoil = bind("gen1_recoil", c_uint16, c_uint8, c_uint16)
+effectiveness = bind("gen1_effectiveness", c_uint8, c_uint8, c_uint8, POINTER(c_uint8))
+move_row = bind("gen1_move_data", c_uint8, c_uint8, POINTER(MoveStruct))
+member_stats = bind("gen1_member_stats", c_uint8, _MEMBER, c_uint16 * 5)
 playout = bind("gen1_playout", c_uint8, _BATTLE, c_uint64, c_uint32, POINTER(PlayoutsStruct), of=LONG)
 get_state = bind("gen1_get_state", None, _BATTLE, POINTER(StateStruct))
+set_state = bind("gen1_set_state", c_uint8, _BATTLE, POINTER(StateStruct), POINTER(StateFaultStruct))
 choice_words = bind("gen1_choice_words", c_uint8, _BATTLE, c_uint8, c_uint8, _TEXT, c_size_t, _SIZES)
 reseed = bind("gen1_reseed", c_uint8, _BATTLE, SeedBytes, c_uint8)
 room_begin = bind("gen1_room_begin", None, _ROOM)
 room_choices = bind("gen1_room_choices", c_uint8, _ROOM, c_uint8, c_uint8 * 9)
 room_submit = bind("gen1_room_submit", c_uint8, _ROOM, c_uint8, c_uint32, c_uint8)
+room_forfeit = bind("gen1_room_forfeit", c_uint8, _ROOM, c_uint8)
+room_result = bind("gen1_room_result", c_uint8, _ROOM)
 spectator_begin = bind("gen1_spectator_begin", c_uint32, _SPECTATOR, _TEAM, _TEAM)
 spectator_feed = bind("gen1_spectator_feed", c_uint8, _SPECTATOR, _BYTES, c_size_t)
+player_begin = bind("gen1_player_begin", c_uint32, _PLAYER, c_uint8, _TEAM, c_uint8)
+player_feed = bind("gen1_player_feed", c_uint8, _PLAYER, _BYTES, c_size_t)
+player_show = bind("gen1_player_show", None, _PLAYER, _OWN, c_uint16)
+get_own_side = bind("gen1_get_own_side", c_uint8, _BATTLE, c_uint8, _OWN)
+teller_begin = bind("gen1_teller_begin", c_uint8, _TELLER, c_uint8, c_uint8)
+tell = bind("gen1_tell", c_uint8, _TELLER, _BYTES, c_size_t, ctypes.c_void_p, c_size_t, _SIZES)

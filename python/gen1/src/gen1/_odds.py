@@ -1,4 +1,4 @@
-"""The odds of a move: its damage, and its chances of a hit and of a critical hit (docs/MECHANICS.md, "Damage numbers")."""
+"""The odds of a move: its damage, its chances to hit, to be critical and to knock out (docs/MECHANICS.md, "Damage numbers")."""
 
 from ctypes import byref
 from dataclasses import dataclass
@@ -6,10 +6,10 @@ from fractions import Fraction
 
 from gen1 import _library
 from gen1._check import move as a_move
-from gen1._check import shown, truth
-from gen1._structs import DamagesStruct, OddsStruct
+from gen1._check import shown, truth, within
+from gen1._structs import ChancesStruct, DamagesStruct, OddsStruct
 from gen1.errors import BadArgument, BadType, NoDamage
-from gen1.names import DamageFault, Move, NewFault
+from gen1.names import DamageFault, Move, NewFault, OddsReason
 from gen1.teams import Member, struct_of
 
 
@@ -26,11 +26,16 @@ class Damages:
 
 @dataclass(frozen=True)
 class Odds:
-    """The odds of a move: the damage of a usual and of a critical hit, and the chances of both.
+    """The odds of one use of a move by a member that acts now. What keeps a member from acting at all, such as sleep, is not counted.
 
-    `critical_chance`, 0 to 255/256, is the chance of a critical hit; it is 0 for a move without the usual damage. `hit_chance`, 0 to 1, is
-    the chance to pass the hit test. Both are exact multiples of 1/256. If `takes_hit_test` is false, the move takes no hit test, because it
-    fails or affects only its user.
+    `usual` and `critical` are the damage of a usual and of a critical hit. `critical_chance`, 0 to 255/256, is the chance of a critical
+    hit, 0 without the usual damage. `hit_chance`, 0 to 1, is the chance that the use hits; 0 if it cannot hit or would not work, and then
+    `reason` says why, and is otherwise None. A use that hits without a test has 1. If `takes_hit_test` is false, the move always fails or
+    affects only its user.
+
+    `fixed` is the least and the most damage of a use without the usual damage, such as Night Shade; the numbers from the least to the most
+    are equally likely. Both are 0 for any other use. `hits` has in how many of 8 cases a use that hits makes 0, 1, .. 5 hits, which all deal
+    the same damage. If `charges_first` is true, the user would only charge now, and the odds are those of its strike.
     """
 
     usual: Damages
@@ -38,6 +43,23 @@ class Odds:
     critical_chance: Fraction
     hit_chance: Fraction
     takes_hit_test: bool
+    reason: OddsReason | None
+    fixed: tuple[int, int]
+    hits: tuple[int, ...]
+    charges_first: bool
+
+
+@dataclass(frozen=True)
+class Chances:
+    """The exact chance that one use of a move knocks out the foe (`once`), and two uses in a row (`twice`), with independent draws.
+
+    If `breaks_substitute` is true, the foe has a substitute, and the chances are those of breaking it. Nothing else that happens between
+    the two uses is counted: no residual damage, no change of a stat, no recharging, and no fall of the user.
+    """
+
+    once: Fraction
+    twice: Fraction
+    breaks_substitute: bool
 
 
 def odds(attacker: Member, defender: Member, move: Move | str | int) -> Odds:
@@ -63,10 +85,41 @@ def damage(attacker: Member, defender: Member, move: Move | str | int, critical:
     return damages.numbers
 
 
+def drained(move: Move | str | int, damage: int) -> int:
+    """The HP that a damage of a move gives to its user (Absorb, Mega Drain, Leech Life, Dream Eater); 0 for any other move.
+
+    `damage`, 0 to 65,535, is the HP that the foe lost, or what its substitute took without breaking. The user gains at most what it lacks.
+    Raises `BadTeam` for an unknown move, `BadArgument`, `BadType`.
+    """
+    return int(_library.drained(a_move(move), within(damage, "damage", 0, 65_535)))
+
+
+def recoil(move: Move | str | int, damage: int) -> int:
+    """The HP that a damage of a move costs its user (Take Down, Double-Edge, Submission, Struggle); 0 for any other move.
+
+    `damage`, 0 to 65,535, is as in `drained`. Raises `BadTeam` for an unknown move, `BadArgument`, `BadType`.
+    """
+    return int(_library.recoil(a_move(move), within(damage, "damage", 0, 65_535)))
+
+
 def odds_of(of: OddsStruct, move: Move) -> Odds:
     """The odds of a move that a struct holds."""
-    chances = Fraction(of.critical_draws, 256), Fraction(of.hit_draws, 256)
-    return Odds(_damages(of.usual), _damages(of.critical), *chances, _library.takes_hit_test(move) == 1)
+    return Odds(
+        usual=_damages(of.usual),
+        critical=_damages(of.critical),
+        critical_chance=Fraction(of.critical_draws, 256),
+        hit_chance=Fraction(of.hit_draws, 256),
+        takes_hit_test=_library.takes_hit_test(move) == 1,
+        reason=OddsReason(of.reason) if of.reason else None,
+        fixed=(of.least, of.most),
+        hits=tuple(of.hits),
+        charges_first=of.charges_first == 1,
+    )
+
+
+def chances_of(of: ChancesStruct) -> Chances:
+    """The chances to knock out that a struct holds."""
+    return Chances(Fraction(of.once, of.once_of), Fraction(of.twice, of.twice_of), of.breaks_substitute == 1)
 
 
 def no_damage(code: DamageFault, move: Move) -> NoDamage:

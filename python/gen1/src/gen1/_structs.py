@@ -1,11 +1,25 @@
 """The structs of include/gen1.h for ctypes, with their fields in its order; those of teams and events are in `_library`."""
 
-from ctypes import Structure, c_uint8, c_uint16, c_uint32
+from ctypes import Structure, c_int8, c_uint8, c_uint16, c_uint32, c_uint64
 
 LOG_ROOM = 512
 DAMAGES = 39
 
 BattleBytes = c_uint8 * 384
+
+
+class MoveStruct(Structure):
+    """gen1_move."""
+
+    _fields_ = [
+        ("type", c_uint8),
+        ("power", c_uint8),
+        ("accuracy", c_uint8),
+        ("pp", c_uint8),
+        ("effect", c_uint8),
+        ("priority", c_int8),
+        ("high_critical", c_uint8),
+    ]
 
 
 class MemberStateStruct(Structure):
@@ -69,6 +83,20 @@ class StateStruct(Structure):
     ]
 
 
+class StateFaultStruct(Structure):
+    """gen1_state_fault."""
+
+    _fields_ = [
+        ("value", c_uint32),
+        ("low", c_uint32),
+        ("high", c_uint32),
+        ("field", c_uint8),
+        ("side", c_uint8),
+        ("place", c_uint8),
+        ("index", c_uint8),
+    ]
+
+
 class DamagesStruct(Structure):
     """gen1_damages."""
 
@@ -78,7 +106,30 @@ class DamagesStruct(Structure):
 class OddsStruct(Structure):
     """gen1_odds."""
 
-    _fields_ = [("usual", DamagesStruct), ("critical", DamagesStruct), ("critical_draws", c_uint16), ("hit_draws", c_uint16)]
+    _fields_ = [
+        ("usual", DamagesStruct),
+        ("critical", DamagesStruct),
+        ("critical_draws", c_uint16),
+        ("hit_draws", c_uint16),
+        ("least", c_uint16),
+        ("most", c_uint16),
+        ("hits", c_uint8 * 6),
+        ("reason", c_uint8),
+        ("charges_first", c_uint8),
+    ]
+
+
+class ChancesStruct(Structure):
+    """gen1_chances."""
+
+    _fields_ = [
+        ("once", c_uint64),
+        ("once_of", c_uint64),
+        ("twice", c_uint64),
+        ("twice_of", c_uint64),
+        ("breaks_substitute", c_uint8),
+        ("zeros", c_uint8 * 7),
+    ]
 
 
 class PlayoutsStruct(Structure):
@@ -95,6 +146,8 @@ class RoomStruct(Structure):
         ("number", c_uint32),
         ("log_length", c_uint16),
         ("chosen", c_uint8 * 2),
+        ("forfeit", c_uint8),
+        ("unused", c_uint8 * 3),
         ("log", c_uint8 * LOG_ROOM),
     ]
 
@@ -102,7 +155,7 @@ class RoomStruct(Structure):
 class ShownMemberStruct(Structure):
     """gen1_shown_member."""
 
-    _fields_ = [("hp", c_uint16), ("status", c_uint8)]
+    _fields_ = [("hp", c_uint16), ("status", c_uint8), ("reserved", c_uint8)]
 
 
 class ShownSideStruct(Structure):
@@ -130,3 +183,124 @@ class SpectatorStruct(Structure):
         ("held_count", c_uint8),
         ("held", c_uint8 * 10),
     ]
+
+
+class SeenMoveStruct(Structure):
+    """gen1_seen_move."""
+
+    _fields_ = [("id", c_uint8), ("uses", c_uint8)]
+
+
+class SeenStruct(Structure):
+    """gen1_seen."""
+
+    _fields_ = [
+        ("hp", c_uint16),
+        ("max", c_uint16),
+        ("species", c_uint8),
+        ("level", c_uint8),
+        ("status", c_uint8),
+        ("moves", SeenMoveStruct * 5),
+        ("unused", c_uint8),
+    ]
+
+
+# The flags of gen1_announced, in its order.
+ANNOUNCED = (
+    "substitute",
+    "confused",
+    "mist",
+    "focus_energy",
+    "light_screen",
+    "reflect",
+    "seeded",
+    "toxic",
+    "disabled",
+    "rage",
+    "bide",
+    "charging",
+    "recharging",
+)
+
+
+class AnnouncedStruct(Structure):
+    """gen1_announced."""
+
+    _fields_ = [(name, c_uint8) for name in ANNOUNCED]
+
+
+class PublicSideStruct(Structure):
+    """gen1_public_side."""
+
+    _fields_ = [
+        ("members", SeenStruct * 6),
+        ("announced", AnnouncedStruct),
+        ("stages", c_uint8 * 6),
+        ("place", c_uint8),
+        ("first_type", c_uint8),
+        ("second_type", c_uint8),
+        ("last_move", c_uint8),
+        ("unused", c_uint8),
+    ]
+
+
+class PublicStruct(Structure):
+    """gen1_public."""
+
+    _fields_ = [("sides", PublicSideStruct * 2), ("turn", c_uint16), ("outcome", c_uint8), ("unused", c_uint8)]
+
+
+class OwnMemberStruct(Structure):
+    """gen1_own_member."""
+
+    _fields_ = [
+        ("species", c_uint8),
+        ("level", c_uint8),
+        ("status", c_uint8),
+        ("unused", c_uint8),
+        ("moves", c_uint8 * 4),
+        ("pp", c_uint8 * 4),
+        ("hp", c_uint16),
+        ("max_hp", c_uint16),
+        ("stats", c_uint16 * 4),
+    ]
+
+
+class OwnSideStruct(Structure):
+    """gen1_own_side."""
+
+    _fields_ = [
+        ("members", OwnMemberStruct * 6),
+        ("conditions", c_uint32),
+        ("stats", c_uint16 * 4),
+        ("turn", c_uint16),
+        ("place", c_uint8),
+        ("types", c_uint8 * 2),
+        ("stages", c_uint8 * 6),
+        ("disabled_slot", c_uint8),
+        ("held", c_uint8),
+        ("request", c_uint8),
+        ("outcome", c_uint8),
+        ("count", c_uint8),
+    ]
+
+
+class PlayerStruct(Structure):
+    """gen1_player."""
+
+    _fields_ = [
+        ("known", PublicStruct),
+        ("own", OwnSideStruct),
+        ("offered", c_uint16),
+        ("side", c_uint8),
+        ("foes", c_uint8),
+        ("held_count", c_uint8),
+        ("held", c_uint8 * 10),
+        ("unused", c_uint8),
+    ]
+
+
+class TellerStruct(Structure):
+    """gen1_teller."""
+
+    _fields_ = [("side", c_uint8), ("pixels", c_uint8), ("places", c_uint8 * 6)]

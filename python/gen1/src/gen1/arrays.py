@@ -19,7 +19,7 @@ Bytes: TypeAlias = NDArray[np.uint8]
 Masks: TypeAlias = NDArray[np.uint16]
 
 _offered = _library.bind("gen1_offered_many", c_uint8, c_void_p, c_size_t, c_uint8, c_void_p, c_size_t, of=_library.LONG)
-_update = _library.bind("gen1_update_many", c_uint8, c_void_p, c_size_t, *[c_void_p, c_size_t] * 4, of=_library.LONG)
+_update = _library.bind("gen1_update_many", c_uint8, c_void_p, c_size_t, c_void_p, c_size_t, of=_library.LONG)
 
 # The number of each choice in the order of the bits of a mask: bit 0 is `PASS`, bits 1 to 5 moves 0 to 4, bits 6 to 11 switches.
 CHOICES: Bytes = np.array([int(it) for it in Choice], np.uint8)
@@ -199,8 +199,9 @@ class BattleArray:
         begin = -room.ctypes.data % ALIGNED
         self._bytes: Bytes = room[begin : begin + n * _library.BATTLE_BYTES].reshape(n, _library.BATTLE_BYTES)
         self._fields = self._bytes.view(BATTLE)[:, 0]
-        self._results: Bytes = np.zeros(n, np.uint8)
-        self._codes: Bytes = np.zeros(n, np.uint8)
+        # The columns of gen1_batch_update: the choices of both sides, the result, and the code.
+        self._updates: Bytes = np.zeros((n, 4), np.uint8)
+        self._results, self._codes = self._updates[:, 2], self._updates[:, 3]
         self.bytes, self.fields = _to_read(self._bytes), _to_read(self._fields)
         self.results, self.codes = _to_read(self._results), _to_read(self._codes)
 
@@ -228,8 +229,8 @@ class BattleArray:
         return _all_bytes(taken, name)
 
     def _update(self, ones: Bytes, twos: Bytes) -> None:
-        arrays = [(it.ctypes.data, len(it)) for it in (ones, twos, self._results, self._codes)]
-        _done(_update(self._bytes.ctypes.data, len(self), *(it for pair in arrays for it in pair)))
+        self._updates[:, 0], self._updates[:, 1] = ones, twos
+        _done(_update(self._bytes.ctypes.data, len(self), self._updates.ctypes.data, len(self)))
 
 
 def bits(masks: Masks) -> NDArray[np.bool_]:

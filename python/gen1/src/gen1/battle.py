@@ -10,17 +10,21 @@ from gen1 import _library
 from gen1._check import byte as a_byte
 from gen1._check import move as a_move
 from gen1._check import digits, octets, seed_bytes, truth, whole, within
-from gen1._odds import Odds, no_damage, odds_of
-from gen1._structs import DAMAGES, LOG_ROOM, BattleBytes, OddsStruct, PlayoutsStruct
+from gen1._odds import Chances, Odds, chances_of, no_damage, odds_of
+from gen1._pack import bad_state, packed
+from gen1._structs import DAMAGES, LOG_ROOM, BattleBytes, ChancesStruct, OddsStruct, PlayoutsStruct, StateFaultStruct
 from gen1.choices import Choice, Rules, Side, a_choice, a_side, choice_text, not_offered
 from gen1.errors import BadArgument, BadBytes, BadTeam, BadType, NoDamage, Refused
 from gen1.events import Event, events, lines
-from gen1.names import DamageFault, LoadFault, Move, NewFault, Outcome, Refusal, Request
-from gen1.states import State, state_of, struct_of_state
+from gen1.names import DamageFault, LoadFault, Move, NewFault, Outcome, Refusal, Request, Stat, Status
+from gen1.own_sides import OwnSide, own_side_of
+from gen1.states import State, changed, state_of, struct_of_state
 from gen1.teams import Member, Team, as_team
 
 if TYPE_CHECKING:
     from _typeshed import ReadableBuffer
+
+    from gen1.players import Player
 
 B = TypeVar("B", bound="Battle")
 TeamLike: TypeAlias = Team | Iterable[Member | Mapping[str, Any]]
@@ -113,6 +117,35 @@ class Battle:
             raise BadBytes(LoadFault(test), _load_text(LoadFault(test), whole_bytes))
         return made
 
+    @classmethod
+    def from_state(cls: type[B], state: State) -> B:
+        """Makes a battle of a state, such as one of `Battle.state` in which fields were changed. Its `state` is then the same.
+
+        If the four current stats of an active member are all 0, they are computed from its own stats, its stages and its status. Raises
+        `BadState`, with the first field that is wrong; `BadArgument` for a tuple of a wrong length, and `BadType`.
+        """
+        made, given, fault = cls.__new__(cls), packed(state), StateFaultStruct()
+        made._held = BattleBytes()
+        if _library.set_state(byref(made._held), byref(given), byref(fault)):
+            raise bad_state(fault, state)
+        return made
+
+    @classmethod
+    def from_player(cls: type[B], player: "Player", foes: TeamLike, seed: SeedLike, rules: int = 0, limit: int = 1000) -> B:
+        """A battle that fits what a player knows, with a guess of the rest: the base of a search that doesn't cheat.
+
+        `foes` is the guess of the foe's team: first the members that have appeared, in the order in which they did, then the others. `seed`
+        is the numbers to draw; `rules` and `limit` are as in `Battle(..)`. The own side is as it was shown. The foe's members have the HP,
+        status and stages that were told, and the moves and stats of the guess; PP are those that are left after the uses that were seen. A
+        condition that was announced is on if a move of the guess explains it. Hidden counts have middle values: three turns of sleep and
+        confusion, four of Disable, two of Bide, thrashing and trapping, a Substitute of a quarter of the maximum HP.
+
+        Raises `BadArgument` for a guess that does not fit, and for a battle that has not begun or is over; `BadState`, `BadTeam`, `BadType`.
+        """
+        from gen1.guesses import guessed
+
+        return cls.from_state(guessed(player, as_team(foes), seed_bytes(seed), rules, limit))
+
     @property
     def bytes(self) -> bytes:
         """The 384 bytes of the battle, which are its whole state."""
@@ -174,8 +207,7 @@ class Battle:
     def update_silent(self, one: Choice | int, two: Choice | int) -> Result:
         """As `update` without a log, which is faster. Returns the result."""
         pair = a_choice(one, 1), a_choice(two, 2)
-        length = c_size_t(0)
-        code = _library.update(byref(self._held), *pair, None, 0, byref(length))
+        code = _library.update_silent(byref(self._held), *pair)
         if code:
             raise self._refused(Refusal(code), pair)
         return self.result
@@ -184,6 +216,50 @@ class Battle:
     def state(self) -> State:
         """The whole state of the battle, as dataclasses."""
         return state_of(self._held)
+
+    def with_state(self: B, **changes: Any) -> B:
+        """The same battle with other fields of its state: `battle.with_state(turn=10, last_damage=50)`.
+
+        For the fields of a member use `State.with_member` and `State.with_active`, and `from_state`. Raises as `from_state` does, and
+        `BadType` for a field that a `State` does not have.
+        """
+        return self.from_state(changed(self.state, changes))
+
+    def with_hp(self: B, side: Side | int, place: int, hp: int) -> B:
+        """The same battle with other HP of the member at a place, from 1.
+
+        Raises `BadState` if the HP are above the maximum, or the battle would have ended; `BadArgument` for a place without a member.
+        """
+        return self.from_state(self.state.with_member(side, place, hp=hp))
+
+    def with_status(self: B, side: Side | int, place: int, status: Status, turns: int = 0) -> B:
+        """The same battle with another status of the member at a place, from 1, without the Toxic counter.
+
+        A new sleep lasts `turns`, 1 to 7, which another status ignores. If the member is out, its current stats are computed anew from its
+        stages and the new status. Raises `BadState` if the turns are not 1 to 7, or the member has fallen; `BadArgument` for a place
+        without a member.
+        """
+        number, sleep = within(status, "status", 0, 5), whole(turns, "turns")
+        state = self.state.with_member(side, place, status=Status(number), sleep=sleep if number == Status.SLEEP else 0, marked=False)
+        active = state.side(side).active
+        if active is not None and active.place == place:
+            state = state.with_active(side, stats=(0, 0, 0, 0))
+        return self.from_state(state)
+
+    def with_stage(self: B, side: Side | int, stat: Stat | int, stage: int) -> B:
+        """The same battle with another stage, -6 to 6, of a stat of the member that is out.
+
+        Its current stats are computed anew from its stages and its status. Raises `BadState` if the stage is not -6 to 6; `BadArgument`
+        for a stat that is not 1 to 6, and before the first update.
+        """
+        at, state = within(stat, "stat", 1, 6), self.state.with_active(side, stats=(0, 0, 0, 0))
+        before = state.side(side).active
+        stages = before.stages if before else ()
+        return self.from_state(state.with_active(side, stages=(*stages[: at - 1], stage, *stages[at:])))
+
+    def own_side(self, side: Side | int) -> OwnSide:
+        """What a side is shown of itself. Nothing of it depends on the foe, but whether its trapping move holds the active member."""
+        return own_side_of(self._held, a_side(side))
 
     def words(self, side: Side | int, choice: Choice | int) -> str:
         """A choice of a side in words, such as "move 2 Body Slam" or "switch 3 Gengar". It need not be offered.
@@ -225,14 +301,26 @@ class Battle:
     def odds(self, side: Side | int, move: Move | str | int) -> Odds:
         """The odds of a side's move in the current state: its damage, and its chances of a hit and of a critical hit.
 
-        The member need not know the move. The accuracy is that of a new use; the one that Thrash and Rage keep is ignored. Raises
-        `NoDamage` if no member is out, `BadTeam` for an unknown move.
+        The member need not know the move. A move that goes on under Rage, Thrash or Petal Dance is tested with the accuracy that was kept.
+        Raises `NoDamage` if no member is out, `BadTeam` for an unknown move.
         """
         of, known = OddsStruct(), a_move(move)
         code = _library.odds_now(byref(self._held), a_side(side), known, byref(of))
         if code:
             raise no_damage(DamageFault(code), known)
         return odds_of(of, known)
+
+    def knock_out(self, side: Side | int, move: Move | str | int) -> Chances:
+        """The exact chance that a side's move knocks out the foe's active member, with one use and with two in a row.
+
+        Against a substitute it is the chance to break it. The member need not know the move, and the chance of a move that charges is that
+        of its strike. Raises `NoDamage` if no member is out, `BadTeam` for an unknown move.
+        """
+        of, known = ChancesStruct(), a_move(move)
+        code = _library.knock_out(byref(self._held), a_side(side), known, byref(of))
+        if code:
+            raise no_damage(DamageFault(code), known)
+        return chances_of(of)
 
     def damage(self, side: Side | int, move: Move | str | int, critical: bool = False) -> tuple[int, ...]:
         """The damage of a side's move in the current state: 39 numbers in HP, in rising order.
@@ -263,7 +351,7 @@ def battle_of(held: Any) -> Battle:
 
 def result_of(held: Any) -> Result:
     """The result of the battle with these 384 bytes."""
-    return _RESULTS[_library.result(byref(held))]
+    return RESULTS[_library.result(byref(held))]
 
 
 def sides_of(one: TeamLike, two: TeamLike) -> tuple[Team, Team]:
@@ -292,7 +380,7 @@ def _load_text(code: LoadFault, given: "bytes") -> str:
 CHOICES = c_uint8 * 9
 CHOICE = {int(it): it for it in Choice}
 _DAMAGES, _WORDS = c_uint16 * DAMAGES, c_char * _library.WORDS_ROOM
-_RESULTS = {
+RESULTS = {
     outcome | one << 3 | two << 5: Result(outcome, (one, two)) for outcome in Outcome for one in Request for two in Request
 }
 

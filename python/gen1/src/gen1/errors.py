@@ -2,7 +2,7 @@
 
 from typing import Any
 
-from gen1.names import DamageFault, LoadFault, LogFault, NewFault, Refusal, RoomRefusal, TextFault
+from gen1.names import DamageFault, LoadFault, LogFault, NewFault, Refusal, RoomRefusal, StateField, TextFault
 
 
 class Error(Exception):
@@ -67,6 +67,34 @@ class BadBytes(BadArgument):
         self.code = code
 
 
+class BadState(BadArgument):
+    """A field of a state is wrong.
+
+    `code` is the library's number of the field, and `field` its name in the dataclasses ("hp", "active.stages[2]"). `side` is 1 or 2, or 0
+    for a field of the whole battle. `place` is that of the member, 1 to 6, or 0 for a field of an active member or of the whole battle.
+    `index` says which one of several, from 0; None for a field that stands once. `value` is what the field has, and `low` and `high` are
+    the least and the greatest that it may have. A value from `low` to `high` does not fit the other fields.
+    """
+
+    def __init__(
+        self,
+        said: str,
+        *,
+        code: StateField,
+        field: str,
+        side: int = 0,
+        place: int = 0,
+        index: int | None = None,
+        value: int,
+        low: int,
+        high: int,
+    ) -> None:
+        where = [f"side {side}"] * bool(side) + [f"member {place}"] * bool(place)
+        super().__init__(f"{', '.join(where)}: {said}" if where else said)
+        self.code, self.field, self.side, self.place, self.index = code, field, side, place, index
+        self.value, self.low, self.high = value, low, high
+
+
 class BadLog(BadArgument):
     """Bytes are not a log (docs/MECHANICS.md, "Log bytes").
 
@@ -96,16 +124,16 @@ class Refused(Error):
 
 
 class RoomRefused(Refused):
-    """A room refused a choice (docs/MECHANICS.md, "Rooms"); the room is unchanged.
+    """A room refused a choice or a forfeit (docs/MECHANICS.md, "Rooms"); the room is unchanged.
 
-    `side` is the side that submitted it, `number` the pair that it was for, `current` the number of the current pair, `choice` the byte,
-    and `offered` what the side may submit. None of them reveals the foe's choice.
+    `side` is the side that submitted it, `number` the pair that it was for, `current` the number of the current pair, `choice` the byte
+    (None for a forfeit), and `offered` what the side may submit. None of them reveals the foe's choice.
     """
 
     code: RoomRefusal
 
     def __init__(
-        self, code: RoomRefusal, said: str, *, side: int, number: int, current: int, choice: int, offered: tuple[int, ...]
+        self, code: RoomRefusal, said: str, *, side: int, number: int, current: int, choice: int | None, offered: tuple[int, ...]
     ) -> None:
         super().__init__(code, said, side, choice, offered)
         self.number, self.current = number, current

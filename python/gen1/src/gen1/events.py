@@ -1,13 +1,14 @@
-"""The events of a log as dataclasses (docs/MECHANICS.md, "Events"), and its lines."""
+"""The events of a log as dataclasses (docs/MECHANICS.md, "Events"), its lines, and the bytes of events."""
 
-from ctypes import byref, c_size_t, create_string_buffer
-from dataclasses import dataclass
-from typing import TYPE_CHECKING, ClassVar
+from collections.abc import Iterable, Iterator
+from ctypes import byref, c_size_t, c_uint8, create_string_buffer
+from dataclasses import dataclass, fields
+from typing import TYPE_CHECKING, Any, ClassVar
 
 from gen1 import _library
-from gen1._check import octets
+from gen1._check import cut, listed, octets, shown, whole
 from gen1.choices import Side
-from gen1.errors import BadLog
+from gen1.errors import BadArgument, BadLog, BadType
 from gen1.names import EventKind, LogFault, Move, Reason, Source, Species, Stat, Status, Volatile
 
 if TYPE_CHECKING:
@@ -343,3 +344,46 @@ def lines(log: "ReadableBuffer") -> list[str]:
     if code != _library.LOG_END:
         raise BadLog(LogFault(code), at.value)
     return found
+
+
+def log_bytes(given: Iterable[Event]) -> bytes:
+    """The log bytes of events (docs/MECHANICS.md, "Log bytes"), from which `events` reads the same events.
+
+    Raises `BadArgument` for an event with a field that is out of its range, `BadType`.
+    """
+    found, room, length = [], _EVENT_BYTES(), c_size_t(0)
+    for at, it in enumerate(listed(given, "events")):
+        if not isinstance(it, Event) or not hasattr(it, "kind"):
+            raise BadType(f"events[{at}] must be an event, not {shown(it)}")
+        of = _library.EventStruct(tag=it.kind)
+        for name, value in _numbers(it, f"events[{at}]"):
+            most = 65_535 if name in ("hp", "max_hp", "turn") else 255
+            number = whole(value, f"events[{at}]: {name}")
+            setattr(of, name, number if 0 <= number <= most else most)
+        if _library.event_bytes(byref(of), room, byref(length)):
+            raise BadArgument(f"events[{at}] must have fields in their ranges: {cut(shown(it))}")
+        found.append(bytes(room[: length.value]))
+    return b"".join(found)
+
+
+def _numbers(event: Event, what: str) -> Iterator[tuple[str, Any]]:
+    """The fields of an event, with their names in the library's struct."""
+    for name in (it.name for it in fields(event)):
+        value = getattr(event, name)
+        for part, kind in (("who", Who), ("foe", Who), ("health", Health)):
+            if name == part and not isinstance(value, kind):
+                raise BadType(f"{what}: {name} must be a {kind.__name__}, not {shown(value)}")
+        if isinstance(value, Who):
+            before = "target_" if name == "foe" else ""
+            yield from ((f"{before}side", value.side), (f"{before}species", value.species))
+        elif isinstance(value, Health):
+            yield from (("hp", value.hp), ("max_hp", value.max_hp), ("status", value.status))
+        else:
+            yield _DETAILS.get(name, name), value
+
+
+_EVENT_BYTES = c_uint8 * 10
+_DETAILS = {
+    **dict.fromkeys(("reason", "source", "volatile", "stat", "fault"), "detail"),
+    **dict.fromkeys(("stages", "hits"), "amount"),
+}

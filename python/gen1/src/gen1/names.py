@@ -500,30 +500,30 @@ class NewFault(Named):
 class LoadFault(Named):
     """The first test that bytes fail (docs/LAYOUT.md, "Loading"), of `BadBytes.code`."""
 
-    LENGTH = 1, "length"
-    VERSION = 2, "version"
-    HEADER = 3, "header"
-    MEMBER = 4, "member"
-    ACTIVE = 5, "active"
-    STAT = 6, "stat"
-    REQUEST = 7, "request"
+    LENGTH = 16, "length"
+    VERSION = 17, "version"
+    HEADER = 18, "header"
+    MEMBER = 19, "member"
+    ACTIVE = 20, "active"
+    STAT = 21, "stat"
+    REQUEST = 22, "request"
 
 
 class Refusal(Named):
     """Why an update was refused, of `Refused.code`."""
 
-    OVER = 1, "the battle is over"
-    NOT_OFFERED_ONE = 2, "side 1's choice was not offered (nor perhaps side 2's)"
-    NOT_OFFERED_TWO = 3, "side 2's was not"
+    OVER = 24, "the battle is over"
+    NOT_OFFERED_ONE = 25, "side 1's choice was not offered (nor perhaps side 2's)"
+    NOT_OFFERED_TWO = 26, "side 2's was not"
 
 
 class RoomRefusal(Named):
     """Why a room refused a choice, of `RoomRefused.code`."""
 
-    OVER = 1, "the battle is over"
-    STALE = 2, "the number is not that of the current pair"
-    CHOSEN = 3, "the side's choice is there"
-    NOT_OFFERED = 4, "the choice is none that the side is offered"
+    OVER = 24, "the battle is over"
+    STALE = 52, "the number is not that of the current pair"
+    CHOSEN = 53, "the side's choice is there"
+    NOT_OFFERED = 54, "the choice is none that the side is offered"
 
 
 class EventKind(Named):
@@ -562,38 +562,156 @@ class EventKind(Named):
 class LogFault(Named):
     """Why bytes are not a log, of `BadLog.code`."""
 
-    TAG = 1, "a byte in a tag's place is no tag"
-    FIELD = 2, "a field of an event is out of its range"
-    CUT = 3, "the bytes end within an event"
+    TAG = 32, "a byte in a tag's place is no tag"
+    FIELD = 33, "a field of an event is out of its range"
+    CUT = 34, "the bytes end within an event"
 
 
 class TextFault(Named):
     """What was expected in a text of a team, of `BadText.code`."""
 
-    SPECIES = 1, "the name of a species of the first generation"
-    ITEM = 2, "no item: the first generation has none"
-    SEVENTH_MEMBER = 3, "at most six members"
-    LEVEL = 4, "a level from 1 to 100"
-    EVS = 5, 'EVs from 0 to 255, as "252 HP / 4 Atk", or packed as "252,4,,,,"'
-    SPECIAL_EVS = 6, "the same EVs for SpA and SpD: the first generation has one Special"
-    IVS = 7, 'IVs from 0 to 31, as "14 HP / 0 Atk", or packed as "14,0,,,,"'
-    SPECIAL_IVS = 8, "the same IVs for SpA and SpD"
-    HP_IV = 9, "the HP IV that follows from the others, or none"
-    MOVE = 10, "the name of a move of the first generation"
-    FIFTH_MOVE = 11, "at most four moves"
-    LINE = 12, 'a line of a member, as "Level: 50", "EVs: 252 HP", "IVs: 0 Atk" or "- Body Slam"'
-    FIELDS = 13, "packed: twelve fields with `|` between them"
-    TEAM = 14, "members that are a team: `rule` says why they are none, and `member` who is at fault"
+    SPECIES = 64, "the name of a species of the first generation"
+    ITEM = 65, "no item: the first generation has none"
+    SEVENTH_MEMBER = 66, "at most six members"
+    LEVEL = 67, "a level from 1 to 100"
+    EVS = 68, 'EVs from 0 to 255, as "252 HP / 4 Atk", or packed as "252,4,,,,"'
+    SPECIAL_EVS = 69, "the same EVs for SpA and SpD: the first generation has one Special"
+    IVS = 70, 'IVs from 0 to 31, as "14 HP / 0 Atk", or packed as "14,0,,,,"'
+    SPECIAL_IVS = 71, "the same IVs for SpA and SpD"
+    HP_IV = 72, "the HP IV that follows from the others, or none"
+    MOVE = 73, "the name of a move of the first generation"
+    FIFTH_MOVE = 74, "at most four moves"
+    LINE = 75, 'a line of a member, as "Level: 50", "EVs: 252 HP", "IVs: 0 Atk" or "- Body Slam"'
+    FIELDS = 76, "packed: twelve fields with `|` between them"
+    TEAM = 77, "members that are a team: `rule` says why they are none, and `member` who is at fault"
 
 
 class DamageFault(Named):
     """Why there is no damage, of `NoDamage.code`."""
 
-    SIDE = 1, "the side is neither 1 nor 2"
-    MOVE = 2, "the move is not 1 to 165"
-    UNUSUAL = 3, "it does not have the usual damage: no power, or a damage rule of its own"
-    NOBODY = 4, "nobody is out: the battle is before its first update"
-    DIVISOR = 5, "the defense that counts in this hit is 0, and the damage would be divided by it"
+    SIDE = 40, "the side is neither 1 nor 2"
+    MOVE = 11, "a move is not 1 to 165"
+    UNUSUAL = 48, "it does not have the usual damage: no power, or a damage rule of its own"
+    DIVISOR = 49, "the defense that counts in this hit is 0, and the damage would be divided by it"
+    NOBODY = 50, "nobody is out: the battle is before its first update"
+
+
+class Effect(Named):
+    """What a move does besides its damage (docs/TABLES.md, "Effects"), of `MoveData.effect`."""
+
+    DAMAGE_ONLY = 0, "damage only"
+    ALWAYS_FAILS = 1, "always fails"
+    MULTI_HIT = 2, "multi hit"
+    PAY_DAY = 3, "pay day"
+    FREEZE_CHANCE = 4, "freeze chance"
+    CHARGE = 5, "charge"
+    CHARGE_INVULNERABLE = 6, "charge invulnerable"
+    TRAPPING = 7, "trapping"
+    ONE_HIT_KNOCK_OUT = 8, "one hit knock out"
+    DOUBLE_HIT = 9, "double hit"
+    TWINEEDLE = 10, "twineedle"
+    CRASH_ON_MISS = 11, "crash on miss"
+    RECOIL = 12, "recoil"
+    THRASH = 13, "thrash"
+    INFLICT_SLEEP = 14, "inflict sleep"
+    INFLICT_CONFUSION = 15, "inflict confusion"
+    FIXED_DAMAGE = 16, "fixed damage"
+    DISABLE = 17, "disable"
+    MIST = 18, "mist"
+    RECHARGE = 19, "recharge"
+    COUNTER = 20, "counter"
+    DRAIN = 21, "drain"
+    LEECH_SEED = 22, "leech seed"
+    INFLICT_POISON = 23, "inflict poison"
+    INFLICT_PARALYSIS = 24, "inflict paralysis"
+    RAGE = 25, "rage"
+    LEFT_OUT = 26, "left out"
+    HEAL = 27, "heal"
+    SCREEN = 28, "screen"
+    HAZE = 29, "haze"
+    FOCUS_ENERGY = 30, "focus energy"
+    BIDE = 31, "bide"
+    EXPLODE = 32, "explode"
+    NEVER_MISSES = 33, "never misses"
+    DREAM_EATER = 34, "dream eater"
+    SPLASH = 35, "splash"
+    CONVERSION = 36, "conversion"
+    SUPER_FANG = 37, "super fang"
+    SUBSTITUTE = 38, "substitute"
+    BURN_CHANCE = 39, "burn chance"
+    PARALYSIS_CHANCE = 40, "paralysis chance"
+    POISON_CHANCE = 41, "poison chance"
+    FLINCH_CHANCE = 42, "flinch chance"
+    CONFUSION_CHANCE = 43, "confusion chance"
+    STAT_DOWN_CHANCE = 44, "stat down chance"
+    STAT_UP = 45, "stat up"
+    STAT_DOWN = 46, "stat down"
+
+
+class OddsReason(Named):
+    """Why a use of a move cannot hit, of `Odds.reason`."""
+
+    FALLEN = 1, "the user or the foe has no HP"
+    LEFT_OUT = 2, "the engine leaves the move out: Metronome, Mimic, Mirror Move, Transform"
+    ALWAYS_FAILS = 3, "the move fails in every battle: Roar, Teleport, Whirlwind"
+    IMMUNE = 4, "the move's type has no effect on a type of the foe"
+    NO_DAMAGE = 5, "the damage is 0 after types"
+    FAULT = 6, "the battle would end with a fault: a divisor of 0, or Psywave at level 1"
+    SLOWER = 7, "a one-hit move, and the user is slower than the foe"
+    NOTHING_TO_COUNTER = 8, "the last damage is 0, or the foe's picked move cannot be countered"
+    NO_ENERGY = 9, "Bide has no damage to let out"
+    AWAKE = 10, "Dream Eater, and the foe is awake"
+    INVULNERABLE = 11, "the foe has flown up or dug in"
+    MIST = 12, "Mist guards the foe's stats"
+    SUBSTITUTE = 13, "the foe's substitute keeps the move away"
+    HAS_STATUS = 14, "the foe has a status already"
+    OWN_TYPE = 15, "the foe's type guards it: Poison, Grass, or Ground against Electric paralysis"
+    CONFUSED = 16, "the foe is confused already"
+    SEEDED = 17, "the foe is seeded already"
+    DISABLED = 18, "one of the foe's moves is disabled already"
+    NO_PP = 19, "Disable, and none of the foe's moves has PP"
+    STAGE = 20, "the stage, or the stat, is at its end"
+    SLEEP_CLAUSE = 21, "the sleep clause: a member of the foe's side sleeps already"
+    ALREADY_UP = 22, "the user has the condition already"
+    HEALTH = 23, "the user's HP: a loss of 0, 255 or 511 is not healed; a substitute needs a quarter"
+
+
+class StateField(Named):
+    """Which field of a state is wrong, of `BadState.code`."""
+
+    UNNAMED = 0, "unnamed"
+    LIMIT = 1, "limit"
+    TURN = 2, "turn"
+    INDEX = 3, "index"
+    OUTCOME = 4, "outcome"
+    RULES = 5, "rules"
+    REQUEST = 6, "request"
+    SPECIES = 7, "species"
+    LEVEL = 8, "level"
+    MAX_HP = 9, "max hp"
+    HP = 10, "hp"
+    OWN_STAT = 11, "own stat"
+    STATUS = 12, "status"
+    SLEEP = 13, "sleep"
+    MARKED = 14, "marked"
+    MOVE = 15, "move"
+    PP = 16, "pp"
+    PLACE = 17, "place"
+    TYPE = 18, "type"
+    STAGE = 19, "stage"
+    CONDITIONS = 20, "conditions"
+    SUBSTITUTE = 21, "substitute"
+    CONFUSION = 22, "confusion"
+    DISABLED_SLOT = 23, "disabled slot"
+    DISABLED_TURNS = 24, "disabled turns"
+    BAD_POISON = 25, "bad poison"
+    TURNS = 26, "turns"
+    ENERGY = 27, "energy"
+    KEPT_ACCURACY = 28, "kept accuracy"
+    CURRENT_MOVE = 29, "current move"
+    PICKED_MOVE = 30, "picked move"
+    TIED_CONDITION = 31, "tied condition"
+    CURRENT_STAT = 32, "current stat"
 
 
 # The version of include/gen1.h that these are made of: its major, its minor and its third number.

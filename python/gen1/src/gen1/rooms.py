@@ -7,7 +7,7 @@ from typing import Any
 from gen1 import _library
 from gen1._check import shown, within
 from gen1._structs import LOG_ROOM, RoomStruct
-from gen1.battle import CHOICE, CHOICES, Battle, Result, Update, battle_of, result_of
+from gen1.battle import CHOICE, CHOICES, RESULTS, Battle, Result, Update, battle_of
 from gen1.choices import Choice, Side, a_choice, a_side, not_offered
 from gen1.errors import BadType, RoomRefused
 from gen1.names import RoomRefusal
@@ -18,9 +18,9 @@ NUMBERS = (1 << 32) - 1
 class Room:
     """A battle of two players: it keeps the first choice of a pair until the other one comes, and then updates the battle.
 
-    Pairs are numbered from 0. Until a pair has ended, no call reveals which of the offered choices a side has made. Two rooms are equal if
-    their battles, numbers, logs and choices are equal; a room has no hash. Several threads may use one room, for example the handlers of
-    both players.
+    Pairs are numbered from 0. Until a pair has ended, no call reveals which of the offered choices a side has made. A side may forfeit. Two
+    rooms are equal if their battles, numbers, logs, choices and forfeits are equal; a room has no hash. Several threads may use one room,
+    for example the handlers of both players.
     """
 
     # Each call of the library is atomic for other threads; the lock makes methods with several calls atomic.
@@ -36,13 +36,18 @@ class Room:
 
     @property
     def battle(self) -> Battle:
-        """A copy of the battle. It includes what the players must not know."""
+        """A copy of the battle. It includes what the players must not know. A forfeit does not change it."""
         return battle_of(self._held.battle)
 
     @property
     def result(self) -> Result:
-        """The outcome so far, and what is asked of each side."""
-        return result_of(self._held.battle)
+        """The outcome so far, and what is asked of each side. After a forfeit the other side has won, and nothing is asked."""
+        return RESULTS[_library.room_result(byref(self._held))]
+
+    @property
+    def forfeited(self) -> Side | None:
+        """The side that has forfeited; None if neither has."""
+        return Side(self._held.forfeit) if self._held.forfeit else None
 
     @property
     def number(self) -> int:
@@ -58,8 +63,8 @@ class Room:
     def choices(self, side: Side | int) -> tuple[Choice, ...]:
         """The choices that a side may submit for the current pair, in rising order.
 
-        There are none if the battle is over, or if the side has chosen. A side that is asked for nothing has chosen from the beginning.
-        Raises `BadArgument`, `BadType` for a value that is not a side.
+        There are none if the battle is over, a side has forfeited, or the side has chosen. A side that is asked for nothing has chosen from
+        the beginning. Raises `BadArgument`, `BadType` for a value that is not a side.
         """
         room = CHOICES()
         count = _library.room_choices(byref(self._held), a_side(side), room)
@@ -80,8 +85,21 @@ class Room:
                 raise self._refused(RoomRefusal(code), known, pair, byte)
             return Update(self.result, self.log) if self.number != before else None
 
+    def forfeit(self, side: Side | int) -> Update:
+        """Ends the current pair by a forfeit of a side: the other side wins. Choices that were submitted for this pair are dropped.
+
+        Returns the update, whose log is the one event of the win. `number` has risen by one, and every later submission is refused as over.
+        Raises `RoomRefused` if the battle is over or a side has forfeited, and then the room is unchanged; `BadArgument` and `BadType` for
+        what is not a side.
+        """
+        known = a_side(side)
+        with self._lock:
+            if _library.room_forfeit(byref(self._held), known):
+                raise self._refused(RoomRefusal.OVER, known, self.number, None)
+            return Update(self.result, self.log)
+
     def copy(self) -> "Room":
-        """An independent copy with the same battle, number, log and choices."""
+        """An independent copy with the same battle, number, log, choices and forfeit."""
         made = Room.__new__(Room)
         made._held, made._lock = RoomStruct.from_buffer_copy(self._held), RLock()
         return made
@@ -104,27 +122,28 @@ class Room:
     def __repr__(self) -> str:
         return f"<Room, pair {self.number}, {self.result.outcome.label}>"
 
-    def _parts(self) -> tuple[bytes, int, bytes, bytes]:
-        """Its whole state: battle, number, choices and log."""
+    def _parts(self) -> tuple[bytes, int, bytes, bytes, int]:
+        """Its whole state: battle, number, choices, log and forfeit."""
         with self._lock:
-            return bytes(self._held.battle), self.number, bytes(self._held.chosen), self.log
+            return bytes(self._held.battle), self.number, bytes(self._held.chosen), self.log, int(self._held.forfeit)
 
-    def _refused(self, code: RoomRefusal, side: int, number: int, byte: int) -> RoomRefused:
+    def _refused(self, code: RoomRefusal, side: int, number: int, byte: int | None) -> RoomRefused:
         offered = self.choices(side)
         said = {
             RoomRefusal.OVER: f"{code.label}: {self.result.outcome.label}",
             RoomRefusal.STALE: f"{code.label}: {number}; the current pair is {self.number}",
             RoomRefusal.CHOSEN: f"{code.label}: side {side} can submit nothing more for pair {number}",
-            RoomRefusal.NOT_OFFERED: not_offered(side, byte, offered),
+            RoomRefusal.NOT_OFFERED: not_offered(side, byte or 0, offered),
         }[code]
         return RoomRefused(code, said, side=side, number=number, current=self.number, choice=byte, offered=offered)
 
 
-def _restored(battle: bytes, number: int, chosen: bytes, log: bytes) -> Room:
+def _restored(battle: bytes, number: int, chosen: bytes, log: bytes, forfeit: int = 0) -> Room:
     """The room that was pickled."""
     made = Room.__new__(Room)
     made._lock = RLock()
     made._held = RoomStruct(number=within(number, "number", 0, NUMBERS), log_length=within(len(log), "log", 0, LOG_ROOM))
     made._held.battle[:] = Battle.load(battle).bytes
     made._held.chosen[:], made._held.log[: len(log)] = chosen, log
+    made._held.forfeit = within(forfeit, "forfeit", 0, 2)
     return made

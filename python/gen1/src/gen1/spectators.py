@@ -80,7 +80,7 @@ class Spectator:
         given = octets(log, "log")
         code = _library.spectator_feed(byref(self._held), given, len(given))
         if code:
-            raise BadLog(LogFault(code), _fault_place(self.held + given) - len(self.held))
+            raise BadLog(LogFault(code), fault_place(self.held + given) - len(self.held))
 
     @property
     def state(self) -> ShownState:
@@ -124,7 +124,7 @@ def _shown(of: ShownSideStruct) -> ShownSide:
     return ShownSide(members, of.place, stages_of(of.stages), *up)
 
 
-def _fault_place(log: bytes) -> int:
+def fault_place(log: bytes) -> int:
     """The offset of the first event that cannot be read."""
     at, of = c_size_t(0), _library.EventStruct()
     while _library.next_event(log, len(log), byref(at), byref(of)) == 0:

@@ -1,13 +1,17 @@
-"""The whole state of a battle, as dataclasses."""
+"""The whole state of a battle, as dataclasses. `Battle.from_state` makes a battle of a state that was changed."""
 
 from ctypes import byref
-from dataclasses import dataclass
-from typing import Any
+from dataclasses import dataclass, fields, replace
+from typing import Any, TypeVar
 
 from gen1 import _library
+from gen1._check import shown, within
 from gen1._structs import ActiveStateStruct, MemberStateStruct, SideStateStruct, StateStruct
-from gen1.choices import Rules
+from gen1.choices import Rules, Side, a_side
+from gen1.errors import BadArgument, BadType
 from gen1.names import Conditions, Move, Outcome, Request, Species, Stat, Status, Type
+
+S = TypeVar("S", "MemberState", "ActiveState", "SideState", "State")
 
 
 @dataclass(frozen=True)
@@ -73,7 +77,8 @@ class SideState:
 class State:
     """The whole state of a battle: both sides; turn (0 before the first update) and limit; the last damage, 0 to 65,535; and so on.
 
-    `index`, 0 to 8, says which of the first nine `numbers` is drawn next; the tenth is never drawn.
+    `index`, 0 to 8, says which of the first nine `numbers` is drawn next; the tenth is never drawn. A state is never changed in place:
+    `with_member`, `with_active` and `dataclasses.replace` return changed ones.
     """
 
     one: SideState
@@ -86,6 +91,48 @@ class State:
     requests: tuple[Request, Request]
     index: int
     numbers: tuple[int, ...]
+
+    def side(self, side: Side | int) -> SideState:
+        """A side: `one` or `two`."""
+        return self.one if a_side(side) == 1 else self.two
+
+    def member(self, side: Side | int, place: int) -> MemberState:
+        """The member of a side at a place, from 1. Raises `BadArgument` if there is none."""
+        members = self.side(side).members
+        return members[within(place, f"side {int(side)}'s place", 1, len(members)) - 1]
+
+    def with_member(self, side: Side | int, place: int, **changes: Any) -> "State":
+        """The same state with other fields of the member at a place, from 1: `state.with_member(Side.ONE, 2, hp=30)`.
+
+        Raises `BadArgument` for a place without a member, and `BadType` for a field that a `MemberState` does not have.
+        """
+        known, other = a_side(side), changed(self.member(side, place), changes)
+        members = self.side(known).members
+        return self._with_side(known, members=(*members[: place - 1], other, *members[place:]))
+
+    def with_active(self, side: Side | int, **changes: Any) -> "State":
+        """The same state with other fields of the member that is out: `state.with_active(Side.ONE, substitute=88)`.
+
+        Raises `BadArgument` before the first update, and `BadType` for a field that an `ActiveState` does not have.
+        """
+        known = a_side(side)
+        active = self.side(known).active
+        if active is None:
+            raise BadArgument(f"side {known} has nobody out: the battle is before its first update")
+        return self._with_side(known, active=changed(active, changes))
+
+    def _with_side(self, side: int, **changes: Any) -> "State":
+        other = replace(self.side(side), **changes)
+        return replace(self, one=other) if side == 1 else replace(self, two=other)
+
+
+def changed(of: S, changes: dict[str, Any]) -> S:
+    """The same with other fields. Raises `BadType` for a field that it does not have."""
+    names = [it.name for it in fields(of)]
+    for name in changes:
+        if name not in names:
+            raise BadType(f"{type(of).__name__} has no field {shown(name)}; its fields: {', '.join(names)}")
+    return replace(of, **changes)
 
 
 def struct_of_state(held: Any) -> StateStruct:

@@ -1,10 +1,15 @@
-"""The rows of species and moves (docs/TABLES.md)."""
+"""The rows of species and moves, and the type chart (docs/TABLES.md)."""
 
+from ctypes import byref, c_uint8
 from dataclasses import dataclass
+from fractions import Fraction
 
+from gen1 import _library
 from gen1._check import move as a_move
 from gen1._check import species as a_species
-from gen1.names import Move, Species, Type
+from gen1._check import within
+from gen1._structs import MoveStruct
+from gen1.names import Effect, Move, Species, Type
 from gen1.rows import MOVE_ROWS, SPECIES_ROWS
 
 
@@ -25,12 +30,17 @@ class MoveData:
     """A move: its type, its power, 0 to 170, its accuracy in percent, 30 to 100, and its PP without PP ups.
 
     One-hit moves, Counter, Super Fang and moves with a fixed damage have power 1; Night Shade, Bide and moves without damage have power 0.
+    `priority` is 1 for Quick Attack, which comes before any other move, -1 for Counter, which comes after any, and 0 for others.
+    `high_critical` marks the four moves that are often critical.
     """
 
     type: Type
     power: int
     accuracy: int
     pp: int
+    effect: Effect
+    priority: int
+    high_critical: bool
 
 
 def base(species: Species | str | int) -> Base:
@@ -41,5 +51,17 @@ def base(species: Species | str | int) -> Base:
 
 def move_data(move: Move | str | int) -> MoveData:
     """The row of a move. Raises `BadTeam` for an unknown one."""
-    kind, power, accuracy, pp = MOVE_ROWS[a_move(move) - 1]
-    return MoveData(Type(kind), power, accuracy, pp)
+    known, of = a_move(move), MoveStruct()
+    kind, power, accuracy, pp = MOVE_ROWS[known - 1]
+    _library.move_row(known, byref(of))
+    return MoveData(Type(kind), power, accuracy, pp, Effect(of.effect), of.priority, of.high_critical == 1)
+
+
+def effectiveness(attack: Type | int, foe: Type | int) -> Fraction:
+    """By what a move of one type multiplies its damage to a foe of one type: 2, 1, 1/2 or 0.
+
+    For a foe of two different types both count, one after the other. Raises `BadArgument`, `BadType`.
+    """
+    tenths = c_uint8(0)
+    _library.effectiveness(within(attack, "attack", 0, 14), within(foe, "foe", 0, 14), byref(tenths))
+    return Fraction(tenths.value, 10)

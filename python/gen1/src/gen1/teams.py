@@ -1,7 +1,7 @@
 """Members and teams (docs/MECHANICS.md, "Teams"), from dicts and back. The library applies the rules of teams."""
 
 from collections.abc import Iterable, Iterator, Mapping
-from ctypes import byref
+from ctypes import byref, c_uint16
 from dataclasses import dataclass, field
 from typing import Any, overload
 
@@ -13,6 +13,7 @@ from gen1.errors import BadTeam, BadType
 from gen1.names import Move, Named, NewFault, Species
 from gen1.team_text import read_packed, read_text, written
 
+STATS = c_uint16 * 5
 KEYS = ("species", "level", "dvs", "exp", "moves")
 FIELDS = {
     NewFault.LEVEL: "level",
@@ -59,6 +60,13 @@ class Member:
             if not 0 <= it <= 65535:
                 raise BadTeam(f"exp[{at}] must be 0 to 65,535, not {digits(it)}", field="exp")
         _test([self])
+
+    @property
+    def stats(self) -> tuple[int, ...]:
+        """Its maximum HP, 11 to 999, and its own Attack, Defense, Speed and Special, 5 to 999."""
+        found = STATS()
+        _library.member_stats(byref(struct_of([self]).members[0]), found)
+        return tuple(found)
 
     @classmethod
     def from_dict(cls, given: Mapping[str, Any]) -> "Member":

@@ -1,0 +1,138 @@
+"""What a side is shown of itself (docs/MECHANICS.md, "What a side is shown of itself")."""
+
+from ctypes import byref
+from dataclasses import dataclass
+from typing import Any
+
+from gen1 import _library
+from gen1._structs import OwnMemberStruct, OwnSideStruct
+from gen1.names import Conditions, Move, Outcome, Request, Species, Stat, Status, Type
+from gen1.states import stages_of
+
+
+@dataclass(frozen=True)
+class OwnMember:
+    """A member of the own side. `pp` has the PP of each move. `stats` are its own Attack, Defense, Speed and Special, 5 to 999.
+
+    A sleeping member does not show for how many turns.
+    """
+
+    species: Species
+    level: int
+    status: Status
+    moves: tuple[Move, ...]
+    pp: tuple[int, ...]
+    hp: int
+    max_hp: int
+    stats: tuple[int, ...]
+
+
+class OwnSide:
+    """What a side is shown of itself after each update (docs/MECHANICS.md, "What a side is shown of itself").
+
+    It comes from `Battle.own_side`. Nothing of it depends on the foe, except `held`. Two are equal if all of their fields are. Before the
+    first update no member is out: `place` is 0, and the fields of the member that is out are zeros.
+    """
+
+    __slots__ = ("_held",)
+    _held: OwnSideStruct
+
+    @property
+    def members(self) -> tuple[OwnMember, ...]:
+        """Its members in the order of their places."""
+        return tuple(_own_member(it) for it in self._held.members[: self._held.count])
+
+    @property
+    def place(self) -> int:
+        """The place of the member that is out, 1 to 6; 0 before the first update."""
+        return int(self._held.place)
+
+    @property
+    def active(self) -> OwnMember | None:
+        """The member that is out; None before the first update."""
+        return self.members[self.place - 1] if self.place else None
+
+    @property
+    def types(self) -> tuple[Type, Type]:
+        """Both types of the member that is out, the first twice for a member of one type; Normal before the first update."""
+        return Type(self._held.types[0]), Type(self._held.types[1])
+
+    @property
+    def stages(self) -> tuple[int, ...]:
+        """The stages of the member that is out, -6 to 6: Attack, Defense, Speed, Special, accuracy, evasion."""
+        return stages_of(self._held.stages) if self.place else (0,) * 6
+
+    @property
+    def stats(self) -> tuple[int, ...]:
+        """Attack, Defense, Speed and Special of the member that is out, with stages and penalties, 1 to 999."""
+        return tuple(self._held.stats)
+
+    @property
+    def conditions(self) -> Conditions:
+        """What the member that is out is under; never `Conditions.FLINCH`."""
+        return Conditions(self._held.conditions)
+
+    @property
+    def disabled_slot(self) -> int:
+        """The slot that Disable blocks, 1 to 4; 0 if none is."""
+        return int(self._held.disabled_slot)
+
+    @property
+    def held(self) -> bool:
+        """Whether the foe's trapping move holds the member that is out."""
+        return bool(self._held.held)
+
+    @property
+    def request(self) -> Request:
+        """What the side is asked for the next update."""
+        return Request(self._held.request)
+
+    @property
+    def turn(self) -> int:
+        """The turn, 1 up to the limit; 0 before the first."""
+        return int(self._held.turn)
+
+    @property
+    def outcome(self) -> Outcome:
+        """The outcome so far."""
+        return Outcome(self._held.outcome)
+
+    def stage(self, stat: Stat) -> int:
+        """The stage of a stat, -6 to 6."""
+        return self.stages[stat - 1]
+
+    def __reduce__(self) -> tuple[Any, ...]:
+        return own_side_from, (bytes(self._held),)
+
+    def __eq__(self, other: object) -> bool:
+        if not isinstance(other, OwnSide):
+            return NotImplemented
+        return bytes(self._held) == bytes(other._held)
+
+    def __hash__(self) -> int:
+        return hash(bytes(self._held))
+
+    def __repr__(self) -> str:
+        out = self.active
+        return f"<OwnSide, turn {self.turn}, {out.species.label if out else 'nobody'} out, asked {self.request}>"
+
+
+def _own_member(of: OwnMemberStruct) -> OwnMember:
+    slots = [at for at in range(4) if of.moves[at]]
+    moves, pp = tuple(Move(of.moves[at]) for at in slots), tuple(of.pp[at] for at in slots)
+    return OwnMember(Species(of.species), of.level, Status(of.status), moves, pp, of.hp, of.max_hp, tuple(of.stats))
+
+
+def own_side_of(held: Any, side: int) -> OwnSide:
+    """What a side of the battle with these 384 bytes is shown of itself."""
+    made = OwnSide.__new__(OwnSide)
+    made._held = OwnSideStruct()
+    _library.get_own_side(byref(held), side, byref(made._held))
+    return made
+
+
+def own_side_from(held: bytes) -> OwnSide:
+    """The `OwnSide` with the bytes of this struct."""
+    made = OwnSide.__new__(OwnSide)
+    made._held = OwnSideStruct.from_buffer_copy(held)
+    return made

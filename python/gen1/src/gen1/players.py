@@ -1,0 +1,327 @@
+"""What one side of a battle may know, and who tells it (docs/MECHANICS.md, "Player's view")."""
+
+from collections.abc import Iterable
+from ctypes import byref, c_size_t, create_string_buffer
+from dataclasses import dataclass, fields
+from typing import TYPE_CHECKING, Any
+
+from gen1 import _library
+from gen1._check import digits, listed, octets, shown, truth, whole, within
+from gen1._structs import LOG_ROOM, PlayerStruct, PublicSideStruct, SeenStruct, TellerStruct
+from gen1.battle import Battle, TeamLike
+from gen1.choices import Choice, Side, a_side
+from gen1.errors import BadArgument, BadLog, BadTeam, BadType
+from gen1.names import LogFault, Move, NewFault, Outcome, Species, Stat, Status, Type
+from gen1.own_sides import OwnSide, own_side_from
+from gen1.spectators import fault_place
+from gen1.states import stages_of
+from gen1.teams import as_team
+
+if TYPE_CHECKING:
+    from _typeshed import ReadableBuffer
+
+CHOICES = tuple(Choice)
+
+
+@dataclass(frozen=True)
+class SeenMove:
+    """A move that a member was seen to use, and how often: 1 to 255, where 255 is that many and more."""
+
+    move: Move
+    uses: int
+
+
+@dataclass(frozen=True)
+class Seen:
+    """A member as the log showed it last.
+
+    `hp` is 0 to `max_hp`, which is 48 for a foe whose HP is told in 48ths. `moves` are those that it was seen to use, at most five (four
+    and Struggle), in the order of their first use.
+    """
+
+    species: Species
+    level: int
+    hp: int
+    max_hp: int
+    status: Status
+    moves: tuple[SeenMove, ...]
+
+
+@dataclass(frozen=True)
+class Announced:
+    """The conditions of the active member that the log has announced and not ended.
+
+    `seeded` is Leech Seed, and `toxic` says that its poison is that of Toxic.
+    """
+
+    substitute: bool
+    confused: bool
+    mist: bool
+    focus_energy: bool
+    light_screen: bool
+    reflect: bool
+    seeded: bool
+    toxic: bool
+    disabled: bool
+    rage: bool
+    bide: bool
+    charging: bool
+    recharging: bool
+
+
+@dataclass(frozen=True)
+class PublicSide:
+    """What the log has made public of a side.
+
+    `members` of a player's own side are in the order of their places; those of the foe are the ones that have appeared, in the order in
+    which they did. `place` is that of the active member in this order, from 1, or 0 before the first came out. `active` is the active
+    member, or None. All later fields belong to it: `stages`, -6 to 6, of Attack, Defense, Speed, Special, accuracy and evasion; its types,
+    the first twice for a member of one type; the move that it used last, None since it came out; and the announced conditions.
+    """
+
+    members: tuple[Seen, ...]
+    place: int
+    active: Seen | None
+    stages: tuple[int, ...]
+    types: tuple[Type, Type]
+    last_move: Move | None
+    announced: Announced
+
+    def stage(self, stat: Stat) -> int:
+        """The stage of a stat, -6 to 6."""
+        return self.stages[stat - 1]
+
+
+class Player:
+    """What one side of a battle may know: its own side in full, and of the foe what the battle has shown.
+
+    A player is made of its own team, of the log that its side is told (`Teller`), of what it is shown of itself (`Battle.own_side`) and of
+    its choices, and of nothing else. So no stat, DV, PP, hidden count or number to be drawn of the foe reaches it. Give one to whatever
+    plays, in place of the `Battle`.
+
+    Two players are equal if they know the same and hold the same bytes of an incomplete event; a player has no hash. A player must be used
+    by one thread at a time.
+    """
+
+    __slots__ = ("_held",)
+    _held: PlayerStruct
+
+    def __init__(self, side: Side | int, team: TeamLike, foes: int | None = None) -> None:
+        """Creates the player of a side before the first update. It knows its own team, at full HP, and nothing of the foe.
+
+        `foes` is how many members the foe has, 1 to 6, or None if the player isn't to know it. Raises `BadTeam`, `BadArgument`, `BadType`.
+        """
+        known, own = a_side(side), as_team(team)
+        count = 0 if foes is None else within(foes, "foes", 1, 6)
+        self._held = PlayerStruct()
+        answer = _library.player_begin(byref(self._held), known, byref(own._struct), count)
+        if answer:
+            code = NewFault(answer & 0xFF)
+            raise BadTeam(code.label, member=answer >> 8 & 0xFF, code=code)
+
+    def feed(self, told: "ReadableBuffer") -> None:
+        """Reads the next bytes of the log that the side is told, in pieces of any size. An event counts as soon as its last byte is read.
+
+        Raises `BadLog` if these bytes, after those that are held, are not a log, and `BadType`; then the player is unchanged.
+        """
+        given = octets(told, "told")
+        code = _library.player_feed(byref(self._held), given, len(given))
+        if code:
+            raise BadLog(LogFault(code), fault_place(self.held + given) - len(self.held))
+
+    def show(self, own: OwnSide, offered: Iterable[Choice | int]) -> None:
+        """Replaces what the player was last shown of itself, and its choices, which may be in any order. Raises `BadArgument`, `BadType`."""
+        if not isinstance(own, OwnSide):
+            raise BadType(f"own must be an OwnSide, not {shown(own)}")
+        mask = 0
+        for at, it in enumerate(listed(offered, "offered")):
+            number = whole(it, f"offered[{at}]")
+            if number not in CHOICES:
+                raise BadArgument(f"offered[{at}] must be a choice, not {digits(number)}")
+            mask |= 1 << CHOICES.index(Choice(number))
+        _library.player_show(byref(self._held), byref(own._held), mask)
+
+    @property
+    def side(self) -> Side:
+        """The side that the player plays."""
+        return Side(self._held.side)
+
+    @property
+    def foes(self) -> int | None:
+        """How many members the foe has, 1 to 6; None if the player does not know."""
+        return int(self._held.foes) or None
+
+    @property
+    def own(self) -> OwnSide:
+        """What the side was last shown of itself; without members before the first time."""
+        return own_side_from(bytes(self._held.own))
+
+    def public(self, side: Side | int) -> PublicSide:
+        """What the log has made public of a side."""
+        return _public(self._held.known.sides[a_side(side) - 1])
+
+    @property
+    def foe(self) -> PublicSide:
+        """What the log has made public of the foe."""
+        return self.public(self.side.foe)
+
+    @property
+    def choices(self) -> tuple[Choice, ...]:
+        """The choices that the side is offered, in rising order. There are none before `show`, and once the battle is over."""
+        return tuple(it for at, it in enumerate(CHOICES) if self._held.offered >> at & 1)
+
+    @property
+    def turn(self) -> int:
+        """The turn, 1 to 9,999; 0 before the first."""
+        return int(self._held.known.turn)
+
+    @property
+    def outcome(self) -> Outcome:
+        """The outcome so far, from the log."""
+        return Outcome(self._held.known.outcome)
+
+    @property
+    def held(self) -> bytes:
+        """The bytes, at most 9, of an incomplete event."""
+        return bytes(self._held.held[: self._held.held_count])
+
+    def copy(self) -> "Player":
+        """An independent copy that knows the same."""
+        return _player(bytes(self._held))
+
+    __copy__ = copy
+
+    def __deepcopy__(self, _: object) -> "Player":
+        return self.copy()
+
+    def __reduce__(self) -> tuple[Any, ...]:
+        return _player, (bytes(self._held),)
+
+    def __eq__(self, other: object) -> bool:
+        if not isinstance(other, Player):
+            return NotImplemented
+        return bytes(self._held) == bytes(other._held)
+
+    __hash__ = None  # type: ignore[assignment]
+
+    def __repr__(self) -> str:
+        return f"<Player of {self.side.label}, turn {self.turn}, {self.outcome.label}>"
+
+
+class Teller:
+    """What the host of a battle keeps to tell one side of the events.
+
+    A side must not see the foe's places, so its log names the foe's members by the order of their appearance. It may also hide exact HP.
+    All else is told as it is. Two tellers are equal if they tell the same; a teller has no hash. A teller must be used by one thread at a
+    time.
+    """
+
+    __slots__ = ("_held",)
+    _held: TellerStruct
+
+    def __init__(self, side: Side | int, pixels: bool = False) -> None:
+        """Creates the teller of a side before the first event of a battle. With `pixels` HP of the foe is told in 48ths.
+
+        Raises `BadArgument`, `BadType`.
+        """
+        known, hides = a_side(side), truth(pixels, "pixels")
+        self._held = TellerStruct()
+        _library.teller_begin(byref(self._held), known, hides)
+
+    @property
+    def side(self) -> Side:
+        """The side that is told."""
+        return Side(self._held.side)
+
+    @property
+    def pixels(self) -> bool:
+        """Whether HP of the foe is told in 48ths."""
+        return bool(self._held.pixels)
+
+    @property
+    def places(self) -> tuple[int, ...]:
+        """The foe's places that have appeared, in this order."""
+        return tuple(it for it in self._held.places if it)
+
+    def tell(self, log: "ReadableBuffer") -> bytes:
+        """What the side is told of the log of an update: as many log bytes. Call it once for each update, in order.
+
+        Raises `BadLog`, `BadArgument` for more than 512 bytes, `BadType`; then the teller is unchanged.
+        """
+        given = octets(log, "log")
+        if len(given) > LOG_ROOM:
+            raise BadArgument(f"log must be that of an update, at most {LOG_ROOM} bytes, not {len(given):,}")
+        told, length = create_string_buffer(LOG_ROOM), c_size_t(0)
+        code = _library.tell(byref(self._held), given, len(given), told, LOG_ROOM, byref(length))
+        if code:
+            raise BadLog(LogFault(code), fault_place(given))
+        return told.raw[: length.value]
+
+    def report(self, battle: Battle, log: "ReadableBuffer", player: Player) -> None:
+        """Tells a player of the log of an update, and shows it its own side and its choices as the battle is now.
+
+        For a room, whose battle does not change by a forfeit, use `tell`, `Player.feed` and `Player.show` with `room.choices`. Raises
+        `BadLog`, `BadArgument` for a player of the other side, `BadType`; then teller and player are unchanged.
+        """
+        for value, kind, name in ((battle, Battle, "battle"), (player, Player, "player")):
+            if not isinstance(value, kind):
+                raise BadType(f"{name} must be a {kind.__name__}, not {shown(value)}")
+        if player.side is not self.side:
+            raise BadArgument(f"player must be of {self.side.label}, as the teller, not of {player.side.label}")
+        teller = self.copy()
+        player.feed(teller.tell(log))
+        player.show(battle.own_side(self.side), battle.choices(self.side))
+        self._held = teller._held
+
+    def copy(self) -> "Teller":
+        """An independent copy that tells the same."""
+        return _teller(bytes(self._held))
+
+    __copy__ = copy
+
+    def __deepcopy__(self, _: object) -> "Teller":
+        return self.copy()
+
+    def __reduce__(self) -> tuple[Any, ...]:
+        return _teller, (bytes(self._held),)
+
+    def __eq__(self, other: object) -> bool:
+        if not isinstance(other, Teller):
+            return NotImplemented
+        return bytes(self._held) == bytes(other._held)
+
+    __hash__ = None  # type: ignore[assignment]
+
+    def __repr__(self) -> str:
+        return f"<Teller of {self.side.label}{', in pixels' * self.pixels}>"
+
+
+def _seen(of: SeenStruct) -> Seen:
+    moves = tuple(SeenMove(Move(it.id), it.uses) for it in of.moves if it.id)
+    return Seen(Species(of.species), of.level, of.hp, of.max, Status(of.status), moves)
+
+
+def _public(of: PublicSideStruct) -> PublicSide:
+    members = tuple(_seen(it) for it in of.members if it.species)
+    announced = Announced(*(bool(getattr(of.announced, it.name)) for it in fields(Announced)))
+    return PublicSide(
+        members=members,
+        place=of.place,
+        active=_seen(of.members[of.place - 1]) if of.place else None,
+        stages=stages_of(of.stages),
+        types=(Type(of.first_type), Type(of.second_type)),
+        last_move=Move(of.last_move) if of.last_move else None,
+        announced=announced,
+    )
+
+
+def _player(held: bytes) -> Player:
+    made = Player.__new__(Player)
+    made._held = PlayerStruct.from_buffer_copy(held)
+    return made
+
+
+def _teller(held: bytes) -> Teller:
+    made = Teller.__new__(Teller)
+    made._held = TellerStruct.from_buffer_copy(held)
+    return made
