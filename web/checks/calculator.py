@@ -64,7 +64,25 @@ def stages_status_and_screens_count(browser):
     browser.fill("#calc-member-1 [name=stage-Accuracy]", "-6")
     browser.fill("#calc-member-1 [name=move-1]", "Guillotine")
     browser.wait("return document.querySelector(\"#calc-results-1 tr[data-move='Guillotine']\")")
+    # At stage -6 its accuracy, 76 of 256, is a quarter of that.
     assert "19 of 256" in browser.text("#calc-results-1 tr[data-move='Guillotine']")
+
+
+def chances_of_a_knock_out_and_fixed_damage_are_shown(browser):
+    """Seismic Toss deals 100 to Tauros, and misses with one byte of 256; a slower user's Fissure cannot hit."""
+    browser.open("#calculator")
+    member = {"species": "Tauros", "level": 100, "dvs": [15] * 4, "exp": [65535] * 5, "moves": [["Seismic Toss", 3], ["Fissure", 3]]}
+    for side in (1, 2):
+        type_member(browser, side, member)
+    cells = lambda move: browser.run(
+        "return [...document.querySelectorAll(`#calc-results-1 tr[data-move='${arguments[0]}'] td`)].slice(0, 8).map((it) => [it.textContent, it.title])", move)
+    for hp, share, hits, once, twice in (("200", "50%", "2", "0%", "99.2%"), ("100", "100%", "1", "99.6%", "over 99.9%")):
+        browser.fill("#calc-member-2 [name=hp]", hp)
+        found = cells("Seismic Toss")
+        assert [text for text, _ in found] == ["100", share, hits, "—", "—", once, twice, "255 of 256 (99.6%)"], found
+        assert found[6][1] == f"{'65,025' if hp == '200' else '65,535'} of 65,536 ways", found
+    browser.fill("#calc-member-1 [name=stage-Speed]", "-1")
+    assert cells("Fissure")[7][0] == "cannot succeed: the user is slower than the foe", cells("Fissure")
 
 
 def an_address_is_a_calculation(browser):
@@ -141,5 +159,5 @@ def a_hit_has_the_same_share_everywhere(browser):
 
 CHECKS = [
     half_a_name_is_no_fault_yet, too_many_hp_are_those_of_a_side, a_text_at_fault_is_that_of_a_side, a_hit_has_the_same_share_everywhere,
-    recorded_calculations_come_out, a_text_is_taken, stages_status_and_screens_count, an_address_is_a_calculation, a_wrong_field_is_said,
+    recorded_calculations_come_out, chances_of_a_knock_out_and_fixed_damage_are_shown, a_text_is_taken, stages_status_and_screens_count, an_address_is_a_calculation, a_wrong_field_is_said,
 ]

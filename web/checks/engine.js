@@ -56,7 +56,8 @@ check("errors are explained", () => {
   equal(message(() => engine.team("Mew\n- Mimic", "The text", 2)).startsWith("The team is refused: side 2, member 1: a move is left out"), true);
   equal(engine.team("", "The text", 1), []);
   equal(/^This is not the log of a battle: .* \(at byte 2\)\.$/.test(message(() => engine.events(Uint8Array.of(26, 1, 99)))), true);
-  equal([[MOVE, 18], [18, MOVE]].map((pair) => engine.update(begun("Strength").battle, ...pair).refused), [3, 2]);
+  equal([[MOVE, 18], [18, MOVE]].map((pair) => engine.update(begun("Strength").battle, ...pair).refused),
+    ["the choice of side 2 was not offered", "the choice of side 1 was not offered"]);
 });
 
 check("a spectator knows what the log shows", () => {
@@ -86,16 +87,18 @@ check("conditions are shown with their numbers", () => {
     "Seeded", "Bad poison, 5", "Light Screen", "Reflect", "Move 1 disabled"]);
 });
 
+const STANDS = { stages: Array(6).fill(6), status: 0, conditions: 0, hp: 0 };
+
 // Two Tauros that know Strength, in these states, with Body Slam as a further move of the first.
 function calculated(one, two = {}) {
-  const both = [one, two].map((it) => ({ member: tauros("Strength"), stages: Array(6).fill(6), status: 0, conditions: 0, hp: 0, ...it }));
+  const both = [one, two].map((it) => ({ ...STANDS, member: tauros("Strength"), ...it }));
   return engine.calculate(both, "Body Slam");
 }
 
 check("members have the state that is asked for", () => {
   const [user] = calculated({});
   const slam = user.moves.find(({ move }) => move === "Body Slam");
-  equal([slam.slot, slam.damage.slice(0, 3), slam.damage.slice(36), slam.hit, slam.bound], [0, [95, 95, 96], [111, 111, 112], [255, true], 55]);
+  equal([slam.slot, slam.damage.slice(0, 3), slam.damage.slice(36), slam.hit, slam.bound], [0, [95, 95, 96], [111, 111, 112], 255, 55]);
   const OWN = [298, 288, 318, 238];
   const stats = (...asked) => calculated(...asked).map(({ own, stats: now }) => [own, now]);
   equal(stats({ status: 16 })[0], [OWN, [149, 288, 318, 238]]);
@@ -105,6 +108,17 @@ check("members have the state that is asked for", () => {
   equal(calculated({ hp: 100 }).map(({ hp, max }) => [hp, max]), [[100, 353], [353, 353]]);
   equal(message(() => calculated({ stages: [13, 6, 6, 6, 6, 6] })), "The calculation is refused: the members cannot be in this state.");
   equal(message(() => calculated({ hp: 354 })), "The calculation is refused: the members cannot be in this state.");
+});
+
+check("what a use does to the HP", () => {
+  const found = (one, two, move) => calculated(one, two)[0].moves.find((it) => it.move === move);
+  // Body Slam deals 95 to 112, and each critical hit more. It hits with 255 of 256 bytes.
+  const { chanceOnce, chanceTwice } = found({}, { hp: 95 }, "Body Slam").knockOut;
+  equal([chanceOnce, chanceTwice], [255 / 256, 65535 / 65536]);
+  const users = (move) => engine.calculate([{ ...STANDS, member: tauros(move) }, { ...STANDS, member: tauros("Strength") }], "")[0].moves[0];
+  equal(["Seismic Toss", "Super Fang", "Fissure"].map((move) => users(move).fixed), [[100, 100], [176, 176], [65535, 65535]]);
+  equal([users("Fissure").hit, users("Fissure").reason, users("Recover").reason], [76, null, "the user's HP don't allow it"]);
+  equal([users("Swift").hit, users("Swift").reason], [null, null]);
 });
 
 check("the computer chooses the offered choice with the most damage", () => {

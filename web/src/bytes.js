@@ -2,10 +2,14 @@
 import { MOVES, SPECIES } from "gen1";
 import { Problem } from "./dom.js";
 
-/** @typedef {import("./engine.js").Member} Member */
+/**
+ * @typedef {import("./engine.js").Member} Member
+ * @typedef {import("./engine.js").Standing} Standing
+ */
 
-/** How many bytes a member has in an address. */
+/** How many bytes a member has in an address, and a member with its state. */
 export const MEMBER = 24;
+export const STANDING = MEMBER + 10;
 
 /**
  * Concatenated bytes.
@@ -87,4 +91,16 @@ export function memberOf(bytes) {
     exp: [0, 1, 2, 3, 4].map((stat) => view.getUint16(14 + 2 * stat, true)),
     moves: [0, 1, 2, 3].filter((slot) => bytes[6 + slot]).map((slot) => [MOVES[bytes[6 + slot] - 1] ?? bytes[6 + slot], bytes[10 + slot]]),
   };
+}
+
+/** @param {Standing} it */
+export function standingBytes({ member, stages, status, conditions, hp }) {
+  return joined(memberBytes(member), stages, [status, conditions, hp & 255, hp >> 8]);
+}
+
+/** @param {Uint8Array} bytes @returns {Standing} */
+export function standingOf(bytes) {
+  if (bytes.length !== STANDING) throw new Problem("The address is damaged: a member is cut off.");
+  const [status, conditions, low, high] = bytes.subarray(MEMBER + 6);
+  return { member: memberOf(bytes.subarray(0, MEMBER)), stages: [...bytes.subarray(MEMBER, MEMBER + 6)], status, conditions, hp: low + 256 * high };
 }

@@ -2,18 +2,18 @@
 import { MOVES } from "gen1";
 import { blame, find, guarded, make, Problem } from "./dom.js";
 import { setAddress } from "./address.js";
-import { decoded, encoded, joined } from "./bytes.js";
+import { decoded, encoded, joined, STANDING, standingBytes, standingOf } from "./bytes.js";
 import { MemberForm, moveCalled } from "./member_form.js";
 import { badge } from "./sides.js";
-import { STANDING, standingBytes, standingOf } from "./standing.js";
 import { hitWords, shares, span } from "./words.js";
 
 /**
- * @typedef {import("./engine.js").Odds} Odds
+ * @typedef {import("./engine.js").CalculatedMove} CalculatedMove
  * @typedef {import("./engine.js").Calculated} Calculated
  */
 
-const HEADS = ["Move", "Damage", "Of its HP", "Hits to faint", "Critical damage", "Critical: hits to faint", "Bytes that hit", "Bytes that are critical", "All numbers"];
+const HEADS = ["Move", "Damage", "Of its HP", "Hits to faint", "Critical damage", "Critical: hits to faint", "KO in one use", "KO in two uses",
+  "Bytes that hit", "Bytes that are critical", "All numbers"];
 const STATS = ["Attack", "Defense", "Speed", "Special"];
 
 /** How many milliseconds after the last keystroke an error is shown. */
@@ -30,17 +30,31 @@ function hits(damage, hp) {
 
 /** @param {number[] | null} list @param {number} hp */
 function hitsText(list, hp) {
-  return list ? span(hits(list[38], hp), hits(list[0], hp)) : "—";
+  return list ? span(hits(list[list.length - 1], hp), hits(list[0], hp)) : "—";
 }
 
 /** @param {number[] | null} list */
 function damageText(list) {
-  return list ? span(list[0], list[38]) : "—";
+  return list ? span(list[0], list[list.length - 1]) : "—";
 }
 
 /** @param {number} bytes */
 function chance(bytes) {
   return `${bytes} of 256 (${((100 * bytes) / 256).toFixed(1)}%)`;
+}
+
+/**
+ * A chance in per cent, which is 0% or 100% only if it is exactly that.
+ * @param {number} part
+ */
+function percent(part) {
+  if (part === 0 || part === 1) return `${100 * part}%`;
+  return part < 0.0005 ? "under 0.1%" : part > 0.9995 ? "over 99.9%" : `${(100 * part).toFixed(1)}%`;
+}
+
+/** @param {number} ways @param {number} of */
+function waysText(ways, of) {
+  return `${ways.toLocaleString("en")} of ${of.toLocaleString("en")} ways`;
 }
 
 /** The part of the page that calculates. */
@@ -146,10 +160,26 @@ export class Calculator {
         make("table", {}, make("thead", {}, make("tr", {}, ...HEADS.map((head) => make("th", { scope: "col" }, head)))), make("tbody", {}, ...rows))));
   }
 
-  /** @param {Odds} odds @param {Calculated} foe @param {number} side @param {boolean} isOpen */
+  /**
+   * The damage of a move and what it does to the foe's HP, in one use and in two.
+   * @param {CalculatedMove} odds
+   * @param {Calculated} foe
+   */
+  cells(odds, foe) {
+    const move = this.engine.tables.moves[odds.move];
+    const list = odds.damage ?? (move.effect === "OneHitKnockOut" && odds.fixed ? [foe.hp, foe.hp] : odds.fixed);
+    const texts = [list ? damageText(list) : "none", list ? shares(list, foe.hp) : "—", hitsText(list, foe.hp), damageText(odds.critical), hitsText(odds.critical, foe.hp)];
+    const { once, onceOf, chanceOnce, twice, twiceOf, chanceTwice } = odds.knockOut;
+    return [
+      ...texts.map((text) => make("td", {}, text)),
+      ...[[once, onceOf, chanceOnce], [twice, twiceOf, chanceTwice]].map(([ways, of, chance]) => (
+        list ? make("td", { title: waysText(ways, of) }, percent(chance)) : make("td", {}, "—"))),
+    ];
+  }
+
+  /** @param {CalculatedMove} odds @param {Calculated} foe @param {number} side @param {boolean} isOpen */
   rows(odds, foe, side, isOpen) {
     const move = this.engine.tables.moves[odds.move];
-    const share = odds.damage ? shares(odds.damage, foe.hp) : "—";
     const id = `calc-all-${side}-${odds.slot}`;
     const all = make("tr", { class: "all", id, hidden: !isOpen }, make("td", { colspan: HEADS.length },
       make("p", {}, make("strong", {}, "At the factors 217 to 255: "), odds.damage?.join(" ") ?? ""),
@@ -161,12 +191,9 @@ export class Calculator {
         /** @type {HTMLElement} */ (event.currentTarget).setAttribute("aria-expanded", String(!all.hidden));
       },
     }, "39", make("span", { class: "unseen" }, ` numbers of ${move.name}`));
-    const cells = odds.damage
-      ? [damageText(odds.damage), share, hitsText(odds.damage, foe.hp), damageText(odds.critical), hitsText(odds.critical, foe.hp)]
-      : [move.power || move.effect === "FixedDamage" || move.effect === "SuperFang" || move.effect === "OneHitKnockOut" ? "not by the formula" : "none", "—", "—", "—", "—"];
     const row = make("tr", { "data-move": move.name },
-      make("th", { scope: "row" }, move.name, " ", badge(move.type)), ...cells.map((text) => make("td", {}, text)),
-      make("td", {}, hitWords(odds, move, chance)), make("td", {}, odds.bound === null ? "—" : chance(odds.bound)), make("td", {}, odds.damage ? button : "—"));
+      make("th", { scope: "row" }, move.name, " ", badge(move.type)), ...this.cells(odds, foe),
+      make("td", {}, hitWords(odds, chance)), make("td", {}, odds.bound === null ? "—" : chance(odds.bound)), make("td", {}, odds.damage ? button : "—"));
     return odds.damage ? [row, all] : [row];
   }
 }

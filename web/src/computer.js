@@ -73,7 +73,7 @@ function damages(engine, battle, side) {
   const odds = engine.oddsOf(battle, side);
   return battle.choices(side).map((choice) => {
     const found = odds.find(({ slot }) => choice === `move ${slot}`);
-    return found?.damage && found.hit ? found.damage.reduce((sum, number) => sum + number, 0) * found.hit[0] : 0;
+    return found?.damage ? found.damage.reduce((sum, number) => sum + number, 0) * (found.hit ?? 256) : 0;
   });
 }
 

@@ -1,7 +1,6 @@
 // The engine: the JavaScript package (rust/gen1-wasm), with states, odds and errors in the form that the page shows. A battle is 384 bytes.
-import { byteOf, load, LogError, MOVES, RefusedError, SPECIES, TeamError, TextError } from "gen1";
+import { ArgumentTypeError, byteOf, load, LogError, MOVES, RefusedError, SPECIES, StateError, TeamError, TextError } from "gen1";
 import { Problem } from "./dom.js";
-import { standing } from "./standing.js";
 
 /**
  * @typedef {import("gen1").Gen1} Gen1
@@ -13,16 +12,30 @@ import { standing } from "./standing.js";
  * @typedef {import("gen1").SideState & { choices: number[] }} SideState
  * @typedef {import("gen1").State & { sides: SideState[] }} State
  * @typedef {import("gen1").ShownState & { sides: import("gen1").ShownSide[] }} View
- * @typedef {{ slot: number, move: string, damage: number[] | null, critical: number[] | null, bound: number | null,
- *   hit: [number, boolean] | null }} Odds of how many bytes a critical hit or a hit is drawn; and whether the hit is drawn at all
- * @typedef {{ hp: number, max: number, own: number[], stats: number[], moves: Odds[] }} Calculated
+ * @typedef {{ slot: number, move: string, damage: number[] | null, critical: number[] | null, fixed: [number, number] | null, bound: number | null,
+ *   hit: number | null, reason: string | null }} Odds of how many bytes a critical hit or a hit is drawn, null if without a draw; and why a use
+ *   cannot hit
+ * @typedef {Odds & { knockOut: import("gen1").KnockOut }} CalculatedMove
+ * @typedef {{ hp: number, max: number, own: number[], stats: number[], moves: CalculatedMove[] }} Calculated
+ * @typedef {{ member: Member, stages: number[], status: number, conditions: number, hp: number }} Standing a member and its state: six stages
+ *   from 0 to 12, the byte of the status (docs/LAYOUT.md, "Member"), a bit for each of CONDITIONS, and the HP, where 0 is the maximum
  */
 
 /** The most bytes of a log or of a team's text, as the program reads them (docs/PROGRAM.md). */
 export const MOST = 1_048_576;
 /** Codes of include/gen1.h. */
-const [EMPTY, UNUSUAL] = [1, 3];
+const [EMPTY, UNUSUAL] = [1, 48];
 const SEED = Array(10).fill(0);
+/**
+ * The conditions that the calculator offers, with their names in the package.
+ * @type {[string, import("gen1").Condition][]}
+ */
+export const CONDITIONS = [
+  ["Reflect", "reflect"], ["Light Screen", "light screen"], ["Focus Energy", "focus energy"], ["Mist", "mist"], ["Out of reach", "invulnerable"],
+];
+/** @type {Record<number, import("gen1").Status>} */
+const STATUSES = { 0: "none", 8: "poison", 16: "burn", 32: "freeze", 64: "paralysis" };
+const MIDDLE = 6;
 
 /**
  * Refuses what is too long to be read at once.
@@ -51,6 +64,21 @@ function testingTeams(call) {
 function refused(side, place, reason) {
   const where = [side ? `side ${side}` : "", place ? `member ${place}` : ""].filter(Boolean).join(", ");
   return new Problem(`The ${side ? "team" : "battle"} is refused: ${where ? `${where}: ` : ""}${reason}.`, { side });
+}
+
+/**
+ * Gives a side's only member its state. The stats follow from stages and status.
+ * @param {import("gen1").SideState} side
+ * @param {Standing} it
+ */
+function stand({ members: [member], active }, { stages, status, conditions, hp }) {
+  member.status = status > 0 && status < 8 ? "sleep" : STATUSES[status];
+  member.sleep = status < 8 ? status : 0;
+  if (hp) member.hp = hp;
+  if (!active) return;
+  active.stages = stages.map((stage) => stage - MIDDLE);
+  active.stats = [0, 0, 0, 0];
+  active.conditions = CONDITIONS.filter((_, bit) => (conditions >> bit) & 1).map(([, name]) => name);
 }
 
 /** @param {Gen1} gen1 @returns {Tables} */
@@ -92,7 +120,7 @@ export class Engine {
   }
 
   /**
-   * The battle after a pair of choices, and the log; or the number of the refusal.
+   * The battle after a pair of choices, and the log; or why the pair is refused.
    * @param {Uint8Array} battle
    * @param {number} one
    * @param {number} two
@@ -101,9 +129,9 @@ export class Engine {
     const next = this.gen1.load(battle);
     try {
       const { log } = next.update(one, two);
-      return { refused: 0, battle: next.bytes, log };
+      return { refused: "", battle: next.bytes, log };
     } catch (error) {
-      if (error instanceof RefusedError) return { refused: error.code, battle, log: new Uint8Array() };
+      if (error instanceof RefusedError) return { refused: error.reason, battle, log: new Uint8Array() };
       throw error;
     }
   }
@@ -155,13 +183,14 @@ export class Engine {
 
   /** @param {import("gen1").Battle} battle @param {1 | 2} side @param {number} slot 0 if it is not known @param {string} move @returns {Odds} */
   oddsWith(battle, side, slot, move) {
-    const { usual, critical, criticalChance, hitChance, takesHitTest } = battle.odds(side, move);
+    const { usual, critical, criticalChance, hitChance, takesHitTest, fixed, reason } = battle.odds(side, move);
     return {
       slot, move,
       damage: usual.numbers.length ? usual.numbers : null,
       critical: critical.numbers.length ? critical.numbers : null,
+      fixed, reason,
       bound: usual.code === UNUSUAL ? null : 256 * criticalChance,
-      hit: takesHitTest ? [256 * hitChance, hitChance > 0 && hitChance < 1] : null,
+      hit: takesHitTest && hitChance < 1 ? 256 * hitChance : null,
     };
   }
 
@@ -217,17 +246,33 @@ export class Engine {
 
   /**
    * The odds of the moves of two members in a given state, and of a further move of the first, which it need not know.
-   * @param {import("./standing.js").Standing[]} both
+   * @param {Standing[]} both
    * @param {string} extra empty for none
    * @returns {Calculated[]}
    */
   calculate(both, extra) {
-    const battle = testingTeams(() => standing(this.gen1, both));
+    const battle = this.standing(both);
     const { state } = battle;
-    const more = extra ? [this.oddsWith(battle, 1, 0, extra)] : [];
+    const odds = [[...this.oddsOf(battle, 1), ...(extra ? [this.oddsWith(battle, 1, 0, extra)] : [])], this.oddsOf(battle, 2)];
     return [state.one, state.two].map(({ members: [member], active }, at) => ({
       hp: member.hp, max: member.maxHp, own: member.stats, stats: active?.stats ?? [],
-      moves: at ? this.oddsOf(battle, 2) : [...this.oddsOf(battle, 1), ...more],
+      moves: odds[at].map((it) => ({ ...it, knockOut: battle.knockOut(at === 0 ? 1 : 2, it.move) })),
     }));
+  }
+
+  /**
+   * A battle of two members in their states.
+   * @param {Standing[]} both
+   */
+  standing(both) {
+    const [one, two] = both.map(({ member }) => [member]);
+    const begun = testingTeams(() => this.gen1.battle({ one, two, seed: SEED }));
+    begun.updateSilent("pass", "pass");
+    try {
+      return begun.withState((state) => [state.one, state.two].forEach((side, at) => stand(side, both[at])));
+    } catch (error) {
+      if (!(error instanceof StateError || error instanceof ArgumentTypeError)) throw error;
+      throw new Problem("The calculation is refused: the members cannot be in this state.");
+    }
   }
 }

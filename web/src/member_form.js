@@ -1,6 +1,6 @@
 // The form for a member in the calculator: from a text or by search, and its state.
 import { guarded, inField, make, Problem } from "./dom.js";
-import { CONDITION_NAMES } from "./standing.js";
+import { CONDITIONS } from "./engine.js";
 
 const DVS = ["Attack", "Defense", "Speed", "Special"];
 const EXP = ["HP", ...DVS];
@@ -41,7 +41,7 @@ export class MemberForm {
       ...[6, 5, 4, 3, 2, 1, 0, -1, -2, -3, -4, -5, -6].map((stage) => make("option", { value: stage, selected: stage === 0 }, stage > 0 ? `+${stage}` : String(stage)))));
     this.status = make("select", { name: "status" }, ...STATUSES.map(([byte, name]) => make("option", { value: byte }, name)));
     this.hp = make("input", { type: "number", name: "hp", min: 1, max: 999, placeholder: "all", inputmode: "numeric" });
-    this.conditions = CONDITION_NAMES.map((name) => make("input", { type: "checkbox", name }));
+    this.conditions = CONDITIONS.map(([name]) => make("input", { type: "checkbox", name }));
     this.element = this.drawn();
     for (const type of ["input", "change"]) this.element.addEventListener(type, (event) => event.target !== this.text && changed(event));
   }
@@ -54,7 +54,7 @@ export class MemberForm {
       make("div", { class: "grid" }, labelled("Species", this.species), labelled("Level", this.level), labelled("Status", this.status), labelled("HP", this.hp)),
       group("Moves", this.moves.map((field, at) => labelled(`Move ${at + 1}`, field))),
       group("Stages", this.stages.map((field, at) => labelled(STAGES[at], field))),
-      make("fieldset", { class: "checks" }, make("legend", {}, "Conditions"), ...this.conditions.map((field, at) => make("label", {}, field, ` ${CONDITION_NAMES[at]}`))),
+      make("fieldset", { class: "checks" }, make("legend", {}, "Conditions"), ...this.conditions.map((field, at) => make("label", {}, field, ` ${CONDITIONS[at][0]}`))),
       make("details", {}, make("summary", {}, "DVs and stat experience"),
         group("DVs, 0 to 15", this.dvs.map((field, at) => labelled(DVS[at], field))),
         group("Stat experience, 0 to 65535", this.exp.map((field, at) => labelled(EXP[at], field)))));
@@ -101,7 +101,7 @@ export class MemberForm {
 
   /**
    * The member and its state.
-   * @returns {import("./standing.js").Standing}
+   * @returns {import("./engine.js").Standing}
    */
   standing() {
     const { tables } = this.engine;
@@ -121,7 +121,7 @@ export class MemberForm {
     };
   }
 
-  /** @param {import("./standing.js").Standing} it */
+  /** @param {import("./engine.js").Standing} it */
   set({ member, stages, status, conditions, hp }) {
     this.setMember(member);
     this.stages.forEach((field, at) => (field.value = String(stages[at] - 6)));

@@ -341,7 +341,7 @@ export class Play {
     const foe = state.sides[1 - at];
     const hp = foe.active ? foe.members[foe.active.place - 1].hp : 0;
     const damage = found?.damage ? `damage ${damageText(found.damage, hp)}` : "no damage by the formula";
-    const hit = found ? hitWords(found, move, (bytes) => `hits with ${bytes} of 256 bytes`) : "";
+    const hit = found ? hitWords(found, (bytes) => `hits with ${bytes} of 256 bytes`) : "";
     const critical = found?.bound === null || found?.bound === undefined ? "" : `; critical with ${found.bound} of 256`;
     return [make("strong", {}, move.name), badge(move.type),
       make("span", { class: "quiet" }, `${pp[choice - 0x11]} PP`), make("span", { class: "odds" }, `${damage}; ${hit}${critical}`)];

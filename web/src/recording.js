@@ -82,8 +82,7 @@ export class Recording {
     for (const [number, [one, two]] of input.choices.entries()) {
       const update = this.engine.update(battle, one, two);
       if (update.refused) {
-        const why = ["", "the battle is over", "side 1's choice is not offered", "side 2's choice is not offered"][update.refused];
-        this.fault = `Pair ${number} of the choices (${one}, ${two}) is refused: ${why}. The battle is shown up to that pair.`;
+        this.fault = `Pair ${number} of the choices (${one}, ${two}) is refused: ${update.refused}. The battle is shown up to that pair.`;
         return;
       }
       battle = update.battle;

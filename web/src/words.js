@@ -126,23 +126,20 @@ export function span(least, most) {
 
 /**
  * The least and the most damage as percentages of HP, rounded down.
- * @param {number[]} damage the 39 numbers, of which the first is the least
+ * @param {number[]} damage numbers in rising order
  * @param {number} hp
  */
 export function shares(damage, hp) {
-  const [least, most] = [damage[0], damage[38]].map((number) => Math.floor((100 * number) / hp));
+  const [least, most] = [damage[0], damage[damage.length - 1]].map((number) => Math.floor((100 * number) / hp));
   return `${span(least, most)}%`;
 }
 
 /**
- * The chance of a hit in words, from the bytes of the hit test.
+ * The chance of a hit in words, from the bytes of the hit test; or why the use cannot succeed.
  * @param {import("./engine.js").Odds} odds
- * @param {import("./engine.js").Move} move
  * @param {(bytes: number) => string} chance how a number of bytes is said
  */
-export function hitWords(odds, move, chance) {
-  if (!odds.hit) return "no hit test";
-  const [bytes, isDrawn] = odds.hit;
-  if (!isDrawn) return bytes ? "hits without a draw" : "misses without a draw";
-  return `${chance(bytes)}${move.effect === "OneHitKnockOut" ? ", or 0 if the user is slower" : ""}`;
+export function hitWords(odds, chance) {
+  if (odds.reason) return `cannot succeed: ${odds.reason}`;
+  return odds.hit === null ? "hits without a draw" : chance(odds.hit);
 }
