@@ -30,9 +30,9 @@ static void show_damage(const gen1_battle *battle, uint8_t move)
     if (gen1_move_name(move, name, sizeof name, &length) != 0)
         return;
     if (code == 0)
-        printf("%.*s takes %d to %d\n", (int)length, name, damages[0], damages[38]);
-    else if (gen1_text(GEN1_ABOUT_DAMAGE, code, why, sizeof why, &count) == 0)
-        printf("%.*s: %.*s\n", (int)length, name, (int)count, why);
+        printf("%s takes %d to %d\n", name, damages[0], damages[38]);
+    else if (gen1_error_text(code, why, sizeof why, &count) == 0)
+        printf("%s: %s\n", name, why);
 }
 
 /* Prints the odds of a move of side 1: in the current state, and between two Tauros that have just been sent out. */
@@ -53,8 +53,7 @@ static bool may_win_at_once(const gen1_battle *battle, uint8_t one, uint8_t two)
 {
     static const uint8_t other[10] = {9, 8, 7, 6, 5, 4, 3, 2, 1, 0};
     gen1_battle copy = *battle;
-    size_t length;
-    return gen1_reseed(&copy, other, 0) == 0 && gen1_update(&copy, one, two, NULL, 0, &length) == 0 && GEN1_OUTCOME(gen1_result(&copy)) == GEN1_WIN_ONE;
+    return gen1_reseed(&copy, other, 0) == 0 && gen1_update_silent(&copy, one, two) == 0 && GEN1_RESULT_OUTCOME(gen1_result(&copy)) == GEN1_OUTCOME_WIN_ONE;
 }
 
 /* The first choice of a side. */
@@ -62,7 +61,7 @@ static uint8_t first_choice(const gen1_battle *battle, uint8_t side)
 {
     uint8_t choices[9];
     uint8_t count = gen1_choices(battle, side, choices);
-    return count == 0 || count == GEN1_NO_SIDE ? GEN1_PASS : choices[0];
+    return count == 0 ? GEN1_CHOICE_PASS : choices[0];
 }
 
 /* Prints a choice of side 1 in words. */
@@ -71,7 +70,7 @@ static void show_choice(const gen1_battle *battle, uint8_t choice)
     char words[GEN1_WORDS_ROOM];
     size_t length;
     if (gen1_choice_words(battle, GEN1_ONE, choice, words, sizeof words, &length) == 0)
-        printf("side 1 chooses %.*s: kind %d, slot %d\n", (int)length, words, gen1_choice_kind(choice), gen1_choice_slot(choice));
+        printf("side 1 chooses %s: kind %d, slot %d\n", words, gen1_choice_kind(choice), gen1_choice_slot(choice));
 }
 
 /* Prints the rows of a species and of a move, by their names; returns whether both were found. */
@@ -85,7 +84,7 @@ static bool show_tables(const char *species, const char *move)
     if (gen1_species_stats(of_species, &base) != 0 || gen1_move_data(of_move, &row) != 0 ||
         gen1_species_name(of_species, name, sizeof name, &length) != 0 || gen1_type_name(base.types[0], first, sizeof first, &count) != 0)
         return false;
-    printf("%.*s is %.*s, with base Speed %d; %s has power %d\n", (int)length, name, (int)count, first, base.stats[3], move, row.power);
+    printf("%s is %s, with base Speed %d; %s has power %d\n", name, first, base.stats[3], move, row.power);
     return true;
 }
 
@@ -105,11 +104,11 @@ static void show_events(const uint8_t *log, size_t count)
 {
     gen1_event event;
     for (size_t at = 0; gen1_next_event(log, count, &at, &event) == 0;) {
-        if (event.tag == GEN1_TURN)
+        if (event.tag == GEN1_EVENT_TURN)
             printf("turn %d\n", event.turn);
-        if (event.tag == GEN1_DAMAGE)
+        if (event.tag == GEN1_EVENT_DAMAGE)
             printf("side %d is at %d of %d\n", event.side, event.hp, event.max_hp);
-        if (event.tag == GEN1_CANT && event.detail == GEN1_REASON_PARALYSED)
+        if (event.tag == GEN1_EVENT_CANT && event.detail == GEN1_REASON_PARALYSED)
             printf("side %d is paralysed, and does not move\n", event.side);
     }
 }
@@ -126,7 +125,7 @@ static bool play_in_room(const gen1_team *team, const uint8_t seed[10])
         for (uint16_t at = 0; at < room.log_length; at++)
             if (gen1_spectator_feed(&spectator, room.log + at, 1) != 0)
                 return false;
-        if (spectator.outcome != GEN1_ONGOING)
+        if (spectator.outcome != GEN1_OUTCOME_ONGOING)
             break;
         uint32_t number = room.number;
         for (uint8_t side = GEN1_ONE; side <= GEN1_TWO; side++) {
@@ -153,7 +152,7 @@ int main(void)
     if (gen1_new(&battle, &team, &team, seed, 0, GEN1_LIMIT) != 0)
         return 1;
     show_damage(&battle, GEN1_MOVE_BODY_SLAM); /* no member is out yet */
-    while (GEN1_OUTCOME(gen1_result(&battle)) == GEN1_ONGOING) {
+    while (GEN1_RESULT_OUTCOME(gen1_result(&battle)) == GEN1_OUTCOME_ONGOING) {
         uint8_t one = first_choice(&battle, GEN1_ONE), two = first_choice(&battle, GEN1_TWO);
         show_choice(&battle, one);
         if (may_win_at_once(&battle, one, two))
@@ -162,7 +161,7 @@ int main(void)
             return 1;
         show_events(log, length);
     }
-    printf("outcome %d\n", GEN1_OUTCOME(gen1_result(&battle)));
+    printf("outcome %d\n", GEN1_RESULT_OUTCOME(gen1_result(&battle)));
     show_state(&battle);
     show_damage(&battle, GEN1_MOVE_BODY_SLAM);
     show_damage(&battle, GEN1_MOVE_GUILLOTINE); /* a move without the usual damage */
@@ -171,5 +170,5 @@ int main(void)
 
     if (gen1_load(&loaded, battle.bytes, sizeof battle.bytes) != 0 || memcmp(&loaded, &battle, sizeof battle) != 0)
         return 1;
-    return gen1_load(&loaded, battle.bytes, 383) == GEN1_LOAD_LENGTH ? 0 : 1;
+    return gen1_load(&loaded, battle.bytes, 383) == GEN1_ERROR_LOAD_LENGTH ? 0 : 1;
 }

@@ -20,27 +20,28 @@ static uint8_t first_choice(uint16_t mask)
     int bit = 0;
     while (bit < 11 && !(mask >> bit & 1))
         bit++;
-    return GEN1_CHOICE(bit);
+    return GEN1_CHOICE_AT(bit);
 }
 
 /* Updates all battles with the first choice of each side. Returns how many were updated, or -1 if one that isn't over was refused. */
 static int step(gen1_battle battles[BATTLES])
 {
     uint16_t masks[2][BATTLES];
-    uint8_t choices[2][BATTLES], results[BATTLES], codes[BATTLES];
+    gen1_batch_update updates[BATTLES];
     int went_on = 0;
-    for (int side = 0; side < 2; side++) {
-        if (gen1_offered_many(battles, BATTLES, side == 0 ? GEN1_ONE : GEN1_TWO, masks[side], BATTLES) != 0)
-            return -1;
-        for (int at = 0; at < BATTLES; at++)
-            choices[side][at] = first_choice(masks[side][at]);
-    }
-    if (gen1_update_many(battles, BATTLES, choices[0], BATTLES, choices[1], BATTLES, results, BATTLES, codes, BATTLES) != 0)
+    if (gen1_offered_many(battles, BATTLES, GEN1_ONE, masks[0], BATTLES) != 0 ||
+        gen1_offered_many(battles, BATTLES, GEN1_TWO, masks[1], BATTLES) != 0)
         return -1;
     for (int at = 0; at < BATTLES; at++) {
-        if (codes[at] != 0 && codes[at] != GEN1_OVER)
+        updates[at].one = first_choice(masks[0][at]);
+        updates[at].two = first_choice(masks[1][at]);
+    }
+    if (gen1_update_many(battles, BATTLES, updates, BATTLES) != 0)
+        return -1;
+    for (int at = 0; at < BATTLES; at++) {
+        if (updates[at].code != 0 && updates[at].code != GEN1_ERROR_OVER)
             return -1;
-        went_on += codes[at] == 0;
+        went_on += updates[at].code == 0;
     }
     return went_on;
 }
@@ -71,7 +72,7 @@ int main(void)
         went_on = step(battles);
     while (went_on > 0);
     for (int at = 0; at < BATTLES; at++)
-        ended += GEN1_OUTCOME(gen1_result(&battles[at])) != GEN1_ONGOING;
+        ended += GEN1_RESULT_OUTCOME(gen1_result(&battles[at])) != GEN1_OUTCOME_ONGOING;
     printf("%d battles have ended\n", ended);
     return went_on == 0 && counts.wins_one + counts.wins_two + counts.ties + counts.faults == ROUNDS ? 0 : 1;
 }

@@ -79,8 +79,8 @@ static void begin(gen1_battle *battle)
     read_team(&two);
     uint32_t fault = gen1_new(battle, &one, &two, seed, rules, limit);
     if (fault != 0) {
-        fprintf(stderr, "error: team %u place %u refusal %u\n", (unsigned)GEN1_SIDE(fault), (unsigned)GEN1_PLACE(fault),
-                (unsigned)GEN1_CODE(fault));
+        fprintf(stderr, "error: team %u place %u refusal %u\n", (unsigned)GEN1_SIDE_OF(fault), (unsigned)GEN1_PLACE_OF(fault),
+                (unsigned)GEN1_CODE_OF(fault));
         exit(1);
     }
 }
@@ -91,7 +91,7 @@ static void print_log(const uint8_t *log, size_t count)
     char line[GEN1_LINE_ROOM];
     size_t at = 0, length = 0;
     while (gen1_next_line(log, count, &at, line, sizeof line, &length) == 0)
-        fwrite(line, 1, length, stdout);
+        fputs(line, stdout);
 }
 
 int main(void)

@@ -29,7 +29,7 @@ static bool show_fault(reading *read, const char *of)
 /* The first choice that a side is offered, while the battle goes on. */
 static uint8_t first_choice(const gen1_battle *battle, uint8_t side)
 {
-    uint8_t choices[9] = {GEN1_PASS};
+    uint8_t choices[9] = {GEN1_CHOICE_PASS};
     gen1_choices(battle, side, choices);
     return choices[0];
 }
@@ -40,15 +40,14 @@ int main(void)
     gen1_team team;
     gen1_text_fault fault;
     gen1_battle battle;
-    size_t length;
 
     if (!show_fault(gen1_team_from_text, misspelt) || !show_fault(gen1_team_from_packed, misspelt_packed))
         return 1;
     if (gen1_team_from_text(text, strlen(text), &team, &fault) != 0 || gen1_new(&battle, &team, &team, seed, 0, GEN1_LIMIT) != 0)
         return 1;
-    while (GEN1_OUTCOME(gen1_result(&battle)) == GEN1_ONGOING)
-        if (gen1_update(&battle, first_choice(&battle, GEN1_ONE), first_choice(&battle, GEN1_TWO), NULL, 0, &length) != 0)
+    while (GEN1_RESULT_OUTCOME(gen1_result(&battle)) == GEN1_OUTCOME_ONGOING)
+        if (gen1_update_silent(&battle, first_choice(&battle, GEN1_ONE), first_choice(&battle, GEN1_TWO)) != 0)
             return 1;
-    printf("outcome %d\n", GEN1_OUTCOME(gen1_result(&battle)));
+    printf("outcome %d\n", GEN1_RESULT_OUTCOME(gen1_result(&battle)));
     return 0;
 }

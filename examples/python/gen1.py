@@ -8,7 +8,8 @@ from ctypes import POINTER, Structure, byref, c_bool, c_char, c_size_t, c_uint8,
 
 LOG_ROOM = 512
 LINE_ROOM = 96
-NO_SIDE = 255
+# The first codes of refusals and of loading, and the code at the end of a log.
+OVER, LOAD_LENGTH, LOG_END = 24, 16, 35
 
 
 class BattleBytes(Structure):
@@ -23,14 +24,15 @@ class Member(Structure):
 
 
 class Team(Structure):
-    _fields_ = [("members", Member * 6), ("count", c_uint8)]
+    _fields_ = [("members", Member * 6), ("count", c_uint8), ("reserved", c_uint8)]
 
 
 class Event(Structure):
     _fields_ = [
         (name, c_uint8)
         for name in (
-            "tag", "side", "species", "move", "target_side", "target_species", "place", "level", "status", "detail", "amount")
+            "tag", "side", "species", "move", "target_side", "target_species", "place", "level", "status", "detail", "amount",
+            "reserved")
     ] + [("hp", c_uint16), ("max_hp", c_uint16), ("turn", c_uint16)]
 
 
@@ -39,17 +41,21 @@ class Damages(Structure):
 
 
 class Odds(Structure):
-    _fields_ = [("usual", Damages), ("critical", Damages), ("critical_draws", c_uint16), ("hit_draws", c_uint16)]
+    _fields_ = [
+        ("usual", Damages), ("critical", Damages), ("critical_draws", c_uint16), ("hit_draws", c_uint16), ("least", c_uint16),
+        ("most", c_uint16), ("hits", c_uint8 * 6), ("reason", c_uint8), ("charges_first", c_uint8),
+    ]
 
 
 class RoomBytes(Structure):
     _fields_ = [
-        ("battle", BattleBytes), ("number", c_uint32), ("log_length", c_uint16), ("chosen", c_uint8 * 2), ("log", c_uint8 * LOG_ROOM),
+        ("battle", BattleBytes), ("number", c_uint32), ("log_length", c_uint16), ("chosen", c_uint8 * 2), ("forfeit", c_uint8),
+        ("unused", c_uint8 * 3), ("log", c_uint8 * LOG_ROOM),
     ]
 
 
 class ShownMember(Structure):
-    _fields_ = [("hp", c_uint16), ("status", c_uint8)]
+    _fields_ = [("hp", c_uint16), ("status", c_uint8), ("reserved", c_uint8)]
 
 
 class ShownSide(Structure):
@@ -64,7 +70,7 @@ class SpectatorBytes(Structure):
 
 
 class Refused(Exception):
-    """A pair of choices, or a submission to a room, was refused; with the number of the refusal."""
+    """A pair of choices, or a submission to a room, was refused; with the code."""
 
 
 class TeamFault(Exception):
@@ -72,11 +78,11 @@ class TeamFault(Exception):
 
 
 class LoadFault(Exception):
-    """Bytes are not a battle; with the number of the first test that they fail."""
+    """Bytes are not a battle; with the code of the first test that they fail."""
 
 
 class LogFault(Exception):
-    """Bytes are not a log; with the number of the error."""
+    """Bytes are not a log; with the code."""
 
 
 class DamageFault(Exception):
@@ -87,6 +93,13 @@ def within(number, most):
     """A number from 0 to `most`. ctypes would silently truncate another one to its lowest bits."""
     if not 0 <= number <= most:
         raise ValueError(f"{number} is not 0 to {most}")
+    return number
+
+
+def a_side(number):
+    """The number of a side. For any other the library says that it has no choices."""
+    if number not in (1, 2):
+        raise ValueError(f"{number} is neither 1 nor 2")
     return number
 
 
@@ -117,11 +130,15 @@ class Library:
             ("gen1_update", c_uint8, [battle, c_uint8, c_uint8, POINTER(c_uint8), size, sizes]),
             ("gen1_result", c_uint8, [battle]),
             ("gen1_next_event", c_uint8, [ctypes.c_char_p, size, sizes, POINTER(Event)]),
+            ("gen1_event_bytes", c_uint8, [POINTER(Event), c_uint8 * 10, sizes]),
             ("gen1_next_line", c_uint8, [ctypes.c_char_p, size, sizes, POINTER(c_char), size, sizes]),
             ("gen1_damage", c_uint8, [battle, c_uint8, c_uint8, c_bool, c_uint16 * 39]),
             ("gen1_update_offered", c_uint8, [battle, c_uint8, c_uint8, POINTER(c_uint8), size, sizes]),
+            ("gen1_update_offered_silent", c_uint8, [battle, c_uint8, c_uint8]),
+            ("gen1_update_silent", c_uint8, [battle, c_uint8, c_uint8]),
             ("gen1_odds_now", c_uint8, [battle, c_uint8, c_uint8, POINTER(Odds)]),
             ("gen1_odds_between", c_uint32, [POINTER(Member), POINTER(Member), c_uint8, POINTER(Odds)]),
+            ("gen1_member_stats", c_uint8, [POINTER(Member), c_uint16 * 5]),
             ("gen1_takes_hit_test", c_uint8, [c_uint8]),
             ("gen1_room_begin", None, [POINTER(RoomBytes)]),
             ("gen1_room_choices", c_uint8, [POINTER(RoomBytes), c_uint8, c_uint8 * 9]),
@@ -157,7 +174,7 @@ class Library:
             code = self.calls.gen1_next_line(log, len(log), byref(at), text, LINE_ROOM, byref(length))
             if code == 0:
                 lines.append(text.raw[:length.value])
-            elif code == 4:
+            elif code == LOG_END:
                 return b"".join(lines)
             else:
                 raise LogFault(code)
@@ -170,10 +187,19 @@ class Library:
             code = self.calls.gen1_next_event(log, len(log), byref(at), byref(event))
             if code == 0:
                 events.append(event)
-            elif code == 4:
+            elif code == LOG_END:
                 return events
             else:
                 raise LogFault(code)
+
+
+    def event_bytes(self, event):
+        """The bytes that an event has in a log."""
+        code, length = (c_uint8 * 10)(), c_size_t(0)
+        fault = self.calls.gen1_event_bytes(byref(event), code, byref(length))
+        if fault:
+            raise LogFault(fault)
+        return bytes(code[:length.value])
 
 
 class Battle:
@@ -194,9 +220,7 @@ class Battle:
     def choices(self, side):
         """The choices that a side, 1 or 2, is offered."""
         choices = (c_uint8 * 9)()
-        count = self.calls.gen1_choices(byref(self.held), within(side, 255), choices)
-        if count == NO_SIDE:
-            raise ValueError(side)
+        count = self.calls.gen1_choices(byref(self.held), a_side(side), choices)
         return list(choices[:count])
 
     def update(self, one, two):
@@ -244,9 +268,7 @@ class Room:
     def choices(self, side):
         """The choices that a side, 1 or 2, may submit."""
         choices = (c_uint8 * 9)()
-        count = self.calls.gen1_room_choices(byref(self.held), within(side, 255), choices)
-        if count == NO_SIDE:
-            raise ValueError(side)
+        count = self.calls.gen1_room_choices(byref(self.held), a_side(side), choices)
         return list(choices[:count])
 
     def submit(self, side, number, choice):

@@ -27,6 +27,7 @@ pub struct Member {
 pub struct Team {
     pub members: [Member; 6],
     pub count: u8,
+    pub reserved: u8,
 }
 
 /// The damage of a hit at each factor, or the code of why there is none.
@@ -46,6 +47,11 @@ pub struct Odds {
     pub critical: Damages,
     pub critical_draws: u16,
     pub hit_draws: u16,
+    pub least: u16,
+    pub most: u16,
+    pub hits: [u8; 6],
+    pub reason: u8,
+    pub charges_first: u8,
 }
 
 /// A battle of two players who choose independently.
@@ -56,6 +62,8 @@ pub struct Room {
     pub number: u32,
     log_length: u16,
     chosen: [u8; 2],
+    forfeit: u8,
+    unused: [u8; 3],
     log: [u8; 512],
 }
 
@@ -65,6 +73,7 @@ pub struct Room {
 pub struct ShownMember {
     pub hp: u16,
     pub status: u8,
+    pub reserved: u8,
 }
 
 /// What a spectator knows of a side.
@@ -147,6 +156,11 @@ const NO_ODDS: Odds = {
         critical: none,
         critical_draws: 0,
         hit_draws: 0,
+        least: 0,
+        most: 0,
+        hits: [0; 6],
+        reason: 0,
+        charges_first: 0,
     }
 };
 
@@ -159,15 +173,7 @@ pub fn odds_between(user: &Member, foe: &Member, id: u8) -> Result<Odds, TeamFau
     }
 }
 
-/// The first `count` choices of an array; none if the side was not 1 or 2.
-fn first_of(choices: [u8; 9], count: u8) -> Vec<u8> {
-    match count {
-        255 => Vec::new(),
-        count => choices[..usize::from(count)].to_vec(),
-    }
-}
-
-/// An update or a submission to a room was refused; with the number of the refusal.
+/// An update or a submission to a room was refused; with the code.
 pub struct Refused(pub u8);
 
 /// The log of one update.
@@ -185,7 +191,7 @@ impl Battle {
         }
     }
 
-    /// Loads a battle from bytes, or returns the number of the first test that they fail.
+    /// Loads a battle from bytes, or returns the code of the first test that they fail.
     pub fn load(bytes: &[u8]) -> Result<Battle, u8> {
         let mut battle = Battle { bytes: [0; 384] };
         // The pointer and the length are those of one slice, which does not overlap the new battle.
@@ -199,7 +205,7 @@ impl Battle {
     pub fn choices(&self, side: u8) -> Vec<u8> {
         let mut choices = [0; 9];
         let count = gen1_choices(self, side, &mut choices);
-        first_of(choices, count)
+        choices[..usize::from(count)].to_vec()
     }
 
     /// Updates the battle with a choice of each side, and returns the log.
@@ -240,6 +246,8 @@ impl Room {
             number: 0,
             log_length: 0,
             chosen: [0; 2],
+            forfeit: 0,
+            unused: [0; 3],
             log: [0; 512],
         };
         gen1_room_begin(&mut room);
@@ -250,7 +258,7 @@ impl Room {
     pub fn choices(&self, side: u8) -> Vec<u8> {
         let mut choices = [0; 9];
         let count = gen1_room_choices(self, side, &mut choices);
-        first_of(choices, count)
+        choices[..usize::from(count)].to_vec()
     }
 
     /// Submits a side's choice for the pair with this number.
@@ -280,7 +288,7 @@ impl Spectator {
         }
     }
 
-    /// Reads the next bytes of the battle's log, in pieces of any size, or returns the number of the error.
+    /// Reads the next bytes of the battle's log, in pieces of any size, or returns the code of the error.
     pub fn feed(&mut self, log: &[u8]) -> Result<(), u8> {
         // The pointer and the length are those of one slice, which does not overlap the spectator.
         match unsafe { gen1_spectator_feed(self, log.as_ptr(), log.len()) } {

@@ -13,11 +13,12 @@ use numbers::Numbers;
 use std::io::{self, Write};
 use std::process::ExitCode;
 
-/// The line that is printed for a refused submission.
+/// The line that is printed for a refused submission (docs/MECHANICS.md, "Lines"), by its code.
 fn refusal(code: u8, number: u32) -> String {
     match code {
-        2 => format!("|room|refused|2|{number}\n"),
-        _ => format!("|room|refused|{code}\n"),
+        24 => "|room|refused|1\n".to_string(),
+        52 => format!("|room|refused|2|{number}\n"),
+        _ => format!("|room|refused|{}\n", code - 50),
     }
 }
 

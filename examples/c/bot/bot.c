@@ -66,14 +66,14 @@ static gen1_team draw_team(void)
 
 static uint8_t outcome(const gen1_battle *battle)
 {
-    return GEN1_OUTCOME(gen1_result(battle));
+    return GEN1_RESULT_OUTCOME(gen1_result(battle));
 }
 
 static uint8_t random_choice(const gen1_battle *battle, uint8_t side)
 {
     uint8_t choices[9];
     uint8_t count = gen1_choices(battle, side, choices);
-    return count == 0 ? GEN1_PASS : choices[draw(count)];
+    return count == 0 ? GEN1_CHOICE_PASS : choices[draw(count)];
 }
 
 /* Ends the program if a call returns a code, which none here should. */
@@ -87,8 +87,7 @@ static void stop_if_refused(uint8_t code)
 
 static void update(gen1_battle *battle, uint8_t one, uint8_t two)
 {
-    size_t length;
-    stop_if_refused(gen1_update(battle, one, two, NULL, 0, &length));
+    stop_if_refused(gen1_update_silent(battle, one, two));
 }
 
 /* A copy that draws other numbers than the battle, so that the bot doesn't know its luck. */
@@ -105,17 +104,17 @@ static gen1_battle fork_of(const gen1_battle *battle)
 static int played_out(gen1_battle fork, uint8_t choice)
 {
     update(&fork, choice, random_choice(&fork, GEN1_TWO));
-    while (outcome(&fork) == GEN1_ONGOING) {
+    while (outcome(&fork) == GEN1_OUTCOME_ONGOING) {
         uint8_t one = random_choice(&fork, GEN1_ONE);
         update(&fork, one, random_choice(&fork, GEN1_TWO));
     }
-    return outcome(&fork) == GEN1_WIN_ONE ? 2 : outcome(&fork) == GEN1_TIE ? 1 : 0;
+    return outcome(&fork) == GEN1_OUTCOME_WIN_ONE ? 2 : outcome(&fork) == GEN1_OUTCOME_TIE ? 1 : 0;
 }
 
 /* The choice of side 1 with the highest score in its forks. */
 static uint8_t best_choice(const gen1_battle *battle)
 {
-    uint8_t choices[9], best = GEN1_PASS;
+    uint8_t choices[9], best = GEN1_CHOICE_PASS;
     uint8_t count = gen1_choices(battle, GEN1_ONE, choices);
     int most = -1;
     for (int at = 0; at < count; at++) {
@@ -139,10 +138,10 @@ static uint8_t played(void)
     draw_seed(seed);
     uint32_t fault = gen1_new(&battle, &team, &team, seed, GEN1_SLEEP_CLAUSE | GEN1_FREEZE_CLAUSE, GEN1_LIMIT);
     if (fault != 0) {
-        fprintf(stderr, "error: code %u\n", (unsigned)GEN1_CODE(fault));
+        fprintf(stderr, "error: code %u\n", (unsigned)GEN1_CODE_OF(fault));
         exit(1);
     }
-    while (outcome(&battle) == GEN1_ONGOING) {
+    while (outcome(&battle) == GEN1_OUTCOME_ONGOING) {
         uint8_t best = best_choice(&battle);
         update(&battle, best, random_choice(&battle, GEN1_TWO));
     }
@@ -155,6 +154,6 @@ int main(int count, char **words)
     state = count > 2 ? strtoull(words[2], NULL, 10) : 1;
     for (int battle = 0; battle < battles; battle++)
         ended[played()]++;
-    printf("bot %d, random %d, ties %d\n", ended[GEN1_WIN_ONE], ended[GEN1_WIN_TWO], battles - ended[GEN1_WIN_ONE] - ended[GEN1_WIN_TWO]);
+    printf("bot %d, random %d, ties %d\n", ended[GEN1_OUTCOME_WIN_ONE], ended[GEN1_OUTCOME_WIN_TWO], battles - ended[GEN1_OUTCOME_WIN_ONE] - ended[GEN1_OUTCOME_WIN_TWO]);
     return 0;
 }

@@ -71,6 +71,6 @@ bool read_team_text(const char *path, gen1_team *team)
 
 void print_team_fault(uint32_t fault)
 {
-    fprintf(stderr, "error: team %u place %u refusal %u\n", (unsigned)GEN1_SIDE(fault), (unsigned)GEN1_PLACE(fault),
-            (unsigned)GEN1_CODE(fault));
+    fprintf(stderr, "error: team %u place %u refusal %u\n", (unsigned)GEN1_SIDE_OF(fault), (unsigned)GEN1_PLACE_OF(fault),
+            (unsigned)GEN1_CODE_OF(fault));
 }

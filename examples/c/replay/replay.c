@@ -30,7 +30,7 @@ static uint8_t *read_all(FILE *from, size_t *count)
     return bytes;
 }
 
-/* Reads all events. Returns GEN1_LOG_END for a log, else the code of the first error, with `*at` at the event where it is. */
+/* Reads all events. Returns GEN1_ERROR_LOG_END for a log, else the code of the first error, with `*at` at the event where it is. */
 static uint8_t tested(const uint8_t *log, size_t count, size_t *at)
 {
     gen1_event event;
@@ -46,7 +46,7 @@ static void print_lines(const uint8_t *log, size_t count)
     char line[GEN1_LINE_ROOM];
     size_t at = 0, length = 0;
     while (gen1_next_line(log, count, &at, line, sizeof line, &length) == 0)
-        fwrite(line, 1, length, stdout);
+        fputs(line, stdout);
 }
 
 int main(int count, char **words)
@@ -59,10 +59,10 @@ int main(int count, char **words)
         return 1;
     }
     uint8_t code = tested(log, length, &at);
-    if (code == GEN1_LOG_END)
+    if (code == GEN1_ERROR_LOG_END)
         print_lines(log, length);
     else
         fprintf(stderr, "error: log %d at byte %zu\n", code, at);
     free(log);
-    return code == GEN1_LOG_END ? 0 : 1;
+    return code == GEN1_ERROR_LOG_END ? 0 : 1;
 }

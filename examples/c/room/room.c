@@ -7,7 +7,7 @@
  * The first argument is a file with a battle as decimal numbers (../play.c); its choices are ignored. A player reads and writes lines:
  *
  *     ask NUMBER CHOICE ..   the number of the current pair, and the bytes of the choices that are offered for it
- *     taken | refused CODE   the result of the player's last line: a code of gen1_room_submit, or 5 for a line that is not a choice
+ *     taken | refused CODE   the result of the player's last line: a code of gen1_room_submit, or 255 for a line that is not a choice
  *     line TEXT              a line of the battle
  *     NUMBER CHOICE          (from the player) a choice for a pair
  *
@@ -36,8 +36,8 @@ enum { USUAL_PATIENCE = 10, MOST_PATIENCE = 86400, LINE_MOST = 32, READ_AT_ONCE 
 /* How often the room checks whether a player has ended before it kills it, and how many milliseconds it waits each time. */
 enum { LOOKS = 100, LOOK_EVERY = 10 };
 
-/* The code of a line that is not a pair's number and a choice; it follows those of gen1_room_submit. */
-enum { RUBBISH = GEN1_ROOM_NOT_OFFERED + 1, CODES };
+/* The code of a line that is not a pair's number and a choice; no function of gen1.h returns it. */
+enum { RUBBISH = 255, CODES };
 
 typedef struct player {
     uint8_t side;
@@ -88,9 +88,9 @@ static void tell_both(player players[2], const gen1_room *at)
     char line[GEN1_LINE_ROOM];
     size_t place = 0, length = 0;
     while (gen1_next_line(at->log, at->log_length, &place, line, sizeof line, &length) == 0) {
-        fwrite(line, 1, length, stdout);
-        send(&players[0], "line %.*s", (int)length, line);
-        send(&players[1], "line %.*s", (int)length, line);
+        fputs(line, stdout);
+        send(&players[0], "line %s", line);
+        send(&players[1], "line %s", line);
     }
     ask(&players[0], at);
     ask(&players[1], at);
@@ -182,7 +182,7 @@ static void run_room(player players[2], gen1_room *at, int patience)
 {
     time_t until = now() + patience;
     tell_both(players, at);
-    while (GEN1_OUTCOME(gen1_result(&at->battle)) == GEN1_ONGOING) {
+    while (GEN1_RESULT_OUTCOME(gen1_result(&at->battle)) == GEN1_OUTCOME_ONGOING) {
         uint32_t number = at->number;
         choose_for_missing(players, at, now() >= until);
         if (at->number == number)

@@ -1,6 +1,30 @@
 //! The players: one that tries its choices with playouts, and one that chooses at random.
+use crate::guesses;
 use crate::random::Random;
-use gen1::{Battle, Choice, Offered, Outcome, Side};
+use gen1::{Battle, Choice, Offered, Outcome, Player, Side};
+
+/// What a bot may look at.
+#[derive(Clone, Copy)]
+pub enum Sight<'a> {
+    /// What its side may know. It guesses the rest anew for each playout.
+    Fair(&'a Player),
+    /// The whole battle, which no player sees.
+    Cheating(&'a Battle),
+}
+
+impl Sight<'_> {
+    /// A battle to play out, with numbers of its own: a fork draws the same numbers as the battle, so the bot would know its luck.
+    fn fork(self, random: &mut Random) -> Battle {
+        match self {
+            Sight::Fair(player) => guesses::drawn(player, random),
+            Sight::Cheating(battle) => {
+                let mut fork = battle.clone();
+                fork.reseed(random.seed());
+                fork
+            }
+        }
+    }
+}
 
 /// The result of playouts of a choice.
 #[derive(Clone, Copy, Debug, PartialEq)]
@@ -19,20 +43,18 @@ pub fn random_choice(battle: &Battle, side: Side, random: &mut Random) -> Offere
 }
 
 /// Each of a side's choices, with the result of playouts that begin with it. The battle must not be over.
-///
-/// A fork of a battle draws the same numbers as the battle, so each fork gets others first. Without that the bot would know its luck.
-/// It does know both teams, and the whole state of both sides.
-pub fn tried(battle: &Battle, side: Side, playouts: u32, random: &mut Random) -> Vec<Tried> {
+pub fn tried(
+    sight: Sight<'_>,
+    side: Side,
+    choices: &[Choice],
+    playouts: u32,
+    random: &mut Random,
+) -> Vec<Tried> {
     let mut won = |choice| -> u32 {
         (0..playouts)
-            .map(|_| {
-                let mut fork = battle.clone();
-                fork.reseed(random.seed());
-                points(play_out(fork, side, choice, random), side)
-            })
+            .map(|_| points(play_out(sight.fork(random), side, choice, random), side))
             .sum()
     };
-    let choices = battle.choices(side);
     choices
         .iter()
         .map(|&choice| Tried {
@@ -100,9 +122,11 @@ mod tests {
     #[test]
     fn the_winning_move_is_found_whatever_the_seed() {
         for seed in 0..20 {
+            let battle = at_the_edge(seed);
             let tried = tried(
-                &at_the_edge(seed),
+                Sight::Cheating(&battle),
                 Side::One,
+                &battle.choices(Side::One),
                 16,
                 &mut Random::new(1, seed.into()),
             );
@@ -113,12 +137,16 @@ mod tests {
     #[test]
     fn trying_leaves_the_battle_alone_and_does_not_know_its_dice() {
         let (battle, before) = (at_the_edge(3), at_the_edge(3));
-        let told = tried(&battle, Side::One, 8, &mut Random::new(1, 1));
+        let told = |battle: &Battle| {
+            let choices = battle.choices(Side::One);
+            tried(Sight::Cheating(battle), Side::One, &choices, 8, &mut Random::new(1, 1))
+        };
+        let first = told(&battle);
         assert_eq!(battle, before);
         // The same battle with other numbers to draw is the same to the bot.
         let mut other = battle.clone();
         other.reseed([200; 10]);
-        assert_eq!(told, tried(&other, Side::One, 8, &mut Random::new(1, 1)));
+        assert_eq!(first, told(&other));
     }
 
     #[test]

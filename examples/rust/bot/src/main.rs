@@ -1,11 +1,13 @@
 //! Battles of a player that tries each of its choices with playouts, against one that chooses at random.
 mod bot;
+mod guesses;
 mod random;
 mod share;
 mod teams;
 
 use clap::Parser;
-use gen1::{Battle, Choice, Rules, Side, TurnLimit, Update};
+use bot::Sight;
+use gen1::{Battle, Choice, Player, Rules, Side, Team, Teller, TurnLimit, Update};
 use random::Random;
 use std::io::{IsTerminal, Write};
 use std::process::ExitCode;
@@ -16,9 +18,10 @@ use std::time::Instant;
 
 /// Plays battles of a bot against another player, and prints how many it won
 ///
-/// For each offered choice the bot plays forks of the battle to their end, with random choices and other numbers to draw, and makes
-/// the choice that won most. Both sides have the same team, and the bot is side 1 in every other battle. The same arguments give the
-/// same battles, for any number of threads.
+/// For each offered choice the bot plays battles to their end that begin with it, with random choices, and makes the choice that won
+/// most. They fit what the bot may know: it guesses the foe's members that have not appeared, and all that is hidden. With --cheat it
+/// plays forks of the battle itself instead. Both sides have the same team, and the bot is side 1 in every other battle. The same
+/// arguments give the same battles, for any number of threads.
 #[derive(Parser)]
 #[command(
     name = "bot",
@@ -32,7 +35,10 @@ struct Words {
     /// How many playouts the bot makes for each choice
     #[arg(long, default_value_t = 32, value_parser = clap::value_parser!(u32).range(1..=100_000))]
     playouts: u32,
-    /// How many playouts the other player makes; with 0 it chooses at random
+    /// The bot looks at the whole battle: it knows the foe's team and all hidden counts, but not the numbers to be drawn
+    #[arg(long)]
+    cheat: bool,
+    /// How many playouts the other player makes, which cheats; with 0 it chooses at random
     #[arg(long, default_value_t = 0, value_parser = clap::value_parser!(u32).range(0..=100_000))]
     foe: u32,
     /// The number of members of each team
@@ -57,6 +63,27 @@ enum End {
     Tied,
 }
 
+/// The place of a bot at a battle: what its side is told, and what it knows by that.
+struct Seat {
+    teller: Teller,
+    player: Player,
+}
+
+impl Seat {
+    fn new(side: Side, team: &Team) -> Self {
+        let foes = team.members().len() as u8;
+        Seat {
+            teller: Teller::in_pixels(side),
+            player: Player::with_foes(side, team, foes),
+        }
+    }
+
+    fn see(&mut self, battle: &Battle, update: &Update) {
+        let told = self.teller.report(battle, &update.log(), &mut self.player);
+        told.expect("an update has a log");
+    }
+}
+
 impl Words {
     /// Plays the battle with a number from 0, and calls a function after each pair of choices.
     fn played(&self, number: u32, mut each: impl FnMut(Side, &[bot::Tried], &Update)) -> End {
@@ -71,19 +98,32 @@ impl Words {
         let rules = Rules::new(3).expect("3 stands for both clauses");
         let mut battle =
             Battle::with_limit(&team, &team, random.seed(), rules, TurnLimit::default());
+        let mut seat = Seat::new(me, &team);
         let mut update = battle
             .update(Choice::Pass, Choice::Pass)
             .expect("a battle begins so");
+        seat.see(&battle, &update);
         each(me, &[], &update);
         while !battle.is_over() {
-            let (mine, tried) = self.choice(&battle, me, self.playouts, &mut random);
-            let (theirs, _) = self.choice(&battle, me.other(), self.foe, &mut random);
+            let sight = match self.cheat {
+                true => Sight::Cheating(&battle),
+                false => Sight::Fair(&seat.player),
+            };
+            let (mine, tried) = self.choice(&battle, me, sight, self.playouts, &mut random);
+            let (theirs, _) = self.choice(
+                &battle,
+                me.other(),
+                Sight::Cheating(&battle),
+                self.foe,
+                &mut random,
+            );
             let [one, two] = if me == Side::One {
                 [mine, theirs]
             } else {
                 [theirs, mine]
             };
             update = battle.update(one, two).expect("both choices are offered");
+            seat.see(&battle, &update);
             each(me, &tried, &update);
         }
         match battle.outcome().winner() {
@@ -98,13 +138,15 @@ impl Words {
         &self,
         battle: &Battle,
         side: Side,
+        sight: Sight<'_>,
         playouts: u32,
         random: &mut Random,
     ) -> (Choice, Vec<bot::Tried>) {
-        if playouts == 0 || battle.choices(side).len() == 1 {
+        let choices = battle.choices(side);
+        if playouts == 0 || choices.len() == 1 {
             return (bot::random_choice(battle, side, random).choice(), Vec::new());
         }
-        let tried = bot::tried(battle, side, playouts, random);
+        let tried = bot::tried(sight, side, &choices, playouts, random);
         (bot::best(&tried), tried)
     }
 
@@ -142,16 +184,17 @@ impl Words {
         let foe = if self.foe == 0 {
             "one that chooses at random".into()
         } else {
-            format!("one of {}", self.foe)
+            format!("a cheating one of {}", self.foe)
         };
         let (low, high) = share::interval(won, self.battles);
         format!(
-            "{} battles of {} members a side, seed {}: a bot of {} playouts a choice against {foe}\n\
+            "{} battles of {} members a side, seed {}: a {} bot of {} playouts a choice against {foe}\n\
              won {won}, lost {lost}, tied {tied}\n\
              it wins {:.1} % of its battles (95 % interval: {:.1} % to {:.1} %)\n",
             self.battles,
             self.members,
             self.seed,
+            if self.cheat { "cheating" } else { "fair" },
             self.playouts,
             100.0 * f64::from(won) / f64::from(self.battles),
             100.0 * low,

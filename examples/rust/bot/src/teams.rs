@@ -1,6 +1,6 @@
 //! Teams.
 use crate::random::Random;
-use gen1::{MemberSpec, Team, member};
+use gen1::{MemberSpec, Species, Team, member};
 
 /// The members to draw from: species, and four moves.
 const MEMBERS: [(&str, [&str; 4]); 12] = [
@@ -39,10 +39,26 @@ const MEMBERS: [(&str, [&str; 4]); 12] = [
 ///
 /// For another number of members.
 pub fn drawn(members: usize, random: &mut Random) -> Team {
-    let mut left = MEMBERS.to_vec();
-    let chosen: Vec<MemberSpec> = (0..members)
-        .map(|_| left.swap_remove(random.below(left.len())))
-        .map(|(species, moves)| member(species, &moves).expect("MEMBERS has names of the tables"))
+    beginning_with(Vec::new(), members, random)
+}
+
+/// A team of one to six different members, of which the first are of these species.
+///
+/// # Panics
+///
+/// For another number of members, and for a species that is not in the list.
+pub fn beginning_with(species: Vec<Species>, members: usize, random: &mut Random) -> Team {
+    let (mut first, mut left) = (Vec::new(), MEMBERS.to_vec());
+    for species in species {
+        let at = left.iter().position(|(name, _)| *name == species.name());
+        first.push(left.remove(at.expect("the species is in MEMBERS")));
+    }
+    while first.len() < members {
+        first.push(left.swap_remove(random.below(left.len())));
+    }
+    let chosen: Vec<MemberSpec> = first
+        .iter()
+        .map(|(species, moves)| member(species, moves).expect("MEMBERS has names of the tables"))
         .collect();
     Team::new(&chosen)
         .expect("MEMBERS has moves that a team may hold, and there are one to six members")

@@ -165,7 +165,10 @@ impl Host {
             if self.player(side).out.is_none() || !self.is_asked(side) {
                 continue;
             }
-            let first = self.room.choices(side)[0];
+            // There are no choices left where the player chose before it was out.
+            let Some(&first) = self.room.choices(side).first() else {
+                continue;
+            };
             if self.room.submit(side, number, first).is_ok() {
                 if self.room.number() != number {
                     self.tell_all();
