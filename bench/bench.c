@@ -14,19 +14,20 @@
  *
  * and for callgrind modes that print the number of updates:
  *
- *     bench_program BATTLES SEED quiet      each battle once, without log: --toggle-collect=gen1_update, or gen1_choices,
- *                                           which is called for both sides
- *     bench_program BATTLES SEED log        the same with log
+ *     bench_program BATTLES SEED quiet      each battle once, without log: --toggle-collect=gen1_update_silent, or
+ *                                           gen1_choices, which is called for both sides
+ *     bench_program BATTLES SEED log        the same with log: --toggle-collect=gen1_update
  *     bench_program BATTLES SEED listed     and once more by choices drawn as they go: --toggle-collect=replay_choosing
  *     bench_program BATTLES SEED masked     the same by masks: --toggle-collect=replay_masked, or gen1_offered
  *     bench_program BATTLES SEED playout    and once in calls of gen1_playout: --toggle-collect=gen1_playout
  *     bench_program BATTLES SEED trusted    and once by the call that does not test choices again, where there is one
  *     bench_program BATTLES SEED masked_trusted    and by masks and that call: --toggle-collect=replay_masked_trusted
  *
- * UNTESTED is the name of that call, if the header has it: an update by choices that the caller took from the offered ones.
+ * UNTESTED is the name of that call, if the header has it: an update without log by choices that the caller took from the offered
+ * ones.
  *
  * The same seed gives the same battles on every machine. First they are played and their choices stored. Then the same updates are
- * timed: calls of gen1_update, and a copy of 384 bytes for each battle.
+ * timed: calls of gen1_update_silent or gen1_update, and a copy of 384 bytes for each battle.
  */
 #define _POSIX_C_SOURCE 199309L
 #include <pthread.h>
@@ -98,7 +99,7 @@ static uint8_t chosen(const gen1_battle *battle, uint8_t side)
 
 static bool is_going_on(const gen1_battle *battle)
 {
-    return GEN1_OUTCOME(gen1_result(battle)) == GEN1_ONGOING;
+    return GEN1_RESULT_OUTCOME(gen1_result(battle)) == GEN1_OUTCOME_ONGOING;
 }
 
 /* The number of draws between the link numbers before an update and those after it: fewer than the 2,304 states. */
@@ -138,13 +139,13 @@ static uint64_t play(game *game, bool with_log)
 {
     gen1_battle battle = new_battle(), before;
     uint64_t draws = 0;
-    size_t room = with_log ? GEN1_LOG_ROOM : 0, length;
+    size_t length;
     game->start = battle;
     game->first = pair_count;
     while (is_going_on(&battle)) {
         uint8_t one = chosen(&battle, GEN1_ONE), two = chosen(&battle, GEN1_TWO);
         before = battle;
-        if (gen1_update(&battle, one, two, log_bytes, room, &length) != 0)
+        if (with_log ? gen1_update(&battle, one, two, log_bytes, sizeof log_bytes, &length) : gen1_update_silent(&battle, one, two))
             fail("a choice that is offered was refused");
         draws += draws_between(&before, &battle);
         keep_pair(one, two);
@@ -156,12 +157,13 @@ static uint64_t play(game *game, bool with_log)
 /* Plays all battles by the stored choices, with or without log. Returns the bytes of log. */
 static uint64_t replay(bool with_log)
 {
-    size_t room = with_log ? GEN1_LOG_ROOM : 0, length;
+    size_t length = 0;
     uint64_t bytes = 0;
     for (size_t number = 0; number < game_count; number++) {
         gen1_battle battle = games[number].start;
         for (size_t pair = games[number].first; pair < games[number].end; pair++) {
-            if (gen1_update(&battle, pairs[pair][0], pairs[pair][1], log_bytes, room, &length) != 0)
+            uint8_t one = pairs[pair][0], two = pairs[pair][1];
+            if (with_log ? gen1_update(&battle, one, two, log_bytes, sizeof log_bytes, &length) : gen1_update_silent(&battle, one, two))
                 fail("a choice that was accepted is refused");
             bytes += length;
         }
@@ -173,12 +175,11 @@ static uint64_t replay(bool with_log)
 __attribute__((noinline)) static uint64_t replay_choosing(void)
 {
     uint64_t updates = 0;
-    size_t length;
     for (size_t number = 0; number < game_count; number++) {
         gen1_battle battle = games[number].start;
         while (is_going_on(&battle)) {
             uint8_t one = chosen(&battle, GEN1_ONE), two = chosen(&battle, GEN1_TWO);
-            if (gen1_update(&battle, one, two, NULL, 0, &length) != 0)
+            if (gen1_update_silent(&battle, one, two) != 0)
                 fail("a choice that is offered was refused");
             updates++;
         }
@@ -200,19 +201,18 @@ COUNTING static uint8_t chosen_of_mask(const gen1_battle *battle, uint8_t side)
     for (uint32_t place = below((uint32_t)__builtin_popcount(mask)); place > 0; place--)
         mask &= mask - 1;
     int bit = __builtin_ctz(mask);
-    return (uint8_t)GEN1_CHOICE(bit);
+    return (uint8_t)GEN1_CHOICE_AT(bit);
 }
 
 /* The same playouts by masks. */
 COUNTING __attribute__((noinline)) static uint64_t replay_masked(void)
 {
     uint64_t updates = 0;
-    size_t length;
     for (size_t number = 0; number < game_count; number++) {
         gen1_battle battle = games[number].start;
         while (is_going_on(&battle)) {
             uint8_t one = chosen_of_mask(&battle, GEN1_ONE), two = chosen_of_mask(&battle, GEN1_TWO);
-            if (gen1_update(&battle, one, two, NULL, 0, &length) != 0)
+            if (gen1_update_silent(&battle, one, two) != 0)
                 fail("a choice that is offered was refused");
             updates++;
         }
@@ -224,7 +224,6 @@ COUNTING __attribute__((noinline)) static uint64_t replay_masked(void)
 static uint64_t updates_of_playout(gen1_battle battle, uint64_t random)
 {
     uint64_t updates = 0;
-    size_t length;
     for (; is_going_on(&battle); updates++) {
         uint8_t pair[2];
         for (uint8_t side = GEN1_ONE; side <= GEN1_TWO; side++) {
@@ -232,7 +231,7 @@ static uint64_t updates_of_playout(gen1_battle battle, uint64_t random)
             random = random * 6364136223846793005 + 1442695040888963407;
             pair[side - 1] = choices[(random >> 32) % count];
         }
-        if (gen1_update(&battle, pair[0], pair[1], NULL, 0, &length) != 0)
+        if (gen1_update_silent(&battle, pair[0], pair[1]) != 0)
             fail("a choice that is offered was refused");
     }
     return updates;
@@ -263,7 +262,7 @@ static struct { size_t next, end; } to_come[BATCH];
    processor holds next to it. */
 static void replay_in_turn(void)
 {
-    size_t begun = 0, length;
+    size_t begun = 0;
     for (size_t played = 0; played < pair_count;) {
         for (size_t at = 0; at < BATCH; at++) {
             if (to_come[at].next == to_come[at].end) {
@@ -274,7 +273,7 @@ static void replay_in_turn(void)
                 to_come[at].end = games[begun++].end;
             }
             uint8_t *pair = pairs[to_come[at].next++];
-            if (gen1_update(&batch[at], pair[0], pair[1], NULL, 0, &length) != 0)
+            if (gen1_update_silent(&batch[at], pair[0], pair[1]) != 0)
                 fail("a choice that was accepted is refused");
             played++;
         }
@@ -289,11 +288,10 @@ typedef struct {
 static void *replay_share(void *given)
 {
     const share *mine = given;
-    size_t length;
     for (size_t number = mine->first; number < mine->end; number++) {
         _Alignas(GEN1_ALIGNMENT) gen1_battle battle = games[number].start;
         for (size_t pair = games[number].first; pair < games[number].end; pair++)
-            if (gen1_update(&battle, pairs[pair][0], pairs[pair][1], NULL, 0, &length) != 0)
+            if (gen1_update_silent(&battle, pairs[pair][0], pairs[pair][1]) != 0)
                 fail("a choice that was accepted is refused");
     }
     return NULL;
@@ -317,11 +315,10 @@ static void replay_on_threads(size_t count)
 /* Plays all battles by the stored choices, which are all offered, without testing that again. */
 static void replay_trusted(void)
 {
-    size_t length;
     for (size_t number = 0; number < game_count; number++) {
         gen1_battle battle = games[number].start;
         for (size_t pair = games[number].first; pair < games[number].end; pair++)
-            UNTESTED(&battle, pairs[pair][0], pairs[pair][1], NULL, 0, &length);
+            UNTESTED(&battle, pairs[pair][0], pairs[pair][1]);
     }
 }
 
@@ -329,12 +326,11 @@ static void replay_trusted(void)
 COUNTING __attribute__((noinline)) static uint64_t replay_masked_trusted(void)
 {
     uint64_t updates = 0;
-    size_t length;
     for (size_t number = 0; number < game_count; number++) {
         gen1_battle battle = games[number].start;
         for (; is_going_on(&battle); updates++) {
             uint8_t one = chosen_of_mask(&battle, GEN1_ONE), two = chosen_of_mask(&battle, GEN1_TWO);
-            UNTESTED(&battle, one, two, NULL, 0, &length);
+            UNTESTED(&battle, one, two);
         }
     }
     return updates;

@@ -65,10 +65,10 @@ def main():
     print("/* The full teams of recorded battles. Made by bench/teams.py. */")
     print("static const gen1_team TEAMS[] = {")
     for team in teams:
-        print("    {{")
+        print("    {.members = {")
         for member in team:
             print(f"        {member_text(member, species, moves)},")
-        print("    }, 6},")
+        print("    }, .count = 6},")
     print("};")
 
 

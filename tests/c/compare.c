@@ -21,6 +21,7 @@ typedef struct library {
     __typeof__(gen1_load) *load;
     __typeof__(gen1_choices) *choices;
     __typeof__(gen1_update) *update;
+    __typeof__(gen1_update_silent) *update_silent;
     __typeof__(gen1_result) *result;
     __typeof__(gen1_next_event) *next_event;
     __typeof__(gen1_next_line) *next_line;
@@ -53,6 +54,7 @@ static library opened(const char *path)
         exit(2);
     }
     library it = { call_of(from, "gen1_new"), call_of(from, "gen1_load"), call_of(from, "gen1_choices"), call_of(from, "gen1_update"),
+                   call_of(from, "gen1_update_silent"),
                    call_of(from, "gen1_result"), call_of(from, "gen1_next_event"), call_of(from, "gen1_next_line"),
                    call_of(from, "gen1_damage") };
     return it;
@@ -155,10 +157,11 @@ static uint8_t looked(gen1_battle battles[2], uint8_t choices[2][9], uint8_t cou
 static bool updated(gen1_battle battles[2], uint8_t one, uint8_t two)
 {
     uint8_t logs[2][GEN1_LOG_ROOM], answers[2];
-    size_t lengths[2] = { 0, 0 }, room = draw(64) ? GEN1_LOG_ROOM : draw(2) * 100;
+    size_t lengths[2] = { 0, 0 }, room = draw(64) ? GEN1_LOG_ROOM : 100;
+    bool is_silent = !draw(64);
     memset(logs, 0, sizeof logs);
     for (int k = 0; k < 2; k++)
-        answers[k] = both[k].update(&battles[k], one, two, room ? logs[k] : NULL, room, &lengths[k]);
+        answers[k] = is_silent ? both[k].update_silent(&battles[k], one, two) : both[k].update(&battles[k], one, two, logs[k], room, &lengths[k]);
     updates++;
     same("an update's answer", &answers[0], &answers[1], 1);
     same("a battle's bytes", &battles[0], &battles[1], sizeof battles[0]);
@@ -195,9 +198,9 @@ static bool battle_played(void)
     same("a new battle's bytes", &battles[0], &battles[1], sizeof battles[0]);
     if (answers[0])
         return false;
-    while (!GEN1_OUTCOME(looked(battles, choices, counts)))
+    while (!GEN1_RESULT_OUTCOME(looked(battles, choices, counts)))
         updated(battles, chosen(choices[0], counts[0]), chosen(choices[1], counts[1]));
-    updated(battles, GEN1_PASS, GEN1_PASS);
+    updated(battles, GEN1_CHOICE_PASS, GEN1_CHOICE_PASS);
     return true;
 }
 
@@ -227,7 +230,7 @@ static void string_compared(void)
     same("a loaded battle", &battles[0], &battles[1], sizeof battles[0]);
     for (int k = 0; codes[0] && k < 2; k++)
         memcpy(battles[k].bytes, bytes, 384);
-    for (int n = 0; n < 3 && !GEN1_OUTCOME(looked(battles, choices, counts)); n++)
+    for (int n = 0; n < 3 && !GEN1_RESULT_OUTCOME(looked(battles, choices, counts)); n++)
         updated(battles, chosen(choices[0], counts[0]), chosen(choices[1], counts[1]));
     uint8_t log[512];
     memcpy(log, met_log[draw(256)], sizeof log);

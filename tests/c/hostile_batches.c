@@ -12,7 +12,7 @@ static uint16_t mask_of(const gen1_battle *battle, uint8_t side)
     uint8_t count = gen1_choices(battle, side, choices);
     uint16_t mask = 0;
     for (int at = 0; at < count && count <= 9; at++)
-        mask = (uint16_t)(mask | 1u << GEN1_BIT(choices[at]));
+        mask = (uint16_t)(mask | 1u << GEN1_CHOICE_BIT(choices[at]));
     return mask;
 }
 
@@ -25,7 +25,7 @@ static void try_offered(void)
     const gen1_battle *battle = block_of(0, &from, sizeof from);
     note();
     uint16_t got = gen1_offered(battle, side);
-    uint16_t want = !is_side ? GEN1_NO_MASK : is_valid ? mask_of(&from, side) : got;
+    uint16_t want = !is_side ? 0 : is_valid ? mask_of(&from, side) : got;
     tell("gen1_offered", got == want && unchanged(), got, want);
 }
 
@@ -57,7 +57,7 @@ static void try_offered_many(void)
     uint16_t *masks = block(1, mask_count * sizeof *masks);
     note();
     uint8_t got = gen1_offered_many(battles, count, side, masks, mask_count);
-    uint8_t want = side != GEN1_ONE && side != GEN1_TWO ? GEN1_NO_SIDE : mask_count != count ? GEN1_LENGTHS : 0;
+    uint8_t want = side != GEN1_ONE && side != GEN1_TWO ? GEN1_ERROR_SIDE : mask_count != count ? GEN1_ERROR_LENGTHS : 0;
     bool is_kept = got != 0 ? unchanged() : changed_only(1, count * sizeof *masks);
     for (size_t at = 0; got == 0 && at < count; at++)
         is_kept &= masks[at] == gen1_offered(&battles[at], side);
@@ -67,34 +67,28 @@ static void try_offered_many(void)
 static void try_update_many(void)
 {
     bool are_valid;
-    size_t count = draw(MANY + 1), counts[4], length, sizes[BLOCKS] = {0};
+    size_t count = draw(MANY + 1), update_count = near_count(count), sizes[BLOCKS] = {0};
     gen1_battle *battles = some_battles(count, &are_valid), before[MANY];
     memcpy(before, battles, count * sizeof *battles);
-    uint8_t *arrays[4];
-    for (int which = 0; which < 4; which++) { /* choices of both, results, codes */
-        counts[which] = near_count(count);
-        arrays[which] = block(1 + which, counts[which]);
+    gen1_batch_update *updates = block(1, update_count * sizeof *updates), asked[2 * MANY];
+    for (size_t at = 0; at < count && at < update_count; at++) {
+        updates[at].one = one_in(4) ? updates[at].one : offered(&battles[at], GEN1_ONE);
+        updates[at].two = one_in(4) ? updates[at].two : offered(&battles[at], GEN1_TWO);
     }
-    if (one_in(6)) { /* both choices are only read, so they may be one array */
-        arrays[1] = arrays[0];
-        counts[1] = counts[0];
-    }
-    for (size_t at = 0; at < count; at++)
-        for (uint8_t side = GEN1_ONE; side <= GEN1_TWO; side++)
-            if (at < counts[side - 1] && !one_in(4))
-                arrays[side - 1][at] = offered(&battles[at], side);
+    memcpy(asked, updates, (update_count < 2 * MANY ? update_count : 2 * MANY) * sizeof *updates);
     note();
-    uint8_t got = gen1_update_many(battles, count, arrays[0], counts[0], arrays[1], counts[1], arrays[2], counts[2], arrays[3], counts[3]);
-    bool are_equal = counts[0] == count && counts[1] == count && counts[2] == count && counts[3] == count;
+    uint8_t got = gen1_update_many(battles, count, updates, update_count), want = update_count == count ? 0 : GEN1_ERROR_LENGTHS;
     sizes[0] = got == 0 ? count * sizeof *battles : 0;
-    sizes[3] = sizes[4] = got == 0 ? count : 0;
+    sizes[1] = got == 0 ? count * sizeof *updates : 0;
     bool is_kept = changed_only_these(sizes);
+    for (size_t at = 0; got == 0 && at < count; at++)
+        is_kept &= updates[at].one == asked[at].one && updates[at].two == asked[at].two;
     for (size_t at = 0; got == 0 && at < count && are_valid; at++) {
-        uint8_t code = gen1_update(&before[at], arrays[0][at], arrays[1][at], NULL, 0, &length);
-        is_kept &= arrays[3][at] == code && arrays[2][at] == gen1_result(&before[at]);
+        uint8_t code = gen1_update_silent(&before[at], asked[at].one, asked[at].two);
+        is_kept &= updates[at].code == code && updates[at].result == gen1_result(&before[at]);
         is_kept &= memcmp(&before[at], &battles[at], sizeof before[at]) == 0;
     }
-    tell("gen1_update_many", got == (are_equal ? 0 : GEN1_LENGTHS) && is_kept, got, are_equal ? 0 : GEN1_LENGTHS);
+    tell("gen1_update_many", got == want && is_kept, got, want);
 }
 
 static void try_playout(void)

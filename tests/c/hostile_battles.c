@@ -9,10 +9,10 @@
 static uint32_t fault_of_numbers(const gen1_member *it)
 {
     if (it->species < 1 || it->species > 151)
-        return GEN1_NO_SUCH_SPECIES;
+        return GEN1_ERROR_SPECIES;
     for (int at = 0; at < 4; at++)
         if (it->moves[at] > 165)
-            return GEN1_NO_SUCH_MOVE;
+            return GEN1_ERROR_MOVE;
     return 0;
 }
 
@@ -43,13 +43,13 @@ static uint32_t fault_of_rules(const gen1_member *it)
         has_struggle |= it->moves[at] == 165;
         has_many_ups |= is_move && it->pp_ups[at] > 3;
     }
-    return it->level < 1 || it->level > 100 ? GEN1_LEVEL
-        : has_high_dv                       ? GEN1_DV
-        : !has_move                         ? GEN1_NO_MOVE
-        : has_left_out                      ? GEN1_MOVE_LEFT_OUT
-        : has_struggle                      ? GEN1_STRUGGLE
-        : has_repeated_move(it)             ? GEN1_REPEATED_MOVE
-        : has_many_ups                      ? GEN1_PP_UPS
+    return it->level < 1 || it->level > 100 ? GEN1_ERROR_LEVEL
+        : has_high_dv                       ? GEN1_ERROR_DV
+        : !has_move                         ? GEN1_ERROR_NO_MOVE
+        : has_left_out                      ? GEN1_ERROR_MOVE_LEFT_OUT
+        : has_struggle                      ? GEN1_ERROR_STRUGGLE
+        : has_repeated_move(it)             ? GEN1_ERROR_REPEATED_MOVE
+        : has_many_ups                      ? GEN1_ERROR_PP_UPS
                                             : 0;
 }
 
@@ -57,22 +57,22 @@ static uint32_t fault_of_rules(const gen1_member *it)
 static uint32_t fault_of_team(const gen1_team *team)
 {
     if (team->count > 6)
-        return GEN1_TOO_MANY;
+        return GEN1_ERROR_TEAM_TOO_LONG;
     for (uint32_t place = 1; place <= team->count; place++)
         if (fault_of_numbers(&team->members[place - 1]) != 0)
             return fault_of_numbers(&team->members[place - 1]) + 256 * place;
     for (uint32_t place = 1; place <= team->count; place++)
         if (fault_of_rules(&team->members[place - 1]) != 0)
             return fault_of_rules(&team->members[place - 1]) + 256 * place;
-    return team->count == 0 ? GEN1_EMPTY : 0;
+    return team->count == 0 ? GEN1_ERROR_TEAM_EMPTY : 0;
 }
 
 uint32_t fault_of_new(const gen1_team *one, const gen1_team *two, uint8_t rules, uint16_t limit)
 {
     if (rules > 3)
-        return GEN1_RULES;
+        return GEN1_ERROR_RULES;
     if (limit < 1 || limit > 9999)
-        return GEN1_TURN_LIMIT;
+        return GEN1_ERROR_TURN_LIMIT;
     if (fault_of_team(one) != 0)
         return 65536 + fault_of_team(one);
     return fault_of_team(two) != 0 ? 2 * 65536 + fault_of_team(two) : 0;
@@ -125,10 +125,10 @@ static void try_load(void)
     note();
     uint8_t got = gen1_load(battle, count == 0 ? NULL : bytes, count);
     uint8_t version = from.bytes[0];
-    uint8_t want = count != 384 ? GEN1_LOAD_LENGTH : version < 1 || version > 3 ? GEN1_LOAD_VERSION : is_valid ? 0 : got;
+    uint8_t want = count != 384 ? GEN1_ERROR_LOAD_LENGTH : version < 1 || version > 3 ? GEN1_ERROR_LOAD_VERSION : is_valid ? 0 : got;
     bool is_kept = got != 0 ? unchanged() : changed_only(0, sizeof *battle);
     bool is_loaded = got != 0 || version != 3 || memcmp(battle, &from, sizeof from) == 0;
-    tell("gen1_load", got == want && got <= GEN1_LOAD_REQUEST && is_kept && is_loaded, got, want);
+    tell("gen1_load", got == want && (got == 0 || (GEN1_ERROR_LOAD_LENGTH <= got && got <= GEN1_ERROR_LOAD_REQUEST)) && is_kept && is_loaded, got, want);
 }
 
 /* ---- gen1_choices, gen1_result ---- */
@@ -144,8 +144,8 @@ static void try_choices(void)
     uint8_t got = gen1_choices(battle, side, choices);
     bool is_side = side == GEN1_ONE || side == GEN1_TWO, is_kept = is_side && got <= 9 ? changed_only(1, got) : unchanged();
     for (int at = 0; is_side && got <= 9 && at < got; at++) /* in rising order, and each of them a choice */
-        is_kept &= (at == 0 || choices[at - 1] < choices[at]) && choices[at] <= GEN1_SWITCH(6);
-    tell("gen1_choices", is_side ? got <= 9 && is_kept : got == GEN1_NO_SIDE && is_kept, got, is_side ? got : GEN1_NO_SIDE);
+        is_kept &= (at == 0 || choices[at - 1] < choices[at]) && choices[at] <= GEN1_CHOICE_SWITCH(6);
+    tell("gen1_choices", got <= (is_side ? 9 : 0) && is_kept, got, is_side ? got : 0);
 }
 
 static void try_result(void)
@@ -155,23 +155,27 @@ static void try_result(void)
     const gen1_battle *battle = block_of(0, &from, sizeof from);
     note();
     uint8_t got = gen1_result(battle);
-    bool is_one = GEN1_OUTCOME(got) <= GEN1_FAULT_TWO && GEN1_REQUEST_ONE(got) <= GEN1_ASKED_SWITCH
-        && GEN1_REQUEST_TWO(got) <= GEN1_ASKED_SWITCH;
+    bool is_one = GEN1_RESULT_OUTCOME(got) <= GEN1_OUTCOME_FAULT_TWO && GEN1_RESULT_REQUEST_ONE(got) <= GEN1_REQUEST_SWITCH
+        && GEN1_RESULT_REQUEST_TWO(got) <= GEN1_REQUEST_SWITCH;
     tell("gen1_result", (is_one || !is_valid) && unchanged(), got, got);
 }
 
-/* ---- gen1_update ---- */
+/* ---- gen1_update, gen1_update_silent ---- */
 
 /* The code of an update of a valid battle. */
-static uint8_t fault_of_update(const gen1_battle *battle, uint8_t one, uint8_t two, size_t room)
+static uint8_t fault_of_update(const gen1_battle *battle, uint8_t one, uint8_t two)
 {
-    if (room != 0 && room < GEN1_LOG_ROOM)
-        return GEN1_SMALL_LOG;
-    if (GEN1_OUTCOME(gen1_result(battle)) != GEN1_ONGOING)
-        return GEN1_OVER;
+    if (GEN1_RESULT_OUTCOME(gen1_result(battle)) != GEN1_OUTCOME_ONGOING)
+        return GEN1_ERROR_OVER;
     if (!is_offered(battle, GEN1_ONE, one))
-        return GEN1_NOT_OFFERED_ONE;
-    return is_offered(battle, GEN1_TWO, two) ? 0 : GEN1_NOT_OFFERED_TWO;
+        return GEN1_ERROR_NOT_OFFERED_ONE;
+    return is_offered(battle, GEN1_TWO, two) ? 0 : GEN1_ERROR_NOT_OFFERED_TWO;
+}
+
+/* The size of a buffer for a log: too small for some, or enough for any. */
+static size_t log_room(void)
+{
+    return one_in(4) ? draw(GEN1_LOG_ROOM) : GEN1_LOG_ROOM + draw(3) * 100;
 }
 
 static void try_update(void)
@@ -179,17 +183,17 @@ static void try_update(void)
     bool is_valid;
     gen1_battle from = some_battle(&is_valid);
     uint8_t one = one_in(2) ? offered(&from, GEN1_ONE) : any_byte(), two = one_in(2) ? offered(&from, GEN1_TWO) : any_byte();
-    size_t room = one_in(4) ? draw(GEN1_LOG_ROOM) : one_in(4) ? 0 : GEN1_LOG_ROOM + draw(3) * 100;
+    size_t room = log_room();
     gen1_battle *battle = block_of(0, &from, sizeof from);
     uint8_t *log = block(1, room);
     size_t *length = block(2, sizeof *length);
     note();
     uint8_t got = gen1_update(battle, one, two, room == 0 ? NULL : log, room, length);
-    uint8_t want = is_valid || (room != 0 && room < GEN1_LOG_ROOM) ? fault_of_update(&from, one, two, room) : got;
+    uint8_t want = room < GEN1_LOG_ROOM ? GEN1_ERROR_SMALL_LOG : is_valid ? fault_of_update(&from, one, two) : got;
     bool is_kept = unchanged();
     if (got == 0) {
         gen1_battle after = *battle;
-        is_kept = *length <= room && *length <= GEN1_LOG_ROOM;
+        is_kept = *length <= GEN1_LOG_ROOM;
         memcpy(battle, &from, sizeof from);
         is_kept &= changed_only_two(1, *length <= room ? *length : 0, 2, sizeof *length);
         is_kept &= !is_valid || gen1_load(&from, after.bytes, sizeof after.bytes) == 0;
@@ -197,21 +201,32 @@ static void try_update(void)
     tell("gen1_update", got == want && is_kept, got, want);
 }
 
-/* ---- gen1_update_offered ---- */
+/* It does what gen1_update does. */
+static void try_update_silent(void)
+{
+    bool is_valid;
+    gen1_battle from = some_battle(&is_valid), told = from, *battle = block_of(0, &from, sizeof from);
+    uint8_t one = one_in(2) ? offered(&from, GEN1_ONE) : any_byte(), two = one_in(2) ? offered(&from, GEN1_TWO) : any_byte();
+    uint8_t log[GEN1_LOG_ROOM];
+    size_t length;
+    note();
+    uint8_t got = gen1_update_silent(battle, one, two), want = gen1_update(&told, one, two, log, sizeof log, &length);
+    bool is_same = !is_valid || memcmp(battle, &told, sizeof told) == 0;
+    tell("gen1_update_silent", (got == want || !is_valid) && is_same && (got == 0 ? changed_only(0, sizeof from) : unchanged()), got, want);
+}
+
+/* ---- gen1_update_offered, gen1_update_offered_silent ---- */
 
 static bool is_choice(uint8_t byte)
 {
-    return byte == GEN1_PASS || (GEN1_MOVE(0) <= byte && byte <= GEN1_MOVE(4)) || (GEN1_SWITCH(1) <= byte && byte <= GEN1_SWITCH(6));
+    return byte == GEN1_CHOICE_PASS || (GEN1_CHOICE_MOVE(0) <= byte && byte <= GEN1_CHOICE_MOVE(4))
+        || (GEN1_CHOICE_SWITCH(1) <= byte && byte <= GEN1_CHOICE_SWITCH(6));
 }
 
-/* The code of an update that tests only the room, and that both bytes are choices. */
-static uint8_t fault_of_bytes(uint8_t one, uint8_t two, size_t room)
+/* The code of an update that tests only that both bytes are choices. */
+static uint8_t fault_of_bytes(uint8_t one, uint8_t two)
 {
-    if (room != 0 && room < GEN1_LOG_ROOM)
-        return GEN1_SMALL_LOG;
-    if (!is_choice(one))
-        return GEN1_NOT_OFFERED_ONE;
-    return is_choice(two) ? 0 : GEN1_NOT_OFFERED_TWO;
+    return !is_choice(one) ? GEN1_ERROR_NOT_OFFERED_ONE : !is_choice(two) ? GEN1_ERROR_NOT_OFFERED_TWO : 0;
 }
 
 /* With offered choices it does what gen1_update does; with any others it writes to the same memory and no other. */
@@ -220,7 +235,7 @@ static void try_update_offered(void)
     bool is_valid;
     gen1_battle from = some_battle(&is_valid);
     uint8_t one = one_in(2) ? offered(&from, GEN1_ONE) : any_byte(), two = one_in(2) ? offered(&from, GEN1_TWO) : any_byte();
-    size_t room = one_in(4) ? draw(GEN1_LOG_ROOM) : one_in(4) ? 0 : GEN1_LOG_ROOM + draw(3) * 100;
+    size_t room = log_room();
     gen1_battle tested = from, *battle = block_of(0, &from, sizeof from);
     uint8_t *log = block(1, room);
     size_t *length = block(2, sizeof *length);
@@ -229,18 +244,29 @@ static void try_update_offered(void)
     bool is_offered = is_valid && gen1_update(&tested, one, two, tested_log, sizeof tested_log, &tested_length) == 0;
     note();
     uint8_t got = gen1_update_offered(battle, one, two, room == 0 ? NULL : log, room, length);
-    uint8_t want = fault_of_bytes(one, two, room);
+    uint8_t want = room < GEN1_LOG_ROOM ? GEN1_ERROR_SMALL_LOG : fault_of_bytes(one, two);
     bool is_kept = unchanged();
     if (got == 0) {
         gen1_battle after = *battle;
-        is_kept = *length <= room && *length <= GEN1_LOG_ROOM;
+        is_kept = *length <= GEN1_LOG_ROOM;
         is_kept &= !is_offered
-            || (memcmp(&after, &tested, sizeof after) == 0
-                && (room == 0 || (*length == tested_length && memcmp(log, tested_log, tested_length) == 0)));
+            || (memcmp(&after, &tested, sizeof after) == 0 && *length == tested_length && memcmp(log, tested_log, tested_length) == 0);
         memcpy(battle, &from, sizeof from);
         is_kept &= changed_only_two(1, *length <= room ? *length : 0, 2, sizeof *length);
     }
     tell("gen1_update_offered", got == want && is_kept, got, want);
+}
+
+static void try_update_offered_silent(void)
+{
+    bool is_valid;
+    gen1_battle from = some_battle(&is_valid), tested = from, *battle = block_of(0, &from, sizeof from);
+    uint8_t one = one_in(2) ? offered(&from, GEN1_ONE) : any_byte(), two = one_in(2) ? offered(&from, GEN1_TWO) : any_byte();
+    bool is_offered = is_valid && gen1_update_silent(&tested, one, two) == 0;
+    note();
+    uint8_t got = gen1_update_offered_silent(battle, one, two), want = fault_of_bytes(one, two);
+    bool is_same = !is_offered || memcmp(battle, &tested, sizeof tested) == 0;
+    tell("gen1_update_offered_silent", got == want && is_same && (got == 0 ? changed_only(0, sizeof from) : unchanged()), got, want);
 }
 
 /* ---- gen1_next_event, gen1_next_line ---- */
@@ -267,7 +293,7 @@ size_t some_place(size_t count)
 /* The expected code at an offset, where the byte of the tag determines it; else `otherwise`. */
 static uint8_t fault_of_place(const uint8_t *log, size_t count, size_t at, uint8_t otherwise)
 {
-    return at >= count ? GEN1_LOG_END : log[at] < 1 || log[at] > GEN1_FAULT ? GEN1_LOG_TAG : otherwise;
+    return at >= count ? GEN1_ERROR_LOG_END : log[at] < 1 || log[at] > GEN1_EVENT_FAULT ? GEN1_ERROR_LOG_TAG : otherwise;
 }
 
 static void try_next_event(void)
@@ -282,7 +308,32 @@ static void try_next_event(void)
     uint8_t want = fault_of_place(log, count, from, got);
     bool is_kept = got != 0 ? unchanged()
         : changed_only_two(1, sizeof *at, 2, sizeof *event) && *at > from && *at <= count && event->tag == log[from];
-    tell("gen1_next_event", got == want && got <= GEN1_LOG_END && is_kept, got, want);
+    tell("gen1_next_event", got == want && (got == 0 || (GEN1_ERROR_LOG_TAG <= got && got <= GEN1_ERROR_LOG_END)) && is_kept, got, want);
+}
+
+/* An event of a log, some of its fields changed, or any bytes. Where the code is 0, the event that is read again has the same bytes. */
+static void try_event_bytes(void)
+{
+    size_t count, from = 0, end = 0;
+    const uint8_t *log = some_log(&count);
+    gen1_event any, again, *event = block(1, sizeof *event);
+    bool is_event = !one_in(4) && gen1_next_event(log, count, &from, &any) == 0;
+    if (is_event)
+        memcpy(event, &any, sizeof any);
+    for (uint32_t changes = one_in(2) ? draw(3) : 0; changes > 0; changes--)
+        ((uint8_t *)event)[draw(sizeof *event)] = any_byte();
+    is_event = is_event && memcmp(event, &any, sizeof any) == 0;
+    uint8_t *bytes = block(2, 10), other[10];
+    size_t *length = block(3, sizeof *length);
+    note();
+    uint8_t got = gen1_event_bytes(event, bytes, length);
+    uint8_t want = event->tag < 1 || event->tag > GEN1_EVENT_FAULT ? GEN1_ERROR_LOG_TAG : is_event ? 0 : got;
+    bool is_kept = got != 0 ? unchanged() && (got == GEN1_ERROR_LOG_TAG || got == GEN1_ERROR_LOG_FIELD)
+                            : *length <= 10 && changed_only_two(2, *length, 3, sizeof *length)
+            && gen1_next_event(bytes, *length, &end, &again) == 0 && end == *length && event->tag == again.tag
+            && gen1_event_bytes(&again, other, &end) == 0 && end == *length && memcmp(bytes, other, end) == 0
+            && (!is_event || memcmp(event, &again, sizeof again) == 0);
+    tell("gen1_event_bytes", got == want && is_kept, got, want);
 }
 
 static void try_next_line(void)
@@ -296,12 +347,12 @@ static void try_next_line(void)
     char *text = block(2, room);
     note();
     uint8_t got = gen1_next_line(count == 0 ? NULL : log, count, at, room == 0 ? NULL : text, room, written);
-    uint8_t want = fault_of_place(log, count, from, whole == 0 && length > room ? GEN1_SMALL_TEXT : whole);
+    uint8_t want = fault_of_place(log, count, from, whole == 0 && length >= room ? GEN1_ERROR_SMALL_TEXT : whole);
     bool is_kept = unchanged();
     if (got == 0) {
-        is_kept = *at == end && *written == length && memcmp(text, line, length) == 0;
+        is_kept = *at == end && *written == length && memcmp(text, line, length + 1) == 0 && text[length] == '\0';
         memcpy(at, &from, sizeof from);
-        is_kept &= changed_only_two(2, length, 3, sizeof *written);
+        is_kept &= changed_only_two(2, length + 1, 3, sizeof *written);
     }
     tell("gen1_next_line", got == want && is_kept, got, want);
 }
@@ -313,19 +364,20 @@ static void try_damage(void)
     bool is_valid;
     gen1_battle from = some_battle(&is_valid);
     uint8_t side = one_in(2) ? any_byte() : (uint8_t)(1 + draw(2)), move = one_in(2) ? any_byte() : (uint8_t)(1 + draw(165));
-    bool is_out = GEN1_REQUEST_ONE(gen1_result(&from)) != GEN1_ASKED_NOTHING || GEN1_REQUEST_TWO(gen1_result(&from)) != GEN1_ASKED_NOTHING;
+    bool is_out = GEN1_RESULT_REQUEST_ONE(gen1_result(&from)) != GEN1_REQUEST_NOTHING || GEN1_RESULT_REQUEST_TWO(gen1_result(&from)) != GEN1_REQUEST_NOTHING;
     const gen1_battle *battle = block_of(0, &from, sizeof from);
     uint16_t *damages = block(1, 39 * sizeof *damages);
     note();
     uint8_t got = gen1_damage(battle, side, move, one_in(2), damages);
-    uint8_t want = side != GEN1_ONE && side != GEN1_TWO ? GEN1_DAMAGE_SIDE : move < 1 || move > 165 ? GEN1_DAMAGE_MOVE : got;
+    uint8_t want = side != GEN1_ONE && side != GEN1_TWO ? GEN1_ERROR_SIDE : move < 1 || move > 165 ? GEN1_ERROR_MOVE : got;
     bool is_kept = got != 0 ? unchanged() : changed_only(1, 39 * sizeof *damages);
     for (int at = 1; got == 0 && at < 39; at++)
         is_kept &= damages[at - 1] <= damages[at];
-    is_kept &= !is_valid || got != GEN1_DAMAGE_NOBODY || !is_out;
-    tell("gen1_damage", got == want && got <= GEN1_DAMAGE_DIVISOR && is_kept, got, want);
+    is_kept &= !is_valid || got != GEN1_ERROR_NOBODY_OUT || !is_out;
+    tell("gen1_damage", got == want && got <= GEN1_ERROR_NOBODY_OUT && is_kept, got, want);
 }
 
 try_call *const tries_of_battles[] = {
-    try_new, try_load, try_choices, try_result, try_update, try_update_offered, try_next_event, try_next_line, try_damage, NULL,
+    try_new, try_load, try_choices, try_result, try_update, try_update_silent, try_update_offered, try_update_offered_silent,
+    try_next_event, try_event_bytes, try_next_line, try_damage, NULL,
 };

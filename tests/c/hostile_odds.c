@@ -25,11 +25,16 @@ static bool is_likely(const gen1_odds *odds, const gen1_battle *battle, uint8_t 
     bool is_often = move == GEN1_MOVE_KARATE_CHOP || move == GEN1_MOVE_RAZOR_LEAF || move == GEN1_MOVE_CRABHAMMER || move == GEN1_MOVE_SLASH;
     bool is_plain = !(user->conditions & GEN1_CONDITION_FOCUS_ENERGY) && !is_often;
     bool is_level = user->stages[4] == 6 && foe->stages[5] == 6 && !(foe->conditions & (GEN1_CONDITION_INVULNERABLE | GEN1_CONDITION_MIST));
-    bool is_settled = move == GEN1_MOVE_SWIFT || move == GEN1_MOVE_DREAM_EATER;
-    uint16_t critical = odds->usual.code == GEN1_DAMAGE_UNUSUAL ? 0 : is_plain ? base.stats[3] / 2 : odds->critical_draws;
-    return odds->critical_draws == critical && odds->critical_draws <= 255 && odds->hit_draws <= 256
-        && (!is_level || is_settled || odds->hit_draws == (row.accuracy > 1 ? row.accuracy : 1))
-        && (move != GEN1_MOVE_SWIFT || odds->hit_draws == 256);
+    /* A move that goes on has another accuracy, and a foe that has to recharge is put to sleep without a test. */
+    const uint32_t going_on = GEN1_CONDITION_THRASH | GEN1_CONDITION_RAGE | GEN1_CONDITION_TRAPPING;
+    bool is_new = !(user->conditions & going_on) && !(foe->conditions & GEN1_CONDITION_RECHARGE);
+    uint16_t accuracy = row.accuracy > 1 ? row.accuracy : 1;
+    uint16_t critical = odds->usual.code == GEN1_ERROR_UNUSUAL ? 0 : is_plain ? base.stats[3] / 2 : odds->critical_draws;
+    uint16_t hits = odds->reason != GEN1_ODDS_CAN_HIT                       ? 0
+        : move == GEN1_MOVE_SWIFT || !gen1_takes_hit_test(move)             ? 256
+        : is_level && is_new && move != GEN1_MOVE_DREAM_EATER               ? accuracy
+                                                                            : odds->hit_draws;
+    return odds->critical_draws == critical && odds->critical_draws <= 255 && odds->hit_draws == hits && hits <= 256;
 }
 
 static void try_odds_now(void)
@@ -43,9 +48,9 @@ static void try_odds_now(void)
     gen1_get_state(&from, &state);
     note();
     uint8_t got = gen1_odds_now(battle, side, move, odds);
-    uint8_t want = side != GEN1_ONE && side != GEN1_TWO ? GEN1_DAMAGE_SIDE
-        : move < 1 || move > 165                         ? GEN1_DAMAGE_MOVE
-        : state.turn == 0                                ? GEN1_DAMAGE_NOBODY
+    uint8_t want = side != GEN1_ONE && side != GEN1_TWO ? GEN1_ERROR_SIDE
+        : move < 1 || move > 165                         ? GEN1_ERROR_MOVE
+        : state.turn == 0                                ? GEN1_ERROR_NOBODY_OUT
                                                          : 0;
     bool is_right = got != 0 ? unchanged() : changed_only(1, sizeof *odds);
     if (got == 0 && want == 0 && is_valid)
@@ -71,7 +76,7 @@ static void try_odds_between(void)
         spoil(one_in(2) ? &one : &two);
     gen1_team first = alone(&one.members[0]), second = alone(&two.members[0]);
     uint8_t move = one_in(4) ? any_byte() : (uint8_t)(1 + draw(165));
-    uint32_t want = move < 1 || move > 165 ? GEN1_NO_SUCH_MOVE : fault_of_new(&first, &second, 0, GEN1_LIMIT);
+    uint32_t want = move < 1 || move > 165 ? GEN1_ERROR_MOVE : fault_of_new(&first, &second, 0, GEN1_LIMIT);
     const gen1_member *user = block_of(0, &first.members[0], sizeof *user), *foe = block_of(1, &second.members[0], sizeof *foe);
     gen1_odds *odds = block(2, sizeof *odds);
     note();
@@ -80,14 +85,38 @@ static void try_odds_between(void)
     if (got == 0 && want == 0) {
         gen1_battle battle;
         uint8_t seed[10];
-        size_t length;
         gen1_odds due;
         memcpy(seed, "any seed..", sizeof seed);
         gen1_new(&battle, &first, &second, seed, 0, GEN1_LIMIT);
-        gen1_update(&battle, GEN1_PASS, GEN1_PASS, NULL, 0, &length);
+        gen1_update_silent(&battle, GEN1_CHOICE_PASS, GEN1_CHOICE_PASS);
         is_right &= gen1_odds_now(&battle, GEN1_ONE, move, &due) == 0 && memcmp(odds, &due, sizeof due) == 0;
     }
     tell("gen1_odds_between", got == want && is_right, got, want);
+}
+
+/* The stats are those of the member in a battle. */
+static void try_member_stats(void)
+{
+    gen1_team team = lawful_team();
+    for (uint32_t times = draw(3); times > 0; times--)
+        spoil(&team);
+    gen1_team only = alone(&team.members[0]);
+    uint8_t want = (uint8_t)GEN1_CODE_OF(fault_of_new(&only, &only, 0, GEN1_LIMIT));
+    const gen1_member *member = block_of(0, &only.members[0], sizeof *member);
+    uint16_t *stats = block(1, 5 * sizeof *stats);
+    note();
+    uint8_t got = gen1_member_stats(member, stats);
+    bool is_right = got != 0 ? unchanged() : changed_only(1, 5 * sizeof *stats);
+    if (got == 0 && want == 0) {
+        gen1_battle battle;
+        gen1_state state;
+        uint8_t seed[10] = {0};
+        gen1_new(&battle, &only, &only, seed, 0, GEN1_LIMIT);
+        gen1_get_state(&battle, &state);
+        const gen1_member_state *it = &state.sides[0].members[0];
+        is_right &= stats[0] == it->max_hp && memcmp(&stats[1], it->stats, sizeof it->stats) == 0;
+    }
+    tell("gen1_member_stats", got == want && is_right, got, want);
 }
 
 /* The expected result of some moves by docs/MECHANICS.md, "Hit test"; of the others either result. */
@@ -104,7 +133,7 @@ static uint8_t due_test(uint8_t move, uint8_t got)
     case GEN1_MOVE_TOXIC:
         return 1;
     default:
-        return move < 1 || move > 165 ? GEN1_NOT_A_MOVE : got & 1;
+        return move < 1 || move > 165 ? 0 : got & 1;
     }
 }
 
@@ -116,4 +145,4 @@ static void try_takes_hit_test(void)
     tell("gen1_takes_hit_test", got == want && unchanged(), got, want);
 }
 
-try_call *const tries_of_odds[] = {try_odds_now, try_odds_between, try_takes_hit_test, NULL};
+try_call *const tries_of_odds[] = {try_odds_now, try_odds_between, try_member_stats, try_takes_hit_test, NULL};

@@ -13,7 +13,7 @@ static bool is_side(uint8_t side)
 /* What is asked of a side, by gen1_result. */
 static uint8_t request_of(uint8_t result, uint8_t side)
 {
-    return side == GEN1_ONE ? GEN1_REQUEST_ONE(result) : GEN1_REQUEST_TWO(result);
+    return side == GEN1_ONE ? GEN1_RESULT_REQUEST_ONE(result) : GEN1_RESULT_REQUEST_TWO(result);
 }
 
 /* A room before a pair of choices: a side of which nothing is asked has its Pass. */
@@ -22,7 +22,7 @@ static bool is_fresh(const gen1_room *room, uint32_t number)
     uint8_t result = gen1_result(&room->battle);
     bool is_right = room->number == number;
     for (uint8_t side = GEN1_ONE; side <= GEN1_TWO; side++)
-        is_right &= room->chosen[side - 1] == (request_of(result, side) == GEN1_ASKED_NOTHING ? GEN1_PASS : GEN1_DUE);
+        is_right &= room->chosen[side - 1] == (request_of(result, side) == GEN1_REQUEST_NOTHING ? GEN1_CHOICE_PASS : GEN1_DUE);
     return is_right;
 }
 
@@ -48,7 +48,7 @@ static void try_room_begin(void)
         gen1_state state;
         gen1_get_state(&from, &state);
         is_right &= is_fresh(room, 0);
-        is_right &= state.turn == 0 ? is_updated(room, from, GEN1_PASS, GEN1_PASS)
+        is_right &= state.turn == 0 ? is_updated(room, from, GEN1_CHOICE_PASS, GEN1_CHOICE_PASS)
                                     : room->log_length == 0 && memcmp(&room->battle, &from, sizeof from) == 0;
     }
     tell("gen1_room_begin", is_right, room->number, 0);
@@ -77,7 +77,7 @@ static void try_room_choices(void)
     bool is_valid;
     gen1_room from = some_room(&is_valid);
     uint8_t side = one_in(4) ? any_byte() : (uint8_t)(1 + draw(2)), due[9] = {0};
-    uint8_t count = !is_side(side) ? GEN1_NO_SIDE : from.chosen[side - 1] != GEN1_DUE ? 0 : gen1_choices(&from.battle, side, due);
+    uint8_t count = !is_side(side) ? 0 : from.chosen[side - 1] != GEN1_DUE ? 0 : gen1_choices(&from.battle, side, due);
     const gen1_room *room = block_of(0, &from, sizeof from);
     uint8_t *choices = block(1, 9);
     note();
@@ -91,11 +91,11 @@ static void try_room_choices(void)
 /* The code of a submission to a lawful room. */
 static uint8_t fault_of_submission(const gen1_room *room, uint8_t side, uint32_t number, uint8_t choice)
 {
-    return !is_side(side)                                             ? GEN1_NO_SIDE
-        : GEN1_OUTCOME(gen1_result(&room->battle)) != GEN1_ONGOING    ? GEN1_ROOM_OVER
-        : number != room->number                                      ? GEN1_ROOM_STALE
-        : room->chosen[side - 1] != GEN1_DUE                          ? GEN1_ROOM_CHOSEN
-        : !is_offered(&room->battle, side, choice)                    ? GEN1_ROOM_NOT_OFFERED
+    return !is_side(side)                                             ? GEN1_ERROR_SIDE
+        : GEN1_RESULT_OUTCOME(gen1_result(&room->battle)) != GEN1_OUTCOME_ONGOING    ? GEN1_ERROR_OVER
+        : number != room->number                                      ? GEN1_ERROR_STALE
+        : room->chosen[side - 1] != GEN1_DUE                          ? GEN1_ERROR_CHOSEN
+        : !is_offered(&room->battle, side, choice)                    ? GEN1_ERROR_NOT_OFFERED
                                                                       : 0;
 }
 
@@ -123,6 +123,39 @@ static void try_room_submit(void)
     if (is_valid && got == 0 && want == 0)
         is_kept &= is_taken(room, from, side, choice);
     tell("gen1_room_submit", got == want && is_kept, got, want);
+}
+
+/* A forfeit drops the choices of the pair, leaves the battle alone, and refuses what comes after it. */
+static void try_room_forfeit(void)
+{
+    bool is_valid;
+    gen1_room from = some_room(&is_valid);
+    uint8_t side = one_in(4) ? any_byte() : (uint8_t)(1 + draw(2));
+    gen1_room *room = block_of(0, &from, sizeof from);
+    note();
+    uint8_t got = gen1_room_forfeit(room, side);
+    bool is_over = GEN1_RESULT_OUTCOME(gen1_result(&from.battle)) != GEN1_OUTCOME_ONGOING;
+    uint8_t want = !is_side(side) ? GEN1_ERROR_SIDE : !is_valid ? got : is_over ? GEN1_ERROR_OVER : 0;
+    bool is_kept = got != 0 ? unchanged() : changed_only(0, sizeof *room);
+    if (is_valid && got == 0 && want == 0) {
+        const uint8_t won[2] = {GEN1_EVENT_WIN, (uint8_t)(3 - side)};
+        is_kept &= room->forfeit == side && room->number == from.number + 1 && room->log_length == 2 && memcmp(room->log, won, 2) == 0
+            && memcmp(&room->battle, &from.battle, sizeof from.battle) == 0;
+    }
+    tell("gen1_room_forfeit", got == want && is_kept, got, want);
+}
+
+static void try_room_result(void)
+{
+    bool is_valid;
+    gen1_room from = some_room(&is_valid);
+    uint8_t result = gen1_result(&from.battle), lost = (uint8_t)(1 + draw(2));
+    bool is_lost = is_valid && GEN1_RESULT_OUTCOME(result) == GEN1_OUTCOME_ONGOING && one_in(2) && gen1_room_forfeit(&from, lost) == 0;
+    const gen1_room *room = block_of(0, &from, sizeof from);
+    note();
+    uint8_t got = gen1_room_result(room);
+    uint8_t want = !is_valid ? got : is_lost ? (lost == GEN1_ONE ? GEN1_OUTCOME_WIN_TWO : GEN1_OUTCOME_WIN_ONE) : result;
+    tell("gen1_room_result", got == want && unchanged(), got, want);
 }
 
 /* ---- watching ---- */
@@ -203,7 +236,7 @@ static void try_spectator_feed(void)
         memcpy(bytes, log, count < length ? count : length);
     note();
     uint8_t got = gen1_spectator_feed(spectator, count == 0 ? NULL : bytes, count);
-    bool is_right = got != 0 ? unchanged() && (got == GEN1_LOG_TAG || got == GEN1_LOG_FIELD) && !is_lawful : changed_only(0, sizeof *spectator);
+    bool is_right = got != 0 ? unchanged() && (got == GEN1_ERROR_LOG_TAG || got == GEN1_ERROR_LOG_FIELD) && !is_lawful : changed_only(0, sizeof *spectator);
     if (is_lawful && got == 0) {
         gen1_state state;
         gen1_get_state(&battle, &state);
@@ -214,5 +247,5 @@ static void try_spectator_feed(void)
 }
 
 try_call *const tries_of_rooms[] = {
-    try_room_begin, try_room_choices, try_room_submit, try_spectator_begin, try_spectator_feed, NULL
+    try_room_begin, try_room_choices, try_room_submit, try_room_forfeit, try_room_result, try_spectator_begin, try_spectator_feed, NULL
 };

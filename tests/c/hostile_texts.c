@@ -28,8 +28,8 @@ static void try_team(const char *call, reading *read, const char *lawful, size_t
     note();
     uint8_t got = read(count == 0 ? NULL : given, count, team, fault), want = is_lawful ? 0 : got;
     bool is_kept = got == 0 ? changed_only(1, sizeof *team) && fault_of_new(team, team, 0, 1) == 0
-                            : changed_only(2, sizeof *fault) && fault->code == got && got <= GEN1_TEXT_TEAM
-            && (fault->rule != 0) == (got == GEN1_TEXT_TEAM);
+                            : changed_only(2, sizeof *fault) && fault->code == got && GEN1_ERROR_TEXT_SPECIES <= got && got <= GEN1_ERROR_TEXT_TEAM
+            && (fault->rule != 0) == (got == GEN1_ERROR_TEXT_TEAM);
     tell(call, got == want && is_kept, got, want);
 }
 

@@ -64,21 +64,21 @@ static void try_view(void)
     bool is_right = changed_only(1, sizeof *state);
     uint32_t result = gen1_result(&from);
     if (is_valid)
-        is_right = is_right && state->outcome == GEN1_OUTCOME(result) && state->requests[0] == GEN1_REQUEST_ONE(result) &&
-                   state->requests[1] == GEN1_REQUEST_TWO(result) && state->index <= 8;
-    tell("gen1_get_state", is_right, state->outcome, GEN1_OUTCOME(result));
+        is_right = is_right && state->outcome == GEN1_RESULT_OUTCOME(result) && state->requests[0] == GEN1_RESULT_REQUEST_ONE(result) &&
+                   state->requests[1] == GEN1_RESULT_REQUEST_TWO(result) && state->index <= 8;
+    tell("gen1_get_state", is_right, state->outcome, GEN1_RESULT_OUTCOME(result));
 }
 
 static bool is_choice(uint8_t byte)
 {
-    return byte == GEN1_PASS || (GEN1_MOVE(0) <= byte && byte <= GEN1_MOVE(4)) || (GEN1_SWITCH(1) <= byte && byte <= GEN1_SWITCH(6));
+    return byte == GEN1_CHOICE_PASS || (GEN1_CHOICE_MOVE(0) <= byte && byte <= GEN1_CHOICE_MOVE(4)) || (GEN1_CHOICE_SWITCH(1) <= byte && byte <= GEN1_CHOICE_SWITCH(6));
 }
 
 static void try_choice_kind(void)
 {
     uint8_t byte = any_byte();
     note();
-    uint8_t got = gen1_choice_kind(byte), want = is_choice(byte) ? (uint8_t)(byte / 16 + 1) : GEN1_CHOICE_NONE;
+    uint8_t got = gen1_choice_kind(byte), want = is_choice(byte) ? (uint8_t)(byte / 16 + 1) : GEN1_KIND_NONE;
     tell("gen1_choice_kind", got == want && unchanged(), got, want);
 }
 
@@ -99,7 +99,7 @@ static void try_reseed(void)
     const uint8_t *seed = block(1, 10);
     uint8_t index = one_in(2) ? (uint8_t)draw(9) : any_byte();
     note();
-    uint8_t got = gen1_reseed(battle, seed, index), want = index <= 8 ? 0 : GEN1_RESEED_INDEX;
+    uint8_t got = gen1_reseed(battle, seed, index), want = index <= 8 ? 0 : GEN1_ERROR_INDEX;
     bool is_kept = got == 0 ? changed_only(0, sizeof from) : unchanged();
     if (got == 0) {
         from.bytes[5] = index;
@@ -110,12 +110,13 @@ static void try_reseed(void)
 }
 
 /* Whether a call has written its text to blocks 1 and 2 as it must; `due` is the code where there is room. */
-static void tell_text(const char *name, uint8_t got, uint8_t due, uint8_t small, const size_t *length, size_t room)
+static void tell_text(const char *name, uint8_t got, uint8_t due, const char *text, const size_t *length, size_t room)
 {
     if (got != 0)
-        tell(name, unchanged() && got == (due != 0 ? due : small), got, due);
+        tell(name, unchanged() && got == (due != 0 ? due : GEN1_ERROR_SMALL_TEXT), got, due);
     else
-        tell(name, due == 0 && 0 < *length && *length <= room && changed_only_two(1, *length, 2, sizeof *length), got, due);
+        tell(name, due == 0 && 0 < *length && *length < room && text[*length] == '\0' && changed_only_two(1, *length + 1, 2, sizeof *length),
+             got, due);
 }
 
 static void try_name(const char *name, uint8_t (*call)(uint8_t, char *, size_t, size_t *), uint8_t first, uint8_t last)
@@ -126,23 +127,31 @@ static void try_name(const char *name, uint8_t (*call)(uint8_t, char *, size_t, 
     size_t *length = block(2, sizeof *length);
     note();
     uint8_t got = call(number, text, room, length);
-    tell_text(name, got, first <= number && number <= last ? 0 : GEN1_UNKNOWN, GEN1_SMALL_ROOM, length, room);
+    tell_text(name, got, first <= number && number <= last ? 0 : GEN1_ERROR_UNKNOWN, text, length, room);
 }
 
 static void try_species_name(void) { try_name("gen1_species_name", gen1_species_name, 1, 151); }
 static void try_move_name(void) { try_name("gen1_move_name", gen1_move_name, 1, 165); }
 static void try_type_name(void) { try_name("gen1_type_name", gen1_type_name, 0, 14); }
 
-static void try_text(void)
+static void try_error_text(void)
 {
-    static const uint8_t last[10] = {0, 13, 7, 4, 5, 5, 2, 4, 1, 4};
+    /* The first and the last code of each family. */
+    static const uint8_t families[][2] = {
+        {0, GEN1_ERROR_FOES}, {GEN1_ERROR_LOAD_LENGTH, GEN1_ERROR_STATE}, {GEN1_ERROR_OVER, GEN1_ERROR_LONG_LOG},
+        {GEN1_ERROR_LOG_TAG, GEN1_ERROR_LOG_END}, {GEN1_ERROR_SIDE, GEN1_ERROR_PLACE}, {GEN1_ERROR_UNUSUAL, GEN1_ERROR_NOBODY_OUT},
+        {GEN1_ERROR_STALE, GEN1_ERROR_NOT_OFFERED}, {GEN1_ERROR_TEXT_SPECIES, GEN1_ERROR_TEXT_TEAM},
+    };
     size_t room = draw(140);
-    uint8_t about = one_in(2) ? (uint8_t)draw(10) : any_byte(), code = one_in(2) ? (uint8_t)draw(15) : any_byte();
+    uint8_t code = any_byte();
+    bool is_code = false;
+    for (size_t at = 0; at < sizeof families / sizeof families[0]; at++)
+        is_code |= families[at][0] <= code && code <= families[at][1];
     char *text = block(1, room);
     size_t *length = block(2, sizeof *length);
     note();
-    uint8_t got = gen1_text(about, code, text, room, length);
-    tell_text("gen1_text", got, 1 <= about && about <= 9 && code <= last[about] ? 0 : GEN1_UNKNOWN, GEN1_SMALL_ROOM, length, room);
+    uint8_t got = gen1_error_text(code, text, room, length);
+    tell_text("gen1_error_text", got, is_code ? 0 : GEN1_ERROR_UNKNOWN, text, length, room);
 }
 
 static void try_species_stats(void)
@@ -150,7 +159,7 @@ static void try_species_stats(void)
     uint8_t species = any_byte();
     gen1_base *base = block(0, sizeof *base);
     note();
-    uint8_t got = gen1_species_stats(species, base), want = 1 <= species && species <= 151 ? 0 : GEN1_UNKNOWN;
+    uint8_t got = gen1_species_stats(species, base), want = 1 <= species && species <= 151 ? 0 : GEN1_ERROR_UNKNOWN;
     tell("gen1_species_stats", got == want && (got == 0 ? changed_only(0, sizeof *base) : unchanged()), got, want);
 }
 
@@ -159,11 +168,21 @@ static void try_move_data(void)
     uint8_t move = any_byte();
     gen1_move *row = block(0, sizeof *row);
     note();
-    uint8_t got = gen1_move_data(move, row), want = 1 <= move && move <= 165 ? 0 : GEN1_UNKNOWN;
+    uint8_t got = gen1_move_data(move, row), want = 1 <= move && move <= 165 ? 0 : GEN1_ERROR_UNKNOWN;
     tell("gen1_move_data", got == want && (got == 0 ? changed_only(0, sizeof *row) : unchanged()), got, want);
 }
 
-/* Where a valid battle returns GEN1_WORDS_NOBODY is not computed here. */
+static void try_effectiveness(void)
+{
+    uint8_t attack = one_in(2) ? (uint8_t)draw(16) : any_byte(), foe = one_in(2) ? (uint8_t)draw(16) : any_byte();
+    uint8_t *tenths = block(0, 1);
+    note();
+    uint8_t got = gen1_effectiveness(attack, foe, tenths), want = attack <= 14 && foe <= 14 ? 0 : GEN1_ERROR_UNKNOWN;
+    bool is_factor = *tenths == 0 || *tenths == 5 || *tenths == 10 || *tenths == 20;
+    tell("gen1_effectiveness", got == want && (got == 0 ? is_factor && changed_only(0, 1) : unchanged()), got, want);
+}
+
+/* Where a valid battle returns GEN1_ERROR_NOBODY is not computed here. */
 static void try_choice_words(void)
 {
     bool is_valid;
@@ -175,13 +194,14 @@ static void try_choice_words(void)
     size_t *length = block(2, sizeof *length);
     note();
     uint8_t got = gen1_choice_words(battle, side, byte, text, room, length);
-    uint8_t due = side != GEN1_ONE && side != GEN1_TWO ? GEN1_WORDS_SIDE : !is_choice(byte) ? GEN1_WORDS_CHOICE : 0;
-    if (due == 0 && got == GEN1_WORDS_NOBODY)
-        due = GEN1_WORDS_NOBODY;
-    tell_text("gen1_choice_words", got, due, GEN1_WORDS_SMALL, length, room);
+    uint8_t due = side != GEN1_ONE && side != GEN1_TWO ? GEN1_ERROR_SIDE : !is_choice(byte) ? GEN1_ERROR_CHOICE : 0;
+    if (due == 0 && got == GEN1_ERROR_NOBODY)
+        due = GEN1_ERROR_NOBODY;
+    tell_text("gen1_choice_words", got, due, text, length, room);
 }
 
 try_call *const tries_of_views[] = {
     try_version, try_build, try_species_from_name, try_move_from_name, try_view, try_choice_kind, try_choice_slot, try_reseed,
-    try_species_name, try_move_name, try_type_name, try_text, try_species_stats, try_move_data, try_choice_words, NULL
+    try_species_name, try_move_name, try_type_name, try_error_text, try_species_stats, try_move_data, try_effectiveness, try_choice_words,
+    NULL
 };

@@ -38,7 +38,7 @@ uint8_t offered(const gen1_battle *battle, uint8_t side)
 {
     uint8_t choices[9];
     uint8_t count = gen1_choices(battle, side, choices);
-    return count == 0 ? GEN1_PASS : choices[draw(count)];
+    return count == 0 ? GEN1_CHOICE_PASS : choices[draw(count)];
 }
 
 void meet(int place)

@@ -24,7 +24,7 @@ public:
     Battle(const gen1_team &one, const gen1_team &two, const std::array<std::uint8_t, 10> &seed)
     {
         if (const auto fault = gen1_new(&battle, &one, &two, seed.data(), 0, GEN1_LIMIT); fault != 0)
-            throw std::invalid_argument("team " + std::to_string(GEN1_SIDE(fault)));
+            throw std::invalid_argument("team " + std::to_string(GEN1_SIDE_OF(fault)));
     }
 
     /* The lines of an update. */
@@ -69,7 +69,7 @@ int main()
     team.count = 1;
     Battle battle(team, team, {1, 36, 255, 7, 31, 100, 179, 254, 127, 10});
     using Pair = std::pair<std::uint8_t, std::uint8_t>;
-    const std::uint8_t move = GEN1_MOVE(1);
-    for (const auto &[one, two] : {Pair{GEN1_PASS, GEN1_PASS}, Pair{move, move}, Pair{move, move}})
+    const std::uint8_t move = GEN1_CHOICE_MOVE(1);
+    for (const auto &[one, two] : {Pair{GEN1_CHOICE_PASS, GEN1_CHOICE_PASS}, Pair{move, move}, Pair{move, move}})
         std::cout << battle.update(one, two);
 }

@@ -27,10 +27,10 @@ static int wrong_bits(void)
     for (int bit = 0; bit < 12; bit++)
         bits[choices[bit]] = bit;
     for (int byte = 0; byte < 256; byte++)
-        wrong += GEN1_BIT(byte) != bits[byte];
+        wrong += GEN1_CHOICE_BIT(byte) != bits[byte];
     for (int bit = 0; bit < 12;) {
         int want = choices[bit];
-        wrong += GEN1_CHOICE(bit++) != want; /* the macro evaluates its argument once */
+        wrong += GEN1_CHOICE_AT(bit++) != want; /* the macro evaluates its argument once */
     }
     return wrong;
 }
@@ -42,8 +42,8 @@ typedef struct told {
     const char *line;
 } told;
 
-#define CANT(reason) {GEN1_CANT, GEN1_ONE, GEN1_SPECIES_TAUROS, reason}, reason
-#define DAMAGED(source) {GEN1_DAMAGE, GEN1_ONE, GEN1_SPECIES_TAUROS, 97, 0, 97, 1, GEN1_STATUS_NONE, source}, source
+#define CANT(reason) {GEN1_EVENT_CANT, GEN1_ONE, GEN1_SPECIES_TAUROS, reason}, reason
+#define DAMAGED(source) {GEN1_EVENT_DAMAGE, GEN1_ONE, GEN1_SPECIES_TAUROS, 97, 0, 97, 1, GEN1_STATUS_NONE, source}, source
 #define OF_VOLATILE(tag, it) {tag, GEN1_ONE, GEN1_SPECIES_TAUROS, it}, it
 
 static const told events[] = {
@@ -60,32 +60,34 @@ static const told events[] = {
     {DAMAGED(GEN1_SOURCE_LEECH_SEED), "|-damage|p1a: Tauros|97/353|[from] Leech Seed\n"},
     {DAMAGED(GEN1_SOURCE_RECOIL), "|-damage|p1a: Tauros|97/353|[from] Recoil\n"},
     {DAMAGED(GEN1_SOURCE_CONFUSION), "|-damage|p1a: Tauros|97/353|[from] confusion\n"},
-    {OF_VOLATILE(GEN1_START, GEN1_VOLATILE_CONFUSION), "|-start|p1a: Tauros|confusion\n"},
-    {OF_VOLATILE(GEN1_ACTIVATE, GEN1_VOLATILE_BIDE), "|-activate|p1a: Tauros|Bide\n"},
-    {OF_VOLATILE(GEN1_END, GEN1_VOLATILE_SUBSTITUTE), "|-end|p1a: Tauros|Substitute\n"},
-    {OF_VOLATILE(GEN1_START, GEN1_VOLATILE_LEECH_SEED), "|-start|p1a: Tauros|Leech Seed\n"},
-    {OF_VOLATILE(GEN1_START, GEN1_VOLATILE_MIST), "|-start|p1a: Tauros|Mist\n"},
-    {OF_VOLATILE(GEN1_START, GEN1_VOLATILE_FOCUS_ENERGY), "|-start|p1a: Tauros|Focus Energy\n"},
-    {OF_VOLATILE(GEN1_START, GEN1_VOLATILE_LIGHT_SCREEN), "|-start|p1a: Tauros|Light Screen\n"},
-    {OF_VOLATILE(GEN1_START, GEN1_VOLATILE_REFLECT), "|-start|p1a: Tauros|Reflect\n"},
-    {OF_VOLATILE(GEN1_END, GEN1_VOLATILE_DISABLE), "|-end|p1a: Tauros|Disable\n"},
-    {OF_VOLATILE(GEN1_START, GEN1_VOLATILE_TYPE_CHANGE), "|-start|p1a: Tauros|typechange\n"},
-    {OF_VOLATILE(GEN1_START, GEN1_VOLATILE_TRAPPED), "|-start|p1a: Tauros|trapped\n"},
-    {OF_VOLATILE(GEN1_START, GEN1_VOLATILE_RAGE), "|-start|p1a: Tauros|Rage\n"},
-    {OF_VOLATILE(GEN1_ACTIVATE, GEN1_VOLATILE_SPLASH), "|-activate|p1a: Tauros|Splash\n"},
-    {{GEN1_FAULT, GEN1_FAULT_DIVISION}, GEN1_FAULT_DIVISION, "|fault|1\n"},
-    {{GEN1_FAULT, GEN1_FAULT_PSYWAVE}, GEN1_FAULT_PSYWAVE, "|fault|2\n"},
+    {OF_VOLATILE(GEN1_EVENT_START, GEN1_VOLATILE_CONFUSION), "|-start|p1a: Tauros|confusion\n"},
+    {OF_VOLATILE(GEN1_EVENT_ACTIVATE, GEN1_VOLATILE_BIDE), "|-activate|p1a: Tauros|Bide\n"},
+    {OF_VOLATILE(GEN1_EVENT_END, GEN1_VOLATILE_SUBSTITUTE), "|-end|p1a: Tauros|Substitute\n"},
+    {OF_VOLATILE(GEN1_EVENT_START, GEN1_VOLATILE_LEECH_SEED), "|-start|p1a: Tauros|Leech Seed\n"},
+    {OF_VOLATILE(GEN1_EVENT_START, GEN1_VOLATILE_MIST), "|-start|p1a: Tauros|Mist\n"},
+    {OF_VOLATILE(GEN1_EVENT_START, GEN1_VOLATILE_FOCUS_ENERGY), "|-start|p1a: Tauros|Focus Energy\n"},
+    {OF_VOLATILE(GEN1_EVENT_START, GEN1_VOLATILE_LIGHT_SCREEN), "|-start|p1a: Tauros|Light Screen\n"},
+    {OF_VOLATILE(GEN1_EVENT_START, GEN1_VOLATILE_REFLECT), "|-start|p1a: Tauros|Reflect\n"},
+    {OF_VOLATILE(GEN1_EVENT_END, GEN1_VOLATILE_DISABLE), "|-end|p1a: Tauros|Disable\n"},
+    {OF_VOLATILE(GEN1_EVENT_START, GEN1_VOLATILE_TYPE_CHANGE), "|-start|p1a: Tauros|typechange\n"},
+    {OF_VOLATILE(GEN1_EVENT_START, GEN1_VOLATILE_TRAPPED), "|-start|p1a: Tauros|trapped\n"},
+    {OF_VOLATILE(GEN1_EVENT_START, GEN1_VOLATILE_RAGE), "|-start|p1a: Tauros|Rage\n"},
+    {OF_VOLATILE(GEN1_EVENT_ACTIVATE, GEN1_VOLATILE_SPLASH), "|-activate|p1a: Tauros|Splash\n"},
+    {{GEN1_EVENT_FAULT, GEN1_FAULT_DIVISION}, GEN1_FAULT_DIVISION, "|fault|1\n"},
+    {{GEN1_EVENT_FAULT, GEN1_FAULT_PSYWAVE}, GEN1_FAULT_PSYWAVE, "|fault|2\n"},
 };
 
-/* Whether an event has its detail as a struct, and its line. */
+/* Whether an event has its detail as a struct, its line, and its bytes. */
 static bool is_told(const told *it)
 {
     gen1_event event;
     char line[GEN1_LINE_ROOM];
-    size_t as_struct = 0, as_line = 0, length = 0;
+    uint8_t bytes[10];
+    size_t as_struct = 0, as_line = 0, length = 0, count = 0;
     return gen1_next_event(it->bytes, sizeof it->bytes, &as_struct, &event) == 0 && event.tag == it->bytes[0] && event.detail == it->detail
         && gen1_next_line(it->bytes, sizeof it->bytes, &as_line, line, sizeof line, &length) == 0 && length == strlen(it->line)
-        && memcmp(line, it->line, length) == 0;
+        && strcmp(line, it->line) == 0 && gen1_event_bytes(&event, bytes, &count) == 0 && count == as_struct
+        && memcmp(bytes, it->bytes, count) == 0;
 }
 
 int main(void)

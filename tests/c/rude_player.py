@@ -3,8 +3,8 @@
 
     rude_player.py CHOICE ..
 
-Before each choice it sends lines that must all be refused: seven that are not a choice (code 5), and the first time 3,000 more; a
-choice for the next pair (code 2); and one that is never offered (code 4).
+Before each choice it sends lines that must all be refused: seven that are not a choice (code 255), and the first time 3,000 more; a
+choice for the next pair (code 52); and one that is never offered (code 54).
 """
 import sys
 

@@ -55,7 +55,7 @@ uint8_t __wrap_gen1_update(gen1_battle *battle, uint8_t one, uint8_t two, uint8_
         log[*length] ^= 1;
     if (WRONG == 6 && answer != 0)
         *length = 0;
-    return WRONG == 7 && answer == GEN1_OVER ? GEN1_NOT_OFFERED_ONE : answer;
+    return WRONG == 7 && answer == GEN1_ERROR_OVER ? GEN1_ERROR_NOT_OFFERED_ONE : answer;
 }
 
 /* 8: the byte after the log is read. 9: the offset moves at a fault. */
@@ -69,12 +69,12 @@ uint8_t __wrap_gen1_next_event(const uint8_t *log, size_t count, size_t *at, gen
     return answer;
 }
 
-/* 10: a zero is written after the line. */
+/* 10: the line does not end in NUL. */
 uint8_t __wrap_gen1_next_line(const uint8_t *log, size_t count, size_t *at, char *text, size_t room, size_t *length)
 {
     uint8_t answer = __real_gen1_next_line(log, count, at, text, room, length);
-    if (WRONG == 10 && answer == 0 && *length < room)
-        text[*length] = 0;
+    if (WRONG == 10 && answer == 0)
+        text[*length] = '\n';
     return answer;
 }
 
@@ -88,10 +88,10 @@ uint8_t __wrap_gen1_damage(const gen1_battle *battle, uint8_t side, uint8_t move
 uint8_t __wrap_gen1_room_submit(gen1_room *room, uint8_t side, uint32_t number, uint8_t choice)
 {
     uint32_t before = room->number;
-    if (WRONG == 12 && (side == GEN1_ONE || side == GEN1_TWO) && room->chosen[2 - side] > GEN1_PASS && room->chosen[2 - side] != GEN1_DUE)
-        return GEN1_ROOM_CHOSEN;
+    if (WRONG == 12 && (side == GEN1_ONE || side == GEN1_TWO) && room->chosen[2 - side] > GEN1_CHOICE_PASS && room->chosen[2 - side] != GEN1_DUE)
+        return GEN1_ERROR_CHOSEN;
     uint8_t answer = __real_gen1_room_submit(room, side, number, choice);
-    if (WRONG == 13 && answer == GEN1_ROOM_NOT_OFFERED)
+    if (WRONG == 13 && answer == GEN1_ERROR_NOT_OFFERED)
         room->chosen[side - 1] = choice;
     if (WRONG == 14 && answer == 0 && room->number != before)
         room->log_length = 0;

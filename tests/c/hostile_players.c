@@ -1,0 +1,214 @@
+/* Calls of players, states that are written, and chances, with arguments out of their ranges (hostile.c). */
+#include "lawful.h"
+
+#include <string.h>
+
+static bool is_side(uint8_t side)
+{
+    return side == GEN1_ONE || side == GEN1_TWO;
+}
+
+static uint8_t some_side(void)
+{
+    return one_in(4) ? any_byte() : (uint8_t)(1 + draw(2));
+}
+
+/* ---- players ---- */
+
+static void try_player_begin(void)
+{
+    gen1_team of = lawful_team(), other = lawful_team();
+    for (uint32_t times = draw(3); times > 0; times--)
+        spoil(&of);
+    uint8_t side = some_side(), foes = one_in(4) ? any_byte() : (uint8_t)draw(7);
+    uint32_t want = !is_side(side) ? GEN1_ERROR_SIDE : foes > 6 ? GEN1_ERROR_FOES : fault_of_new(&of, &other, 0, GEN1_LIMIT) & 0xffff;
+    gen1_player *player = block(0, sizeof *player);
+    const gen1_team *team = block_of(1, &of, sizeof of);
+    note();
+    uint32_t got = gen1_player_begin(player, side, team, foes);
+    bool is_right = got != 0 ? unchanged()
+        : changed_only(0, sizeof *player) && player->side == side && player->foes == foes && player->held_count == 0 && player->offered == 0
+            && player->known.sides[side - 1].members[0].species == of.members[0].species && player->known.sides[2 - side].members[0].species == 0;
+    tell("gen1_player_begin", got == want && is_right, (long)got, (long)want);
+}
+
+/* A player before its battle, or any bytes. */
+static gen1_player some_player(bool *is_valid)
+{
+    gen1_player player;
+    gen1_team team = lawful_team();
+    memset(&player, 0, sizeof player);
+    gen1_player_begin(&player, (uint8_t)(1 + draw(2)), &team, (uint8_t)draw(7));
+    *is_valid = !one_in(4);
+    for (uint32_t changes = *is_valid ? 0 : 1 + draw(60); changes > 0; changes--)
+        ((uint8_t *)&player)[draw(sizeof player)] = any_byte();
+    return player;
+}
+
+/* A lawful log is taken in; other bytes return a code, and change nothing. */
+static void try_player_feed(void)
+{
+    bool is_valid;
+    gen1_player from = some_player(&is_valid);
+    size_t count;
+    const uint8_t *log = some_log(&count);
+    gen1_player *player = block_of(1, &from, sizeof from);
+    note();
+    uint8_t got = gen1_player_feed(player, count == 0 ? NULL : log, count);
+    bool is_right = got != 0 ? unchanged() && (got == GEN1_ERROR_LOG_TAG || got == GEN1_ERROR_LOG_FIELD) : changed_only(1, sizeof *player);
+    tell("gen1_player_feed", is_right, got, 0);
+}
+
+/* What is shown is what gen1_get_state writes of the side. */
+static bool is_own(const gen1_own_side *own, const gen1_side_state *side)
+{
+    bool is_right = own->place == side->active.place && own->disabled_slot == side->active.disabled_slot
+        && own->conditions == (side->active.conditions & ~(uint32_t)GEN1_CONDITION_FLINCH)
+        && memcmp(own->stats, side->active.stats, sizeof own->stats) == 0;
+    for (int at = 0; at < 6; at++) {
+        const gen1_own_member *member = &own->members[at];
+        const gen1_member_state *it = &side->members[at];
+        is_right &= member->species == it->species && member->hp == it->hp && member->status == it->status
+            && memcmp(member->pp, it->pp, sizeof it->pp) == 0 && (it->species != 0) == (at < own->count);
+    }
+    return is_right;
+}
+
+static void try_get_own_side(void)
+{
+    bool is_valid;
+    gen1_battle from = some_battle(&is_valid);
+    uint8_t side = some_side();
+    const gen1_battle *battle = block_of(0, &from, sizeof from);
+    gen1_own_side *own = block(1, sizeof *own);
+    note();
+    uint8_t got = gen1_get_own_side(battle, side, own), want = is_side(side) ? 0 : GEN1_ERROR_SIDE;
+    bool is_right = got != 0 ? unchanged() : changed_only(1, sizeof *own);
+    if (got == 0 && want == 0 && is_valid) {
+        gen1_state state;
+        gen1_get_state(&from, &state);
+        is_right &= own->turn == state.turn && own->request == state.requests[side - 1] && is_own(own, &state.sides[side - 1]);
+    }
+    tell("gen1_get_own_side", got == want && is_right, got, want);
+}
+
+static void try_player_show(void)
+{
+    bool is_valid;
+    gen1_player from = some_player(&is_valid);
+    gen1_player *player = block_of(0, &from, sizeof from);
+    const gen1_own_side *own = block(1, sizeof *own);
+    uint16_t offered = (uint16_t)draw(65536);
+    note();
+    gen1_player_show(player, own, offered);
+    bool is_right = changed_only(0, sizeof *player) && player->offered == offered && memcmp(&player->own, own, sizeof *own) == 0
+        && memcmp(&player->known, &from.known, sizeof from.known) == 0;
+    tell("gen1_player_show", is_right, 0, 0);
+}
+
+static void try_teller_begin(void)
+{
+    uint8_t side = some_side(), pixels = any_byte();
+    gen1_teller *teller = block(0, sizeof *teller);
+    note();
+    uint8_t got = gen1_teller_begin(teller, side, pixels), want = is_side(side) ? 0 : GEN1_ERROR_SIDE;
+    bool is_right = got != 0 ? unchanged() : changed_only(0, sizeof *teller) && teller->side == side && teller->pixels == (pixels != 0);
+    tell("gen1_teller_begin", got == want && is_right, got, want);
+}
+
+/* What is told has as many bytes as the log; without pixels it differs from it in places of the foe's members alone. */
+static void try_tell(void)
+{
+    size_t count, room = draw(GUARDED_ROOM / 4);
+    const uint8_t *log = some_log(&count);
+    gen1_teller from;
+    gen1_teller_begin(&from, (uint8_t)(1 + draw(2)), (uint8_t)draw(2));
+    for (uint32_t changes = one_in(4) ? draw(9) : 0; changes > 0; changes--)
+        ((uint8_t *)&from)[draw(sizeof from)] = any_byte();
+    gen1_teller *teller = block_of(1, &from, sizeof from);
+    uint8_t *told = block(2, room);
+    size_t *length = block(3, sizeof *length);
+    note();
+    uint8_t got = gen1_tell(teller, count == 0 ? NULL : log, count, room == 0 ? NULL : told, room, length);
+    const size_t sizes[BLOCKS] = {0, sizeof *teller, count, sizeof *length};
+    bool is_code = got == GEN1_ERROR_LOG_TAG || got == GEN1_ERROR_LOG_FIELD || got == GEN1_ERROR_LOG_CUT;
+    bool is_right = count > GEN1_LOG_ROOM ? got == GEN1_ERROR_LONG_LOG && unchanged()
+        : room < count                    ? got == GEN1_ERROR_SMALL_LOG && unchanged()
+        : got != 0                        ? is_code && unchanged()
+                                          : changed_only_these(sizes) && *length == count;
+    tell("gen1_tell", is_right, got, 0);
+}
+
+/* ---- states and chances ---- */
+
+/* A state of lawful play gives its battle again. One in which bytes were changed is refused, or gives a battle that gen1_load takes. */
+static void try_set_state(void)
+{
+    gen1_battle of = met[draw(MET)];
+    gen1_state from;
+    gen1_get_state(&of, &from);
+    bool is_lawful = one_in(3);
+    for (uint32_t changes = is_lawful ? 0 : 1 + draw(4); changes > 0; changes--)
+        ((uint8_t *)&from)[draw(sizeof from)] = any_byte();
+    gen1_battle *battle = block(0, sizeof *battle);
+    const gen1_state *state = block_of(1, &from, sizeof from);
+    gen1_state_fault *fault = block(2, sizeof *fault);
+    note();
+    uint8_t got = gen1_set_state(battle, state, fault);
+    gen1_battle loaded;
+    bool is_right = got == 0 ? changed_only(0, sizeof *battle) && gen1_load(&loaded, battle->bytes, sizeof battle->bytes) == 0
+                             : got == GEN1_ERROR_STATE && !is_lawful && changed_only(2, sizeof *fault) && fault->field != 0;
+    if (is_lawful)
+        is_right &= memcmp(battle, &of, sizeof of) == 0;
+    tell("gen1_set_state", is_right, got, is_lawful ? 0 : got);
+}
+
+static void try_knock_out(void)
+{
+    bool is_valid;
+    gen1_battle from = some_battle(&is_valid);
+    uint8_t side = some_side(), move = one_in(4) ? any_byte() : (uint8_t)(1 + draw(165));
+    const gen1_battle *battle = block_of(0, &from, sizeof from);
+    gen1_chances *chances = block(1, sizeof *chances);
+    gen1_state state;
+    gen1_get_state(&from, &state);
+    note();
+    uint8_t got = gen1_knock_out(battle, side, move, chances);
+    uint8_t want = !is_side(side) ? GEN1_ERROR_SIDE : move < 1 || move > 165 ? GEN1_ERROR_MOVE : state.turn == 0 ? GEN1_ERROR_NOBODY_OUT : 0;
+    bool is_right = got != 0 ? unchanged() : changed_only(1, sizeof *chances);
+    if (got == 0 && is_valid)
+        is_right &= chances->once <= chances->once_of && chances->twice <= chances->twice_of && chances->once_of <= 20447232
+            && chances->twice_of == chances->once_of * chances->once_of && chances->breaks_substitute <= 1 && chances->zeros[6] == 0;
+    tell("gen1_knock_out", got == want && is_right, got, want);
+}
+
+static uint16_t at_least_1(uint16_t number)
+{
+    return number == 0 ? 1 : number;
+}
+
+static void try_drained(void)
+{
+    uint8_t move = one_in(2) ? GEN1_MOVE_ABSORB : any_byte();
+    uint16_t damage = (uint16_t)draw(65536);
+    bool drains = move == GEN1_MOVE_ABSORB || move == GEN1_MOVE_MEGA_DRAIN || move == GEN1_MOVE_LEECH_LIFE || move == GEN1_MOVE_DREAM_EATER;
+    note();
+    uint16_t got = gen1_drained(move, damage), want = drains ? at_least_1(damage / 2) : 0;
+    tell("gen1_drained", got == want && unchanged(), got, want);
+}
+
+static void try_recoil(void)
+{
+    uint8_t move = one_in(2) ? (one_in(2) ? GEN1_MOVE_STRUGGLE : GEN1_MOVE_TAKE_DOWN) : any_byte();
+    uint16_t damage = (uint16_t)draw(65536);
+    bool recoils = move == GEN1_MOVE_TAKE_DOWN || move == GEN1_MOVE_DOUBLE_EDGE || move == GEN1_MOVE_SUBMISSION;
+    note();
+    uint16_t got = gen1_recoil(move, damage);
+    uint16_t want = move == GEN1_MOVE_STRUGGLE ? at_least_1(damage / 2) : recoils ? at_least_1(damage / 4) : 0;
+    tell("gen1_recoil", got == want && unchanged(), got, want);
+}
+
+try_call *const tries_of_players[] = {
+    try_player_begin, try_player_feed, try_get_own_side, try_player_show, try_teller_begin, try_tell, try_set_state, try_knock_out,
+    try_drained, try_recoil, NULL
+};
