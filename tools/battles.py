@@ -2,6 +2,7 @@
 
 import json
 import lzma
+import re
 from pathlib import Path
 
 from repository import ROOT
@@ -70,6 +71,12 @@ def loads(path):
         except ValueError as why:
             raise Unreadable(f"{path}:{number}: {why}") from why
     return found
+
+
+def in_codes(text):
+    """A recorded error with the code of include/gen1.h in place of battle_tool's number, of a refused pair or of a log."""
+    firsts = {"refused": 24, "log": 32}
+    return re.sub(r"\b(refused|log) ([1-3])\b", lambda it: f"{it[1]} {int(it[2]) + firsts[it[1]] - 1}", text)
 
 
 def newest_form(given):

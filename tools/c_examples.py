@@ -1,4 +1,4 @@
-"""The cases of tools/c_gate for each program of examples/c and for tests/c/names.c, with the expected output."""
+"""The cases of tools/c_gate for each program of examples/c, for tests/c/names.c and tests/c/leaks.c, with the expected output."""
 
 import json
 import math
@@ -11,7 +11,7 @@ from importlib.util import module_from_spec, spec_from_loader
 from typing import Callable
 
 sys.dont_write_bytecode = True
-from battles import cases, recorded
+from battles import cases, in_codes, recorded
 from c_library import ran
 from repository import ROOT
 from tables import table
@@ -58,7 +58,7 @@ class Example:
 
 def recorded_case(case, words, given):
     """A recorded case for an example, which must print the same for these arguments and this input."""
-    return Case(case["name"], words, given, case["stdout"].encode(), case.get("stderr", "").encode(), case.get("status", 0))
+    return Case(case["name"], words, given, case["stdout"].encode(), in_codes(case.get("stderr", "")).encode(), case.get("status", 0))
 
 
 TAUROS, TAUROS_LINES = ROOT / "examples" / "tauros.txt", (ROOT / "crates" / "battle_tool" / "stdout").read_bytes()
@@ -85,10 +85,22 @@ def of_names(_gate):
     yield Case("status", (), b"", b"", b"")
 
 
+def of_leaks(_gate):
+    """It has no input, and compares by itself what players are shown (include/gen1.h, "players"), with 100,000 hidden bits changed."""
+    counts = rb"\d+ changes of hidden bits, \d+ of shown bits, \d+ of a foe's bench, 0 wrong\n"
+    yield Case("status", (), b"", re.compile(counts), b"")
+
+
 def of_text(_gate):
-    """GEN1_TEXT_MOVE in the second line of a text, and in the fifth field of the second member of a packed line; and a battle."""
-    faults = rb"line 2, member 0, field 0: code 10\nline 0, member 2, field 5: code 10\n"
+    """GEN1_ERROR_TEXT_MOVE in the second line of a text, and in the fifth field of the second member of a packed line; and a battle."""
+    faults = rb"line 2, member 0, field 0: code 73\nline 0, member 2, field 5: code 73\n"
     yield Case("status", (), b"", re.compile(faults + rb"outcome [123]\n"), b"")
+
+
+def of_known(_gate):
+    """What was shown: HP in 48ths, the members that appeared in their order, a move, and a screen (docs/MECHANICS.md, "Player's view")."""
+    said = "turn 1\n1 Chansey (out), 48 of 48 HP\nturn 3\n1 Chansey, 48 of 48 HP\n2 Alakazam (out), 48 of 48 HP, Reflect 1, Reflect is up\n"
+    yield Case("status", (), b"", said.encode(), b"")
 
 
 def of_many(_gate):
@@ -111,22 +123,26 @@ def of_replay(gate):
         yield it
 
 
-def base_hp():
-    """The base HP of each species, by docs/TABLES.md."""
-    text = (ROOT / "docs" / "TABLES.md").read_text().split("## Species")[1]
-    rows = re.findall(r"(?m)^\| *\d+ *\| *([^|]*?) *\|[^|]*\|[^|]*\| *(\d+) *\|", text)
-    return {name: int(number) for name, number in rows}
+TABLES = (ROOT / "docs" / "TABLES.md").read_text()
+# The row of each species by its name: number, name, types, and base HP, Attack, Defense, Speed and Special. So with the moves.
+SPECIES_ROWS, MOVE_ROWS = ({row[1]: row for row in table(TABLES, heading)} for heading in ("Species", "Moves"))
 
 
-BASE_HP = base_hp()
+def points_of(member, dv, exp, base):
+    """The part of a stat that depends on the level (docs/MECHANICS.md, "Stats")."""
+    root = min(255, math.isqrt(max(0, exp - 1)) + 1 if exp else 0)
+    return ((base + dv) * 2 + root // 4) * member["level"] // 100
 
 
 def hp_of(member):
     """A member's maximum HP (docs/MECHANICS.md, "Stats")."""
     dv = sum((value & 1) << bit for value, bit in zip(member["dvs"], (3, 2, 1, 0)))
-    root = min(255, math.isqrt(max(0, member["exp"][0] - 1)) + 1 if member["exp"][0] else 0)
-    points = ((BASE_HP[member["species"]] + dv) * 2 + root // 4) * member["level"] // 100
-    return min(999, points + member["level"] + 10)
+    return min(999, points_of(member, dv, member["exp"][0], int(SPECIES_ROWS[member["species"]][4])) + member["level"] + 10)
+
+
+def speed_of(member):
+    """A member's Speed (docs/MECHANICS.md, "Stats")."""
+    return min(999, points_of(member, member["dvs"][2], member["exp"][3], int(SPECIES_ROWS[member["species"]][7])) + 5)
 
 
 NOT_FOR_TEAMS = ("Metronome", "Mimic", "Mirror Move", "Transform", "Struggle")
@@ -145,8 +161,8 @@ def of_damage(gate):
             continue
         head = "species %d at level %d on species %d at level %d, %d HP\n  move %3d: " % (
             SPECIES[one["species"]], one["level"], SPECIES[two["species"]], two["level"], hp_of(two), MOVES[asked["move"]])
-        row = re.escape("no usual damage (code 3)") if case["stderr"] else damage_row(case["stdout"], hp_of(two), asked["critical"])
-        chances = chances_of(one["species"], asked["move"], not case["stderr"])
+        row = re.escape("no usual damage (code 48)") if case["stderr"] else damage_row(case["stdout"], hp_of(two), asked["critical"])
+        chances = chances_of(one, two, asked["move"], not case["stderr"])
         want = re.compile((re.escape(head) + row + re.escape(chances) + r"\n").encode())
         yield Case(case["name"], (), given, want, b"")
         if all(member["dvs"] == [15] * 4 and member["exp"] == [65535] * 5 for member in (one, two)):
@@ -154,8 +170,8 @@ def of_damage(gate):
     tauros = {"species": "Tauros", "level": 100, "moves": [["Body Slam", 3]]}
     none = dict(tauros, moves=[["Body Slam", 3], ["Budy Slam", 3]])
     words = team_files(gate, "no move", tauros, none)
-    # GEN1_TEXT_MOVE, in the line after species, level and the other move.
-    yield Case("no move", words, b"", b"", f"error: {words[1]}: line 4 member 0 code 10 rule 0\n".encode(), 1)
+    # GEN1_ERROR_TEXT_MOVE, in the line after species, level and the other move.
+    yield Case("no move", words, b"", b"", f"error: {words[1]}: line 4 member 0 code 73 rule 0\n".encode(), 1)
     for word in (b"4294967424", b"-128", b"Tauros", b"0" * 30 + b"128"):
         yield Case(f"the species {word}", (), TAUROS.read_bytes().replace(b"128", word, 1), b"", b"error: input\n", 1)
 
@@ -188,17 +204,28 @@ OFTEN_CRITICAL = ("Karate Chop", "Razor Leaf", "Crabhammer", "Slash")
 UNTESTED = ("AlwaysFails", "Bide", "Conversion", "FocusEnergy", "Haze", "Heal", "Mist", "Screen", "Splash", "StatUp", "Substitute")
 
 
-def chances_of(species, move, has_damage):
+def hits_of(one, two, row):
+    """How many of 256 draws hit a member by another, both just sent out, by docs/TABLES.md and docs/MECHANICS.md."""
+    _, name, kind, power, accuracy, _, effect = row
+    if effect == "NeverMisses":
+        return 256
+    types = SPECIES_ROWS[two["species"]][2:4]
+    by_types = effect not in ("FixedDamage", "SuperFang") and int(power) > 0
+    immune = by_types and any(factor == "0" and mover == kind and foe in types for mover, foe, factor in table(TABLES, "Type rows"))
+    slower = effect == "OneHitKnockOut" and speed_of(one) < speed_of(two)
+    # No foe is asleep, and no damage was dealt that Counter could return.
+    return 0 if immune or slower or effect in ("DreamEater", "Counter") else max(1, int(accuracy) * 255 // 100)
+
+
+def chances_of(one, two, move, has_damage):
     """How many of 256 draws hit and are critical for members just sent out, by docs/TABLES.md and docs/MECHANICS.md."""
-    document = (ROOT / "docs" / "TABLES.md").read_text()
-    row = next(it for it in table(document, "Moves") if it[1] == move)
+    row = MOVE_ROWS[move]
     if row[6].split("(")[0] in UNTESTED:
         return "; no hit test"
-    hits = 256 if row[6] == "NeverMisses" else 0 if row[6] == "DreamEater" else max(1, int(row[4]) * 255 // 100)
-    speed = int(next(it for it in table(document, "Species") if it[1] == species)[7])
+    speed = int(SPECIES_ROWS[one["species"]][7])
     doubled = min(255, speed // 2 * 2)
     critical = min(255, 4 * doubled) if move in OFTEN_CRITICAL else doubled // 2
-    return f"; {hits} of 256 hit" + (f", {critical} of 256 critical" if has_damage else "")
+    return f"; {hits_of(one, two, row)} of 256 hit" + (f", {critical} of 256 critical" if has_damage else "")
 
 
 def of_bot(_gate):
@@ -214,7 +241,7 @@ def choices_of(asked, side):
 def refused(side, choices):
     """The lines of the room that count the refusals of tests/c/rude_player.py as a side, by code."""
     rubbish = 7 * len(choices) + 3000
-    return "".join(f"side {side}: refused {code}: {times}\n" for code, times in ((2, len(choices)), (4, len(choices)), (5, rubbish)))
+    return "".join(f"side {side}: refused {code}: {times}\n" for code, times in ((52, len(choices)), (54, len(choices)), (255, rubbish)))
 
 
 def of_room(gate):
@@ -235,7 +262,7 @@ def of_room(gate):
         words = [f"{command} {' '.join(map(str, choices))}" for command, choices in zip(players, (one, two))]
         said = "".join(refused(side, choices) for side, choices in ((1, one), (2, two)) if players[side - 1] == rude)
         yield Case(case["name"], (file, *words, "60"), b"", case["stdout"].encode(), said.encode())
-    flooded = re.compile(rb"side 2: refused 5: \d+\n")
+    flooded = re.compile(rb"side 2: refused 255: \d+\n")
     # All processes that a shell starts ignore the signals that it ignores.
     deaf = f"trap '' TERM; {player}; exec sleep 1000"
     for name, one, two, said in (
@@ -265,7 +292,9 @@ def is_whole(case):
 EXAMPLES = (
     Example("play", ("examples/c/play.c",), of_play),
     Example("names", ("tests/c/names.c",), of_names),
+    Example("leaks", ("tests/c/leaks.c",), of_leaks),
     Example("look", ("examples/c/look.c",), of_look),
+    Example("known", ("examples/c/known.c",), of_known),
     Example("text", ("examples/c/text.c",), of_text),
     Example("many", ("examples/c/many.c",), of_many),
     Example("replay", ("examples/c/replay/replay.c",), of_replay),

@@ -4,6 +4,7 @@ docs/MECHANICS.md, computed here."""
 
 import json
 import sys
+from copy import copy
 from ctypes import byref, c_size_t, c_uint8
 
 import gen1
@@ -16,6 +17,8 @@ from tables import numbered, table
 
 # The conditions that a spectator sees, and those that matter to a hit (docs/LAYOUT.md, "Condition bits").
 INVULNERABLE, CONFUSED, MIST, FOCUS_ENERGY, SUBSTITUTE, LIGHT_SCREEN, REFLECT = 32, 64, 128, 256, 512, 16384, 32768
+# A recharging member, and the conditions by which a move goes on: Thrash, Trapping, Rage.
+RECHARGE, GOES_ON = 1024, 2 | 4 | 2048
 OFTEN_CRITICAL = ("Karate Chop", "Razor Leaf", "Crabhammer", "Slash")
 PERCENTS = (25, 28, 33, 40, 50, 66, 100, 150, 200, 250, 300, 350, 400)
 # The odds of each 83rd move are compared for one side of one update, from another move on each time.
@@ -62,7 +65,7 @@ def compare_wrong_logs(library, one, count):
     spectator = gen1.Spectator(library, one, one)
     spectator.feed(b"\x01")
     before = bytes(spectator.held)
-    for given, code in ((b"\x00\x00", 2), (b"\x01\x00\x1d", 1)):
+    for given, code in ((b"\x00\x00", 33), (b"\x01\x00\x1d", 32)):
         try:
             spectator.feed(given)
             got = 0
@@ -79,7 +82,7 @@ def replied(room, library, submission):
     try:
         room.submit(*submission)
     except gen1.Refused as refused:
-        code = refused.args[0]
+        code = {24: 1, 52: 2, 53: 3, 54: 4}[refused.args[0]]
         return f"|room|refused|{code}|{number}\n" if code == 2 else f"|room|refused|{code}\n"
     return "|room|waiting\n" if room.held.number == number else "|room|advanced\n" + library.lines(room.log).decode()
 
@@ -94,8 +97,8 @@ def compare_rooms(library, battle_of, folder, count):
         before = bytes(room.held)
         others = [side for side in range(256) if side not in (1, 2)]
         codes = {room.calls.gen1_room_submit(byref(room.held), side, room.held.number, 17) for side in others}
-        codes |= {room.calls.gen1_room_choices(byref(room.held), side, (c_uint8 * 9)()) for side in others}
-        count.tell(f"room, {case['name']}, no side", (codes, bytes(room.held)), ({255}, before))
+        counts = {room.calls.gen1_room_choices(byref(room.held), side, (c_uint8 * 9)()) for side in others}
+        count.tell(f"room, {case['name']}, no side", (codes, counts, bytes(room.held)), ({40}, {0}, before))
 
 
 def compare_room_choices(library, battle_of, folder, count):
@@ -159,12 +162,15 @@ def compare_odds_of(rules, battle, side, move, name, count):
     """Compares the odds of a move by a side in the current state of a battle."""
     state, odds = state_read(battle.bytes), battle.odds(side, move)
     user, foe = state["sides"][side - 1], state["sides"][2 - side]
+    # A move that goes on, and a sleep move against a foe that recharges, have rules of their own (rust/gen1-tests, sampled_odds).
+    if user["active"]["conditions"] & GOES_ON or foe["active"]["conditions"] & RECHARGE:
+        return
     mine, other = (it["members"][it["active"]["place"] - 1] for it in (user, foe))
     usual, critical = (damages_by(battle, side, move, is_critical) for is_critical in (False, True))
-    draws = 0 if usual[2] == 3 else rules.critical(user["active"], mine["species"], move)
-    hits = rules.hits(user["active"], foe["active"], other["status"] == 1, move)
+    draws = 0 if usual[2] == 48 else rules.critical(user["active"], mine["species"], move)
+    hits = rules.hits(user["active"], foe["active"], other["status"] == 1, move) if battle.calls.gen1_takes_hit_test(move) else 256
     got = (as_tuple(odds.usual), as_tuple(odds.critical), odds.critical_draws, odds.hit_draws)
-    count.tell(f"{name}, the odds of move {move}", got, (usual, critical, draws, hits))
+    count.tell(f"{name}, the odds of move {move}", got, (usual, critical, draws, 0 if odds.reason else hits))
 
 
 def compare_odds(library, folder, count):
@@ -214,13 +220,16 @@ def compare_offered(library, folder, battle_of, count):
                 if update["refused"] is not None:
                     continue
                 log, length = (c_uint8 * gen1.LOG_ROOM)(), c_size_t(0)
+                silent = copy(battle)
+                silent_code = library.calls.gen1_update_offered_silent(byref(silent.held), *update["pair"])
+                count.tell(f"{name}, line {number}, pair {at}, untested and silent", (silent_code, silent.bytes.hex()), (0, update["bytes"]))
                 code = library.calls.gen1_update_offered(byref(battle.held), *update["pair"], log, gen1.LOG_ROOM, byref(length))
                 got = (code, bytes(log[:length.value]).hex(), battle.bytes.hex())
                 count.tell(f"{name}, line {number}, pair {at}, untested", got, (0, update["log"], update["bytes"]))
     before = battle.bytes
-    calls = [(one, two, room) for one, two in ((1, 0), (0, 255)) for room in (0, gen1.LOG_ROOM)] + [(0, 0, 511)]
+    calls = [(1, 0, gen1.LOG_ROOM), (0, 255, gen1.LOG_ROOM), (0, 0, 511), (0, 0, 0)]
     codes = [library.calls.gen1_update_offered(byref(battle.held), one, two, log, room, byref(length)) for one, two, room in calls]
-    count.tell("untested, no choices and a small log", (codes, battle.bytes), ([2, 2, 3, 3, 4], before))
+    count.tell("untested, no choices and a small log", (codes, battle.bytes), ([25, 26, 27, 27], before))
 
 
 def compare(library, battle_of, member, folder, count):

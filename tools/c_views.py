@@ -9,7 +9,7 @@ from importlib.util import module_from_spec, spec_from_file_location
 
 sys.dont_write_bytecode = True
 from repository import ROOT
-from tables import element_names, numbered, table
+from tables import effect_names, element_names, numbered, table
 
 # The structs of the Python package, from a module that loads no library.
 _spec = spec_from_file_location("gen1_structs", ROOT / "python" / "gen1" / "src" / "gen1" / "_structs.py")
@@ -18,6 +18,7 @@ _spec.loader.exec_module(_structs)
 
 StateStruct, PlayoutsStruct = _structs.StateStruct, _structs.PlayoutsStruct
 ROOM, KEPT = 128, b"\x07" * 128
+OFTEN_CRITICAL = ("Karate Chop", "Razor Leaf", "Crabhammer", "Slash")
 
 
 def plain(value):
@@ -40,7 +41,7 @@ def member_read(given):
     byte = given[14]
     asleep = 1 <= byte <= 7
     return {
-        "species": given[0], "level": given[1], "status": 1 if asleep else {0: 0, 8: 2, 16: 3, 32: 4, 64: 5}[byte],
+        "species": given[0], "level": given[1], "status": 1 if asleep else {0: 0, 8: 2, 16: 3, 32: 4, 64: 5}.get(byte, 6),
         "sleep": byte if asleep else 0, "marked": given[23], "moves": list(given[15:19]), "pp": list(given[19:23]),
         "hp": word(given, 4), "max_hp": word(given, 2), "stats": words(given, 6, 4)}
 
@@ -67,11 +68,11 @@ def state_read(given):
 
 
 def text_of(call, *arguments, room=ROOM):
-    """The code and the text of a call that writes a text; no text where it wrote further."""
+    """The code and the text of a call that writes a text and a NUL; no text where it wrote further, or no NUL."""
     text, length = ctypes.create_string_buffer(KEPT, ROOM), ctypes.c_size_t(999)
     code = call(*arguments, text, ctypes.c_size_t(room), byref(length))
-    written = 0 if code else length.value
-    kept = text.raw[written:] == KEPT[written:] and (code == 0 or length.value == 999)
+    written, end = (0, 0) if code else (length.value, length.value + 1)
+    kept = set(text.raw[written:end]) <= {0} and text.raw[end:] == KEPT[end:] and (code == 0 or length.value == 999)
     return code, text.raw[:written].decode() if kept else None
 
 
@@ -87,26 +88,60 @@ def words_due(state, side, choice, names):
     if kind == 1 and 1 <= number <= 4:
         place = it["active"]["place"]
         id = it["members"][place - 1]["moves"][number - 1] if place else 0
-        return (0, f"move {number} {moves[id - 1]}") if id else (3, "")
+        return (0, f"move {number} {moves[id - 1]}") if id else (44, "")
     if kind == 2 and 1 <= number <= 6:
         id = it["members"][number - 1]["species"]
-        return (0, f"switch {number} {species[id - 1]}") if id else (3, "")
-    return 2, ""
+        return (0, f"switch {number} {species[id - 1]}") if id else (44, "")
+    return 43, ""
 
 
 def compare_battle(calls, name, given, names, count):
-    """Compares a recorded battle: its state, each byte of a choice in words, and new numbers to draw."""
+    """Compares a recorded battle: its state there and back, each byte of a choice in words, and new numbers to draw."""
     held, state = (c_uint8 * 384)(*given), StateStruct()
     calls.gen1_get_state(held, byref(state))
     due = state_read(given)
     count.tell(f"{name}, state", plain(state), due)
+    made, fault = (c_uint8 * 384)(), (c_uint8 * 16)(*KEPT[:16])
+    code = calls.gen1_set_state(made, byref(state), fault)
+    count.tell(f"{name}, made of its state", (code, bytes(made), bytes(fault)), (0, given, KEPT[:16]))
     got = [text_of(calls.gen1_choice_words, held, side, choice) for side in (1, 2) for choice in range(64)]
     count.tell(f"{name}, words", got, [words_due(due, side, choice, names) for side in (1, 2) for choice in range(64)])
     seed = [given[30], *range(240, 249)]
     codes = [calls.gen1_reseed(held, (c_uint8 * 10)(*seed), index) for index in (9, 255)]
-    count.tell(f"{name}, no index", (codes, bytes(held)), ([1, 1], given))
+    count.tell(f"{name}, no index", (codes, bytes(held)), ([46, 46], given))
     code = calls.gen1_reseed(held, (c_uint8 * 10)(*seed), 8)
     count.tell(f"{name}, reseeded", (code, bytes(held)), (0, given[:5] + bytes([8, *seed]) + given[16:]))
+
+
+def filled(struct, given):
+    """A struct with the fields of a dictionary."""
+    for name, value in given.items():
+        if isinstance(value, dict):
+            filled(getattr(struct, name), value)
+        elif isinstance(value, list):
+            for place, each in enumerate(value):
+                if isinstance(each, dict):
+                    filled(getattr(struct, name)[place], each)
+                else:
+                    getattr(struct, name)[place] = each
+        else:
+            setattr(struct, name, value)
+    return struct
+
+
+# The fields of each test of loading, by GEN1_FIELD_... At turn 0 a current stat belongs to the active block.
+FIELDS = {3: range(1, 7), 4: range(7, 17), 5: range(17, 33), 6: (32,), 7: (2, 4, 6, 10)}
+
+
+def compare_state(calls, number, test, given, count):
+    """Makes a battle of the state of a byte string: it has these bytes, or a field of the recorded test is wrong."""
+    if len(given) != 384 or given[0] != 3 or any(given[22:24] + given[200:204] + given[380:384]):
+        return  # no plain state has these bytes
+    made, fault = (c_uint8 * 384)(*KEPT * 3), (c_uint8 * 16)(*KEPT[:16])
+    calls.gen1_set_state.restype = c_uint8
+    code = calls.gen1_set_state(made, byref(filled(StateStruct(), state_read(given))), fault)
+    got = (code, bytes(made), test == 0 or fault[12] in FIELDS[test])
+    count.tell(f"byte string {number}, made of its state", got, (23 if test else 0, KEPT * 3 if test else given, True))
 
 
 def rows_of(call, last, length):
@@ -121,6 +156,18 @@ def rows_of(call, last, length):
     return rows, refused == [number for number in range(256) if not 1 <= number <= last]
 
 
+def compare_chart(calls, document, elements, count):
+    """Compares the type chart with the rows of docs/TABLES.md."""
+    rows = {(attack, foe): int(tenths) for attack, foe, tenths in table(document, "Type rows")}
+    due = {(one, two): (0, rows.get((attack, foe), 10)) for one, attack in enumerate(elements) for two, foe in enumerate(elements)}
+    for one in range(256):
+        got, tenths = [], c_uint8(7)
+        for two in range(256):
+            tenths.value = 7
+            got.append((calls.gen1_effectiveness(one, two, byref(tenths)), tenths.value))
+        count.tell(f"effectiveness of type {one}", got, [due.get((one, two), (42, 7)) for two in range(256)])
+
+
 def compare_tables(calls, count):
     """Compares names and rows with docs/TABLES.md, and looks the names up again."""
     document = (ROOT / "docs" / "TABLES.md").read_text()
@@ -130,10 +177,10 @@ def compare_tables(calls, count):
         names = [row[0] for row in rows]
         call = getattr(calls, f"gen1_{kind}_name")
         got = [text_of(call, number) for number in range(256)]
-        due = [(0, names[number - first]) if first <= number < first + len(names) else (1, "") for number in range(256)]
+        due = [(0, names[number - first]) if first <= number < first + len(names) else (42, "") for number in range(256)]
         count.tell(f"names, {kind}", got, due)
-        short = [text_of(call, number, room=len(name) - 1)[0] for number, name in enumerate(names, first)]
-        count.tell(f"names, {kind}, small rooms", set(short), {2})
+        short = [text_of(call, number, room=len(name))[0] for number, name in enumerate(names, first)]
+        count.tell(f"names, {kind}, small rooms", set(short), {41})
         if first:
             find = getattr(calls, f"gen1_{kind}_from_name")
             forms = [[form(name).encode() for form in (str, str.lower, lambda it: re.sub("[^A-Za-z0-9]", "", it).upper())] for name in names]
@@ -143,8 +190,11 @@ def compare_tables(calls, count):
     number = {name: place for place, name in enumerate(elements)}
     base = [[*map(int, row[3:8]), number[row[1]], number[row[2]]] for row in species]
     count.tell("base stats", rows_of(calls.gen1_species_stats, 151, 7), (base, True))
-    data = [[number[row[1]], int(row[2]), int(row[3]) * 255 // 100, int(row[4])] for row in moves]
-    count.tell("moves", rows_of(calls.gen1_move_data, 165, 4), (data, True))
+    effects = effect_names(document)
+    data = [[number[row[1]], int(row[2]), int(row[3]) * 255 // 100, int(row[4]), effects.index(row[5].partition("(")[0]),
+             {"Quick Attack": 1, "Counter": 255}.get(row[0], 0), int(row[0] in OFTEN_CRITICAL)] for row in moves]
+    count.tell("moves", rows_of(calls.gen1_move_data, 165, 7), (data, True))
+    compare_chart(calls, document, elements, count)
     return [row[0] for row in species], [row[0] for row in moves]
 
 
@@ -158,20 +208,20 @@ def compare_choices(calls, count):
 
 def compare_sentences(calls, count):
     """Compares the sentences: each code of gen1.h has one, and no other number."""
-    last = {1: 13, 2: 7, 3: 4, 4: 5, 5: 5, 6: 2, 7: 4, 8: 1, 9: 4}
-    got = {about: [code for code in range(256) if text_of(calls.gen1_text, about, code)[0] == 0] for about in range(256)}
-    count.tell("sentences", got, {about: list(range(last[about] + 1)) if about in last else [] for about in range(256)})
     header = (ROOT / "include" / "gen1.h").read_text()
-    tests = [(int(code), said[0].lower() + said[1:]) for said, code in re.findall(r"/\* (.*)\. \*/\n    GEN1_LOAD_\w+ = (\d)", header)]
-    count.tell("tests of loading", tests, [(code, text_of(calls.gen1_text, 2, code)[1]) for code in range(1, 8)])
+    codes = {int(code): said for code, said in re.findall(r"GEN1_ERROR_\w+ = (\d+),? +/\* (.*?) \*/", header)}
+    got = [code for code in range(256) if text_of(calls.gen1_error_text, code)[0] == 0]
+    count.tell("sentences", got, [0, *codes])
+    tests = range(16, 23)
+    count.tell("tests of loading", [codes[code] for code in tests], [text_of(calls.gen1_error_text, code)[1] for code in tests])
     version = re.search(r'GEN1_VERSION "(\d+)\.(\d+)\.(\d+)"', header).groups()
     count.tell("version", calls.gen1_version(), sum(int(n) << (16 - 8 * k) for k, n in enumerate(version)))
 
 
 def compare(calls, battles, count):
     """Compares everything above. `battles` yields a name and the 384 bytes of each."""
-    for name in ("species_name", "move_name", "type_name", "species_from_name", "move_from_name", "species_stats", "move_data",
-                 "text", "choice_kind", "choice_slot", "choice_words", "reseed"):
+    for name in ("species_name", "move_name", "type_name", "species_from_name", "move_from_name", "species_stats", "move_data", "effectiveness",
+                 "error_text", "choice_kind", "choice_slot", "choice_words", "reseed", "set_state"):
         getattr(calls, f"gen1_{name}").restype = c_uint8
     calls.gen1_version.restype, calls.gen1_get_state.restype, calls.gen1_build.restype = c_uint32, None, ctypes.c_char_p
     count.tell("build", calls.gen1_build().partition(b",")[0] in (b"proved", b"plain", b"unknown"), True)

@@ -18,10 +18,10 @@ import sys
 sys.dont_write_bytecode = True
 from repository import ROOT
 
-NUMBERS = {"u8": "uint8_t", "u16": "uint16_t", "u32": "uint32_t", "u64": "uint64_t", "usize": "size_t", "bool": "bool"}
+NUMBERS = {"u8": "uint8_t", "i8": "int8_t", "u16": "uint16_t", "u32": "uint32_t", "u64": "uint64_t", "usize": "size_t", "bool": "bool"}
 # Names of the sources, each with the names that the header has for it.
 NAMES = {"number": ("move", "species", "type"), "id": ("move",), "kind": ("type",), "byte": ("choice",), "front": ("choices",),
-         "watch": ("spectator",), "written": ("length",)}
+         "watch": ("spectator",), "written": ("length",), "public": ("known",)}
 PARTS = {"chosen": ("one", "two"), "sides": ("one", "two"),
          "stages": ("attack", "defense", "speed", "special", "accuracy", "evasion")}
 SIZES = {"GEN1_LOG_ROOM": "512"}
@@ -117,11 +117,14 @@ def names_of_structs(calls, c_calls, structs, c_structs):
         kinds = re.findall(r"&(?:mut )?\[?([A-Z]\w*)", text)
         c_kinds = [kind for kind in re.findall(r"\b(gen1_\w+) \*", c_calls[name][0])]
         named.update(zip(kinds, c_kinds))
-    for _ in range(3):
-        for kind, c_kind in list(named.items()):
-            pairs = zip(dict.fromkeys(of for _, of, _ in structs.get(kind, ()) if of in structs),
-                        dict.fromkeys(of for _, of, _ in c_structs.get(c_kind, ()) if of in c_structs))
-            named.update({of: c_of for of, c_of in pairs if of not in named})
+    reached = list(named)
+    for kind in reached:
+        fields = {name: of for name, of, _ in c_structs.get(named[kind], ()) if of in c_structs}
+        for name, of, _ in structs.get(kind, ()):
+            found = [c_of for c_name, c_of in fields.items() if is_same(name, c_name) or name in PARTS.get(c_name, ())]
+            if of in structs and of not in named and found:
+                named[of] = found[0]
+                reached.append(of)
     return named
 
 

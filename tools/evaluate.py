@@ -8,7 +8,8 @@
 
 A PLACE is a file of recorded battles, .jsonl or .jsonl.xz, or a folder of such files. Where a battle has its updates, `play` compares
 all of them: refusal, result, offered choices, draws, log, all 384 bytes, and the view of a spectator. Of a run of the program it
-compares the printed lines, and which pair was refused and how. Lines that are not a battle are passed over. The definitions are read
+compares the printed lines, and which pair was refused and how. In both kinds what the log makes public of both sides is compared with
+the state after each update. Lines that are not a battle are passed over. The definitions are read
 from crates/*/specs, beginning with `step`, and turned into Python; no code of the repository is run.
 
 `battles` writes a lemma for each of LINES (as 0-9,12,40-; default all) into modules of the crate whose proofs have
@@ -28,25 +29,27 @@ import time
 
 from definitions.lemmas import fault_of, worked_lemmas
 from definitions.machine import Machine, play
+from definitions.players import Players
 from definitions.recorded import FAULTS, battles_in
 from definitions.written import write_battles, write_computing
 
 SHOWN = 10
 
-machine, battles = None, []
+machine, players, battles = None, None, []
 
 
 def played(number):
     """The number of a battle, and its first difference."""
-    return number, play(machine, battles[number])
+    return number, play(machine, battles[number]) or players.fault(battles[number])
 
 
 def play_all(places, jobs):
     """Plays all battles of some places, the longest first, in so many processes; returns the status."""
-    global machine
+    global machine, players
     begun = time.monotonic()
     battles.extend(battles_in(places))
     machine = Machine()
+    players = Players(machine)
     order = sorted(range(len(battles)), key=lambda number: -len(battles[number].pairs))
     gc.freeze()  # all processes share what exists already
     with multiprocessing.get_context("fork").Pool(jobs) as pool:

@@ -1,5 +1,5 @@
 #!/usr/bin/env python3
-"""Writes the species, moves and types of include/gen1.h from docs/TABLES.md, and the details of events from docs/MECHANICS.md.
+"""Writes the types, species, moves and effects of include/gen1.h from docs/TABLES.md, and the details of events from docs/MECHANICS.md.
 
     tools/header.py           writes the enums between their two marks, and prints whether the header changed
     tools/header.py --check   writes nothing; fails where the header differs
@@ -14,7 +14,7 @@ import textwrap
 sys.dont_write_bytecode = True
 from python_names import constant, kind_rows
 from repository import ROOT
-from tables import element_names, numbered, table
+from tables import effect_names, element_names, numbered, table
 
 HEADER = ROOT / "include" / "gen1.h"
 BEGIN = '/* tools/header.py writes the lines from here to "end of the tables", from docs/TABLES.md and docs/MECHANICS.md. */\n'
@@ -22,9 +22,9 @@ END = "/* end of the tables */\n"
 WIDTH = 128
 # Details of events: the comment above them, their kind, and the heading of their names in docs/MECHANICS.md, "Events".
 DETAILS = (
-    ("Why a member could not act: `detail` of GEN1_CANT.", "REASON", "Reason of Cant"),
-    ("What dealt damage: `detail` of GEN1_DAMAGE.", "SOURCE", "Source of Damage"),
-    ("What began, ended or showed: `detail` of GEN1_START, GEN1_END and GEN1_ACTIVATE.", "VOLATILE", "Volatile"),
+    ("Why a member could not act: `detail` of GEN1_EVENT_CANT.", "REASON", "Reason of Cant"),
+    ("What dealt damage: `detail` of GEN1_EVENT_DAMAGE.", "SOURCE", "Source of Damage"),
+    ("What began, ended or showed: `detail` of GEN1_EVENT_START, GEN1_EVENT_END and GEN1_EVENT_ACTIVATE.", "VOLATILE", "Volatile"),
 )
 
 
@@ -54,7 +54,8 @@ def enums(document, rules):
     return "\n".join([
         enum("Types.", "TYPE", 0, element_names(document)),
         enum("Species.", "SPECIES", 1, species),
-        enum("Moves. GEN1_MOVE(slot) above is a choice, and none of these.", "MOVE", 1, moves),
+        enum("Moves.", "MOVE", 1, moves),
+        enum('What moves do besides their damage: `effect` of gen1_move (docs/TABLES.md, "Effects").', "EFFECT", 0, effect_names(document)),
         *(detail_enum(rules, *detail) for detail in DETAILS)])
 
 

@@ -28,12 +28,12 @@ LAYERS = (
         "test_effects", "test_multiturn", "test_turn", "test_engine", "test_views", "test_commands", "test_numbers", "test_devices")),
     ("Programs and C", "what opens files, prints, or is called from another language", (
         "battle_tool", "battle_commands", "battle_input", "trace_tool", "layout_tool", "gen1_c")),
-    ("Battle", "a turn, an update, a room of two players", (
-        "gen1_room", "gen1_engine", "gen1_turn")),
+    ("Battle", "a turn, an update, a room of two players, what a player knows", (
+        "gen1_player", "gen1_room", "gen1_engine", "gen1_turn")),
     ("Operations", "one phase of the machine each, over the 384 bytes", (
         "gen1_requests", "gen1_multiturn", "gen1_effects", "gen1_action", "gen1_status", "gen1_odds", "gen1_hits")),
-    ("Representations", "a state as 384 bytes; events as bytes, as lines, as a spectator's view", (
-        "gen1_layout", "gen1_spectator", "gen1_printer", "gen1_events")),
+    ("Representations", "a state as 384 bytes and as plain structs; events as bytes, as lines, as a view", (
+        "gen1_states", "gen1_layout", "gen1_spectator", "gen1_printer", "gen1_events")),
     ("Machine", "what a battle is: definitions and laws; its code is types and devices", (
         "gen1_machine",)),
     ("Numbers", "teams, also from text, and stats; species, moves and types; draws", (

@@ -3,25 +3,32 @@
 import ctypes
 import json
 from ctypes import POINTER, Structure, byref, c_size_t, c_uint8, c_uint16, c_uint32, c_uint64
+from math import isqrt
 
 import gen1
 from battles import TRACES, cases, loads, recorded, traces
 from c_views import PlayoutsStruct
+from repository import ROOT
+from tables import numbered, table
 
 KEPT = 7  # fills arrays and structs that a call must not change
 
 
 class TextFault(Structure):
-    _fields_ = [("line", c_size_t), ("member", c_size_t), ("field", c_size_t), ("code", c_uint8), ("rule", c_uint8)]
+    _fields_ = [("line", c_size_t), ("member", c_size_t), ("field", c_size_t), ("code", c_uint8), ("rule", c_uint8), ("reserved", c_uint8 * 6)]
+
+
+class BatchUpdate(Structure):
+    _fields_ = [("one", c_uint8), ("two", c_uint8), ("result", c_uint8), ("code", c_uint8)]
 
 
 def declare(calls):
     """Declares the types of the calls of this file."""
-    battle, size, byte = POINTER(gen1.BattleBytes), c_size_t, POINTER(c_uint8)
+    battle, size = POINTER(gen1.BattleBytes), c_size_t
     for name, answer, takes in (
         ("gen1_offered", c_uint16, [battle, c_uint8]),
         ("gen1_offered_many", c_uint8, [battle, size, c_uint8, POINTER(c_uint16), size]),
-        ("gen1_update_many", c_uint8, [battle, size, byte, size, byte, size, byte, size, byte, size]),
+        ("gen1_update_many", c_uint8, [battle, size, POINTER(BatchUpdate), size]),
         ("gen1_playout", c_uint8, [battle, c_uint64, c_uint32, POINTER(PlayoutsStruct)]),
         ("gen1_team_from_text", c_uint8, [ctypes.c_char_p, size, POINTER(gen1.Team), POINTER(TextFault)]),
         ("gen1_team_from_packed", c_uint8, [ctypes.c_char_p, size, POINTER(gen1.Team), POINTER(TextFault)]),
@@ -60,9 +67,9 @@ def compare_masks(library, steps, count):
         count.tell(f"each mask of side {side}", [library.calls.gen1_offered(byref(battle), side) for battle in battles], want)
     masks = (c_uint16 * 3)(*[KEPT] * 3)
     others = [side for side in range(256) if side not in (1, 2)]
-    count.tell("no side's mask", {library.calls.gen1_offered(byref(battles[0]), side) for side in others}, {0xffff})
-    count.tell("no side's masks", {library.calls.gen1_offered_many(battles, 3, side, masks, 3) for side in others}, {255})
-    count.tell("masks of another length", {library.calls.gen1_offered_many(battles, size, 1, masks, 3) for size in (0, 2, 4)}, {254})
+    count.tell("no side's mask", {library.calls.gen1_offered(byref(battles[0]), side) for side in others}, {0})
+    count.tell("no side's masks", {library.calls.gen1_offered_many(battles, 3, side, masks, 3) for side in others}, {40})
+    count.tell("masks of another length", {library.calls.gen1_offered_many(battles, size, 1, masks, 3) for size in (0, 2, 4)}, {45})
     count.tell("masks that were kept", list(masks), [KEPT] * 3)
 
 
@@ -70,21 +77,17 @@ def compare_batches(library, steps, count):
     """Compares all recorded updates in one call."""
     size = len(steps)
     battles = array_of([before for before, _ in steps])
-    ones, twos = ((c_uint8 * size)(*[update["pair"][side] for _, update in steps]) for side in (0, 1))
-    results, codes = ((c_uint8 * size)(*[KEPT] * size) for _ in range(2))
-    lengths = [size] * 5
-    for at in range(5):
-        lengths[at] -= 1
-        got = library.calls.gen1_update_many(battles, lengths[0], ones, lengths[1], twos, lengths[2], results, lengths[3], codes, lengths[4])
-        lengths[at] += 1
-        kept = (bytes(battles) == b"".join(before for before, _ in steps), set(results), set(codes))
-        count.tell(f"a batch with a short array, {at}", (got, *kept), (254, True, {KEPT}, {KEPT}))
-    got = library.calls.gen1_update_many(battles, size, ones, size, twos, size, results, size, codes, size)
-    count.tell("a batch", got, 0)
+    updates = (BatchUpdate * size)(*[(*update["pair"], KEPT, KEPT) for _, update in steps])
+    before = bytes(battles), bytes(updates)
+    for lengths in ((size, size - 1), (size - 1, size)):
+        got = library.calls.gen1_update_many(battles, lengths[0], updates, lengths[1])
+        count.tell(f"a batch of other lengths, {lengths}", (got, bytes(battles), bytes(updates)), (45, *before))
+    count.tell("a batch", library.calls.gen1_update_many(battles, size, updates, size), 0)
     for at, (_, update) in enumerate(steps):
-        result = [results[at] & 7, results[at] >> 3 & 3, results[at] >> 5 & 3]
-        want = (update["refused"] or 0, update["bytes"], update["result"] or result)
-        count.tell(f"update {at} of a batch", (codes[at], bytes(battles[at]).hex(), result), want)
+        it = updates[at]
+        result = [it.result & 7, it.result >> 3 & 3, it.result >> 5 & 3]
+        want = (update["pair"], update["refused"] + 23 if update["refused"] else 0, update["bytes"], update["result"] or result)
+        count.tell(f"update {at} of a batch", ([it.one, it.two], it.code, bytes(battles[at]).hex(), result), want)
 
 
 def played_out(library, given, seed, rounds):
@@ -123,7 +126,7 @@ def compare_playouts(library, steps, folder, count):
         if test and len(given) == 384:
             counts = PlayoutsStruct(KEPT, KEPT, KEPT, KEPT)
             code = library.calls.gen1_playout(byref(array_of([given])[0]), 1, 3, byref(counts))
-            count.tell(f"playouts of byte string {number}", (code, counts.wins_one, counts.faults), (test, KEPT, KEPT))
+            count.tell(f"playouts of byte string {number}", (code, counts.wins_one, counts.faults), (test + 15, KEPT, KEPT))
 
 
 def export_text(members):
@@ -161,7 +164,7 @@ def compare_texts(library, member, folder, count):
 
 
 def compare_text_faults(library, count):
-    """Compares the errors of texts that are not a team, and their places (docs/TEAM_TEXT.md, "Faults")."""
+    """Compares the errors of texts that are not a team, by their numbers from 1 on, and their places (docs/TEAM_TEXT.md, "Faults")."""
     text, packed = library.calls.gen1_team_from_text, library.calls.gen1_team_from_packed
     for call, given, want in (
         (text, b"Tauros\n- Body Slam\n\nMissingno\n", (1, 4, 0, 0, 0)),
@@ -186,7 +189,28 @@ def compare_text_faults(library, count):
         team, fault = gen1.Team(count=KEPT), TextFault()
         code = call(given, len(given), byref(team), byref(fault))
         got = (fault.code, fault.line, fault.member, fault.field, fault.rule)
-        count.tell(f"fault of {given!r}", (code, got, team.count), (want[0], want, KEPT))
+        count.tell(f"fault of {given!r}", (code, got, team.count), (want[0] + 63, (want[0] + 63, *want[1:]), KEPT))
+
+
+def compare_stats(library, member, folder, count):
+    """Compares the stats of the members of `calc` with the formulas of docs/MECHANICS.md, "Stats"; and a member that is refused."""
+    rows = {name: [int(base) for base in stats] for name, _, _, *stats in numbered(table((ROOT / "docs" / "TABLES.md").read_text(), "Species"))}
+    for case in cases(recorded("calc.jsonl", folder)):
+        if case.get("stderr", "").startswith(("error: json", "error: team")):
+            continue
+        it = json.loads(case["input"])["attacker"]
+        attack, defense, speed, special = it["dvs"]
+        dvs = [attack % 2 * 8 + defense % 2 * 4 + speed % 2 * 2 + special % 2, *it["dvs"]]
+        points = [((base + dv) * 2 + min(255, isqrt(exp - 1) + 1 if exp else 0) // 4) * it["level"] // 100
+                  for base, dv, exp in zip(rows[it["species"]], dvs, it["exp"])]
+        due = [min(999, points[0] + it["level"] + 10), *(min(999, number + 5) for number in points[1:])]
+        stats = (c_uint16 * 5)()
+        code = library.calls.gen1_member_stats(byref(member(it)), stats)
+        count.tell(f"the stats of {case['name']}", (code, list(stats)), (0, due))
+    stats = (c_uint16 * 5)(*[KEPT] * 5)
+    codes = [library.calls.gen1_member_stats(byref(gen1.member(*it, [15] * 4, [0] * 5, moves)), stats)
+             for *it, moves in ((128, 0, [(70, 0)]), (0, 50, [(70, 0)]), (128, 50, [(166, 0)]), (128, 50, []), (128, 50, [(165, 0)]))]
+    count.tell("the stats of no member", (codes, list(stats)), ([3, 10, 11, 5, 7], [KEPT] * 5))
 
 
 def compare_many(library, battle_of, member, folder, count):
@@ -197,3 +221,4 @@ def compare_many(library, battle_of, member, folder, count):
     compare_playouts(library, steps, folder, count)
     compare_texts(library, member, folder, count)
     compare_text_faults(library, count)
+    compare_stats(library, member, folder, count)

@@ -471,7 +471,7 @@ def c_parameter(source, name, kind):
         pointer = "*mut" if slice_of[1] else "*const"
         borrowed = "slice_mut" if slice_of[1] else "slice"
         return f"{name}: {pointer} {slice_of[2]}, {name}_len: usize", f"unsafe {{ {borrowed}({name}, {name}_len) }}"
-    if not re.fullmatch(r"&(mut )?(\[[A-Za-z_0-9]+; ?[0-9]+\]|[A-Z]\w*|usize)|[ui](8|16|32|64)|usize|bool", kind):
+    if not re.fullmatch(r"&(mut )?(\[[A-Za-z_0-9]+; ?[0-9]+\]|[A-Z]\w*|usize|u8|u16)|[ui](8|16|32|64)|usize|bool", kind):
         raise Unknown(f"{source.path}: an argument for C of an unknown kind, {name}: {kind}")
     return f"{name}: {kind}", name
 

@@ -49,20 +49,31 @@ class Named(IntEnum):
         return format(int(self) if spec and spec[-1] in "bcdeEfFgGnoxX%" else self.label, spec)
 '''
 
-# Enums of the header: the class, its docstring, the first and the last name, and the prefix of the names.
+# Enums of the header: the class, its docstring, the first and the last name, the beginning of the names that the class leaves out, and
+# the names that it has otherwise.
 CODES = (
-    ("Outcome", "How a battle stands, of `Result.outcome`.", "ONGOING", "FAULT_TWO", ""),
-    ("Request", "What a side is asked for the next update, of `Result.requests`.", "ASKED_NOTHING", "ASKED_SWITCH", "ASKED_"),
-    ("NewFault", "Why teams or terms are refused, of `BadTeam.code`.", "EMPTY", "TURN_LIMIT", ""),
-    ("LoadFault", 'The first test that bytes fail (docs/LAYOUT.md, "Loading"), of `BadBytes.code`.', "LOAD_LENGTH", "LOAD_REQUEST",
-     "LOAD_"),
-    ("Refusal", "Why an update was refused, of `Refused.code`.", "OVER", "NOT_OFFERED_TWO", ""),
-    ("RoomRefusal", "Why a room refused a choice, of `RoomRefused.code`.", "ROOM_OVER", "ROOM_NOT_OFFERED", "ROOM_"),
-    ("EventKind", "Which event of a log, of `Event.kind`.", "TURN", "FAULT", ""),
-    ("LogFault", "Why bytes are not a log, of `BadLog.code`.", "LOG_TAG", "LOG_CUT", "LOG_"),
-    ("TextFault", "What was expected in a text of a team, of `BadText.code`.", "TEXT_SPECIES", "TEXT_TEAM", "TEXT_"),
-    ("DamageFault", "Why there is no damage, of `NoDamage.code`.", "DAMAGE_SIDE", "DAMAGE_DIVISOR", "DAMAGE_"),
+    ("Outcome", "How a battle stands, of `Result.outcome`.", "OUTCOME_ONGOING", "OUTCOME_FAULT_TWO", "OUTCOME_", {}),
+    ("Request", "What a side is asked for the next update, of `Result.requests`.", "REQUEST_NOTHING", "REQUEST_SWITCH", "REQUEST_", {}),
+    ("NewFault", "Why teams or terms are refused, of `BadTeam.code`.", "ERROR_TEAM_EMPTY", "ERROR_TURN_LIMIT", "ERROR_",
+     {"TEAM_EMPTY": "EMPTY", "TEAM_TOO_LONG": "TOO_MANY", "SPECIES": "NO_SUCH_SPECIES", "MOVE": "NO_SUCH_MOVE"}),
+    ("LoadFault", 'The first test that bytes fail (docs/LAYOUT.md, "Loading"), of `BadBytes.code`.', "ERROR_LOAD_LENGTH",
+     "ERROR_LOAD_REQUEST", "ERROR_LOAD_", {}),
+    ("Refusal", "Why an update was refused, of `Refused.code`.", "ERROR_OVER", "ERROR_NOT_OFFERED_TWO", "ERROR_", {}),
+    ("RoomRefusal", "Why a room refused a choice, of `RoomRefused.code`.", "ERROR_STALE", "ERROR_NOT_OFFERED", "ERROR_", {}),
+    ("EventKind", "Which event of a log, of `Event.kind`.", "EVENT_TURN", "EVENT_FAULT", "EVENT_",
+     {"SWITCH": "SWITCHED", "MOVE": "MOVED", "ONE_HIT_KNOCK_OUT": "ONE_HIT", "TIE": "TIED"}),
+    ("LogFault", "Why bytes are not a log, of `BadLog.code`.", "ERROR_LOG_TAG", "ERROR_LOG_CUT", "ERROR_LOG_", {}),
+    ("TextFault", "What was expected in a text of a team, of `BadText.code`.", "ERROR_TEXT_SPECIES", "ERROR_TEXT_TEAM", "ERROR_TEXT_", {}),
+    ("DamageFault", "Why there is no damage, of `NoDamage.code`.", "ERROR_UNUSUAL", "ERROR_NOBODY_OUT", "ERROR_", {"NOBODY_OUT": "NOBODY"}),
+    ("Effect", 'What a move does besides its damage (docs/TABLES.md, "Effects"), of `MoveData.effect`.', "EFFECT_DAMAGE_ONLY",
+     "EFFECT_STAT_DOWN", "EFFECT_", {}),
+    ("OddsReason", "Why a use of a move cannot hit, of `Odds.reason`.", "ODDS_FALLEN", "ODDS_HEALTH", "ODDS_", {}),
+    ("StateField", "Which field of a state is wrong, of `BadState.code`.", "FIELD_UNNAMED", "FIELD_CURRENT_STAT", "FIELD_", {}),
 )
+# Codes that a class has besides those, before them.
+SHARED = {"RoomRefusal": ("ERROR_OVER",), "DamageFault": ("ERROR_SIDE", "ERROR_MOVE")}
+# Classes whose labels are the names.
+NAMED_ONLY = ("LoadFault", "StateField")
 # Enums of MECHANICS, "Events": the class, its docstring, and the heading of the names.
 KINDS = (
     ("Stat", "A stat with stages.", "Stat"),
@@ -101,14 +112,15 @@ def header_enums(text):
 def code_classes(text):
     """The classes of the header's codes."""
     enums = list(header_enums(text))
-    for name, doc, first, last, start in CODES:
+    for name, doc, first, last, start, others in CODES:
         found = [rows for rows in enums if first in [it for _, it, _ in rows]]
         if len(found) != 1:
             sys.exit(f"include/gen1.h: {len(found)} enums with GEN1_{first}")
         names = [it for _, it, _ in found[0]]
-        rows = found[0][names.index(first):names.index(last) + 1]
+        rows = [found[0][names.index(it)] for it in SHARED.get(name, ())] + found[0][names.index(first):names.index(last) + 1]
         shorter = [(number, it.removeprefix(start), label) for number, it, label in rows]
-        yield enum_class(name, doc, [(number, it, label or words(it)) for number, it, label in shorter])
+        named = [(number, others.get(it, it), "" if name in NAMED_ONLY else label) for number, it, label in shorter]
+        yield enum_class(name, doc, [(number, it, label or words(it)) for number, it, label in named])
 
 
 def flags(layout):

@@ -43,6 +43,11 @@ def element_names(document):
     return [numbers[str(number)] for number in range(len(numbers))]
 
 
+def effect_names(document):
+    """The effects by their numbers, from 0 on, without their parameters."""
+    return [row[0].strip("`").partition("(")[0] for row in table(document, "Effects")]
+
+
 def species_rows(document):
     """The types of each species as numbers, and its base HP, Attack, Defense, Speed and Special."""
     elements = element_names(document)

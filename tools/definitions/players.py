@@ -1,0 +1,113 @@
+"""What the log makes public, next to the state of each recorded battle: the fold of crates/gen1_player/specs/Public.antt. And the same fold
+over what each side is told (Telling.antt), next to the fold over the log: it differs in the order of the foe's members, and in their HP
+where it is told in pixels.
+"""
+
+from definitions.machine import events_of
+
+SPECS = "Rattle.gen1_player.specs.Public"
+TELLING = "Rattle.gen1_player.specs.Telling"
+LAYOUT = "Rattle.gen1_machine.specs.Layout"
+STAGES = ("attack", "defense", "speed", "special", "accuracy", "evasion")
+# The conditions of a state in the order of its bits; those that no event announces are None.
+CONDITIONS = ("bide", None, None, None, "charging", None, "confused", "mist", "focus_energy", "substitute", "recharging", "rage",
+              "seeded", "toxic", "light_screen", "reflect", "disabled")
+STATUSES = ("Healthy", "Asleep", "Poisoned", "Burned", "Frozen", "Paralysed")
+STRUGGLE = 165
+
+
+class Players:
+    """The fold, and the parts of a state with which it is compared."""
+
+    def __init__(self, machine):
+        self.machine = machine
+        compiler, library = machine.compiler, machine.library
+
+        def function(module, name):
+            place = compiler.reference(library.module(module).own(name))
+            compiler.make_waiting()
+            return compiler.space[place]
+
+        self.hears, self.first = function(SPECS, "hears"), function(SPECS, "first_public")()
+        self.bits, self.outcome_byte = function(LAYOUT, "condition_bits"), function(LAYOUT, "outcome_byte")
+        self.number_of = function("Rattle.gen1_tables.specs.Types", "number_of")
+        self.told, self.meets = function(TELLING, "told"), function(TELLING, "meets")
+
+    def fault(self, battle):
+        """The first difference in a battle, after any of its updates; None where there is none."""
+        state, public = self.machine.begin(battle), self.first
+        players = [Told(self, side, pixels) for side, pixels in ((1, 0), (2, 1))]
+        for number, pair in enumerate(battle.pairs):
+            stepped = self.machine.step(state, *map(self.machine.choice, pair))
+            for event in events_of(stepped.answer):
+                public = self.hears(event, public)
+                for player in players:
+                    player.hear(event)
+            state = stepped.state
+            for what, told, held in self.parts(state.field, public):
+                if told != held:
+                    return f"update {number}, {what}: {told} is public, and the state has {held}"
+            for player in players:
+                if player.public != player.due(public):
+                    return f"update {number}: side {player.teller.side} is told {player.public}, and is due {player.due(public)}"
+        return None
+
+    def parts(self, field, public):
+        """Each part of what is public, with the state's."""
+        yield "turn", public.turn, field.turn
+        yield "outcome", public.outcome, self.outcome_byte(field.outcome)
+        for name in ("one", "two"):
+            party, side = getattr(field, name), getattr(public, name)
+            for place, member in enumerate(party.members, 1):
+                seen = side.members[place - 1]
+                if seen.species:
+                    yield from self.member_parts(f"side {name}, place {place}", member, seen)
+            yield f"side {name}, place", side.place, party.active.place
+            if party.active.place:
+                yield from self.active_parts(f"side {name}", party, side)
+
+    def member_parts(self, where, member, seen):
+        for field in ("species", "level", "hp", "max"):
+            yield f"{where}, {field}", getattr(seen, field), getattr(member, field)
+        yield f"{where}, status", seen.status, STATUSES.index(member.status[0].removeprefix("Status."))
+        known = {0, STRUGGLE, *(move.id for move in member.moves)}
+        yield f"{where}, moves", {move.id for move in seen.moves} - known, set()
+
+    def active_parts(self, where, party, side):
+        active = party.active
+        for stage in STAGES:
+            yield f"{where}, stage of {stage}", getattr(side.stages, stage), getattr(active.stages, stage)
+        types = tuple(map(self.number_of, (active.first_type, active.second_type)))
+        yield f"{where}, types", (side.first_type, side.second_type), types
+        for name, bit in zip(CONDITIONS, self.bits(active.conditions)):
+            # No event says whether a member exploded, which ends Leech Seed.
+            if name and (name != "seeded" or party.members[active.place - 1].hp):
+                yield f"{where}, {name}", getattr(side.announced, name), int(bit)
+
+
+class Told:
+    """A side that is told a log, and what that makes public."""
+
+    def __init__(self, players, side, pixels):
+        self.players, self.public = players, players.first
+        self.teller = players.machine.record(side=side, pixels=pixels, places=(0,) * 6)
+
+    def hear(self, event):
+        """Hears what it is told of the next event."""
+        self.public = self.players.hears(self.players.told(event, self.teller), self.public)
+        self.teller = self.players.meets(event, self.teller)
+
+    def due(self, public):
+        """What it has to know where the log makes this public."""
+        foe = "two" if self.teller.side == 1 else "one"
+        side, order = getattr(public, foe), [place for place in self.teller.places if place]
+        members = [self.seen(side.members[place - 1]) for place in order]
+        members += self.players.first.one.members[len(order):]
+        number = order.index(side.place) + 1 if side.place else 0
+        return public._replace(**{foe: side._replace(place=number, members=tuple(members))})
+
+    def seen(self, member):
+        """A member of the foe with its HP as it is told."""
+        if not self.teller.pixels:
+            return member
+        return member._replace(hp=max(1, 48 * member.hp // member.max) if member.hp else 0, max=48)
