@@ -21,10 +21,18 @@ ROWS = '"""The rows of species and moves. Made by tools/python_names.py; change 
 
 HEAD = '''"""Species, moves, types and codes by name. Made by tools/python_names.py; change what it reads, not this."""
 
-from enum import IntEnum, IntFlag
+from enum import EnumMeta, IntEnum, IntFlag
 
 
-class Named(IntEnum):
+class NamedType(EnumMeta):
+    """The type of these classes: `dir` and `help` list members, not int."""
+
+    def __dir__(cls) -> list[str]:
+        known = [it for base in cls.__mro__ if isinstance(base, NamedType) for it in vars(base)]
+        return [*dict.fromkeys([*cls.__members__, *(it for it in known if not it.startswith("_"))])]
+
+
+class Named(IntEnum, metaclass=NamedType):
     """A number of the library with a text for people.
 
     `label` is the name as lines and tables print it ("Mr. Mime"), of a code what it says ("the level is not 1 to 100"). A format that
@@ -129,7 +137,7 @@ def flags(layout):
     bits = sorted((int(bit), name) for bit, name in zip(cells[::2], cells[1::2]))
     lines = ["    NONE = 0", *(f"    {constant(name)} = {1 << bit}" for bit, name in bits)]
     doc = 'What an active is under, added up (docs/LAYOUT.md, "Condition bits").'
-    return f'\n\nclass Conditions(IntFlag):\n    """{doc}"""\n\n' + "\n".join(lines) + "\n"
+    return f'\n\nclass Conditions(IntFlag, metaclass=NamedType):\n    """{doc}"""\n\n' + "\n".join(lines) + "\n"
 
 
 def row_lists(text):

@@ -175,7 +175,7 @@ MEMBER_FAULTS = (
     (dict(species=0), "species", NewFault.NO_SUCH_SPECIES),
     (dict(species=152), "species", NewFault.NO_SUCH_SPECIES),
     (dict(species="Taurus"), "species", NewFault.NO_SUCH_SPECIES),
-    (dict(species="tauros"), "species", NewFault.NO_SUCH_SPECIES),
+    (dict(species="Nidoran"), "species", NewFault.NO_SUCH_SPECIES),
     (dict(moves=[0]), "moves[0]", NewFault.NO_SUCH_MOVE),
     (dict(moves=["Pound", 166]), "moves[1]", NewFault.NO_SUCH_MOVE),
     (dict(moves=[1 << 40]), "moves[0]", NewFault.NO_SUCH_MOVE),
@@ -220,7 +220,7 @@ def test_teams_of_a_wrong_type(given):
         Team(given)
 
 
-@pytest.mark.parametrize("left_out", ["species", "level", "dvs", "exp", "moves"])
+@pytest.mark.parametrize("left_out", ["species", "moves"])
 def test_dicts_without_a_key(tauros, left_out):
     given = tauros.to_dict()
     del given[left_out]
@@ -230,7 +230,7 @@ def test_dicts_without_a_key(tauros, left_out):
 
 
 def test_moves_that_are_no_pairs(tauros):
-    for moves, kind in (([["Pound"]], BadTeam), ([["Pound", 3, 3]], BadTeam), (["Pound"], BadType), ("Pound", BadType), (5, BadType)):
+    for moves, kind in (([["Pound"]], BadTeam), ([["Pound", 3, 3]], BadTeam), ([None], BadType), ("Pound", BadType), (5, BadType)):
         with pytest.raises(kind):
             Team([tauros.to_dict() | {"moves": moves}])
 
@@ -299,7 +299,7 @@ def test_events_as_bytes():
 
 
 def test_damages_out_of_range(battle, team, tauros):
-    for move in (0, 166, *BIG, "Pond", "body slam"):
+    for move in (0, 166, *BIG, "Pond", "bodyslm"):
         with pytest.raises(BadTeam) as fault:
             battle.damage(1, move)
         assert fault.value.field == "move" and said(fault)
@@ -387,8 +387,8 @@ def test_types_that_are_wrong_say_where(team, tauros):
     given = tauros.to_dict()
     for two, said_of in (
         (5, "side 2: a team must be a list, not 5 (int)"),
-        ([tauros, None], "side 2: member 2: a member must be a dict, not None (NoneType)"),
-        ([tauros, given | {"level": "9"}], "side 2: member 2: level must be a whole number, not '9' (str)"),
+        ([tauros, None], "side 2, member 2: it must be a Member or a dict, not None (NoneType)"),
+        ([tauros, given | {"level": "9"}], "side 2, member 2: level must be a whole number, not '9' (str)"),
     ):
         with pytest.raises(BadType) as fault:
             Battle(team, two, range(10))

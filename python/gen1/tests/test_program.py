@@ -154,7 +154,7 @@ def test_play(monkeypatch, capsys):
         (b"[" * 100000, ["run"], 1, "JSON"),
         (b"", ["run", "/no/such/file"], 3, "No such file"),
         (b"", ["fly"], 2, "fly"),
-        (b'{"attacker":5,"defender":5,"move":1,"critical":false}', ["calc"], 1, "attacker: a member must be a dict"),
+        (b'{"attacker":5,"defender":5,"move":1,"critical":false}', ["calc"], 1, "attacker: it must be a Member or a dict"),
         (b"", [], 2, "SUBCOMMAND"),
     ],
 )
@@ -170,11 +170,11 @@ def test_input_that_is_wrong_says_where(monkeypatch, capsys, tmp_path, tauros):
     for key in ("attacker", "defender"):
         given = {"attacker": whole, "defender": whole, "move": "Body Slam", "critical": False} | {key: wrong}
         out, status, err = ran(monkeypatch, capsys, json.dumps(given).encode(), "calc")
-        assert (out, status) == ("", 1) and err.startswith(f"error: {key}: the level is not 1 to 100")
+        assert (out, status) == ("", 1) and err.startswith(f"error: {key}: level must be 1 to 100, not 0")
     path = tmp_path / "battle.json"
     path.write_text(json.dumps(asked))
     out, status, err = ran(monkeypatch, capsys, b"", "play", str(path))
-    assert (out, status) == ("", 1) and err.startswith("error: side 2, member 2: the level is not 1 to 100")
+    assert (out, status) == ("", 1) and err.startswith("error: side 2, member 2: level must be 1 to 100, not 0")
     for place in ('"limit": ', '"seed": ['):
         given = json.dumps(asked | {"two": [whole]})[:-1] + f', {place}{"9" * 5000}' + "]" * place.endswith("[") + "}"
         out, status, err = ran(monkeypatch, capsys, given.encode(), "run")

@@ -110,7 +110,7 @@ def test_the_example_of_the_rules():
 def test_what_a_refusal_says():
     room = two_tauros()
     for side, number, choice, code, said in (
-        (1, 0, 20, RoomRefusal.NOT_OFFERED, "side 1's choice is not offered: move 4; offered: move 1"),
+        (1, 0, 20, RoomRefusal.NOT_OFFERED, "side 1's choice is not offered: move 4; it can choose move 1"),
         (2, 7, 17, RoomRefusal.STALE, "the number is not that of the current pair: 7; the current pair is 0"),
     ):
         with pytest.raises(RoomRefused) as fault:

@@ -1,4 +1,5 @@
-"""First-generation Pokemon link battles, through the C library of a proved engine.
+"""First-generation Pokemon link battles, through the C library of a proved
+engine.
 
 >>> from gen1 import Battle, Choice, Member
 >>> tauros = Member("Tauros", ["Body Slam"])
@@ -6,8 +7,24 @@
 >>> print(battle.update(Choice.PASS, Choice.PASS).lines[0])
 |switch|p1a: Tauros|Tauros|353/353
 
-The rules are in docs/MECHANICS.md of the repository. All of them are implemented in the library but one: `gen1.draws`, which lists the
-draws of an update, also steps the generator of link numbers in Python.
+Use help(gen1.Battle) for one class. The main names:
+
+    Member, Team                 teams, from names, dicts and text
+    Battle, Choice, Side         a battle, and what a side can choose
+    Update, Result, Event        what an update returns
+    State                        the whole state of a battle
+    odds, damage, Odds           what a move does
+    base, move_data, Type        rows of the tables
+    Room                         two players who choose independently
+    Player, Teller               what a player knows
+    Spectator                    what a spectator sees
+    Error                        the base class of all errors
+    BattleArray                  many battles at once (needs numpy)
+    BattleEnv, TwoPlayerEnv      environments for learning (need numpy)
+
+The rules are in docs/MECHANICS.md of the repository. All of them are
+implemented in the library but one: gen1.draws, which lists the draws of an
+update, also steps the generator of link numbers in Python.
 """
 
 from importlib import import_module

@@ -1,10 +1,11 @@
 """Checks and conversions of the caller's arguments before a call of the library, whose numbers are bytes."""
 
-import difflib
 import operator
-from collections.abc import Iterable
+from collections.abc import Iterable, Sequence
+from itertools import islice
 from typing import TypeVar
 
+from gen1 import _library
 from gen1.errors import BadArgument, BadPlace, BadTeam, BadType
 from gen1.names import Move, Named, NewFault, Species
 
@@ -49,11 +50,22 @@ def byte(number: int) -> int:
     return number if 0 <= number <= 255 else 255
 
 
-def listed(value: object, what: str) -> list[object]:
-    """The items of a list, tuple or other iterable, except a str or bytes."""
+def listed(value: object, what: str, most: int | None = None) -> list[object]:
+    """The items of a list, tuple or other iterable, except a str or bytes.
+
+    With `most` at most one item more than that, so that an iterable without an end is refused and not read forever.
+    """
     if isinstance(value, (str, bytes, bytearray)) or not isinstance(value, Iterable):
         raise BadType(f"{what} must be a list, not {shown(value)}")
-    return list(value)
+    return list(value if most is None else islice(value, most + 1))
+
+
+def count_text(value: object, found: Sequence[object], most: int) -> str:
+    """How many items an iterable has, of which `listed` returned those found; "more than `most`" if it has no length."""
+    try:
+        return digits(len(value))  # type: ignore[arg-type]
+    except (TypeError, OverflowError):
+        return str(len(found)) if len(found) <= most else f"more than {most}"
 
 
 def octets(value: object, what: str) -> bytes:
@@ -72,23 +84,23 @@ def seed_bytes(value: object) -> bytes:
     if isinstance(value, (bytes, bytearray, memoryview)):
         given = list(bytes(value))
     else:
-        given = [within(it, f"seed[{at}]", 0, 255) for at, it in enumerate(listed(value, "seed"))]
+        given = [within(it, f"seed[{at}]", 0, 255) for at, it in enumerate(listed(value, "seed", 10))]
     if len(given) != 10:
-        raise BadArgument(f"seed must be 10 bytes, not {len(given)}")
+        raise BadArgument(f"seed must be 10 bytes, not {count_text(value, given, 10)}")
     return bytes(given)
 
 
 def named(kind: type[N], value: object, field: str) -> N:
-    """A species or a move from its exact name, its number, or itself. Raises `BadTeam` for any other value."""
+    """A species or a move from its name, its number, or itself. Raises `BadTeam` for any other value."""
     if isinstance(value, kind):
         return value
     code = NewFault.NO_SUCH_SPECIES if issubclass(kind, Species) else NewFault.NO_SUCH_MOVE
     if isinstance(value, str):
-        for it in kind:
-            if it.label == value:
-                return it
-        near = difflib.get_close_matches(value, [it.label for it in kind], 1)
-        meant = f"; did you mean {near[0]!r}?" if near else ""
+        found = _called(kind, value)
+        if found:
+            return kind(found)
+        near = nearest(value, [it.label for it in kind])
+        meant = f"; did you mean {near!r}?" if near else ""
         raise BadTeam(f"{field}: there is no {cut(repr(value))}{meant}", field=field, code=code)
     number = whole(value, field)
     try:
@@ -96,6 +108,40 @@ def named(kind: type[N], value: object, field: str) -> N:
     except ValueError:
         said = f"{field} must be {int(min(kind))} to {int(max(kind))} or a name, not {digits(number)}"
         raise BadTeam(said, field=field, code=code) from None
+
+
+def _called(kind: type[N], name: str) -> int:
+    """The number of the species or move with a name, 0 if there is none (docs/TEAM_TEXT.md, "Names")."""
+    text = with_genders(name).encode("utf-8", "surrogatepass")
+    call = _library.species_from_name if issubclass(kind, Species) else _library.move_from_name
+    return int(call(text, len(text)))
+
+
+def with_genders(text: str) -> str:
+    """A text with the signs of Nidoran's names as letters, of which the library compares names."""
+    return text.replace("\N{FEMALE SIGN}", "-F").replace("\N{MALE SIGN}", "-M")
+
+
+def nearest(text: str, names: Iterable[str]) -> str | None:
+    """The name that differs from a text in the fewest letters; None if that is more than a third of them."""
+    wanted = _letters(text)
+    away, name = min(((_distance(wanted, _letters(it)), it) for it in names), key=operator.itemgetter(0))
+    return name if away * 3 <= len(wanted) else None
+
+
+def _letters(text: str) -> str:
+    """The first letters and digits of a text, in lower case. No name has more of them."""
+    return "".join(it for it in text[:200].lower() if it.isascii() and it.isalnum())[:24]
+
+
+def _distance(one: str, two: str) -> int:
+    """How many letters have to be put in, taken out or replaced to make one text of the other."""
+    row = list(range(len(two) + 1))
+    for place, letter in enumerate(one, 1):
+        diagonal, row[0] = row[0], place
+        for at, other in enumerate(two, 1):
+            diagonal, row[at] = row[at], min(diagonal + (letter != other), row[at] + 1, row[at - 1] + 1)
+    return row[-1]
 
 
 def species(value: object, field: str = "species") -> Species:

@@ -12,7 +12,7 @@ class _Missing(type):
         raise NumpyMissing(cls.__name__)
 
     def __getattr__(cls, name: str) -> NoReturn:
-        if name.startswith("__"):  # attributes that Python itself looks up on any class
+        if name.startswith("_"):  # attributes that Python itself and `help` look up on any class
             raise AttributeError(f"{cls.__name__} has no {name!r}")
         raise NumpyMissing(cls.__name__)
 

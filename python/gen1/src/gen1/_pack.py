@@ -2,7 +2,7 @@
 
 from typing import Any
 
-from gen1._check import digits, listed, shown, truth, whole
+from gen1._check import count_text, digits, listed, shown, truth, whole
 from gen1._structs import ActiveStateStruct, MemberStateStruct, SideStateStruct, StateFaultStruct, StateStruct
 from gen1.errors import BadArgument, BadState, BadType
 from gen1.names import Conditions, StateField
@@ -115,9 +115,9 @@ def _put_side(to: SideStateStruct, side: SideState, number: int) -> None:
     if not isinstance(side, SideState):
         raise BadType(f"side {number} must be a SideState, not {shown(side)}")
     where = f"side {number}: members"
-    members = listed(side.members, where)
+    members = listed(side.members, where, 6)
     if len(members) > 6:
-        raise BadArgument(f"{where} must be 0 to 6, not {len(members):,}")
+        raise BadArgument(f"{where} must be 0 to 6, not {count_text(side.members, members, 6)}")
     for place, member in enumerate(members, 1):
         _put_member(to.members[place - 1], member, f"side {number}, member {place}")
     if side.active is not None:
@@ -132,9 +132,9 @@ def _put_member(to: MemberStateStruct, member: object, where: str) -> None:
     to.species = to.species or BYTE
     to.marked = truth(member.marked, f"{where}: marked")
     to.stats[:] = _row(member.stats, f"{where}: stats", 4, SHORT)
-    moves = listed(member.moves, f"{where}: moves")
+    moves = listed(member.moves, f"{where}: moves", 4)
     if len(moves) > 4:
-        raise BadArgument(f"{where}: moves must be 1 to 4, not {len(moves):,}")
+        raise BadArgument(f"{where}: moves must be 1 to 4, not {count_text(member.moves, moves, 4)}")
     to.moves[: len(moves)] = [it or BYTE for it in _row(moves, f"{where}: moves", len(moves), BYTE)]
     to.pp[: len(moves)] = _row(member.pp, f"{where}: pp", len(moves), BYTE)
 
@@ -174,9 +174,9 @@ def _exact(value: object, what: str, most: int, code: StateField | None = None, 
 
 def _items(values: object, what: str, count: int) -> list[object]:
     """The items of a tuple or list that has this many."""
-    given = listed(values, what)
+    given = listed(values, what, count)
     if len(given) != count:
-        raise BadArgument(f"{what} must have {count} items, not {len(given):,}")
+        raise BadArgument(f"{what} must have {count} items, not {count_text(values, given, count)}")
     return given
 
 

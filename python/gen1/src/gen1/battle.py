@@ -365,7 +365,7 @@ def _side(number: int, given: TeamLike) -> Team:
     except BadTeam as fault:
         raise fault.of(number) from None
     except BadType as fault:
-        raise BadType(f"side {number}: {fault}") from None
+        raise BadType(f"side {number}{', ' if str(fault).startswith('member ') else ': '}{fault}") from None
 
 
 def _load_text(code: LoadFault, given: "bytes") -> str:

@@ -5,7 +5,7 @@ from enum import IntFlag
 
 from gen1._check import digits, whole, within
 from gen1.errors import BadArgument
-from gen1.names import Named
+from gen1.names import Named, NamedType
 
 
 class Side(Named):
@@ -20,7 +20,7 @@ class Side(Named):
         return Side(3 - self)
 
 
-class Rules(IntFlag):
+class Rules(IntFlag, metaclass=NamedType):
     """The rules of a battle, which can be combined (docs/MECHANICS.md, "Rules (sleep clause, freeze clause)")."""
 
     NONE = 0
@@ -31,7 +31,9 @@ class Rules(IntFlag):
 class Choice(Named):
     """A side's choice for an update, with its number.
 
-    `MOVE_0` is offered if no slot can be chosen. Any other number is refused as not offered.
+    `MOVE_0` is the only move that is offered if there is no slot to choose: the member must recharge; its move goes on (Rage, Thrash, a
+    move that charges, Bide, trapping); it sleeps, is frozen or is held by the foe's trapping move; or no slot has PP and is not disabled,
+    so that it uses Struggle. Any other number is refused as not offered.
     """
 
     PASS = 0x00, "pass"
@@ -98,5 +100,5 @@ def choice_text(byte: int) -> str:
 
 def not_offered(side: int, byte: int, offered: Iterable[Choice]) -> str:
     """Why a choice that is not offered is refused."""
-    names = ", ".join(it.label for it in offered)
-    return f"side {side}'s choice is not offered: {choice_text(byte)}; offered: {names}"
+    names = [f"{it.label} (there is no slot to choose)" if it is Choice.MOVE_0 else it.label for it in offered]
+    return f"side {side}'s choice is not offered: {choice_text(byte)}; it can choose {', '.join(names)}"

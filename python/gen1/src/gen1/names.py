@@ -1,9 +1,17 @@
 """Species, moves, types and codes by name. Made by tools/python_names.py; change what it reads, not this."""
 
-from enum import IntEnum, IntFlag
+from enum import EnumMeta, IntEnum, IntFlag
 
 
-class Named(IntEnum):
+class NamedType(EnumMeta):
+    """The type of these classes: `dir` and `help` list members, not int."""
+
+    def __dir__(cls) -> list[str]:
+        known = [it for base in cls.__mro__ if isinstance(base, NamedType) for it in vars(base)]
+        return [*dict.fromkeys([*cls.__members__, *(it for it in known if not it.startswith("_"))])]
+
+
+class Named(IntEnum, metaclass=NamedType):
     """A number of the library with a text for people.
 
     `label` is the name as lines and tables print it ("Mr. Mime"), of a code what it says ("the level is not 1 to 100"). A format that
@@ -437,7 +445,7 @@ class Volatile(Named):
     SPLASH = 13, "Splash"
 
 
-class Conditions(IntFlag):
+class Conditions(IntFlag, metaclass=NamedType):
     """What an active is under, added up (docs/LAYOUT.md, "Condition bits")."""
 
     NONE = 0

@@ -134,7 +134,9 @@ class Player:
         if not isinstance(own, OwnSide):
             raise BadType(f"own must be an OwnSide, not {shown(own)}")
         mask = 0
-        for at, it in enumerate(listed(offered, "offered")):
+        for at, it in enumerate(listed(offered, "offered", len(CHOICES))):
+            if at == len(CHOICES):
+                raise BadArgument(f"offered must be at most {len(CHOICES)} choices")
             number = whole(it, f"offered[{at}]")
             if number not in CHOICES:
                 raise BadArgument(f"offered[{at}] must be a choice, not {digits(number)}")

@@ -5,7 +5,7 @@ from ctypes import POINTER, Structure, byref, c_size_t, c_uint8
 from typing import Any
 
 from gen1 import _library
-from gen1._check import shown
+from gen1._check import shown, with_genders
 from gen1.errors import BadArgument, BadText, BadType
 from gen1.names import NewFault, TextFault
 
@@ -40,7 +40,7 @@ def written(members: list[dict[str, Any]]) -> str:
 def _members(call: Any, text: object) -> list[dict[str, Any]]:
     if not isinstance(text, str):
         raise BadType(f"text must be a str, not {shown(text)}")
-    given, made, fault = text.encode("utf-8", "surrogatepass"), _library.TeamStruct(), FaultStruct()
+    given, made, fault = with_genders(text).encode("utf-8", "surrogatepass"), _library.TeamStruct(), FaultStruct()
     if call(given, len(given), byref(made), byref(fault)):
         raise _fault(fault)
     return [_member(made.members[at]) for at in range(made.count)]

@@ -6,7 +6,7 @@ from dataclasses import dataclass, field
 from typing import Any, overload
 
 from gen1 import _library
-from gen1._check import byte, digits, listed, move, place, shown, whole
+from gen1._check import byte, count_text, cut, digits, listed, move, nearest, place, shown, whole
 from gen1._check import species as a_species
 from gen1._structs import BattleBytes
 from gen1.errors import BadTeam, BadType
@@ -23,9 +23,19 @@ FIELDS = {
     NewFault.EMPTY: "members",
     NewFault.TOO_MANY: "members",
 }
+# What the field must be.
+MUST = {
+    NewFault.LEVEL: "must be 1 to 100",
+    NewFault.DV: "must be 0 to 15 each",
+    NewFault.NO_MOVE: "must be one to four",
+    NewFault.MOVE_LEFT_OUT: "must be without Mimic, Metronome, Mirror Move and Transform",
+    NewFault.STRUGGLE: "must be without Struggle",
+    NewFault.REPEATED_MOVE: "must be different",
+    NewFault.PP_UPS: "must be 0 to 3 each",
+}
 
 
-@dataclass(frozen=True, init=False)
+@dataclass(frozen=True, init=False, repr=False)
 class Member:
     """A member of a team. Every way to create one checks it by the rules of teams, and raises `BadTeam` or `BadType`.
 
@@ -49,9 +59,9 @@ class Member:
         exp: Iterable[int] = (65535, 65535, 65535, 65535, 65535),
         pp_ups: Iterable[int] | None = None,
     ) -> None:
-        known = tuple(move(it, f"moves[{at}]") for at, it in enumerate(listed(moves, "moves")))
+        known = tuple(move(it, f"moves[{at}]") for at, it in enumerate(listed(moves, "moves", 4)))
         if len(known) > 4:
-            raise BadTeam(f"a member has at most 4 moves, not {len(known)}", field="moves")
+            raise BadTeam(f"a member has at most 4 moves, not {count_text(moves, known, 4)}", field="moves")
         ups = (3,) * len(known) if pp_ups is None else numbers(pp_ups, "pp_ups", len(known))
         values = (a_species(species), known, whole(level, "level"), numbers(dvs, "dvs", 4), numbers(exp, "exp", 5), ups)
         for name, value in zip(("species", "moves", "level", "dvs", "exp", "pp_ups"), values):
@@ -70,19 +80,23 @@ class Member:
 
     @classmethod
     def from_dict(cls, given: Mapping[str, Any]) -> "Member":
-        """The member that an object of docs/PROGRAM.md, "Input" describes. Each move is a pair of a name and its PP ups."""
+        """The member that a dict describes: "species", "moves", and optionally "level", "dvs" and "exp", as in `Member(..)`.
+
+        Each move is a name, with three PP ups, or a pair of a name and its PP ups. Raises `BadTeam` for another key, too.
+        """
         if not isinstance(given, Mapping):
-            raise BadType(f"a member must be a dict, not {shown(given)}")
-        for key in KEYS:
+            raise BadType(f"it must be a Member or a dict, not {shown(given)}")
+        for key in given:
+            if key not in KEYS:
+                near = nearest(key, KEYS) if isinstance(key, str) else None
+                meant = f"; did you mean {near!r}?" if near else f"; a member has {', '.join(KEYS)}"
+                raise BadTeam(f"there is no key {cut(repr(key))}{meant}", field=cut(str(key)))
+        for key in ("species", "moves"):
             if key not in given:
-                raise BadTeam(f"there is no {key!r}; a member has {', '.join(KEYS)}", field=key)
-        pairs = [listed(pair, f"moves[{at}]") for at, pair in enumerate(listed(given["moves"], "moves"))]
-        for at, pair in enumerate(pairs):
-            if len(pair) != 2:
-                raise BadTeam(f"moves[{at}] must be a move and its PP ups, not {shown(pair)}", field="moves")
-        moves: list[Any] = [name for name, _ in pairs]
-        ups: list[Any] = [it for _, it in pairs]
-        return cls(given["species"], moves, given["level"], given["dvs"], given["exp"], ups)
+                raise BadTeam(f"there is no {key!r}; a member needs species and moves", field=key)
+        pairs = [_pair(it, f"moves[{at}]") for at, it in enumerate(listed(given["moves"], "moves", 4))]
+        others = {key: given[key] for key in ("level", "dvs", "exp") if key in given}
+        return cls(given["species"], [it for it, _ in pairs], pp_ups=[ups for _, ups in pairs], **others)
 
     def to_dict(self) -> dict[str, Any]:
         """The dict from which `from_dict` creates this member; it can be written as JSON."""
@@ -94,6 +108,14 @@ class Member:
             "exp": list(self.exp),
             "moves": moves,
         }
+
+    def __repr__(self) -> str:
+        """The call that creates it, without arguments that have their defaults."""
+        named = [f"{self.species.label!r}", f"{[it.label for it in self.moves]!r}"]
+        for name, usual in (("level", 100), ("dvs", (15,) * 4), ("exp", (65535,) * 5), ("pp_ups", (3,) * len(self.moves))):
+            if getattr(self, name) != usual:
+                named.append(f"{name}={getattr(self, name)!r}")
+        return f"Member({', '.join(named)})"
 
     def _text(self, name: str) -> str:
         """A field as text for an error message."""
@@ -109,8 +131,8 @@ class Team:
     _struct: _library.TeamStruct = field(init=False, repr=False, compare=False)
 
     def __init__(self, members: Iterable[Member | Mapping[str, Any]]) -> None:
-        given = listed(members, "a team")
-        _test_count(len(given))
+        given = listed(members, "a team", 6)
+        _test_count(len(given), count_text(members, given, 6))
         found = tuple(_member(at, it) for at, it in enumerate(given, 1))
         object.__setattr__(self, "members", found)
         object.__setattr__(self, "_struct", struct_of(found))
@@ -173,10 +195,20 @@ def as_team(given: "Team | Iterable[Member | Mapping[str, Any]]") -> Team:
 
 def numbers(value: object, what: str, count: int) -> tuple[Any, ...]:
     """Exactly `count` whole numbers, of any size."""
-    found = tuple(whole(it, f"{what}[{at}]") for at, it in enumerate(listed(value, what)))
+    found = tuple(whole(it, f"{what}[{at}]") for at, it in enumerate(listed(value, what, count)))
     if len(found) != count:
-        raise BadTeam(f"{what} must be {count} numbers, not {len(found)}", field=what)
+        raise BadTeam(f"{what} must be {count} numbers, not {count_text(value, found, count)}", field=what)
     return found
+
+
+def _pair(given: object, what: str) -> tuple[Any, Any]:
+    """A move and its PP ups, from a name or a pair."""
+    if isinstance(given, (str, int)):
+        return given, 3
+    pair = listed(given, what, 2)
+    if len(pair) != 2:
+        raise BadTeam(f"{what} must be a move, or a move and its PP ups, not {shown(given)}", field="moves")
+    return pair[0], pair[1]
 
 
 def _member(at: int, given: object) -> Member:
@@ -214,15 +246,16 @@ def _shown(value: int) -> str:
     return value.label if isinstance(value, Named) else digits(value)
 
 
-def _test_count(count: int) -> None:
+def _test_count(count: int, shown_count: str) -> None:
     """Checks the number of members by the library's rules."""
     fault = _fault_of(_library.TeamStruct(count=byte(count)))
     if fault in (NewFault.EMPTY, NewFault.TOO_MANY):
-        raise BadTeam(f"{fault.label}: {count} given, and a team has 1 to 6 members", field="members", code=fault)
+        raise BadTeam(f"a team has 1 to 6 members, not {shown_count}", field="members", code=fault)
 
 
 def _test(members: list[Member]) -> None:
     fault = _fault_of(struct_of(members))
     if fault is not None:
         name = FIELDS.get(fault, "moves")
-        raise BadTeam(f"{fault.label}: {name} is {members[0]._text(name)}", field=name, code=fault)
+        said = MUST.get(fault, fault.label)
+        raise BadTeam(f"{name} {said}, not {members[0]._text(name)}", field=name, code=fault)

@@ -13,8 +13,8 @@ from gen1.battle import Battle
 from gen1.choices import Rules, choice_text
 from gen1.draws import Draw, explained
 from gen1.errors import Error, Refused
-from gen1.names import Conditions, Named
-from gen1.program.inputs import Fault, a_battle, a_member, an_object, pairs, read, write
+from gen1.names import Conditions, Move, Named
+from gen1.program.inputs import Fault, a_battle, a_member, an_object, exact, pairs, read, write
 from gen1.program.pages import page_with
 from gen1.program.playing import play
 from gen1.progress import progress
@@ -56,6 +56,7 @@ def calc(asked: argparse.Namespace) -> None:
     """Prints the 39 damage numbers of the move that a JSON object describes."""
     given = an_object(read(asked.file), "attacker", "defender", "move", "critical")
     members = [a_member(given, key) for key in ("attacker", "defender")]
+    exact(Move, given["move"], "move")
     print(*damage(members[0], members[1], given["move"], given["critical"]))
 
 

@@ -5,10 +5,11 @@ import sys
 from pathlib import Path
 from typing import Any
 
-from gen1._check import digits, listed, shown, whole
-from gen1.battle import Battle
+from gen1._check import cut, digits, listed, shown, whole
+from gen1.battle import Battle, sides_of
 from gen1.errors import Error
-from gen1.teams import Member
+from gen1.names import Move, Species
+from gen1.teams import KEYS, Member, Team
 
 
 class Fault(Exception):
@@ -58,7 +59,39 @@ def an_object(given: bytes, *keys: str) -> dict[str, Any]:
 
 def a_battle(asked: dict[str, Any]) -> Battle:
     """The battle that an object of `run` describes."""
-    return Battle(asked["one"], asked["two"], asked["seed"], asked.get("rules", 0), asked.get("limit", 1000))
+    one, two = (_members(asked[key], f"side {side}") for side, key in enumerate(("one", "two"), 1))
+    return Battle(one, two, asked["seed"], asked.get("rules", 0), asked.get("limit", 1000))
+
+
+def teams(asked: dict[str, Any]) -> tuple[Team, Team]:
+    """The teams of both sides in an object of `run`."""
+    return sides_of(_members(asked["one"], "side 1"), _members(asked["two"], "side 2"))
+
+
+def _members(given: Any, side: str) -> Any:
+    """The members of a side; what is no list is refused later."""
+    return [_strict(it, f"{side}, member {at}") for at, it in enumerate(given, 1)] if isinstance(given, list) else given
+
+
+def _strict(given: Any, where: str) -> Any:
+    """A member in the form of docs/PROGRAM.md, where `Member.from_dict` takes more: all keys are there, each move is a pair, and names
+    are exact. Other keys are ignored."""
+    if not isinstance(given, dict):
+        return given
+    for key in KEYS:
+        if key not in given:
+            raise Fault(f"{where}: there is no {key!r}; a member has {', '.join(KEYS)}")
+    moves = [listed(it, f"{where}: moves[{at}]") for at, it in enumerate(listed(given["moves"], f"{where}: moves"))]
+    exact(Species, given["species"], where)
+    for pair in moves:
+        exact(Move, pair[0] if pair else None, where)
+    return {key: given[key] for key in KEYS}
+
+
+def exact(kind: type[Species] | type[Move], name: object, where: str) -> None:
+    """Refuses a name that differs from that of the tables, if only in its letters' case."""
+    if isinstance(name, str) and name not in [it.label for it in kind]:
+        raise Fault(f"{where}: there is no {cut(repr(name))}; names are those of docs/TABLES.md, exactly")
 
 
 def pairs(asked: dict[str, Any]) -> list[tuple[int, int]]:
@@ -78,6 +111,6 @@ def pairs(asked: dict[str, Any]) -> list[tuple[int, int]]:
 def a_member(asked: dict[str, Any], key: str) -> Member:
     """A member in an object of `calc`; an error says which of the two it is about."""
     try:
-        return Member.from_dict(asked[key])
+        return Member.from_dict(_strict(asked[key], key))
     except Error as fault:
         raise Fault(f"{key}: {fault}") from None

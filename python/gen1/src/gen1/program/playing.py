@@ -4,10 +4,10 @@ import argparse
 import random
 import sys
 
-from gen1.battle import Battle, sides_of
+from gen1.battle import Battle
 from gen1.choices import Choice, Side
 from gen1.errors import NoDamage
-from gen1.program.inputs import Fault, a_battle, an_object, read
+from gen1.program.inputs import Fault, a_battle, an_object, read, teams
 from gen1.sentences import sentence
 from gen1.teams import Member, Team
 
@@ -25,25 +25,25 @@ def play(asked: argparse.Namespace) -> None:
     if asked.seed is not None and asked.seed < 0:
         raise Fault(f"--seed must be 0 or more, not {asked.seed}", 2)
     dice = random.Random(asked.seed)
-    teams, battle = (TEAM, TEAM), Battle(TEAM, TEAM, dice.randbytes(10))
+    sides, battle = (TEAM, TEAM), Battle(TEAM, TEAM, dice.randbytes(10))
     if asked.file is not None:
         given = an_object(read(asked.file), "seed", "one", "two")
-        teams, battle = sides_of(given["one"], given["two"]), a_battle(given)
+        sides, battle = teams(given), a_battle(given)
     pair: tuple[Choice, Choice] | None = (Choice.PASS, Choice.PASS)
     while pair is not None:
         update = battle.update(*pair)
         for event in update.events:
             print(sentence(event))
-        pair = None if update.result.is_over else _pair(battle, teams, asked.against, dice)
+        pair = None if update.result.is_over else _pair(battle, sides, asked.against, dice)
 
 
-def _pair(battle: Battle, teams: tuple[Team, Team], against: str, dice: random.Random) -> tuple[Choice, Choice] | None:
+def _pair(battle: Battle, sides: tuple[Team, Team], against: str, dice: random.Random) -> tuple[Choice, Choice] | None:
     offered = battle.choices(Side.ONE)
     mine = offered[0] if offered == (Choice.PASS,) else _asked(battle, offered)
     if mine is None:
         return None
     theirs = battle.choices(Side.TWO)
-    return mine, dice.choice(theirs) if against == "random" else greedy(battle, Side.TWO, teams[1], dice)
+    return mine, dice.choice(theirs) if against == "random" else greedy(battle, Side.TWO, sides[1], dice)
 
 
 def _asked(battle: Battle, offered: tuple[Choice, ...]) -> Choice | None:
