@@ -2,6 +2,7 @@
 
 import ctypes
 import platform
+import re
 from pathlib import Path
 
 from setuptools import Distribution, setup
@@ -12,6 +13,9 @@ except ImportError:  # a setuptools before 70.1, which has it from the package w
     from wheel.bdist_wheel import bdist_wheel
 
 HERE = Path(__file__).resolve().parent
+LIBRARY = HERE / "src" / "gen1" / "libgen1.so"
+# What a manylinux wheel may link without carrying it, of what the library could need: glibc.
+GLIBC = re.compile(rb"(libgen1|libc|libm|ld-linux[\w-]*)\.so[.\d]*")
 
 
 class Binary(Distribution):
@@ -21,18 +25,31 @@ class Binary(Distribution):
         return True
 
 
+def manylinux(platform, library):
+    """The platform's tag, as manylinux_2_N where the library links only glibc, and needs no version of it above 2.N.
+
+    The names of what a library links, and of the versions that its symbols need, are texts in its file. A text elsewhere in it can only
+    make the tag stricter.
+    """
+    links = re.findall(rb"\0(lib[\w.+-]*\.so[.\d]*|ld-[\w.+-]*\.so[.\d]*)(?=\0)", library)
+    needs = [int(it) for it in re.findall(rb"\0GLIBC_2\.(\d+)", library)]
+    if not platform.startswith("linux_") or not needs or not all(GLIBC.fullmatch(it) for it in links):
+        return platform
+    return platform.replace("linux_", f"manylinux_2_{max(5, *needs)}_", 1)
+
+
 class Wheel(bdist_wheel):
     """A wheel of no Python's own binary interface: the library is loaded by ctypes."""
 
     def get_tag(self):
-        return "py3", "none", super().get_tag()[2]
+        return "py3", "none", manylinux(super().get_tag()[2], LIBRARY.read_bytes())
 
 
 for name in ("VERSION", "src/gen1/libgen1.so"):
     if not (HERE / name).is_file():
         raise SystemExit(f"{name} is missing: build by tools/python_wheel, which puts it there")
 try:
-    ctypes.CDLL(str(HERE / "src" / "gen1" / "libgen1.so"))
+    ctypes.CDLL(str(LIBRARY))
 except OSError as fault:
     raise SystemExit(
         f"src/gen1/libgen1.so is of another machine and cannot be loaded on this {platform.system()} of {platform.machine()} ({fault}): "
