@@ -144,6 +144,11 @@ def _distance(one: str, two: str) -> int:
     return row[-1]
 
 
+def by_number(kind: type[N]) -> dict[int, N]:
+    """The members of an enum by their numbers. Looking up is faster than calling the enum."""
+    return {int(it): it for it in kind}
+
+
 def species(value: object, field: str = "species") -> Species:
     """A species from its name, its number, or itself."""
     return named(Species, value, field)

@@ -15,7 +15,7 @@ from gen1._pack import bad_state, packed
 from gen1._structs import DAMAGES, LOG_ROOM, BattleBytes, ChancesStruct, OddsStruct, PlayoutsStruct, StateFaultStruct
 from gen1.choices import Choice, Rules, Side, a_choice, a_side, choice_text, not_offered
 from gen1.errors import BadArgument, BadBytes, BadTeam, BadType, NoDamage, Refused
-from gen1.events import Event, events, lines
+from gen1.events import Events, lines
 from gen1.names import DamageFault, LoadFault, Move, NewFault, Outcome, Refusal, Request, Stat, Status
 from gen1.own_sides import OwnSide, own_side_of
 from gen1.states import State, changed, state_of, struct_of_state
@@ -52,9 +52,9 @@ class Update:
     log: bytes
 
     @cached_property
-    def events(self) -> tuple[Event, ...]:
-        """The events of the log."""
-        return events(self.log)
+    def events(self) -> Events:
+        """The events of the log, each of which is read when it is first used."""
+        return Events(self.log)
 
     @property
     def lines(self) -> list[str]:

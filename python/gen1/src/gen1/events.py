@@ -1,12 +1,13 @@
 """The events of a log as dataclasses (docs/MECHANICS.md, "Events"), its lines, and the bytes of events."""
 
-from collections.abc import Iterable, Iterator
+from collections.abc import Callable, Iterable, Iterator, Sequence
 from ctypes import byref, c_size_t, c_uint8, create_string_buffer
 from dataclasses import dataclass, fields
-from typing import TYPE_CHECKING, Any, ClassVar
+from functools import cache
+from typing import TYPE_CHECKING, Any, ClassVar, TypeAlias, overload
 
 from gen1 import _library
-from gen1._check import cut, listed, octets, shown, whole
+from gen1._check import by_number, cut, listed, octets, shown, whole
 from gen1.choices import Side
 from gen1.errors import BadArgument, BadLog, BadType
 from gen1.names import EventKind, LogFault, Move, Reason, Source, Species, Stat, Status, Volatile
@@ -268,71 +269,144 @@ class FaultEvent(Event):
     fault: int
 
 
-def _event(of: _library.EventStruct) -> Event:
-    """The event that a struct holds."""
-    kind = EventKind(of.tag)
-    if kind is EventKind.TURN:
-        return TurnEvent(of.turn)
-    if kind is EventKind.WIN:
-        return WinEvent(Side(of.side))
-    if kind is EventKind.FAULT:
-        return FaultEvent(of.detail)
-    if kind in _ALONE:
-        return _ALONE[kind]()
-    who = Who(Side(of.side), Species(of.species))
-    return _OF_ONE[kind](who) if kind in _OF_ONE else _more(kind, who, of)
+class Events(Sequence[Event]):
+    """The events of an update. Each is read when it is first used, so those that are not used cost nothing.
+
+    It is equal to a tuple of the same events, and has its hash and its text. `+` makes a tuple.
+    """
+
+    __slots__ = ("_log", "_at", "_found", "_ended")
+
+    def __init__(self, log: bytes) -> None:
+        """The events of a log that the library wrote."""
+        self._log, self._at, self._ended = log, c_size_t(0), False
+        self._found: list[Event] = []
+
+    def _more(self) -> bool:
+        """Reads the next event; whether there was one."""
+        if self._ended:
+            return False
+        event = _next(self._log, self._at)
+        self._ended = event is None
+        if event is not None:
+            self._found.append(event)
+        return event is not None
+
+    def _all(self) -> tuple[Event, ...]:
+        while self._more():
+            pass
+        return tuple(self._found)
+
+    def __len__(self) -> int:
+        return len(self._all())
+
+    @overload
+    def __getitem__(self, at: int) -> Event: ...
+
+    @overload
+    def __getitem__(self, at: slice) -> tuple[Event, ...]: ...
+
+    def __getitem__(self, at: int | slice) -> Event | tuple[Event, ...]:
+        """The event at an index from 0, or those of a slice as a tuple. Raises `IndexError`."""
+        if isinstance(at, int) and at >= 0:
+            while len(self._found) <= at and self._more():
+                pass
+            return self._found[at]
+        return self._all()[at]
+
+    def __iter__(self) -> Iterator[Event]:
+        at = 0
+        while at < len(self._found) or self._more():
+            yield self._found[at]
+            at += 1
+
+    def __add__(self, other: "Events | tuple[Event, ...]") -> tuple[Event, ...]:
+        return self._all() + tuple(other)
+
+    def __radd__(self, other: tuple[Event, ...]) -> tuple[Event, ...]:
+        return other + self._all()
+
+    def __eq__(self, other: object) -> bool:
+        if not isinstance(other, (Events, tuple)):
+            return NotImplemented
+        return self._all() == tuple(other)
+
+    def __hash__(self) -> int:
+        return hash(self._all())
+
+    def __repr__(self) -> str:
+        return repr(self._all())
+
+    def __reduce__(self) -> tuple[Any, ...]:
+        return Events, (self._log,)
 
 
-def _more(kind: EventKind, who: Who, of: _library.EventStruct) -> Event:
-    """An event about a member, with further fields."""
-    if kind in _VOLATILE:
-        return _VOLATILE[kind](who, Volatile(of.detail))
-    if kind in _STAGES:
-        return _STAGES[kind](who, Stat(of.detail), of.amount)
-    if kind is EventKind.MOVED:
-        return MoveEvent(who, Move(of.move), Who(Side(of.target_side), Species(of.target_species)))
-    if kind is EventKind.CANT:
-        return CantEvent(who, Reason(of.detail))
-    if kind is EventKind.PREPARE:
-        return PrepareEvent(who, Move(of.move))
-    if kind is EventKind.HIT_COUNT:
-        return HitCountEvent(who, of.amount)
-    if kind in _STATUS:
-        return _STATUS[kind](who, Status(of.status))
-    health = Health(of.hp, of.max_hp, Status(of.status))
-    if kind is EventKind.SWITCHED:
-        return SwitchEvent(who, of.place, of.level, health)
-    return HealEvent(who, health) if kind is EventKind.HEAL else DamageEvent(who, health, Source(of.detail))
+def _next(log: bytes, at: c_size_t) -> Event | None:
+    """The event that begins at an offset, which is moved behind it; None at the end. Raises `BadLog`."""
+    of = _library.EventStruct()
+    code = _library.next_event(log, len(log), byref(at), byref(of))
+    if code == 0:
+        return _EVENTS[of.tag](of)
+    if code != _library.LOG_END:
+        raise BadLog(LogFault(code), at.value)
+    return None
 
 
-_ALONE = {it.kind: it for it in (ClearAllEvent, OneHitEvent, TieEvent)}
-_OF_ONE = {
-    it.kind: it
-    for it in (
-        CritEvent,
-        SuperEffectiveEvent,
-        ResistedEvent,
-        ImmuneEvent,
-        MissEvent,
-        FailEvent,
-        MustRechargeEvent,
-        FaintEvent,
-    )
+@cache
+def _who(side: int, species: int) -> Who:
+    return Who(Side(side), Species(species))
+
+
+def _of(of: _library.EventStruct) -> Who:
+    """The member that an event is about."""
+    return _who(of.side, of.species)
+
+
+def _health(of: _library.EventStruct) -> Health:
+    return Health(of.hp, of.max_hp, _STATUS[of.status])
+
+
+def _alone(kind: type[Event]) -> "_Reader":
+    return lambda of: kind()
+
+
+def _of_one(kind: type[OfOne]) -> "_Reader":
+    return lambda of: kind(_of(of))
+
+
+_Reader: TypeAlias = Callable[[_library.EventStruct], Event]
+_MOVE, _STATUS, _STAT = by_number(Move), by_number(Status), by_number(Stat)
+_VOLATILE, _SOURCE, _REASON = by_number(Volatile), by_number(Source), by_number(Reason)
+# What makes the event of a struct, by its tag.
+_EVENTS: dict[int, _Reader] = {
+    EventKind.TURN: lambda of: TurnEvent(of.turn),
+    EventKind.WIN: lambda of: WinEvent(Side(of.side)),
+    EventKind.FAULT: lambda of: FaultEvent(of.detail),
+    EventKind.SWITCHED: lambda of: SwitchEvent(_of(of), of.place, of.level, _health(of)),
+    EventKind.MOVED: lambda of: MoveEvent(_of(of), _MOVE[of.move], _who(of.target_side, of.target_species)),
+    EventKind.CANT: lambda of: CantEvent(_of(of), _REASON[of.detail]),
+    EventKind.DAMAGE: lambda of: DamageEvent(_of(of), _health(of), _SOURCE[of.detail]),
+    EventKind.HEAL: lambda of: HealEvent(_of(of), _health(of)),
+    EventKind.STATUS: lambda of: StatusEvent(_of(of), _STATUS[of.status]),
+    EventKind.CURE: lambda of: CureEvent(_of(of), _STATUS[of.status]),
+    EventKind.BOOST: lambda of: BoostEvent(_of(of), _STAT[of.detail], of.amount),
+    EventKind.UNBOOST: lambda of: UnboostEvent(_of(of), _STAT[of.detail], of.amount),
+    EventKind.START: lambda of: StartEvent(_of(of), _VOLATILE[of.detail]),
+    EventKind.END: lambda of: EndEvent(_of(of), _VOLATILE[of.detail]),
+    EventKind.ACTIVATE: lambda of: ActivateEvent(_of(of), _VOLATILE[of.detail]),
+    EventKind.PREPARE: lambda of: PrepareEvent(_of(of), _MOVE[of.move]),
+    EventKind.HIT_COUNT: lambda of: HitCountEvent(_of(of), of.amount),
+    **{it.kind: _alone(it) for it in (ClearAllEvent, OneHitEvent, TieEvent)},
+    **{
+        it.kind: _of_one(it)
+        for it in (CritEvent, SuperEffectiveEvent, ResistedEvent, ImmuneEvent, MissEvent, FailEvent, MustRechargeEvent, FaintEvent)
+    },
 }
-_VOLATILE = {it.kind: it for it in (StartEvent, EndEvent, ActivateEvent)}
-_STAGES = {it.kind: it for it in (BoostEvent, UnboostEvent)}
-_STATUS = {it.kind: it for it in (StatusEvent, CureEvent)}
 
 
 def events(log: "ReadableBuffer") -> tuple[Event, ...]:
     """The events of a log, of any number of updates one after the other. Raises `BadLog`."""
-    given, at, of = octets(log, "log"), c_size_t(0), _library.EventStruct()
-    found: list[Event] = []
-    while (code := _library.next_event(given, len(given), byref(at), byref(of))) == 0:
-        found.append(_event(of))
-    if code != _library.LOG_END:
-        raise BadLog(LogFault(code), at.value)
-    return tuple(found)
+    return Events(octets(log, "log"))._all()
 
 
 def lines(log: "ReadableBuffer") -> list[str]:

@@ -1,12 +1,15 @@
 """The whole state of a battle, as dataclasses. `Battle.from_state` makes a battle of a state that was changed."""
 
+from collections.abc import Callable
 from ctypes import byref
 from dataclasses import dataclass, fields, replace
-from typing import Any, TypeVar
+from functools import cache
+from operator import attrgetter
+from typing import TYPE_CHECKING, Any, ClassVar, TypeVar
 
 from gen1 import _library
-from gen1._check import shown, within
-from gen1._structs import ActiveStateStruct, MemberStateStruct, SideStateStruct, StateStruct
+from gen1._check import by_number, shown, within
+from gen1._structs import SideStateStruct, StateStruct
 from gen1.choices import Rules, Side, a_side
 from gen1.errors import BadArgument, BadType
 from gen1.names import Conditions, Move, Outcome, Request, Species, Stat, Status, Type
@@ -14,8 +17,28 @@ from gen1.names import Conditions, Move, Outcome, Request, Species, Stat, Status
 S = TypeVar("S", "MemberState", "ActiveState", "SideState", "State")
 
 
+class Lazy:
+    """The base of dataclasses whose fields are read from a struct of the library when they are first used."""
+
+    # What reads each field from the struct.
+    _READERS: ClassVar[dict[str, Callable[[Any], Any]]]
+
+    if not TYPE_CHECKING:
+
+        def __getattr__(self, name: str) -> Any:
+            """A field that was not used before."""
+            held, read = self.__dict__.get("_held"), type(self)._READERS.get(name)
+            if held is None or read is None:
+                raise AttributeError(f"{type(self).__name__!r} object has no attribute {name!r}", name=name, obj=self)
+            found = self.__dict__[name] = read(held)
+            return found
+
+    def __reduce__(self) -> tuple[Any, ...]:
+        return type(self), tuple(getattr(self, it) for it in self._READERS)
+
+
 @dataclass(frozen=True)
-class MemberState:
+class MemberState(Lazy):
     """The state of a member.
 
     `hp` is 0 to `max_hp`. `stats` are Attack, Defense, Speed and Special before stages and penalties, 5 to 999. `sleep` is how many more
@@ -35,7 +58,7 @@ class MemberState:
 
 
 @dataclass(frozen=True)
-class ActiveState:
+class ActiveState(Lazy):
     """The member of a side that is out, with the state that lasts only while it is.
 
     `place` is 1 to 6. `stats` are after stages and penalties, 1 to 999. `stages` are -6 to 6: Attack, Defense, Speed, Special, accuracy,
@@ -66,7 +89,7 @@ class ActiveState:
 
 
 @dataclass(frozen=True)
-class SideState:
+class SideState(Lazy):
     """The state of a side: its members in the order of their places, and the one that is out, None before the first update."""
 
     members: tuple[MemberState, ...]
@@ -74,7 +97,7 @@ class SideState:
 
 
 @dataclass(frozen=True)
-class State:
+class State(Lazy):
     """The whole state of a battle: both sides; turn (0 before the first update) and limit; the last damage, 0 to 65,535; and so on.
 
     `index`, 0 to 8, says which of the first nine `numbers` is drawn next; the tenth is never drawn. A state is never changed in place:
@@ -144,19 +167,7 @@ def struct_of_state(held: Any) -> StateStruct:
 
 def state_of(held: Any) -> State:
     """The state of the battle with these 384 bytes."""
-    of = struct_of_state(held)
-    return State(
-        one=_side(of.sides[0]),
-        two=_side(of.sides[1]),
-        turn=of.turn,
-        limit=of.limit,
-        last_damage=of.last_damage,
-        rules=Rules(of.rules),
-        outcome=Outcome(of.outcome),
-        requests=(Request(of.requests[0]), Request(of.requests[1])),
-        index=of.index,
-        numbers=tuple(of.numbers),
-    )
+    return _lazy(State, struct_of_state(held))
 
 
 def stages_of(given: Any) -> tuple[int, ...]:
@@ -164,21 +175,52 @@ def stages_of(given: Any) -> tuple[int, ...]:
     return tuple(it - 6 for it in given)
 
 
-def _side(of: SideStateStruct) -> SideState:
-    return SideState(tuple(_member(it) for it in of.members if it.species), _active(of.active))
+def _lazy(kind: type[S], held: Any) -> S:
+    """The dataclass of a struct, whose fields are read later."""
+    made = object.__new__(kind)
+    made.__dict__["_held"] = held
+    return made
 
 
-def _member(of: MemberStateStruct) -> MemberState:
-    slots = [at for at in range(4) if of.moves[at]]
-    moves, pp = tuple(Move(of.moves[at]) for at in slots), tuple(of.pp[at] for at in slots)
-    ails = Status(of.status), of.sleep, bool(of.marked)
-    return MemberState(Species(of.species), of.level, *ails, moves, pp, of.hp, of.max_hp, tuple(of.stats))
+def _members(of: SideStateStruct) -> tuple[MemberState, ...]:
+    return tuple([_lazy(MemberState, it) for it in of.members if it.species])
 
 
-def _active(of: ActiveStateStruct) -> ActiveState | None:
-    if not of.place:
-        return None
-    types = Type(of.types[0]), Type(of.types[1])
-    used = of.current_move, of.picked_move, of.kept_accuracy, of.substitute, of.confusion
-    rest = of.disabled_slot, of.disabled_turns, of.bad_poison, of.turns, of.energy
-    return ActiveState(of.place, types, tuple(of.stats), stages_of(of.stages), Conditions(of.conditions), *used, *rest)
+def _active(of: SideStateStruct) -> ActiveState | None:
+    return _lazy(ActiveState, of.active) if of.active.place else None
+
+
+def _readers(kind: type[Any], **others: Callable[[Any], Any]) -> dict[str, Callable[[Any], Any]]:
+    """What reads each field: the struct's own field of this name, but for the others."""
+    return {it.name: others.get(it.name, attrgetter(it.name)) for it in fields(kind)}
+
+
+_SPECIES, _MOVE, _TYPE = by_number(Species), by_number(Move), by_number(Type)
+_STATUS, _OUTCOME, _REQUEST = by_number(Status), by_number(Outcome), by_number(Request)
+_conditions, _rules = cache(Conditions), cache(Rules)
+State._READERS = _readers(
+    State,
+    one=lambda of: _lazy(SideState, of.sides[0]),
+    two=lambda of: _lazy(SideState, of.sides[1]),
+    rules=lambda of: _rules(of.rules),
+    outcome=lambda of: _OUTCOME[of.outcome],
+    requests=lambda of: (_REQUEST[of.requests[0]], _REQUEST[of.requests[1]]),
+    numbers=lambda of: tuple(of.numbers),
+)
+SideState._READERS = _readers(SideState, members=_members, active=_active)
+MemberState._READERS = _readers(
+    MemberState,
+    species=lambda of: _SPECIES[of.species],
+    status=lambda of: _STATUS[of.status],
+    marked=lambda of: bool(of.marked),
+    moves=lambda of: tuple([_MOVE[it] for it in of.moves if it]),
+    pp=lambda of: tuple([pp for move, pp in zip(of.moves, of.pp) if move]),
+    stats=lambda of: tuple(of.stats),
+)
+ActiveState._READERS = _readers(
+    ActiveState,
+    types=lambda of: (_TYPE[of.types[0]], _TYPE[of.types[1]]),
+    stats=lambda of: tuple(of.stats),
+    stages=lambda of: stages_of(of.stages),
+    conditions=lambda of: _conditions(of.conditions),
+)
