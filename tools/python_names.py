@@ -1,11 +1,12 @@
 #!/usr/bin/env python3
-"""Writes the enums of python/gen1 from docs/TABLES.md, docs/LAYOUT.md, docs/MECHANICS.md and include/gen1.h.
+"""Writes the enums of python/gen1 from docs/TABLES.md, docs/LAYOUT.md, docs/MECHANICS.md and include/gen1.h, and its sample teams.
 
-    tools/python_names.py           writes python/gen1/src/gen1/names.py and rows.py
+    tools/python_names.py           writes python/gen1/src/gen1/names.py, rows.py and sample_texts.py
     tools/python_names.py --check   writes nothing; fails where one of them differs
 
 Species, moves and types are the rows of TABLES; the conditions are the bits of LAYOUT; the kinds of statuses, stats, reasons, sources and
-volatiles are the numbers of MECHANICS, "Events". All codes are enums of the header, with the comment after each as its text.
+volatiles are the numbers of MECHANICS, "Events". All codes are enums of the header, with the comment after each as its text. The sample
+teams are the texts of examples/teams.
 """
 
 import argparse
@@ -17,6 +18,7 @@ from repository import ROOT
 from tables import element_names, move_rows, species_rows, table
 
 OUT = ROOT / "python" / "gen1" / "src" / "gen1"
+TEXTS = '"""The texts of the sample teams. Made by tools/python_names.py; change examples/teams, not this."""\n\n'
 ROWS = '"""The rows of species and moves. Made by tools/python_names.py; change docs/TABLES.md, not this."""\n'
 
 HEAD = '''"""Species, moves, types and codes by name. Made by tools/python_names.py; change what it reads, not this."""
@@ -195,9 +197,16 @@ def header_version():
     return f"\n\n# The version of include/gen1.h that these are made of: its major, its minor and its third number.\nHEADER_VERSION = {numbers}\n"
 
 
+def sample_texts():
+    """The text of each sample team by its name, in Python."""
+    paths = sorted((ROOT / "examples" / "teams").glob("*.txt"))
+    return TEXTS + "TEXTS = {\n" + "".join(f'    "{it.stem}": """\\\n{it.read_text()}""",\n' for it in paths) + "}\n"
+
+
 def made():
     """The text of each file."""
-    return {"names.py": names(), "rows.py": "".join([ROWS, *row_lists((ROOT / "docs" / "TABLES.md").read_text())])}
+    rows = "".join([ROWS, *row_lists((ROOT / "docs" / "TABLES.md").read_text())])
+    return {"names.py": names(), "rows.py": rows, "sample_texts.py": sample_texts()}
 
 
 def main():

@@ -183,4 +183,4 @@ def test_move_0_is_explained():
             break
     with pytest.raises(gen1.Refused) as fault:
         battle.update(Choice.MOVE_1, Choice.MOVE_1)
-    assert str(fault.value) == "side 1's choice is not offered: move 1; it can choose move 0 (there is no slot to choose)"
+    assert str(fault.value) == "side 1's choice is not offered: move 1; it can choose move 0 (no slot can be chosen)"

@@ -10,11 +10,13 @@ engine.
 Use help(gen1.Battle) for one class. The main names:
 
     Member, Team                 teams, from names, dicts and text
+    sample_teams, random_team    teams to try things with
     Battle, Choice, Side         a battle, and what a side can choose
     Update, Result, Event        what an update returns
     State                        the whole state of a battle
     odds, damage, Odds           what a move does
     base, move_data, Type        rows of the tables
+    Recorder                     a battle to play again, as JSON or a page
     Room                         two players who choose independently
     Player, Teller               what a player knows
     Spectator                    what a spectator sees
@@ -117,7 +119,9 @@ from gen1.names import (
 )
 from gen1.own_sides import OwnMember, OwnSide
 from gen1.players import Announced, Player, PublicSide, Seen, SeenMove, Teller
+from gen1.recorder import Recorder
 from gen1.rooms import Room
+from gen1.samples import random_team, sample_sets, sample_teams
 from gen1.spectators import ShownMember, ShownSide, ShownState, Spectator
 from gen1.states import ActiveState, MemberState, SideState, State
 from gen1.tables import Base, MoveData, base, effectiveness, move_data
@@ -214,6 +218,7 @@ __all__ = [
     "PrepareEvent",
     "PublicSide",
     "Reason",
+    "Recorder",
     "Refusal",
     "Refused",
     "Request",
@@ -264,5 +269,8 @@ __all__ = [
     "log_bytes",
     "move_data",
     "odds",
+    "random_team",
     "recoil",
+    "sample_sets",
+    "sample_teams",
 ]

@@ -31,9 +31,13 @@ class Rules(IntFlag, metaclass=NamedType):
 class Choice(Named):
     """A side's choice for an update, with its number.
 
-    `MOVE_0` is the only move that is offered if there is no slot to choose: the member must recharge; its move goes on (Rage, Thrash, a
-    move that charges, Bide, trapping); it sleeps, is frozen or is held by the foe's trapping move; or no slot has PP and is not disabled,
-    so that it uses Struggle. Any other number is refused as not offered.
+    `MOVE_0` is the only move that is offered if no slot can be chosen.
+    That is so if the member must recharge; if its move goes on (Rage,
+    Thrash, a move that charges, Bide, trapping); if it sleeps, is frozen
+    or is held by the foe's trapping move; and if each slot lacks PP or
+    is disabled, so that it uses Struggle.
+
+    Any other number is refused as not offered.
     """
 
     PASS = 0x00, "pass"
@@ -100,5 +104,5 @@ def choice_text(byte: int) -> str:
 
 def not_offered(side: int, byte: int, offered: Iterable[Choice]) -> str:
     """Why a choice that is not offered is refused."""
-    names = [f"{it.label} (there is no slot to choose)" if it is Choice.MOVE_0 else it.label for it in offered]
+    names = [f"{it.label} (no slot can be chosen)" if it is Choice.MOVE_0 else it.label for it in offered]
     return f"side {side}'s choice is not offered: {choice_text(byte)}; it can choose {', '.join(names)}"

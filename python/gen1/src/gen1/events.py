@@ -342,7 +342,7 @@ class Events(Sequence[Event]):
 
 
 def _next(log: bytes, at: c_size_t) -> Event | None:
-    """The event that begins at an offset, which is moved behind it; None at the end. Raises `BadLog`."""
+    """The event that begins at an offset, which is moved to the event's end; None at the end of the log. Raises `BadLog`."""
     of = _library.EventStruct()
     code = _library.next_event(log, len(log), byref(at), byref(of))
     if code == 0:

@@ -69,7 +69,7 @@ def teams(asked: dict[str, Any]) -> tuple[Team, Team]:
 
 
 def _members(given: Any, side: str) -> Any:
-    """The members of a side; what is no list is refused later."""
+    """The members of a side; what isn't a list is refused later."""
     return [_strict(it, f"{side}, member {at}") for at, it in enumerate(given, 1)] if isinstance(given, list) else given
 
 

@@ -1,0 +1,141 @@
+"""A bot that searches without cheating: it guesses what it does not know, and plays the guesses out.
+
+    python3 examples/python/monte_carlo [--battles N] [--guesses N] [--seed N]
+
+Three players are compared, with sample teams that are drawn for each battle:
+
+    fair        knows what a player knows (gen1.Player). For each guess of the foe's team it makes a battle that fits
+                (Battle.from_player), and plays each of its choices out on it, with random choices to the end.
+    cheating    does the same with copies of the battle itself, which hold what the foe has not shown.
+    random      takes any choice.
+
+The table has the battles that the player of the row won against the player of the column; a tie counts half. Half of the battles are
+played from the other side.
+"""
+
+import argparse
+import random
+import sys
+from collections.abc import Callable
+
+import gen1
+from gen1 import Battle, Choice, Member, Move, Outcome, Player, Side, Team, Teller
+
+# A bot chooses from a player's view, with dice and a number of guesses to make.
+Bot = Callable[[Player, random.Random, int], Choice]
+
+
+def guess(player: Player, dice: random.Random) -> Team:
+    """A team that the foe may have: what it has shown, filled up from the sample sets."""
+    seen = player.foe.members
+    team = [member_like(it, dice) for it in seen]
+    names = {it.species for it in team}
+    others = [it for it in gen1.sample_sets() if it.species not in names]
+    while len(team) < (player.foes or 6):
+        team.append(dice.choice(others))
+        others = [it for it in others if it.species != team[-1].species]
+    return Team(team)
+
+
+def member_like(seen: gen1.Seen, dice: random.Random) -> Member:
+    """A sample set with the moves that a member was seen to use, or else these moves and others of its sets."""
+    used = [it.move for it in seen.moves if it.move is not Move.STRUGGLE]
+    sets = list(gen1.sample_sets(seen.species))
+    fitting = [it for it in sets if set(used) <= set(it.moves)]
+    if fitting:
+        moves = dice.choice(fitting).moves
+    else:
+        more = [move for it in sets for move in it.moves] or [Move.BODY_SLAM, Move.REST]
+        moves = tuple(dict.fromkeys([*used, *more]))[:4]
+    return Member(seen.species, moves, level=seen.level)
+
+
+def best(starts: list[Battle], side: Side, offered: tuple[Choice, ...], dice: random.Random) -> Choice:
+    """The choice with which a side wins most playouts of these battles."""
+    won = dict.fromkeys(offered, 0.0)
+    for start in starts:
+        for choice in offered:
+            fork = start.copy()
+            theirs = dice.choice(fork.choices(side.foe))
+            pair = (choice, theirs) if side is Side.ONE else (theirs, choice)
+            fork.update_silent(*pair)
+            ends = fork.playout(dice.getrandbits(64), 1)
+            won[choice] += (ends.wins_one if side is Side.ONE else ends.wins_two) + ends.ties / 2
+    return max(offered, key=lambda it: won[it])
+
+
+def fair(player: Player, dice: random.Random, guesses: int) -> Choice:
+    """Searches battles that fit what the player knows."""
+    starts = [Battle.from_player(player, guess(player, dice), dice.randbytes(10)) for _ in range(guesses)]
+    return best(starts, player.side, player.choices, dice)
+
+
+def cheating(battle: Battle) -> Bot:
+    """A bot that searches copies of this battle, with other numbers to draw."""
+
+    def bot(player: Player, dice: random.Random, guesses: int) -> Choice:
+        starts = [battle.copy() for _ in range(guesses)]
+        for it in starts:
+            it.reseed(dice.randbytes(10))
+        return best(starts, player.side, player.choices, dice)
+
+    return bot
+
+
+def at_random(player: Player, dice: random.Random, guesses: int) -> Choice:
+    """Any choice."""
+    return dice.choice(player.choices)
+
+
+def play(names: tuple[str, str], dice: random.Random, guesses: int) -> Outcome:
+    """One battle between two bots. Each gets its own player's view; only the cheating one gets the battle, too."""
+    teams = list(gen1.sample_teams().values())
+    sides = dice.choice(teams), dice.choice(teams)
+    battle = Battle(*sides, dice.randbytes(10))
+    known = {"fair": fair, "cheating": cheating(battle), "random": at_random}
+    bots = [known[it] for it in names]
+    players = [Player(side, team, foes=6) for side, team in zip(Side, sides)]
+    tellers = [Teller(side) for side in Side]
+    update = battle.update(Choice.PASS, Choice.PASS)
+    while True:
+        for teller, player in zip(tellers, players):
+            teller.report(battle, update.log, player)
+        if update.result.is_over:
+            return update.result.outcome
+        update = battle.update(*(chosen(bot, player, dice, guesses) for bot, player in zip(bots, players)))
+
+
+def chosen(bot: Bot, player: Player, dice: random.Random, guesses: int) -> Choice:
+    """The bot's choice, or the only choice that is offered."""
+    return player.choices[0] if len(player.choices) == 1 else bot(player, dice, guesses)
+
+
+def wins(one: str, two: str, battles: int, dice: random.Random, guesses: int) -> float:
+    """How many battles the first bot wins. Every other battle is played from the other side."""
+    total = 0.0
+    for at in range(battles):
+        pair = (one, two) if at % 2 == 0 else (two, one)
+        outcome, mine = play(pair, dice, guesses), (Outcome.WIN_ONE, Outcome.WIN_TWO)[at % 2]
+        total += 1 if outcome is mine else 0.5 if outcome is Outcome.TIE else 0
+    return total
+
+
+def main() -> int:
+    """Plays the battles, and prints the table."""
+    parser = argparse.ArgumentParser(description=__doc__, formatter_class=argparse.RawDescriptionHelpFormatter)
+    parser.add_argument("--battles", type=int, default=20, metavar="N", help="battles of each pair of players (default: %(default)s)")
+    parser.add_argument("--guesses", type=int, default=12, metavar="N", help="guesses of a bot for each choice (default: %(default)s)")
+    parser.add_argument("--seed", type=int, default=1, metavar="N", help="a number that gives the same battles again (default: %(default)s)")
+    asked = parser.parse_args()
+    if asked.battles < 1 or asked.guesses < 1:
+        parser.error("--battles and --guesses must be 1 or more")
+    dice = random.Random(asked.seed)
+    print(f"won of {asked.battles}    against random    against cheating", flush=True)
+    for name, foes in (("fair", ("random", "cheating")), ("cheating", ("random",))):
+        cells = [f"{wins(name, foe, asked.battles, dice, asked.guesses):g}" for foe in foes]
+        print(f"{name:12} {cells[0]:>13} {cells[1] if len(cells) > 1 else '-':>19}", flush=True)
+    return 0
+
+
+if __name__ == "__main__":
+    sys.exit(main())
