@@ -12,6 +12,7 @@ teams are the texts of examples/teams.
 import argparse
 import re
 import sys
+import textwrap
 
 sys.dont_write_bytecode = True
 from repository import ROOT
@@ -37,8 +38,10 @@ class NamedType(EnumMeta):
 class Named(IntEnum, metaclass=NamedType):
     """A number of the library with a text for people.
 
-    `label` is the name as lines and tables print it ("Mr. Mime"), of a code what it says ("the level is not 1 to 100"). A format that
-    ends in a number's type (`d`, `02x`) formats the number, any other the label, by every Python alike.
+    `label` is the name as lines and tables print it ("Mr. Mime"), of a
+    code what it says ("the level is not 1 to 100"). A format that ends in
+    a number's type (`d`, `02x`) formats the number, any other the label,
+    by every Python alike.
     """
 
     label: str
@@ -106,7 +109,14 @@ def quoted(text):
 def enum_class(name, doc, rows):
     """The class of an enum whose rows are a number, a name and a label."""
     lines = [f"    {constant(it)} = {number}, {quoted(label)}" for number, it, label in rows]
-    return f'\n\nclass {name}(Named):\n    """{doc}"""\n\n' + "\n".join(lines) + "\n"
+    return f"\n\nclass {name}(Named):\n{docstring(doc)}\n\n" + "\n".join(lines) + "\n"
+
+
+def docstring(text):
+    """The docstring of a class, whose lines `help` shows within 80 columns."""
+    lines = textwrap.wrap(text, 72)
+    end = "\n    " if len(lines) > 1 else ""
+    return '    """' + "\n    ".join(lines) + end + '"""'
 
 
 def header_enums(text):

@@ -1,10 +1,13 @@
 """What a new user tries first: help, names as people write them, members with few keys, and lists that do not end."""
 
+import inspect
 import itertools
 import pydoc
 import random
 import subprocess
 import sys
+from functools import cached_property
+from types import FunctionType
 
 import gen1
 import pytest
@@ -26,6 +29,27 @@ def test_help(before):
     assert all(len(it) <= 80 for it in told[:start])
     for name in ("Member", "Battle", "State", "Room", "Player", "BattleArray", "BattleEnv", "Error"):
         assert any(name in it for it in told[:start])
+
+
+# Modules that need numpy.
+ARRAYS = ("gen1.arrays", "gen1.environments")
+
+
+def public():
+    """Each name of the package with what it names, but for the classes that need numpy."""
+    return [(name, getattr(gen1, name)) for name in gen1.__all__ if getattr(getattr(gen1, name), "__module__", "") not in ARRAYS]
+
+
+def test_docstrings_fit_a_terminal():
+    """`help` shows each line of them within 80 columns: it puts 8 before those of a class or a function, and 12 before those of a method."""
+    for name, it in public():
+        docs = [(72, it)] if isinstance(it, type) or callable(it) else []
+        if isinstance(it, type) and it.__module__.startswith("gen1."):
+            methods = [value for key, value in vars(it).items() if not key.startswith("_") or key == "__init__"]
+            docs += [(68, value) for value in methods if isinstance(value, (FunctionType, property, classmethod, cached_property))]
+        for most, value in docs:
+            told = inspect.getdoc(value) or ""
+            assert all(len(line) <= most for line in told.splitlines()), (name, told)
 
 
 def test_help_of_the_classes_of_names():
@@ -154,6 +178,19 @@ def test_lists_without_an_end(battle, team):
         assert given.taken == most + 1 and ("more than" in str(fault.value) or "at most" in str(fault.value))
     with pytest.raises(BadArgument, match="^seed must be 10 bytes, not 1000000000000$"):
         Battle(team, team, Long(10**12))
+
+
+def test_arrays_to_read_stay_so(battle):
+    """They show the battles, and cannot be made writable."""
+    pytest.importorskip("numpy")
+    array = gen1.BattleArray(3, battle)
+    array.step([17, 18, 17], [17, 17, 18])
+    for it in (array.bytes, array.fields, array.fields["sides"]["members"]["hp"], array.results, array.codes):
+        with pytest.raises(ValueError):
+            it.flags.writeable = True
+        with pytest.raises(ValueError):
+            it[0] = it[1]
+    assert [bytes(it) for it in array.bytes] == [it.bytes for it in array]
 
 
 def test_messages_say_each_thing_once(team):

@@ -1,4 +1,6 @@
-"""The odds of a move: its damage, its chances to hit, to be critical and to knock out (docs/MECHANICS.md, "Damage numbers")."""
+"""The odds of a move: its damage, its chances to hit, to be critical and to
+knock out (docs/MECHANICS.md, "Damage numbers").
+"""
 
 from ctypes import byref
 from dataclasses import dataclass
@@ -15,9 +17,11 @@ from gen1.teams import Member, struct_of
 
 @dataclass(frozen=True)
 class Damages:
-    """The damage of a hit in HP: 39 numbers in rising order, at the factors from 217 to 255, which are equally likely.
+    """The damage of a hit in HP: 39 numbers in rising order, at the factors
+    from 217 to 255, which are equally likely.
 
-    If there are none, `numbers` is empty, and `code` says why: `DamageFault.UNUSUAL` or `DamageFault.DIVISOR`.
+    If there are none, `numbers` is empty, and `code` says why:
+    `DamageFault.UNUSUAL` or `DamageFault.DIVISOR`.
     """
 
     numbers: tuple[int, ...]
@@ -26,16 +30,23 @@ class Damages:
 
 @dataclass(frozen=True)
 class Odds:
-    """The odds of one use of a move by a member that acts now. What keeps a member from acting at all, such as sleep, is not counted.
+    """The odds of one use of a move by a member that acts now. What keeps a
+    member from acting at all, such as sleep, is not counted.
 
-    `usual` and `critical` are the damage of a usual and of a critical hit. `critical_chance`, 0 to 255/256, is the chance of a critical
-    hit, 0 without the usual damage. `hit_chance`, 0 to 1, is the chance that the use hits; 0 if it cannot hit or would not work, and then
-    `reason` says why, and is otherwise None. A use that hits without a test has 1. If `takes_hit_test` is false, the move always fails or
-    affects only its user.
+    `usual` and `critical` are the damage of a usual and of a critical hit.
+    `critical_chance`, 0 to 255/256, is the chance of a critical hit, 0
+    without the usual damage. `hit_chance`, 0 to 1, is the chance that the
+    use hits; 0 if it cannot hit or would not work, and then `reason` says
+    why, and is otherwise None. A use that hits without a test has 1. If
+    `takes_hit_test` is false, the move always fails or affects only its
+    user.
 
-    `fixed` is the least and the most damage of a use without the usual damage, such as Night Shade; the numbers from the least to the most
-    are equally likely. Both are 0 for any other use. `hits` has in how many of 8 cases a use that hits makes 0, 1, .. 5 hits, which all deal
-    the same damage. If `charges_first` is true, the user would only charge now, and the odds are those of its strike.
+    `fixed` is the least and the most damage of a use without the usual
+    damage, such as Night Shade; the numbers from the least to the most are
+    equally likely. Both are 0 for any other use. `hits` has in how many of
+    8 cases a use that hits makes 0, 1, .. 5 hits, which all deal the same
+    damage. If `charges_first` is true, the user would only charge now, and
+    the odds are those of its strike.
     """
 
     usual: Damages
@@ -51,10 +62,13 @@ class Odds:
 
 @dataclass(frozen=True)
 class Chances:
-    """The exact chance that one use of a move knocks out the foe (`once`), and two uses in a row (`twice`), with independent draws.
+    """The exact chance that one use of a move knocks out the foe (`once`), and
+    two uses in a row (`twice`), with independent draws.
 
-    If `breaks_substitute` is true, the foe has a substitute, and the chances are those of breaking it. Nothing else that happens between
-    the two uses is counted: no residual damage, no change of a stat, no recharging, and no fall of the user.
+    If `breaks_substitute` is true, the foe has a substitute, and the
+    chances are those of breaking it. Nothing else that happens between the
+    two uses is counted: no residual damage, no change of a stat, no
+    recharging, and no fall of the user.
     """
 
     once: Fraction
@@ -63,9 +77,11 @@ class Chances:
 
 
 def odds(attacker: Member, defender: Member, move: Move | str | int) -> Odds:
-    """The odds of a move between two members that have just been sent out. For members in a battle use `Battle.odds`.
+    """The odds of a move between two members that have just been sent out. For
+    members in a battle use `Battle.odds`.
 
-    The attacker need not know the move. Raises `BadTeam` for an unknown move, `BadType` for a value that is not a `Member`.
+    The attacker need not know the move. Raises `BadTeam` for an unknown
+    move, `BadType` for a value that is not a `Member`.
     """
     known, of = a_move(move), OddsStruct()
     pair = [byref(struct_of([_a_member(it, name)]).members[0]) for it, name in ((attacker, "attacker"), (defender, "defender"))]
@@ -76,7 +92,9 @@ def odds(attacker: Member, defender: Member, move: Move | str | int) -> Odds:
 
 
 def damage(attacker: Member, defender: Member, move: Move | str | int, critical: bool = False) -> tuple[int, ...]:
-    """The damage of a move between two members that have just been sent out: 39 numbers, as from `Battle.damage`."""
+    """The damage of a move between two members that have just been sent out:
+    39 numbers, as from `Battle.damage`.
+    """
     is_critical, known = truth(critical, "critical"), a_move(move)
     found = odds(attacker, defender, known)
     damages = found.critical if is_critical else found.usual
@@ -86,18 +104,22 @@ def damage(attacker: Member, defender: Member, move: Move | str | int, critical:
 
 
 def drained(move: Move | str | int, damage: int) -> int:
-    """The HP that a damage of a move gives to its user (Absorb, Mega Drain, Leech Life, Dream Eater); 0 for any other move.
+    """The HP that a damage of a move gives to its user (Absorb, Mega Drain,
+    Leech Life, Dream Eater); 0 for any other move.
 
-    `damage`, 0 to 65,535, is the HP that the foe lost, or what its substitute took without breaking. The user gains at most what it lacks.
+    `damage`, 0 to 65,535, is the HP that the foe lost, or what its
+    substitute took without breaking. The user gains at most what it lacks.
     Raises `BadTeam` for an unknown move, `BadArgument`, `BadType`.
     """
     return int(_library.drained(a_move(move), within(damage, "damage", 0, 65_535)))
 
 
 def recoil(move: Move | str | int, damage: int) -> int:
-    """The HP that a damage of a move costs its user (Take Down, Double-Edge, Submission, Struggle); 0 for any other move.
+    """The HP that a damage of a move costs its user (Take Down, Double-Edge,
+    Submission, Struggle); 0 for any other move.
 
-    `damage`, 0 to 65,535, is as in `drained`. Raises `BadTeam` for an unknown move, `BadArgument`, `BadType`.
+    `damage`, 0 to 65,535, is as in `drained`. Raises `BadTeam` for an
+    unknown move, `BadArgument`, `BadType`.
     """
     return int(_library.recoil(a_move(move), within(damage, "damage", 0, 65_535)))
 

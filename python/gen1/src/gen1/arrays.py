@@ -269,10 +269,9 @@ def _row(battle: object, name: str) -> Bytes:
 
 
 def _to_read(of: NDArray[Any]) -> NDArray[Any]:
-    """A read-only view of an array."""
-    view = of.view()
-    view.flags.writeable = False
-    return view
+    """A view of an array that cannot be made writable."""
+    held = np.asarray(of.reshape(-1).view(np.uint8).data.toreadonly())
+    return held.view(of.dtype).reshape(of.shape)
 
 
 def _restored(whole: bytes, first: bytes, codes: bytes) -> BattleArray:

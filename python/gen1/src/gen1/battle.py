@@ -33,7 +33,9 @@ SeedLike: TypeAlias = bytes | Iterable[int]
 
 @dataclass(frozen=True)
 class Result:
-    """The outcome of a battle so far, and what is asked of side 1 and side 2 for the next update."""
+    """The outcome of a battle so far, and what is asked of side 1 and side 2
+    for the next update.
+    """
 
     outcome: Outcome
     requests: tuple[Request, Request]
@@ -64,7 +66,9 @@ class Update:
 
 @dataclass(frozen=True)
 class Playouts:
-    """How playouts of a battle ended: how many side 1 won, side 2 won, were a tie, and ended by a fault."""
+    """How playouts of a battle ended: how many side 1 won, side 2 won, were a
+    tie, and ended by a fault.
+    """
 
     wins_one: int
     wins_two: int
@@ -78,18 +82,23 @@ class Playouts:
 
 
 class Battle:
-    """A battle of two teams. `update` changes it in place; `copy` returns an independent copy.
+    """A battle of two teams. `update` changes it in place; `copy` returns an
+    independent copy.
 
-    Two battles are equal if their bytes are equal. The hash is computed from the current bytes, so a battle that is in a set or is the
-    key of a dict must not be updated. A battle must be used by one thread at a time; a `Room` accepts choices from several threads.
+    Two battles are equal if their bytes are equal. The hash is computed
+    from the current bytes, so a battle that is in a set or is the key of a
+    dict must not be updated. A battle must be used by one thread at a time;
+    a `Room` accepts choices from several threads.
     """
 
     __slots__ = ("_held",)
 
     def __init__(self, one: TeamLike, two: TeamLike, seed: SeedLike, rules: int = 0, limit: int = 1000) -> None:
-        """Creates a battle before its first update, in which both sides choose `PASS`.
+        """Creates a battle before its first update, in which both sides choose
+        `PASS`.
 
-        `seed` is ten bytes, `rules` 0 to 3 (`Rules`), and `limit` the last turn, 1 to 9,999. Raises `BadTeam`, `BadArgument`, `BadType`.
+        `seed` is ten bytes, `rules` 0 to 3 (`Rules`), and `limit` the last
+        turn, 1 to 9,999. Raises `BadTeam`, `BadArgument`, `BadType`.
         """
         asked_rules, asked_limit = whole(rules, "rules"), whole(limit, "limit")
         terms = a_byte(asked_rules), min(max(asked_limit, 0), 65535)
@@ -108,7 +117,9 @@ class Battle:
 
     @classmethod
     def load(cls: type[B], given: "ReadableBuffer") -> B:
-        """Loads a battle from bytes of any of the three versions, in any bytes-like object. Raises `BadBytes`, `BadType`."""
+        """Loads a battle from bytes of any of the three versions, in any
+        bytes-like object. Raises `BadBytes`, `BadType`.
+        """
         whole_bytes = octets(given, "a battle")
         made = cls.__new__(cls)
         made._held = BattleBytes()
@@ -119,10 +130,13 @@ class Battle:
 
     @classmethod
     def from_state(cls: type[B], state: State) -> B:
-        """Makes a battle of a state, such as one of `Battle.state` in which fields were changed. Its `state` is then the same.
+        """Makes a battle of a state, such as one of `Battle.state` in which
+        fields were changed. Its `state` is then the same.
 
-        If the four current stats of an active member are all 0, they are computed from its own stats, its stages and its status. Raises
-        `BadState`, with the first field that is wrong; `BadArgument` for a tuple of a wrong length, and `BadType`.
+        If the four current stats of an active member are all 0, they are
+        computed from its own stats, its stages and its status. Raises
+        `BadState`, with the first field that is wrong; `BadArgument` for a
+        tuple of a wrong length, and `BadType`.
         """
         made, given, fault = cls.__new__(cls), packed(state), StateFaultStruct()
         made._held = BattleBytes()
@@ -132,15 +146,22 @@ class Battle:
 
     @classmethod
     def from_player(cls: type[B], player: "Player", foes: TeamLike, seed: SeedLike, rules: int = 0, limit: int = 1000) -> B:
-        """A battle that fits what a player knows, with a guess of the rest: the base of a search that doesn't cheat.
+        """A battle that fits what a player knows, with a guess of the rest:
+        the base of a search that doesn't cheat.
 
-        `foes` is the guess of the foe's team: first the members that have appeared, in the order in which they did, then the others. `seed`
-        is the numbers to draw; `rules` and `limit` are as in `Battle(..)`. The own side is as it was shown. The foe's members have the HP,
-        status and stages that were told, and the moves and stats of the guess; PP are those that are left after the uses that were seen. A
-        condition that was announced is on if a move of the guess explains it. Hidden counts have middle values: three turns of sleep and
-        confusion, four of Disable, two of Bide, thrashing and trapping, a Substitute of a quarter of the maximum HP.
+        `foes` is the guess of the foe's team: first the members that have
+        appeared, in the order in which they did, then the others. `seed` is
+        the numbers to draw; `rules` and `limit` are as in `Battle(..)`. The
+        own side is as it was shown. The foe's members have the HP, status
+        and stages that were told, and the moves and stats of the guess; PP
+        are those that are left after the uses that were seen. A condition
+        that was announced is on if a move of the guess explains it. Hidden
+        counts have middle values: three turns of sleep and confusion, four
+        of Disable, two of Bide, thrashing and trapping, a Substitute of a
+        quarter of the maximum HP.
 
-        Raises `BadArgument` for a guess that does not fit, and for a battle that has not begun or is over; `BadState`, `BadTeam`, `BadType`.
+        Raises `BadArgument` for a guess that does not fit, and for a battle
+        that has not begun or is over; `BadState`, `BadTeam`, `BadType`.
         """
         from gen1.guesses import guessed
 
@@ -152,7 +173,9 @@ class Battle:
         return bytes(self._held)
 
     def copy(self: B) -> B:
-        """An independent copy, of the same class. It draws the same numbers, unless it is reseeded."""
+        """An independent copy, of the same class. It draws the same numbers,
+        unless it is reseeded.
+        """
         made = type(self).__new__(type(self))
         made._held = BattleBytes.from_buffer_copy(self._held)
         return made
@@ -182,20 +205,27 @@ class Battle:
         return result_of(self._held)
 
     def place(self, side: Side | int) -> int:
-        """The place of a side's member that is out, 1 to 6; 0 before the first update."""
+        """The place of a side's member that is out, 1 to 6; 0 before the first
+        update.
+        """
         return int(struct_of_state(self._held).sides[a_side(side) - 1].active.place)
 
     def choices(self, side: Side | int) -> tuple[Choice, ...]:
-        """The choices that a side is offered, in rising order: at most nine, and none if the battle is over."""
+        """The choices that a side is offered, in rising order: at most nine,
+        and none if the battle is over.
+        """
         room = CHOICES()
         count = _library.choices(byref(self._held), a_side(side), room)
         return tuple([CHOICE[it] for it in room[:count]])
 
     def update(self, one: Choice | int, two: Choice | int) -> Update:
-        """Updates the battle with a choice of each side, and returns the result and the log.
+        """Updates the battle with a choice of each side, and returns the
+        result and the log.
 
-        Choices are `Choice`, or their numbers from 0 to 255. Raises `Refused` for a choice that is not offered, or if the battle is over,
-        and `BadArgument` for other numbers; then the battle is unchanged.
+        Choices are `Choice`, or their numbers from 0 to 255. Raises
+        `Refused` for a choice that is not offered, or if the battle is
+        over, and `BadArgument` for other numbers; then the battle is
+        unchanged.
         """
         pair = a_choice(one, 1), a_choice(two, 2)
         log, length = create_string_buffer(LOG_ROOM), c_size_t(0)
@@ -218,26 +248,32 @@ class Battle:
         return state_of(self._held)
 
     def with_state(self: B, **changes: Any) -> B:
-        """The same battle with other fields of its state: `battle.with_state(turn=10, last_damage=50)`.
+        """The same battle with other fields of its state:
+        `battle.with_state(turn=10, last_damage=50)`.
 
-        For the fields of a member use `State.with_member` and `State.with_active`, and `from_state`. Raises as `from_state` does, and
-        `BadType` for a field that a `State` does not have.
+        For the fields of a member use `State.with_member` and
+        `State.with_active`, and `from_state`. Raises as `from_state` does,
+        and `BadType` for a field that a `State` does not have.
         """
         return self.from_state(changed(self.state, changes))
 
     def with_hp(self: B, side: Side | int, place: int, hp: int) -> B:
         """The same battle with other HP of the member at a place, from 1.
 
-        Raises `BadState` if the HP are above the maximum, or the battle would have ended; `BadArgument` for a place without a member.
+        Raises `BadState` if the HP are above the maximum, or the battle
+        would have ended; `BadArgument` for a place without a member.
         """
         return self.from_state(self.state.with_member(side, place, hp=hp))
 
     def with_status(self: B, side: Side | int, place: int, status: Status, turns: int = 0) -> B:
-        """The same battle with another status of the member at a place, from 1, without the Toxic counter.
+        """The same battle with another status of the member at a place, from
+        1, without the Toxic counter.
 
-        A new sleep lasts `turns`, 1 to 7, which another status ignores. If the member is out, its current stats are computed anew from its
-        stages and the new status. Raises `BadState` if the turns are not 1 to 7, or the member has fallen; `BadArgument` for a place
-        without a member.
+        A new sleep lasts `turns`, 1 to 7, which another status ignores. If
+        the member is out, its current stats are computed anew from its
+        stages and the new status. Raises `BadState` if the turns are not 1
+        to 7, or the member has fallen; `BadArgument` for a place without a
+        member.
         """
         number, sleep = within(status, "status", 0, 5), whole(turns, "turns")
         state = self.state.with_member(side, place, status=Status(number), sleep=sleep if number == Status.SLEEP else 0, marked=False)
@@ -247,10 +283,12 @@ class Battle:
         return self.from_state(state)
 
     def with_stage(self: B, side: Side | int, stat: Stat | int, stage: int) -> B:
-        """The same battle with another stage, -6 to 6, of a stat of the member that is out.
+        """The same battle with another stage, -6 to 6, of a stat of the member
+        that is out.
 
-        Its current stats are computed anew from its stages and its status. Raises `BadState` if the stage is not -6 to 6; `BadArgument`
-        for a stat that is not 1 to 6, and before the first update.
+        Its current stats are computed anew from its stages and its status.
+        Raises `BadState` if the stage is not -6 to 6; `BadArgument` for a
+        stat that is not 1 to 6, and before the first update.
         """
         at, state = within(stat, "stat", 1, 6), self.state.with_active(side, stats=(0, 0, 0, 0))
         before = state.side(side).active
@@ -258,13 +296,17 @@ class Battle:
         return self.from_state(state.with_active(side, stages=(*stages[: at - 1], stage, *stages[at:])))
 
     def own_side(self, side: Side | int) -> OwnSide:
-        """What a side is shown of itself. Nothing of it depends on the foe, but whether its trapping move holds the active member."""
+        """What a side is shown of itself. Nothing of it depends on the foe,
+        but whether its trapping move holds the active member.
+        """
         return own_side_of(self._held, a_side(side))
 
     def words(self, side: Side | int, choice: Choice | int) -> str:
-        """A choice of a side in words, such as "move 2 Body Slam" or "switch 3 Gengar". It need not be offered.
+        """A choice of a side in words, such as "move 2 Body Slam" or "switch 3
+        Gengar". It need not be offered.
 
-        Raises `BadArgument` for a slot without a move, a place without a member, and a number that is not a choice.
+        Raises `BadArgument` for a slot without a move, a place without a
+        member, and a number that is not a choice.
         """
         known = a_side(side)
         number = a_choice(choice, known)
@@ -277,20 +319,26 @@ class Battle:
         return text.raw[: length.value].decode("ascii")
 
     def reseed(self, seed: SeedLike, index: int = 0) -> None:
-        """Replaces the numbers to draw: ten bytes, and the index, 0 to 8, of the one that is drawn next.
+        """Replaces the numbers to draw: ten bytes, and the index, 0 to 8, of
+        the one that is drawn next.
 
-        Nothing else changes. A copy draws the same numbers as its battle, so a search reseeds each copy that it plays out.
+        Nothing else changes. A copy draws the same numbers as its battle,
+        so a search reseeds each copy that it plays out.
         """
         numbers, place = seed_bytes(seed), whole(index, "index")
         if _library.reseed(byref(self._held), _library.SeedBytes(*numbers), a_byte(place)):
             raise BadArgument(f"index must be 0 to 8, not {digits(place)}")
 
     def playout(self, seed: int, rounds: int) -> Playouts:
-        """Plays `rounds` copies of the battle to their end with random choices, and counts how they end. The battle is unchanged.
+        """Plays `rounds` copies of the battle to their end with random
+        choices, and counts how they end. The battle is unchanged.
 
-        `seed`, 0 to 2 ** 64 - 1, is for the choices; the same seed gives the same counts (include/gen1.h, "many battles"). `rounds` is 0 to
-        2 ** 32 - 1. The copies draw the numbers that the battle will draw; a search that must not know them reseeds a copy first. The call
-        returns when all copies are played, at about ten thousand a second, and lets other threads run. Raises `BadArgument`, `BadType`.
+        `seed`, 0 to 2**64 - 1, is for the choices; the same seed gives the
+        same counts (include/gen1.h, "many battles"). `rounds` is 0 to
+        2**32 - 1. The copies draw the numbers that the battle will draw; a
+        search that must not know them reseeds a copy first. The call
+        returns when all copies are played, at about ten thousand a second,
+        and lets other threads run. Raises `BadArgument`, `BadType`.
         """
         of, numbers = PlayoutsStruct(), (within(seed, "seed", 0, (1 << 64) - 1), within(rounds, "rounds", 0, (1 << 32) - 1))
         test = _library.playout(byref(self._held), *numbers, byref(of))
@@ -299,10 +347,13 @@ class Battle:
         return Playouts(of.wins_one, of.wins_two, of.ties, of.faults)
 
     def odds(self, side: Side | int, move: Move | str | int) -> Odds:
-        """The odds of a side's move in the current state: its damage, and its chances of a hit and of a critical hit.
+        """The odds of a side's move in the current state: its damage, and its
+        chances of a hit and of a critical hit.
 
-        The member need not know the move. A move that goes on under Rage, Thrash or Petal Dance is tested with the accuracy that was kept.
-        Raises `NoDamage` if no member is out, `BadTeam` for an unknown move.
+        The member need not know the move. A move that goes on under Rage,
+        Thrash or Petal Dance is tested with the accuracy that was kept.
+        Raises `NoDamage` if no member is out, `BadTeam` for an unknown
+        move.
         """
         of, known = OddsStruct(), a_move(move)
         code = _library.odds_now(byref(self._held), a_side(side), known, byref(of))
@@ -311,10 +362,13 @@ class Battle:
         return odds_of(of, known)
 
     def knock_out(self, side: Side | int, move: Move | str | int) -> Chances:
-        """The exact chance that a side's move knocks out the foe's active member, with one use and with two in a row.
+        """The exact chance that a side's move knocks out the foe's active
+        member, with one use and with two in a row.
 
-        Against a substitute it is the chance to break it. The member need not know the move, and the chance of a move that charges is that
-        of its strike. Raises `NoDamage` if no member is out, `BadTeam` for an unknown move.
+        Against a substitute it is the chance to break it. The member need
+        not know the move, and the chance of a move that charges is that of
+        its strike. Raises `NoDamage` if no member is out, `BadTeam` for an
+        unknown move.
         """
         of, known = ChancesStruct(), a_move(move)
         code = _library.knock_out(byref(self._held), a_side(side), known, byref(of))
@@ -323,10 +377,12 @@ class Battle:
         return chances_of(of)
 
     def damage(self, side: Side | int, move: Move | str | int, critical: bool = False) -> tuple[int, ...]:
-        """The damage of a side's move in the current state: 39 numbers in HP, in rising order.
+        """The damage of a side's move in the current state: 39 numbers in HP,
+        in rising order.
 
-        They are the damage at the factors from 217 to 255, which are equally likely. The member need not know the move. Raises
-        `NoDamage` for a move without the usual damage, and if no member is out.
+        They are the damage at the factors from 217 to 255, which are
+        equally likely. The member need not know the move. Raises `NoDamage`
+        for a move without the usual damage, and if no member is out.
         """
         is_critical, numbers, known = truth(critical, "critical"), _DAMAGES(), a_move(move)
         code = _library.damage(byref(self._held), a_side(side), known, is_critical, numbers)
@@ -343,7 +399,9 @@ class Battle:
 
 
 def battle_of(held: Any) -> Battle:
-    """A battle with a copy of these 384 bytes, which must be those of a battle."""
+    """A battle with a copy of these 384 bytes, which must be those of a
+    battle.
+    """
     made = Battle.__new__(Battle)
     made._held = BattleBytes.from_buffer_copy(held)
     return made

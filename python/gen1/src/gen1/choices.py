@@ -21,7 +21,9 @@ class Side(Named):
 
 
 class Rules(IntFlag, metaclass=NamedType):
-    """The rules of a battle, which can be combined (docs/MECHANICS.md, "Rules (sleep clause, freeze clause)")."""
+    """The rules of a battle, which can be combined (docs/MECHANICS.md, "Rules
+    (sleep clause, freeze clause)").
+    """
 
     NONE = 0
     SLEEP_CLAUSE = 1
@@ -75,7 +77,9 @@ class Choice(Named):
 
     @property
     def slot(self) -> int:
-        """The slot of a move, 0 to 4, or the place of a switch, 1 to 6; 0 for `PASS`."""
+        """The slot of a move, 0 to 4, or the place of a switch, 1 to 6; 0 for
+        `PASS`.
+        """
         return self & 0x0F
 
 
@@ -95,7 +99,9 @@ def a_choice(value: object, side: int) -> int:
 
 
 def choice_text(byte: int) -> str:
-    """The name of a choice's byte, or a text that says that the byte is not a choice."""
+    """The name of a choice's byte, or a text that says that the byte is not a
+    choice.
+    """
     try:
         return Choice(byte).label
     except ValueError:

@@ -1,9 +1,12 @@
-"""Which numbers an update drew (docs/MECHANICS.md, "Link numbers"), and what each of them decided.
+"""Which numbers an update drew (docs/MECHANICS.md, "Link numbers"), and what
+each of them decided.
 
-What a draw decided is found by trying: copies of the battle, each with another byte in the draw's place, are updated with the same
-choices, and the differences are reported. The library doesn't report the drawn bytes, so the generator of link numbers is stepped here,
-from the numbers before an update to those after it. This is the only rule that is implemented in Python; the tests compare it with the
-recorded draws.
+What a draw decided is found by trying: copies of the battle, each with
+another byte in the draw's place, are updated with the same choices, and the
+differences are reported. The library doesn't report the drawn bytes, so the
+generator of link numbers is stepped here, from the numbers before an update
+to those after it. This is the only rule that is implemented in Python; the
+tests compare it with the recorded draws.
 """
 
 from collections import defaultdict
@@ -22,10 +25,13 @@ NUMBERS, MOST = 9, 4700
 
 @dataclass(frozen=True)
 class Draw:
-    """A draw: its number in the update from 1, the byte that was drawn, and what other bytes would have decided.
+    """A draw: its number in the update from 1, the byte that was drawn, and
+    what other bytes would have decided.
 
-    `others` are ranges of bytes, each with a sentence for the first event that would have been different; empty if no byte changes the
-    events. `again` is true if the byte is computed from that of an earlier draw in the same update, so that it can't be changed alone.
+    `others` are ranges of bytes, each with a sentence for the first event
+    that would have been different; empty if no byte changes the events.
+    `again` is true if the byte is computed from that of an earlier draw in
+    the same update, so that it can't be changed alone.
     """
 
     number: int
@@ -35,7 +41,9 @@ class Draw:
 
 
 def drawn(before: Battle, after: Battle) -> bytes:
-    """The bytes that were drawn between a battle and the same battle after one update."""
+    """The bytes that were drawn between a battle and the same battle after one
+    update.
+    """
     (index, numbers), goal, found = _drawing(before), _drawing(after), bytearray()
     while (index, numbers) != goal and len(found) <= MOST:
         found.append(numbers[index])
@@ -52,7 +60,9 @@ def _drawing(battle: Battle) -> tuple[int, list[int]]:
 
 
 def explained(before: Battle, one: int, two: int) -> tuple[Battle, list[Event], list[Draw]]:
-    """Makes an update on a copy: the battle after it, its events, and its draws. Raises `Refused`."""
+    """Makes an update on a copy: the battle after it, its events, and its
+    draws. Raises `Refused`.
+    """
     after = before.copy()
     told = list(after.update(one, two).events)
     numbers = drawn(before, after)
@@ -99,7 +109,9 @@ def _difference(told: list[Event], other: list[Event]) -> str:
 
 
 def ranges(numbers: list[int]) -> str:
-    """Numbers in rising order as ranges, "0-56, 60"; of many ranges only the first few."""
+    """Numbers in rising order as ranges, "0-56, 60"; of many ranges only the
+    first few.
+    """
     runs = [[it for _, it in run] for _, run in groupby(enumerate(numbers), lambda it: it[1] - it[0])]
     texts = [f"{run[0]}-{run[-1]}" if len(run) > 1 else str(run[0]) for run in runs]
     return ", ".join(texts) if len(texts) <= 8 else f"{', '.join(texts[:4])}, .. ({len(numbers)} of 256)"

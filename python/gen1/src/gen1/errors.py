@@ -1,4 +1,6 @@
-"""The package's errors. Each message says what was wrong and what was expected."""
+"""The package's errors. Each message says what was wrong and what was
+expected.
+"""
 
 from typing import Any
 
@@ -6,14 +8,18 @@ from gen1.names import DamageFault, LoadFault, LogFault, NewFault, Refusal, Room
 
 
 class Error(Exception):
-    """The base class of this package's errors. A call that raises one has changed nothing. Errors can be pickled, for worker processes."""
+    """The base class of this package's errors. A call that raises one has
+    changed nothing. Errors can be pickled, for worker processes.
+    """
 
     def __reduce__(self) -> tuple[Any, ...]:
         return _restored, (type(self), self.args, self.__dict__)
 
 
 class LibraryMissing(Error, ImportError):
-    """The shared library libgen1.so was not found, has another major version, or lacks a call."""
+    """The shared library libgen1.so was not found, has another major version,
+    or lacks a call.
+    """
 
 
 class NumpyMissing(Error, ModuleNotFoundError):
@@ -32,15 +38,21 @@ class BadArgument(Error, ValueError):
 
 
 class BadPlace(BadArgument, IndexError):
-    """An index is past the last battle of an array, or past the last member of a team."""
+    """An index is past the last battle of an array, or past the last member of
+    a team.
+    """
 
 
 class BadTeam(BadArgument):
-    """A team or a member is refused by the rules of teams (docs/MECHANICS.md, "Teams").
+    """A team or a member is refused by the rules of teams (docs/MECHANICS.md,
+    "Teams").
 
-    `side` is 1 or 2, or 0 for a team outside a battle. `member` is the place from 1 to 6, or 0 if the error is not about one member, or the
-    member is not in a team. `field` is the wrong field ("level", "moves[2]"). `code` is the library's number, or None if the value was
-    refused before a call of the library. `said` is the message without side and place.
+    `side` is 1 or 2, or 0 for a team outside a battle. `member` is the
+    place from 1 to 6, or 0 if the error is not about one member, or the
+    member is not in a team. `field` is the wrong field ("level",
+    "moves[2]"). `code` is the library's number, or None if the value was
+    refused before a call of the library. `said` is the message without side
+    and place.
     """
 
     def __init__(
@@ -60,7 +72,9 @@ class BadTeam(BadArgument):
 
 
 class BadBytes(BadArgument):
-    """Bytes are not a battle. `code` is the first test that they fail (docs/LAYOUT.md, "Loading")."""
+    """Bytes are not a battle. `code` is the first test that they fail
+    (docs/LAYOUT.md, "Loading").
+    """
 
     def __init__(self, code: LoadFault, said: str) -> None:
         super().__init__(said)
@@ -70,10 +84,14 @@ class BadBytes(BadArgument):
 class BadState(BadArgument):
     """A field of a state is wrong.
 
-    `code` is the library's number of the field, and `field` its name in the dataclasses ("hp", "active.stages[2]"). `side` is 1 or 2, or 0
-    for a field of the whole battle. `place` is that of the member, 1 to 6, or 0 for a field of an active member or of the whole battle.
-    `index` says which one of several, from 0; None for a field that stands once. `value` is what the field has, and `low` and `high` are
-    the least and the greatest that it may have. A value from `low` to `high` does not fit the other fields.
+    `code` is the library's number of the field, and `field` its name in the
+    dataclasses ("hp", "active.stages[2]"). `side` is 1 or 2, or 0 for a
+    field of the whole battle. `place` is that of the member, 1 to 6, or 0
+    for a field of an active member or of the whole battle. `index` says
+    which one of several, from 0; None for a field that stands once. `value`
+    is what the field has, and `low` and `high` are the least and the
+    greatest that it may have. A value from `low` to `high` does not fit the
+    other fields.
     """
 
     def __init__(
@@ -98,7 +116,8 @@ class BadState(BadArgument):
 class BadLog(BadArgument):
     """Bytes are not a log (docs/MECHANICS.md, "Log bytes").
 
-    `at` is the offset of the wrong event, from 0; below 0 if it began in bytes that a spectator was fed before.
+    `at` is the offset of the wrong event, from 0; below 0 if it began in
+    bytes that a spectator was fed before.
     """
 
     def __init__(self, code: LogFault, at: int) -> None:
@@ -110,8 +129,9 @@ class BadLog(BadArgument):
 class Refused(Error):
     """An update was refused; the battle is unchanged.
 
-    `side` is the side whose choice was not offered, or 0 if the battle is over; `choice` is the byte, and `offered` are the choices that
-    the side is offered.
+    `side` is the side whose choice was not offered, or 0 if the battle is
+    over; `choice` is the byte, and `offered` are the choices that the side
+    is offered.
     """
 
     code: Refusal | RoomRefusal
@@ -124,10 +144,13 @@ class Refused(Error):
 
 
 class RoomRefused(Refused):
-    """A room refused a choice or a forfeit (docs/MECHANICS.md, "Rooms"); the room is unchanged.
+    """A room refused a choice or a forfeit (docs/MECHANICS.md, "Rooms"); the
+    room is unchanged.
 
-    `side` is the side that submitted it, `number` the pair that it was for, `current` the number of the current pair, `choice` the byte
-    (None for a forfeit), and `offered` what the side may submit. None of them reveals the foe's choice.
+    `side` is the side that submitted it, `number` the pair that it was for,
+    `current` the number of the current pair, `choice` the byte (None for a
+    forfeit), and `offered` what the side may submit. None of them reveals
+    the foe's choice.
     """
 
     code: RoomRefusal
@@ -150,7 +173,8 @@ class NoDamage(Error, ValueError):
 class BadText(BadTeam):
     """A text is not a team (docs/TEAM_TEXT.md).
 
-    `line` is the wrong line from 1, or 0 if the error is not about one line. `member` and `column` are the member and its field in a packed
+    `line` is the wrong line from 1, or 0 if the error is not about one
+    line. `member` and `column` are the member and its field in a packed
     line, from 1, else 0. `text_code` is what was expected there.
     """
 

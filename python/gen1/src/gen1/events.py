@@ -1,4 +1,6 @@
-"""The events of a log as dataclasses (docs/MECHANICS.md, "Events"), its lines, and the bytes of events."""
+"""The events of a log as dataclasses (docs/MECHANICS.md, "Events"), its lines,
+and the bytes of events.
+"""
 
 from collections.abc import Callable, Iterable, Iterator, Sequence
 from ctypes import byref, c_size_t, c_uint8, create_string_buffer
@@ -70,7 +72,9 @@ class SwitchEvent(OfOne):
 
 @dataclass(frozen=True)
 class MoveEvent(OfOne):
-    """`who` uses a move; `foe` is the active member of the other side, whatever the target is."""
+    """`who` uses a move; `foe` is the active member of the other side,
+    whatever the target is.
+    """
 
     kind = EventKind.MOVED
     move: Move
@@ -270,9 +274,11 @@ class FaultEvent(Event):
 
 
 class Events(Sequence[Event]):
-    """The events of an update. Each is read when it is first used, so those that are not used cost nothing.
+    """The events of an update. Each is read when it is first used, so those
+    that are not used cost nothing.
 
-    It is equal to a tuple of the same events, and has its hash and its text. `+` makes a tuple.
+    It is equal to a tuple of the same events, and has its hash and its
+    text. `+` makes a tuple.
     """
 
     __slots__ = ("_log", "_at", "_found", "_ended")
@@ -307,7 +313,9 @@ class Events(Sequence[Event]):
     def __getitem__(self, at: slice) -> tuple[Event, ...]: ...
 
     def __getitem__(self, at: int | slice) -> Event | tuple[Event, ...]:
-        """The event at an index from 0, or those of a slice as a tuple. Raises `IndexError`."""
+        """The event at an index from 0, or those of a slice as a tuple. Raises
+        `IndexError`.
+        """
         if isinstance(at, int) and at >= 0:
             while len(self._found) <= at and self._more():
                 pass
@@ -405,12 +413,16 @@ _EVENTS: dict[int, _Reader] = {
 
 
 def events(log: "ReadableBuffer") -> tuple[Event, ...]:
-    """The events of a log, of any number of updates one after the other. Raises `BadLog`."""
+    """The events of a log, of any number of updates one after the other.
+    Raises `BadLog`.
+    """
     return Events(octets(log, "log"))._all()
 
 
 def lines(log: "ReadableBuffer") -> list[str]:
-    """The line of each event of a log (docs/MECHANICS.md, "Lines"), without line feeds. Raises `BadLog`."""
+    """The line of each event of a log (docs/MECHANICS.md, "Lines"), without
+    line feeds. Raises `BadLog`.
+    """
     given, at, length = octets(log, "log"), c_size_t(0), c_size_t(0)
     text, found = create_string_buffer(_library.LINE_ROOM), []
     while (code := _library.next_line(given, len(given), byref(at), text, _library.LINE_ROOM, byref(length))) == 0:
@@ -421,9 +433,11 @@ def lines(log: "ReadableBuffer") -> list[str]:
 
 
 def log_bytes(given: Iterable[Event]) -> bytes:
-    """The log bytes of events (docs/MECHANICS.md, "Log bytes"), from which `events` reads the same events.
+    """The log bytes of events (docs/MECHANICS.md, "Log bytes"), from which
+    `events` reads the same events.
 
-    Raises `BadArgument` for an event with a field that is out of its range, `BadType`.
+    Raises `BadArgument` for an event with a field that is out of its range,
+    `BadType`.
     """
     found, room, length = [], _EVENT_BYTES(), c_size_t(0)
     for at, it in enumerate(listed(given, "events")):

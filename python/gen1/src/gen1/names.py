@@ -14,8 +14,10 @@ class NamedType(EnumMeta):
 class Named(IntEnum, metaclass=NamedType):
     """A number of the library with a text for people.
 
-    `label` is the name as lines and tables print it ("Mr. Mime"), of a code what it says ("the level is not 1 to 100"). A format that
-    ends in a number's type (`d`, `02x`) formats the number, any other the label, by every Python alike.
+    `label` is the name as lines and tables print it ("Mr. Mime"), of a
+    code what it says ("the level is not 1 to 100"). A format that ends in
+    a number's type (`d`, `02x`) formats the number, any other the label,
+    by every Python alike.
     """
 
     label: str
@@ -506,7 +508,9 @@ class NewFault(Named):
 
 
 class LoadFault(Named):
-    """The first test that bytes fail (docs/LAYOUT.md, "Loading"), of `BadBytes.code`."""
+    """The first test that bytes fail (docs/LAYOUT.md, "Loading"), of
+    `BadBytes.code`.
+    """
 
     LENGTH = 16, "length"
     VERSION = 17, "version"
@@ -605,7 +609,9 @@ class DamageFault(Named):
 
 
 class Effect(Named):
-    """What a move does besides its damage (docs/TABLES.md, "Effects"), of `MoveData.effect`."""
+    """What a move does besides its damage (docs/TABLES.md, "Effects"), of
+    `MoveData.effect`.
+    """
 
     DAMAGE_ONLY = 0, "damage only"
     ALWAYS_FAILS = 1, "always fails"

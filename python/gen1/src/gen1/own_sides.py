@@ -1,4 +1,6 @@
-"""What a side is shown of itself (docs/MECHANICS.md, "What a side is shown of itself")."""
+"""What a side is shown of itself (docs/MECHANICS.md, "What a side is shown of
+itself").
+"""
 
 from ctypes import byref
 from dataclasses import dataclass
@@ -12,7 +14,8 @@ from gen1.states import stages_of
 
 @dataclass(frozen=True)
 class OwnMember:
-    """A member of the own side. `pp` has the PP of each move. `stats` are its own Attack, Defense, Speed and Special, 5 to 999.
+    """A member of the own side. `pp` has the PP of each move. `stats` are its
+    own Attack, Defense, Speed and Special, 5 to 999.
 
     A sleeping member does not show for how many turns.
     """
@@ -28,10 +31,13 @@ class OwnMember:
 
 
 class OwnSide:
-    """What a side is shown of itself after each update (docs/MECHANICS.md, "What a side is shown of itself").
+    """What a side is shown of itself after each update (docs/MECHANICS.md,
+    "What a side is shown of itself").
 
-    It comes from `Battle.own_side`. Nothing of it depends on the foe, except `held`. Two are equal if all of their fields are. Before the
-    first update no member is out: `place` is 0, and the fields of the member that is out are zeros.
+    It comes from `Battle.own_side`. Nothing of it depends on the foe,
+    except `held`. Two are equal if all of their fields are. Before the
+    first update no member is out: `place` is 0, and the fields of the
+    member that is out are zeros.
     """
 
     __slots__ = ("_held",)
@@ -44,7 +50,9 @@ class OwnSide:
 
     @property
     def place(self) -> int:
-        """The place of the member that is out, 1 to 6; 0 before the first update."""
+        """The place of the member that is out, 1 to 6; 0 before the first
+        update.
+        """
         return int(self._held.place)
 
     @property
@@ -54,17 +62,23 @@ class OwnSide:
 
     @property
     def types(self) -> tuple[Type, Type]:
-        """Both types of the member that is out, the first twice for a member of one type; Normal before the first update."""
+        """Both types of the member that is out, the first twice for a member
+        of one type; Normal before the first update.
+        """
         return Type(self._held.types[0]), Type(self._held.types[1])
 
     @property
     def stages(self) -> tuple[int, ...]:
-        """The stages of the member that is out, -6 to 6: Attack, Defense, Speed, Special, accuracy, evasion."""
+        """The stages of the member that is out, -6 to 6: Attack, Defense,
+        Speed, Special, accuracy, evasion.
+        """
         return stages_of(self._held.stages) if self.place else (0,) * 6
 
     @property
     def stats(self) -> tuple[int, ...]:
-        """Attack, Defense, Speed and Special of the member that is out, with stages and penalties, 1 to 999."""
+        """Attack, Defense, Speed and Special of the member that is out, with
+        stages and penalties, 1 to 999.
+        """
         return tuple(self._held.stats)
 
     @property

@@ -1,4 +1,6 @@
-"""What one side of a battle may know, and who tells it (docs/MECHANICS.md, "Player's view")."""
+"""What one side of a battle may know, and who tells it (docs/MECHANICS.md,
+"Player's view").
+"""
 
 from collections.abc import Iterable
 from ctypes import byref, c_size_t, create_string_buffer
@@ -25,7 +27,9 @@ CHOICES = tuple(Choice)
 
 @dataclass(frozen=True)
 class SeenMove:
-    """A move that a member was seen to use, and how often: 1 to 255, where 255 is that many and more."""
+    """A move that a member was seen to use, and how often: 1 to 255, where 255
+    is that many and more.
+    """
 
     move: Move
     uses: int
@@ -35,8 +39,9 @@ class SeenMove:
 class Seen:
     """A member as the log showed it last.
 
-    `hp` is 0 to `max_hp`, which is 48 for a foe whose HP is told in 48ths. `moves` are those that it was seen to use, at most five (four
-    and Struggle), in the order of their first use.
+    `hp` is 0 to `max_hp`, which is 48 for a foe whose HP is told in 48ths.
+    `moves` are those that it was seen to use, at most five (four and
+    Struggle), in the order of their first use.
     """
 
     species: Species
@@ -49,9 +54,11 @@ class Seen:
 
 @dataclass(frozen=True)
 class Announced:
-    """The conditions of the active member that the log has announced and not ended.
+    """The conditions of the active member that the log has announced and not
+    ended.
 
-    `seeded` is Leech Seed, and `toxic` says that its poison is that of Toxic.
+    `seeded` is Leech Seed, and `toxic` says that its poison is that of
+    Toxic.
     """
 
     substitute: bool
@@ -73,10 +80,14 @@ class Announced:
 class PublicSide:
     """What the log has made public of a side.
 
-    `members` of a player's own side are in the order of their places; those of the foe are the ones that have appeared, in the order in
-    which they did. `place` is that of the active member in this order, from 1, or 0 before the first came out. `active` is the active
-    member, or None. All later fields belong to it: `stages`, -6 to 6, of Attack, Defense, Speed, Special, accuracy and evasion; its types,
-    the first twice for a member of one type; the move that it used last, None since it came out; and the announced conditions.
+    `members` of a player's own side are in the order of their places; those
+    of the foe are the ones that have appeared, in the order in which they
+    did. `place` is that of the active member in this order, from 1, or 0
+    before the first came out. `active` is the active member, or None. All
+    later fields belong to it: `stages`, -6 to 6, of Attack, Defense, Speed,
+    Special, accuracy and evasion; its types, the first twice for a member
+    of one type; the move that it used last, None since it came out; and the
+    announced conditions.
     """
 
     members: tuple[Seen, ...]
@@ -93,23 +104,29 @@ class PublicSide:
 
 
 class Player:
-    """What one side of a battle may know: its own side in full, and of the foe what the battle has shown.
+    """What one side of a battle may know: its own side in full, and of the foe
+    what the battle has shown.
 
-    A player is made of its own team, of the log that its side is told (`Teller`), of what it is shown of itself (`Battle.own_side`) and of
-    its choices, and of nothing else. So no stat, DV, PP, hidden count or number to be drawn of the foe reaches it. Give one to whatever
-    plays, in place of the `Battle`.
+    A player is made of its own team, of the log that its side is told
+    (`Teller`), of what it is shown of itself (`Battle.own_side`) and of its
+    choices, and of nothing else. So no stat, DV, PP, hidden count or number
+    to be drawn of the foe reaches it. Give one to whatever plays, in place
+    of the `Battle`.
 
-    Two players are equal if they know the same and hold the same bytes of an incomplete event; a player has no hash. A player must be used
-    by one thread at a time.
+    Two players are equal if they know the same and hold the same bytes of
+    an incomplete event; a player has no hash. A player must be used by one
+    thread at a time.
     """
 
     __slots__ = ("_held",)
     _held: PlayerStruct
 
     def __init__(self, side: Side | int, team: TeamLike, foes: int | None = None) -> None:
-        """Creates the player of a side before the first update. It knows its own team, at full HP, and nothing of the foe.
+        """Creates the player of a side before the first update. It knows its
+        own team, at full HP, and nothing of the foe.
 
-        `foes` is how many members the foe has, 1 to 6, or None if the player isn't to know it. Raises `BadTeam`, `BadArgument`, `BadType`.
+        `foes` is how many members the foe has, 1 to 6, or None if the
+        player isn't to know it. Raises `BadTeam`, `BadArgument`, `BadType`.
         """
         known, own = a_side(side), as_team(team)
         count = 0 if foes is None else within(foes, "foes", 1, 6)
@@ -120,9 +137,11 @@ class Player:
             raise BadTeam(code.label, member=answer >> 8 & 0xFF, code=code)
 
     def feed(self, told: "ReadableBuffer") -> None:
-        """Reads the next bytes of the log that the side is told, in pieces of any size. An event counts as soon as its last byte is read.
+        """Reads the next bytes of the log that the side is told, in pieces of
+        any size. An event counts as soon as its last byte is read.
 
-        Raises `BadLog` if these bytes, after those that are held, are not a log, and `BadType`; then the player is unchanged.
+        Raises `BadLog` if these bytes, after those that are held, are not a
+        log, and `BadType`; then the player is unchanged.
         """
         given = octets(told, "told")
         code = _library.player_feed(byref(self._held), given, len(given))
@@ -130,7 +149,9 @@ class Player:
             raise BadLog(LogFault(code), fault_place(self.held + given) - len(self.held))
 
     def show(self, own: OwnSide, offered: Iterable[Choice | int]) -> None:
-        """Replaces what the player was last shown of itself, and its choices, which may be in any order. Raises `BadArgument`, `BadType`."""
+        """Replaces what the player was last shown of itself, and its choices,
+        which may be in any order. Raises `BadArgument`, `BadType`.
+        """
         if not isinstance(own, OwnSide):
             raise BadType(f"own must be an OwnSide, not {shown(own)}")
         mask = 0
@@ -150,12 +171,16 @@ class Player:
 
     @property
     def foes(self) -> int | None:
-        """How many members the foe has, 1 to 6; None if the player does not know."""
+        """How many members the foe has, 1 to 6; None if the player does not
+        know.
+        """
         return int(self._held.foes) or None
 
     @property
     def own(self) -> OwnSide:
-        """What the side was last shown of itself; without members before the first time."""
+        """What the side was last shown of itself; without members before the
+        first time.
+        """
         return own_side_from(bytes(self._held.own))
 
     def public(self, side: Side | int) -> PublicSide:
@@ -169,7 +194,9 @@ class Player:
 
     @property
     def choices(self) -> tuple[Choice, ...]:
-        """The choices that the side is offered, in rising order. There are none before `show`, and once the battle is over."""
+        """The choices that the side is offered, in rising order. There are
+        none before `show`, and once the battle is over.
+        """
         return tuple(it for at, it in enumerate(CHOICES) if self._held.offered >> at & 1)
 
     @property
@@ -213,16 +240,18 @@ class Player:
 class Teller:
     """What the host of a battle keeps to tell one side of the events.
 
-    A side must not see the foe's places, so its log names the foe's members by the order of their appearance. It may also hide exact HP.
-    All else is told as it is. Two tellers are equal if they tell the same; a teller has no hash. A teller must be used by one thread at a
-    time.
+    A side must not see the foe's places, so its log names the foe's members
+    by the order of their appearance. It may also hide exact HP. All else is
+    told as it is. Two tellers are equal if they tell the same; a teller has
+    no hash. A teller must be used by one thread at a time.
     """
 
     __slots__ = ("_held",)
     _held: TellerStruct
 
     def __init__(self, side: Side | int, pixels: bool = False) -> None:
-        """Creates the teller of a side before the first event of a battle. With `pixels` HP of the foe is told in 48ths.
+        """Creates the teller of a side before the first event of a battle.
+        With `pixels` HP of the foe is told in 48ths.
 
         Raises `BadArgument`, `BadType`.
         """
@@ -246,9 +275,11 @@ class Teller:
         return tuple(it for it in self._held.places if it)
 
     def tell(self, log: "ReadableBuffer") -> bytes:
-        """What the side is told of the log of an update: as many log bytes. Call it once for each update, in order.
+        """What the side is told of the log of an update: as many log bytes.
+        Call it once for each update, in order.
 
-        Raises `BadLog`, `BadArgument` for more than 512 bytes, `BadType`; then the teller is unchanged.
+        Raises `BadLog`, `BadArgument` for more than 512 bytes, `BadType`;
+        then the teller is unchanged.
         """
         given = octets(log, "log")
         if len(given) > LOG_ROOM:
@@ -260,10 +291,13 @@ class Teller:
         return told.raw[: length.value]
 
     def report(self, battle: Battle, log: "ReadableBuffer", player: Player) -> None:
-        """Tells a player of the log of an update, and shows it its own side and its choices as the battle is now.
+        """Tells a player of the log of an update, and shows it its own side
+        and its choices as the battle is now.
 
-        For a room, whose battle does not change by a forfeit, use `tell`, `Player.feed` and `Player.show` with `room.choices`. Raises
-        `BadLog`, `BadArgument` for a player of the other side, `BadType`; then teller and player are unchanged.
+        For a room, whose battle does not change by a forfeit, use `tell`,
+        `Player.feed` and `Player.show` with `room.choices`. Raises
+        `BadLog`, `BadArgument` for a player of the other side, `BadType`;
+        then teller and player are unchanged.
         """
         for value, kind, name in ((battle, Battle, "battle"), (player, Player, "player")):
             if not isinstance(value, kind):

@@ -1,4 +1,6 @@
-"""Battles that are recorded while they are played, to play them again elsewhere."""
+"""Battles that are recorded while they are played, to play them again
+elsewhere.
+"""
 
 import base64
 import json

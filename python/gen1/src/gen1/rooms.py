@@ -1,4 +1,6 @@
-"""Rooms: battles of two players who choose independently (docs/MECHANICS.md, "Rooms")."""
+"""Rooms: battles of two players who choose independently (docs/MECHANICS.md,
+"Rooms").
+"""
 
 from ctypes import byref
 from threading import RLock
@@ -16,18 +18,23 @@ NUMBERS = (1 << 32) - 1
 
 
 class Room:
-    """A battle of two players: it keeps the first choice of a pair until the other one comes, and then updates the battle.
+    """A battle of two players: it keeps the first choice of a pair until the
+    other one comes, and then updates the battle.
 
-    Pairs are numbered from 0. Until a pair has ended, no call reveals which of the offered choices a side has made. A side may forfeit. Two
-    rooms are equal if their battles, numbers, logs, choices and forfeits are equal; a room has no hash. Several threads may use one room,
-    for example the handlers of both players.
+    Pairs are numbered from 0. Until a pair has ended, no call reveals which
+    of the offered choices a side has made. A side may forfeit. Two rooms
+    are equal if their battles, numbers, logs, choices and forfeits are
+    equal; a room has no hash. Several threads may use one room, for example
+    the handlers of both players.
     """
 
     # Each call of the library is atomic for other threads; the lock makes methods with several calls atomic.
     __slots__ = ("_held", "_lock")
 
     def __init__(self, battle: Battle) -> None:
-        """Creates a room with a copy of the battle. A battle that has not begun is started at once. Raises `BadType`."""
+        """Creates a room with a copy of the battle. A battle that has not
+        begun is started at once. Raises `BadType`.
+        """
         if not isinstance(battle, Battle):
             raise BadType(f"battle must be a Battle, not {shown(battle)}")
         self._held, self._lock = RoomStruct(), RLock()
@@ -36,12 +43,16 @@ class Room:
 
     @property
     def battle(self) -> Battle:
-        """A copy of the battle. It includes what the players must not know. A forfeit does not change it."""
+        """A copy of the battle. It includes what the players must not know. A
+        forfeit does not change it.
+        """
         return battle_of(self._held.battle)
 
     @property
     def result(self) -> Result:
-        """The outcome so far, and what is asked of each side. After a forfeit the other side has won, and nothing is asked."""
+        """The outcome so far, and what is asked of each side. After a forfeit
+        the other side has won, and nothing is asked.
+        """
         return RESULTS[_library.room_result(byref(self._held))]
 
     @property
@@ -51,29 +62,38 @@ class Room:
 
     @property
     def number(self) -> int:
-        """The number of the current pair of choices, which is how many pairs have ended, 0 to 2 ** 32 - 1."""
+        """The number of the current pair of choices, which is how many pairs
+        have ended, 0 to 2 ** 32 - 1.
+        """
         return int(self._held.number)
 
     @property
     def log(self) -> bytes:
-        """The log bytes of the last pair that ended; before the first, those of the start, or none if the battle had already begun."""
+        """The log bytes of the last pair that ended; before the first, those
+        of the start, or none if the battle had already begun.
+        """
         with self._lock:
             return bytes(self._held.log[: self._held.log_length])
 
     def choices(self, side: Side | int) -> tuple[Choice, ...]:
-        """The choices that a side may submit for the current pair, in rising order.
+        """The choices that a side may submit for the current pair, in rising
+        order.
 
-        There are none if the battle is over, a side has forfeited, or the side has chosen. A side that is asked for nothing has chosen from
-        the beginning. Raises `BadArgument`, `BadType` for a value that is not a side.
+        There are none if the battle is over, a side has forfeited, or the
+        side has chosen. A side that is asked for nothing has chosen from
+        the beginning. Raises `BadArgument`, `BadType` for a value that is
+        not a side.
         """
         room = CHOICES()
         count = _library.room_choices(byref(self._held), a_side(side), room)
         return tuple([CHOICE[it] for it in room[:count]])
 
     def submit(self, side: Side | int, number: int, choice: Choice | int) -> Update | None:
-        """Submits a side's choice for the pair with this number, 0 to 2 ** 32 - 1.
+        """Submits a side's choice for the pair with this number, 0 to 2 ** 32
+        - 1.
 
-        Returns the update, or None while the foe's choice is awaited. Raises `RoomRefused`, and then the room is unchanged; `BadArgument`
+        Returns the update, or None while the foe's choice is awaited.
+        Raises `RoomRefused`, and then the room is unchanged; `BadArgument`
         and `BadType` for an invalid side, number or byte.
         """
         known, pair = a_side(side), within(number, "number", 0, NUMBERS)
@@ -86,11 +106,14 @@ class Room:
             return Update(self.result, self.log) if self.number != before else None
 
     def forfeit(self, side: Side | int) -> Update:
-        """Ends the current pair by a forfeit of a side: the other side wins. Choices that were submitted for this pair are dropped.
+        """Ends the current pair by a forfeit of a side: the other side wins.
+        Choices that were submitted for this pair are dropped.
 
-        Returns the update, whose log is the one event of the win. `number` has risen by one, and every later submission is refused as over.
-        Raises `RoomRefused` if the battle is over or a side has forfeited, and then the room is unchanged; `BadArgument` and `BadType` for
-        what is not a side.
+        Returns the update, whose log is the one event of the win. `number`
+        has risen by one, and every later submission is refused as over.
+        Raises `RoomRefused` if the battle is over or a side has forfeited,
+        and then the room is unchanged; `BadArgument` and `BadType` for what
+        is not a side.
         """
         known = a_side(side)
         with self._lock:
@@ -99,7 +122,9 @@ class Room:
             return Update(self.result, self.log)
 
     def copy(self) -> "Room":
-        """An independent copy with the same battle, number, log, choices and forfeit."""
+        """An independent copy with the same battle, number, log, choices and
+        forfeit.
+        """
         made = Room.__new__(Room)
         made._held, made._lock = RoomStruct.from_buffer_copy(self._held), RLock()
         return made

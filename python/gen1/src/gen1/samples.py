@@ -46,12 +46,13 @@ def sample_sets(species: Species | str | int | None = None) -> tuple[Member, ...
 
 
 def random_team(dice: Random, legal: bool = True, count: int = 6) -> Team:
-    """A random team of `count` members, 1 to 6, of different species at level 100.
+    """A random team of `count` members, 1 to 6, of different species at level
+    100.
 
     With `legal`, each member is one of the sample teams, `sample_sets()`:
     so it has a species and moves that such a set has, and no others.
-    Without it, species and moves are any that the engine accepts, and
-    no cartridge need allow them.
+    Without it, species and moves are any that the engine accepts, and no
+    cartridge need allow them.
 
     Equal generators make equal teams. Raises `BadArgument`, `BadType`.
     """

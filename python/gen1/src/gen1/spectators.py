@@ -1,4 +1,6 @@
-"""What a spectator knows of a battle from both teams and the log alone (docs/MECHANICS.md, "Spectator's view")."""
+"""What a spectator knows of a battle from both teams and the log alone
+(docs/MECHANICS.md, "Spectator's view").
+"""
 
 from ctypes import byref, c_size_t
 from dataclasses import dataclass
@@ -18,7 +20,9 @@ if TYPE_CHECKING:
 
 @dataclass(frozen=True)
 class ShownMember:
-    """What a spectator knows of a member: HP, 0 to 999, which is the maximum until it first comes out; and the kind of status."""
+    """What a spectator knows of a member: HP, 0 to 999, which is the maximum
+    until it first comes out; and the kind of status.
+    """
 
     hp: int
     status: Status
@@ -26,9 +30,11 @@ class ShownMember:
 
 @dataclass(frozen=True)
 class ShownSide:
-    """What a spectator knows of a side: its members in the order of their places, and the place of the one that is out, 0 before the first.
+    """What a spectator knows of a side: its members in the order of their
+    places, and the place of the one that is out, 0 before the first.
 
-    All other fields are of the member that is out. `stages` are -6 to 6: Attack, Defense, Speed, Special, accuracy, evasion.
+    All other fields are of the member that is out. `stages` are -6 to 6:
+    Attack, Defense, Speed, Special, accuracy, evasion.
     """
 
     members: tuple[ShownMember, ...]
@@ -46,7 +52,9 @@ class ShownSide:
 
 @dataclass(frozen=True)
 class ShownState:
-    """What a spectator knows of a battle: both sides; the turn, 0 before the first; and the outcome."""
+    """What a spectator knows of a battle: both sides; the turn, 0 before the
+    first; and the outcome.
+    """
 
     one: ShownSide
     two: ShownSide
@@ -55,16 +63,20 @@ class ShownState:
 
 
 class Spectator:
-    """A spectator of a battle, which knows both teams and is fed the log of each update.
+    """A spectator of a battle, which knows both teams and is fed the log of
+    each update.
 
-    Two spectators are equal if they know the same and hold the same bytes of an incomplete event; a spectator has no hash. A spectator must
-    be used by one thread at a time.
+    Two spectators are equal if they know the same and hold the same bytes
+    of an incomplete event; a spectator has no hash. A spectator must be
+    used by one thread at a time.
     """
 
     __slots__ = ("_held",)
 
     def __init__(self, one: TeamLike, two: TeamLike) -> None:
-        """Creates a spectator before a battle of two teams, with all members at full HP. Raises `BadTeam`, `BadType`."""
+        """Creates a spectator before a battle of two teams, with all members
+        at full HP. Raises `BadTeam`, `BadType`.
+        """
         teams = sides_of(one, two)
         self._held = SpectatorStruct()
         answer = _library.spectator_begin(byref(self._held), *(byref(it._struct) for it in teams))
@@ -73,9 +85,11 @@ class Spectator:
             raise BadTeam(code.label, side=answer >> 16, member=answer >> 8 & 0xFF, code=code)
 
     def feed(self, log: "ReadableBuffer") -> None:
-        """Reads the next bytes of the battle's log, in pieces of any size. An event counts as soon as its last byte is read.
+        """Reads the next bytes of the battle's log, in pieces of any size. An
+        event counts as soon as its last byte is read.
 
-        Raises `BadLog` if these bytes, after those that are held, are not a log, and `BadType`; then the spectator is unchanged.
+        Raises `BadLog` if these bytes, after those that are held, are not a
+        log, and `BadType`; then the spectator is unchanged.
         """
         given = octets(log, "log")
         code = _library.spectator_feed(byref(self._held), given, len(given))

@@ -1,4 +1,6 @@
-"""The whole state of a battle, as dataclasses. `Battle.from_state` makes a battle of a state that was changed."""
+"""The whole state of a battle, as dataclasses. `Battle.from_state` makes a
+battle of a state that was changed.
+"""
 
 from collections.abc import Callable
 from ctypes import byref
@@ -18,7 +20,9 @@ S = TypeVar("S", "MemberState", "ActiveState", "SideState", "State")
 
 
 class Lazy:
-    """The base of dataclasses whose fields are read from a struct of the library when they are first used."""
+    """The base of dataclasses whose fields are read from a struct of the
+    library when they are first used.
+    """
 
     # What reads each field from the struct.
     _READERS: ClassVar[dict[str, Callable[[Any], Any]]]
@@ -41,8 +45,10 @@ class Lazy:
 class MemberState(Lazy):
     """The state of a member.
 
-    `hp` is 0 to `max_hp`. `stats` are Attack, Defense, Speed and Special before stages and penalties, 5 to 999. `sleep` is how many more
-    turns it sleeps, 1 to 7, or 0 if it is awake. `marked` says whether the sleep clause counts its sleep. `pp` has the PP of each move.
+    `hp` is 0 to `max_hp`. `stats` are Attack, Defense, Speed and Special
+    before stages and penalties, 5 to 999. `sleep` is how many more turns it
+    sleeps, 1 to 7, or 0 if it is awake. `marked` says whether the sleep
+    clause counts its sleep. `pp` has the PP of each move.
     """
 
     species: Species
@@ -59,12 +65,17 @@ class MemberState(Lazy):
 
 @dataclass(frozen=True)
 class ActiveState(Lazy):
-    """The member of a side that is out, with the state that lasts only while it is.
+    """The member of a side that is out, with the state that lasts only while
+    it is.
 
-    `place` is 1 to 6. `stats` are after stages and penalties, 1 to 999. `stages` are -6 to 6: Attack, Defense, Speed, Special, accuracy,
-    evasion. `current_move` and `picked_move`, the moves that were used and picked last, are slots; 0 is none, 5 is Struggle. The others are
-    `kept_accuracy`, `substitute` (HP), `confusion`, `disabled_slot`, `disabled_turns`, `bad_poison`, `turns` (of Bide, Thrash or trapping)
-    and `energy` (of Bide). They are 0 if they don't apply; docs/LAYOUT.md, "Active block" has their ranges.
+    `place` is 1 to 6. `stats` are after stages and penalties, 1 to 999.
+    `stages` are -6 to 6: Attack, Defense, Speed, Special, accuracy,
+    evasion. `current_move` and `picked_move`, the moves that were used and
+    picked last, are slots; 0 is none, 5 is Struggle. The others are
+    `kept_accuracy`, `substitute` (HP), `confusion`, `disabled_slot`,
+    `disabled_turns`, `bad_poison`, `turns` (of Bide, Thrash or trapping)
+    and `energy` (of Bide). They are 0 if they don't apply; docs/LAYOUT.md,
+    "Active block" has their ranges.
     """
 
     place: int
@@ -90,7 +101,9 @@ class ActiveState(Lazy):
 
 @dataclass(frozen=True)
 class SideState(Lazy):
-    """The state of a side: its members in the order of their places, and the one that is out, None before the first update."""
+    """The state of a side: its members in the order of their places, and the
+    one that is out, None before the first update.
+    """
 
     members: tuple[MemberState, ...]
     active: ActiveState | None
@@ -98,10 +111,13 @@ class SideState(Lazy):
 
 @dataclass(frozen=True)
 class State(Lazy):
-    """The whole state of a battle: both sides; turn (0 before the first update) and limit; the last damage, 0 to 65,535; and so on.
+    """The whole state of a battle: both sides; turn (0 before the first
+    update) and limit; the last damage, 0 to 65,535; and so on.
 
-    `index`, 0 to 8, says which of the first nine `numbers` is drawn next; the tenth is never drawn. A state is never changed in place:
-    `with_member`, `with_active` and `dataclasses.replace` return changed ones.
+    `index`, 0 to 8, says which of the first nine `numbers` is drawn next;
+    the tenth is never drawn. A state is never changed in place:
+    `with_member`, `with_active` and `dataclasses.replace` return changed
+    ones.
     """
 
     one: SideState
@@ -120,23 +136,29 @@ class State(Lazy):
         return self.one if a_side(side) == 1 else self.two
 
     def member(self, side: Side | int, place: int) -> MemberState:
-        """The member of a side at a place, from 1. Raises `BadArgument` if there is none."""
+        """The member of a side at a place, from 1. Raises `BadArgument` if
+        there is none.
+        """
         members = self.side(side).members
         return members[within(place, f"side {int(side)}'s place", 1, len(members)) - 1]
 
     def with_member(self, side: Side | int, place: int, **changes: Any) -> "State":
-        """The same state with other fields of the member at a place, from 1: `state.with_member(Side.ONE, 2, hp=30)`.
+        """The same state with other fields of the member at a place, from 1:
+        `state.with_member(Side.ONE, 2, hp=30)`.
 
-        Raises `BadArgument` for a place without a member, and `BadType` for a field that a `MemberState` does not have.
+        Raises `BadArgument` for a place without a member, and `BadType` for
+        a field that a `MemberState` does not have.
         """
         known, other = a_side(side), changed(self.member(side, place), changes)
         members = self.side(known).members
         return self._with_side(known, members=(*members[: place - 1], other, *members[place:]))
 
     def with_active(self, side: Side | int, **changes: Any) -> "State":
-        """The same state with other fields of the member that is out: `state.with_active(Side.ONE, substitute=88)`.
+        """The same state with other fields of the member that is out:
+        `state.with_active(Side.ONE, substitute=88)`.
 
-        Raises `BadArgument` before the first update, and `BadType` for a field that an `ActiveState` does not have.
+        Raises `BadArgument` before the first update, and `BadType` for a
+        field that an `ActiveState` does not have.
         """
         known = a_side(side)
         active = self.side(known).active
@@ -150,7 +172,9 @@ class State(Lazy):
 
 
 def changed(of: S, changes: dict[str, Any]) -> S:
-    """The same with other fields. Raises `BadType` for a field that it does not have."""
+    """The same with other fields. Raises `BadType` for a field that it does
+    not have.
+    """
     names = [it.name for it in fields(of)]
     for name in changes:
         if name not in names:

@@ -15,7 +15,9 @@ from gen1.rows import MOVE_ROWS, SPECIES_ROWS
 
 @dataclass(frozen=True)
 class Base:
-    """A species: base stats from 5 to 250, and two types. A single type is listed twice."""
+    """A species: base stats from 5 to 250, and two types. A single type is
+    listed twice.
+    """
 
     hp: int
     attack: int
@@ -27,11 +29,14 @@ class Base:
 
 @dataclass(frozen=True)
 class MoveData:
-    """A move: its type, its power, 0 to 170, its accuracy in percent, 30 to 100, and its PP without PP ups.
+    """A move: its type, its power, 0 to 170, its accuracy in percent, 30 to
+    100, and its PP without PP ups.
 
-    One-hit moves, Counter, Super Fang and moves with a fixed damage have power 1; Night Shade, Bide and moves without damage have power 0.
-    `priority` is 1 for Quick Attack, which comes before any other move, -1 for Counter, which comes after any, and 0 for others.
-    `high_critical` marks the four moves that are often critical.
+    One-hit moves, Counter, Super Fang and moves with a fixed damage have
+    power 1; Night Shade, Bide and moves without damage have power 0.
+    `priority` is 1 for Quick Attack, which comes before any other move, -1
+    for Counter, which comes after any, and 0 for others. `high_critical`
+    marks the four moves that are often critical.
     """
 
     type: Type
@@ -44,7 +49,9 @@ class MoveData:
 
 
 def base(species: Species | str | int) -> Base:
-    """The base stats and types of a species. Raises `BadTeam` for an unknown one."""
+    """The base stats and types of a species. Raises `BadTeam` for an unknown
+    one.
+    """
     one, two, hp, attack, defense, speed, special = SPECIES_ROWS[a_species(species) - 1]
     return Base(hp, attack, defense, speed, special, (Type(one), Type(two)))
 
@@ -58,9 +65,11 @@ def move_data(move: Move | str | int) -> MoveData:
 
 
 def effectiveness(attack: Type | int, foe: Type | int) -> Fraction:
-    """By what a move of one type multiplies its damage to a foe of one type: 2, 1, 1/2 or 0.
+    """By what a move of one type multiplies its damage to a foe of one type:
+    2, 1, 1/2 or 0.
 
-    For a foe of two different types both count, one after the other. Raises `BadArgument`, `BadType`.
+    For a foe of two different types both count, one after the other. Raises
+    `BadArgument`, `BadType`.
     """
     tenths = c_uint8(0)
     _library.effectiveness(within(attack, "attack", 0, 14), within(foe, "foe", 0, 14), byref(tenths))

@@ -1,4 +1,6 @@
-"""Members and teams (docs/MECHANICS.md, "Teams"), from dicts and back. The library applies the rules of teams."""
+"""Members and teams (docs/MECHANICS.md, "Teams"), from dicts and back. The
+library applies the rules of teams.
+"""
 
 from collections.abc import Iterable, Iterator, Mapping
 from ctypes import byref, c_uint16
@@ -37,10 +39,13 @@ MUST = {
 
 @dataclass(frozen=True, init=False, repr=False)
 class Member:
-    """A member of a team. Every way to create one checks it by the rules of teams, and raises `BadTeam` or `BadType`.
+    """A member of a team. Every way to create one checks it by the rules of
+    teams, and raises `BadTeam` or `BadType`.
 
-    `species` is 1 to 151, `level` 1 to 100. `moves` are one to four different moves, each with 0 to 3 `pp_ups`. `dvs` are four numbers from
-    0 to 15: Attack, Defense, Speed, Special. `exp` are five from 0 to 65,535: HP, Attack, Defense, Speed, Special.
+    `species` is 1 to 151, `level` 1 to 100. `moves` are one to four
+    different moves, each with 0 to 3 `pp_ups`. `dvs` are four numbers from
+    0 to 15: Attack, Defense, Speed, Special. `exp` are five from 0 to
+    65,535: HP, Attack, Defense, Speed, Special.
     """
 
     species: Species
@@ -73,16 +78,20 @@ class Member:
 
     @property
     def stats(self) -> tuple[int, ...]:
-        """Its maximum HP, 11 to 999, and its own Attack, Defense, Speed and Special, 5 to 999."""
+        """Its maximum HP, 11 to 999, and its own Attack, Defense, Speed and
+        Special, 5 to 999.
+        """
         found = STATS()
         _library.member_stats(byref(struct_of([self]).members[0]), found)
         return tuple(found)
 
     @classmethod
     def from_dict(cls, given: Mapping[str, Any]) -> "Member":
-        """The member that a dict describes: "species", "moves", and optionally "level", "dvs" and "exp", as in `Member(..)`.
+        """The member that a dict describes: "species", "moves", and optionally
+        "level", "dvs" and "exp", as in `Member(..)`.
 
-        Each move is a name, with three PP ups, or a pair of a name and its PP ups. Raises `BadTeam` for another key, too.
+        Each move is a name, with three PP ups, or a pair of a name and its
+        PP ups. Raises `BadTeam` for another key, too.
         """
         if not isinstance(given, Mapping):
             raise BadType(f"it must be a Member or a dict, not {shown(given)}")
@@ -99,7 +108,9 @@ class Member:
         return cls(given["species"], [it for it, _ in pairs], pp_ups=[ups for _, ups in pairs], **others)
 
     def to_dict(self) -> dict[str, Any]:
-        """The dict from which `from_dict` creates this member; it can be written as JSON."""
+        """The dict from which `from_dict` creates this member; it can be
+        written as JSON.
+        """
         moves = [[it.label, ups] for it, ups in zip(self.moves, self.pp_ups)]
         return {
             "species": self.species.label,
@@ -110,7 +121,9 @@ class Member:
         }
 
     def __repr__(self) -> str:
-        """The call that creates it, without arguments that have their defaults."""
+        """The call that creates it, without arguments that have their
+        defaults.
+        """
         named = [f"{self.species.label!r}", f"{[it.label for it in self.moves]!r}"]
         for name, usual in (("level", 100), ("dvs", (15,) * 4), ("exp", (65535,) * 5), ("pp_ups", (3,) * len(self.moves))):
             if getattr(self, name) != usual:
@@ -125,7 +138,9 @@ class Member:
 
 @dataclass(frozen=True, init=False)
 class Team:
-    """One to six members. Every way to create a team checks it by the rules of teams, and raises `BadTeam` or `BadType`."""
+    """One to six members. Every way to create a team checks it by the rules of
+    teams, and raises `BadTeam` or `BadType`.
+    """
 
     members: tuple[Member, ...]
     _struct: _library.TeamStruct = field(init=False, repr=False, compare=False)
@@ -148,23 +163,29 @@ class Team:
 
     @classmethod
     def from_text(cls, text: str) -> "Team":
-        """The team in a text of Pokemon Showdown's team builder (docs/TEAM_TEXT.md).
+        """The team in a text of Pokemon Showdown's team builder
+        (docs/TEAM_TEXT.md).
 
-        The defaults are level 100, DVs of 15 and experience of 63,504; each move has three PP ups. Raises `BadText` with the line, and what
-        was expected there.
+        The defaults are level 100, DVs of 15 and experience of 63,504; each
+        move has three PP ups. Raises `BadText` with the line, and what was
+        expected there.
         """
         return cls(read_text(text))
 
     @classmethod
     def from_packed(cls, line: str) -> "Team":
-        """The team in a packed line of the team builder. Raises `BadText` with the member and its field, from 1."""
+        """The team in a packed line of the team builder. Raises `BadText` with
+        the member and its field, from 1.
+        """
         return cls(read_packed(line))
 
     def to_text(self) -> str:
-        """A text that `from_text` reads as a team with the same stats, moves and PP.
+        """A text that `from_text` reads as a team with the same stats, moves
+        and PP.
 
-        Texts have EVs instead of experience, so the experience that is read may differ. In texts each move has three PP ups; a team with
-        other PP ups raises `BadArgument`.
+        Texts have EVs instead of experience, so the experience that is read
+        may differ. In texts each move has three PP ups; a team with other
+        PP ups raises `BadArgument`.
         """
         return written(self.to_dicts())
 
@@ -178,7 +199,9 @@ class Team:
     def __getitem__(self, at: slice) -> tuple[Member, ...]: ...
 
     def __getitem__(self, at: int | slice) -> Member | tuple[Member, ...]:
-        """The member at an index from 0, or those of a slice. Raises `BadPlace`, which is also an `IndexError`."""
+        """The member at an index from 0, or those of a slice. Raises
+        `BadPlace`, which is also an `IndexError`.
+        """
         return self.members[at] if isinstance(at, slice) else self.members[place(at, len(self))]
 
     def __iter__(self) -> Iterator[Member]:
@@ -222,7 +245,9 @@ def _member(at: int, given: object) -> Member:
 
 
 def struct_of(members: Iterable[Member]) -> _library.TeamStruct:
-    """The library's struct of a team. A number that is not a byte becomes one that the library refuses."""
+    """The library's struct of a team. A number that is not a byte becomes one
+    that the library refuses.
+    """
     made = _library.TeamStruct()
     for it in members:
         to = made.members[made.count]
