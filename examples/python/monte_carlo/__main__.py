@@ -123,9 +123,12 @@ def wins(one: str, two: str, battles: int, dice: random.Random, guesses: int) ->
 def main() -> int:
     """Plays the battles, and prints the table."""
     parser = argparse.ArgumentParser(description=__doc__, formatter_class=argparse.RawDescriptionHelpFormatter)
-    parser.add_argument("--battles", type=int, default=20, metavar="N", help="battles of each pair of players (default: %(default)s)")
-    parser.add_argument("--guesses", type=int, default=12, metavar="N", help="guesses of a bot for each choice (default: %(default)s)")
-    parser.add_argument("--seed", type=int, default=1, metavar="N", help="a number that gives the same battles again (default: %(default)s)")
+    for name, default, said in (
+        ("--battles", 20, "battles of each pair of players"),
+        ("--guesses", 12, "guesses of a bot for each choice"),
+        ("--seed", 1, "a number that gives the same battles again"),
+    ):
+        parser.add_argument(name, type=int, default=default, metavar="N", help=f"{said} (default: %(default)s)")
     asked = parser.parse_args()
     if asked.battles < 1 or asked.guesses < 1:
         parser.error("--battles and --guesses must be 1 or more")

@@ -41,7 +41,7 @@ def public():
 
 
 def test_docstrings_fit_a_terminal():
-    """`help` shows each line of them within 80 columns: it puts 8 before those of a class or a function, and 12 before those of a method."""
+    """`help` shows each line of them within 80 columns: it indents those of a class or a function by 8, and those of a method by 12."""
     for name, it in public():
         docs = [(72, it)] if isinstance(it, type) or callable(it) else []
         if isinstance(it, type) and it.__module__.startswith("gen1."):
@@ -94,14 +94,23 @@ def test_names_of_moves(battle, name, move):
 
 @pytest.mark.parametrize(
     "name, meant",
-    [("Taurus", "Tauros"), ("PIKACHUU", "Pikachu"), ("nidoran", "Nidoran-F"), ("charzard", "Charizard"), ("Missingno", None), ("", None), ("é" * 99, None)],
+    [
+        ("Taurus", "Tauros"),
+        ("PIKACHUU", "Pikachu"),
+        ("nidoran", "Nidoran-F"),
+        ("charzard", "Charizard"),
+        ("Missingno", None),
+        ("", None),
+        ("é" * 99, None),
+    ],
 )
 def test_names_that_are_nearly_right(name, meant):
     """The suggestions of the Rust crate: the first name that differs in the fewest letters, of at most a third."""
     with pytest.raises(BadTeam) as fault:
         Member(name, POUND)
     text = str(fault.value)
-    assert text.startswith("species: there is no ") and text.endswith(f"; did you mean {meant!r}?" if meant else "'" if len(name) < 50 else "...")
+    assert text.startswith("species: there is no ")
+    assert text.endswith(f"; did you mean {meant!r}?" if meant else "'" if len(name) < 50 else "...")
 
 
 def test_dicts_with_few_keys():
@@ -113,7 +122,10 @@ def test_dicts_with_few_keys():
     assert Battle([given], [given], range(10)) == Battle([wanted], [wanted], range(10))
 
 
-@pytest.mark.parametrize("key, said", [("levl", "did you mean 'level'?"), ("DVs", "did you mean 'dvs'?"), ("lvl", "a member has species, "), (5, "a member has")])
+@pytest.mark.parametrize(
+    "key, said",
+    [("levl", "did you mean 'level'?"), ("DVs", "did you mean 'dvs'?"), ("lvl", "a member has species, "), (5, "a member has")],
+)
 def test_keys_that_are_wrong(key, said):
     """A key that would be ignored is refused: a member with `lvl` would have level 100."""
     with pytest.raises(BadTeam) as fault:

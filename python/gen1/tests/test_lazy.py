@@ -26,8 +26,9 @@ def test_events_are_those_of_the_log():
         wanted = gen1.events(update.log)
         assert type(wanted) is tuple and type(update.events) is Events and update.events is update.events
         fresh = [Events(update.log) for _ in range(6)]
-        assert [fresh[0][at] for at in range(len(wanted))] == list(wanted) and fresh[1][-1] == wanted[-1] and fresh[2][:2] == wanted[:2]
-        assert len(fresh[3]) == len(wanted) and tuple(fresh[4]) == tuple(fresh[4]) == wanted and list(reversed(fresh[5])) == list(wanted)[::-1]
+        assert [fresh[0][at] for at in range(len(wanted))] == list(wanted)
+        assert fresh[1][-1] == wanted[-1] and fresh[2][:2] == wanted[:2] and len(fresh[3]) == len(wanted)
+        assert tuple(fresh[4]) == tuple(fresh[4]) == wanted and tuple(reversed(fresh[5])) == wanted[::-1]
         it = iter(Events(update.log))
         assert next(it) == wanted[0] and tuple(it) == wanted[1:]
 
@@ -72,7 +73,8 @@ def test_states_in_any_order_of_use():
         state = battle.state
         assert {name: dataclasses.asdict(state)[name] for name in dice.sample(names, len(names))} == whole
         assert hash(battle.state) == hash(battle.state) and repr(battle.state) == repr(state)
-        for again in (copy.copy(battle.state), copy.deepcopy(battle.state), pickle.loads(pickle.dumps(battle.state)), dataclasses.replace(battle.state)):
+        copies = (copy.copy, copy.deepcopy, dataclasses.replace, lambda it: pickle.loads(pickle.dumps(it)))
+        for again in [copied(battle.state) for copied in copies]:
             assert type(again) is State and again == battle.state and "_held" not in vars(again)
         assert Battle.from_state(battle.state).state == battle.state or battle.result.is_over
 

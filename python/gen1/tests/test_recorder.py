@@ -53,6 +53,8 @@ def test_from_json():
         again = Recorder.from_json(made.json())
         assert (again.battle, again.pairs, again.input) == (made.battle, made.pairs, made.input)
         assert again.battle.bytes == Recorder.from_json(made.json().encode()).battle.bytes
+        noted = made.input | {"note": "a key more", "one": [it | {"nickname": "a key more"} for it in made.input["one"]]}
+        assert Recorder.from_json(json.dumps(noted)).input == made.input
 
 
 def test_a_link():
@@ -108,7 +110,8 @@ def test_a_refused_pair_is_not_recorded(team):
 
 def test_texts_that_are_no_inputs(team):
     made = Recorder(team, team, range(10))
-    for text, said in (("", "JSON"), ("[]", "object"), ("{}", "'seed'"), (json.dumps(made.input | {"choices": [[0, 0], [0, 0]]}), r"choices\[1\]: ")):
+    twice = json.dumps(made.input | {"choices": [[0, 0], [0, 0]]})
+    for text, said in (("", "JSON"), ("[]", "object"), ("{}", "'seed'"), (twice, r"choices\[1\]: ")):
         with pytest.raises(BadArgument, match=said):
             Recorder.from_json(text)
     with pytest.raises(gen1.BadTeam):

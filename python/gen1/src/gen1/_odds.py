@@ -2,6 +2,8 @@
 knock out (docs/MECHANICS.md, "Damage numbers").
 """
 
+from __future__ import annotations
+
 from ctypes import byref
 from dataclasses import dataclass
 from fractions import Fraction

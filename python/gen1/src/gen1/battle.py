@@ -1,5 +1,7 @@
 """Battles, each of which is its 384 bytes (docs/LAYOUT.md), and their updates."""
 
+from __future__ import annotations
+
 from collections.abc import Iterable, Mapping
 from ctypes import byref, c_char, c_size_t, c_uint8, c_uint16, create_string_buffer
 from dataclasses import dataclass
@@ -111,12 +113,12 @@ class Battle:
             raise BadArgument(f"{code.label}: {digits(asked_rules if code is NewFault.RULES else asked_limit)}")
 
     @classmethod
-    def new(cls, one: TeamLike, two: TeamLike, seed: SeedLike, rules: int = 0, limit: int = 1000) -> "Battle":
+    def new(cls, one: TeamLike, two: TeamLike, seed: SeedLike, rules: int = 0, limit: int = 1000) -> Battle:
         """The same as `Battle(..)`."""
         return cls(one, two, seed, rules, limit)
 
     @classmethod
-    def load(cls: type[B], given: "ReadableBuffer") -> B:
+    def load(cls: type[B], given: ReadableBuffer) -> B:
         """Loads a battle from bytes of any of the three versions, in any
         bytes-like object. Raises `BadBytes`, `BadType`.
         """
@@ -145,7 +147,7 @@ class Battle:
         return made
 
     @classmethod
-    def from_player(cls: type[B], player: "Player", foes: TeamLike, seed: SeedLike, rules: int = 0, limit: int = 1000) -> B:
+    def from_player(cls: type[B], player: Player, foes: TeamLike, seed: SeedLike, rules: int = 0, limit: int = 1000) -> B:
         """A battle that fits what a player knows, with a guess of the rest:
         the base of a search that doesn't cheat.
 

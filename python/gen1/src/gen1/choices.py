@@ -1,5 +1,7 @@
 """Sides, rules and choices (docs/MECHANICS.md, "Offered choices")."""
 
+from __future__ import annotations
+
 from collections.abc import Iterable
 from enum import IntFlag
 
@@ -15,7 +17,7 @@ class Side(Named):
     TWO = 2, "side 2"
 
     @property
-    def foe(self) -> "Side":
+    def foe(self) -> Side:
         """The other side."""
         return Side(3 - self)
 
@@ -56,12 +58,12 @@ class Choice(Named):
     SWITCH_6 = 0x26, "switch 6"
 
     @classmethod
-    def move(cls, slot: int) -> "Choice":
+    def move(cls, slot: int) -> Choice:
         """The move in a slot, 1 to 4, or `MOVE_0` for 0."""
         return cls(0x10 + within(slot, "slot", 0, 4))
 
     @classmethod
-    def switch(cls, place: int) -> "Choice":
+    def switch(cls, place: int) -> Choice:
         """The member at a place, 1 to 6."""
         return cls(0x20 + within(place, "place", 1, 6))
 

@@ -9,6 +9,8 @@ to those after it. This is the only rule that is implemented in Python; the
 tests compare it with the recorded draws.
 """
 
+from __future__ import annotations
+
 from collections import defaultdict
 from collections.abc import Iterator
 from dataclasses import dataclass

@@ -2,6 +2,8 @@
 expected.
 """
 
+from __future__ import annotations
+
 from typing import Any
 
 from gen1.names import DamageFault, LoadFault, LogFault, NewFault, Refusal, RoomRefusal, StateField, TextFault
@@ -62,11 +64,11 @@ class BadTeam(BadArgument):
         super().__init__(f"{', '.join(where)}: {said}" if where else said)
         self.said, self.side, self.member, self.field, self.code = said, side, member, field, code
 
-    def at(self, member: int) -> "BadTeam":
+    def at(self, member: int) -> BadTeam:
         """The same error for the member at this place."""
         return BadTeam(self.said, side=self.side, member=member, field=self.field, code=self.code)
 
-    def of(self, side: int) -> "BadTeam":
+    def of(self, side: int) -> BadTeam:
         """The same error for the team of this side."""
         return BadTeam(self.said, side=side, member=self.member, field=self.field, code=self.code)
 

@@ -2,6 +2,8 @@
 and the bytes of events.
 """
 
+from __future__ import annotations
+
 from collections.abc import Callable, Iterable, Iterator, Sequence
 from ctypes import byref, c_size_t, c_uint8, create_string_buffer
 from dataclasses import dataclass, fields
@@ -374,11 +376,11 @@ def _health(of: _library.EventStruct) -> Health:
     return Health(of.hp, of.max_hp, _STATUS[of.status])
 
 
-def _alone(kind: type[Event]) -> "_Reader":
+def _alone(kind: type[Event]) -> _Reader:
     return lambda of: kind()
 
 
-def _of_one(kind: type[OfOne]) -> "_Reader":
+def _of_one(kind: type[OfOne]) -> _Reader:
     return lambda of: kind(_of(of))
 
 
@@ -412,14 +414,14 @@ _EVENTS: dict[int, _Reader] = {
 }
 
 
-def events(log: "ReadableBuffer") -> tuple[Event, ...]:
+def events(log: ReadableBuffer) -> tuple[Event, ...]:
     """The events of a log, of any number of updates one after the other.
     Raises `BadLog`.
     """
     return Events(octets(log, "log"))._all()
 
 
-def lines(log: "ReadableBuffer") -> list[str]:
+def lines(log: ReadableBuffer) -> list[str]:
     """The line of each event of a log (docs/MECHANICS.md, "Lines"), without
     line feeds. Raises `BadLog`.
     """

@@ -1,5 +1,7 @@
 """States that fit what a player knows, with a guess of the rest, for searches that don't cheat."""
 
+from __future__ import annotations
+
 from dataclasses import replace
 
 from gen1._check import shown

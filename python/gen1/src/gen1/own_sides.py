@@ -2,6 +2,8 @@
 itself").
 """
 
+from __future__ import annotations
+
 from ctypes import byref
 from dataclasses import dataclass
 from typing import Any

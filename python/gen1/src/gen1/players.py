@@ -2,6 +2,8 @@
 "Player's view").
 """
 
+from __future__ import annotations
+
 from collections.abc import Iterable
 from ctypes import byref, c_size_t, create_string_buffer
 from dataclasses import dataclass, fields
@@ -136,7 +138,7 @@ class Player:
             code = NewFault(answer & 0xFF)
             raise BadTeam(code.label, member=answer >> 8 & 0xFF, code=code)
 
-    def feed(self, told: "ReadableBuffer") -> None:
+    def feed(self, told: ReadableBuffer) -> None:
         """Reads the next bytes of the log that the side is told, in pieces of
         any size. An event counts as soon as its last byte is read.
 
@@ -214,13 +216,13 @@ class Player:
         """The bytes, at most 9, of an incomplete event."""
         return bytes(self._held.held[: self._held.held_count])
 
-    def copy(self) -> "Player":
+    def copy(self) -> Player:
         """An independent copy that knows the same."""
         return _player(bytes(self._held))
 
     __copy__ = copy
 
-    def __deepcopy__(self, _: object) -> "Player":
+    def __deepcopy__(self, _: object) -> Player:
         return self.copy()
 
     def __reduce__(self) -> tuple[Any, ...]:
@@ -274,7 +276,7 @@ class Teller:
         """The foe's places that have appeared, in this order."""
         return tuple(it for it in self._held.places if it)
 
-    def tell(self, log: "ReadableBuffer") -> bytes:
+    def tell(self, log: ReadableBuffer) -> bytes:
         """What the side is told of the log of an update: as many log bytes.
         Call it once for each update, in order.
 
@@ -290,7 +292,7 @@ class Teller:
             raise BadLog(LogFault(code), fault_place(given))
         return told.raw[: length.value]
 
-    def report(self, battle: Battle, log: "ReadableBuffer", player: Player) -> None:
+    def report(self, battle: Battle, log: ReadableBuffer, player: Player) -> None:
         """Tells a player of the log of an update, and shows it its own side
         and its choices as the battle is now.
 
@@ -309,13 +311,13 @@ class Teller:
         player.show(battle.own_side(self.side), battle.choices(self.side))
         self._held = teller._held
 
-    def copy(self) -> "Teller":
+    def copy(self) -> Teller:
         """An independent copy that tells the same."""
         return _teller(bytes(self._held))
 
     __copy__ = copy
 
-    def __deepcopy__(self, _: object) -> "Teller":
+    def __deepcopy__(self, _: object) -> Teller:
         return self.copy()
 
     def __reduce__(self) -> tuple[Any, ...]:

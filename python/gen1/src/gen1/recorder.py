@@ -2,6 +2,8 @@
 elsewhere.
 """
 
+from __future__ import annotations
+
 import base64
 import json
 from os import PathLike
@@ -67,22 +69,20 @@ class Recorder:
         return json.dumps(self.input)
 
     @classmethod
-    def from_json(cls, text: str | bytes) -> "Recorder":
+    def from_json(cls, text: str | bytes) -> Recorder:
         """The recorder of an input of `gen1 run`, after all its pairs.
 
         Raises `BadArgument` for a text that is not such an input, with
         the number of a pair that is refused.
         """
-        from gen1.program.inputs import Fault, a_battle, an_object, pairs
+        from gen1.program.inputs import Fault, an_object, pairs, terms
 
         given = text.encode("utf-8", "surrogatepass") if isinstance(text, str) else text
         try:
             asked = an_object(given, "seed", "one", "two", "choices")
-            a_battle(asked)
-            chosen = pairs(asked)
+            made, chosen = cls(*terms(asked)), pairs(asked)
         except Fault as fault:
             raise BadArgument(str(fault)) from None
-        made = cls(asked["one"], asked["two"], asked["seed"], asked.get("rules", 0), asked.get("limit", 1000))
         for at, pair in enumerate(chosen):
             try:
                 made.update(*pair)
@@ -105,7 +105,7 @@ class Recorder:
         text = base64.urlsafe_b64encode(b"".join(parts)).decode("ascii").rstrip("=")
         return f"{page}#replay?b=i{text}"
 
-    def write_replay(self, path: "str | PathLike[str]", page: "str | PathLike[str] | None" = None) -> None:
+    def write_replay(self, path: str | PathLike[str], page: str | PathLike[str] | None = None) -> None:
         """Writes one HTML file that replays the battle, in any browser
         and without a network.
 

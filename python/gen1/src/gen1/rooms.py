@@ -2,6 +2,8 @@
 "Rooms").
 """
 
+from __future__ import annotations
+
 from ctypes import byref
 from threading import RLock
 from typing import Any
@@ -121,7 +123,7 @@ class Room:
                 raise self._refused(RoomRefusal.OVER, known, self.number, None)
             return Update(self.result, self.log)
 
-    def copy(self) -> "Room":
+    def copy(self) -> Room:
         """An independent copy with the same battle, number, log, choices and
         forfeit.
         """
@@ -131,7 +133,7 @@ class Room:
 
     __copy__ = copy
 
-    def __deepcopy__(self, _: object) -> "Room":
+    def __deepcopy__(self, _: object) -> Room:
         return self.copy()
 
     def __reduce__(self) -> tuple[Any, ...]:

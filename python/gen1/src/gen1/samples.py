@@ -6,6 +6,8 @@ cartridge allows them is from general knowledge. Nothing checks it
 against a table of what each species can learn, since there is none.
 """
 
+from __future__ import annotations
+
 from functools import cache
 from random import Random
 

@@ -2,6 +2,8 @@
 (docs/MECHANICS.md, "Spectator's view").
 """
 
+from __future__ import annotations
+
 from ctypes import byref, c_size_t
 from dataclasses import dataclass
 from typing import TYPE_CHECKING, Any
@@ -84,7 +86,7 @@ class Spectator:
             code = NewFault(answer & 0xFF)
             raise BadTeam(code.label, side=answer >> 16, member=answer >> 8 & 0xFF, code=code)
 
-    def feed(self, log: "ReadableBuffer") -> None:
+    def feed(self, log: ReadableBuffer) -> None:
         """Reads the next bytes of the battle's log, in pieces of any size. An
         event counts as soon as its last byte is read.
 
@@ -107,7 +109,7 @@ class Spectator:
         """The bytes, at most 9, of an incomplete event."""
         return bytes(self._held.held[: self._held.held_count])
 
-    def copy(self) -> "Spectator":
+    def copy(self) -> Spectator:
         """An independent copy that knows the same."""
         made = Spectator.__new__(Spectator)
         made._held = SpectatorStruct.from_buffer_copy(self._held)
@@ -115,7 +117,7 @@ class Spectator:
 
     __copy__ = copy
 
-    def __deepcopy__(self, _: object) -> "Spectator":
+    def __deepcopy__(self, _: object) -> Spectator:
         return self.copy()
 
     def __reduce__(self) -> tuple[Any, ...]:

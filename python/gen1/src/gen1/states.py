@@ -2,6 +2,8 @@
 battle of a state that was changed.
 """
 
+from __future__ import annotations
+
 from collections.abc import Callable
 from ctypes import byref
 from dataclasses import dataclass, fields, replace
@@ -142,7 +144,7 @@ class State(Lazy):
         members = self.side(side).members
         return members[within(place, f"side {int(side)}'s place", 1, len(members)) - 1]
 
-    def with_member(self, side: Side | int, place: int, **changes: Any) -> "State":
+    def with_member(self, side: Side | int, place: int, **changes: Any) -> State:
         """The same state with other fields of the member at a place, from 1:
         `state.with_member(Side.ONE, 2, hp=30)`.
 
@@ -153,7 +155,7 @@ class State(Lazy):
         members = self.side(known).members
         return self._with_side(known, members=(*members[: place - 1], other, *members[place:]))
 
-    def with_active(self, side: Side | int, **changes: Any) -> "State":
+    def with_active(self, side: Side | int, **changes: Any) -> State:
         """The same state with other fields of the member that is out:
         `state.with_active(Side.ONE, substitute=88)`.
 
@@ -166,7 +168,7 @@ class State(Lazy):
             raise BadArgument(f"side {known} has nobody out: the battle is before its first update")
         return self._with_side(known, active=changed(active, changes))
 
-    def _with_side(self, side: int, **changes: Any) -> "State":
+    def _with_side(self, side: int, **changes: Any) -> State:
         other = replace(self.side(side), **changes)
         return replace(self, one=other) if side == 1 else replace(self, two=other)
 

@@ -1,5 +1,7 @@
 """The rows of species and moves, and the type chart (docs/TABLES.md)."""
 
+from __future__ import annotations
+
 from ctypes import byref, c_uint8
 from dataclasses import dataclass
 from fractions import Fraction

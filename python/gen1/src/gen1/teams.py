@@ -2,6 +2,8 @@
 library applies the rules of teams.
 """
 
+from __future__ import annotations
+
 from collections.abc import Iterable, Iterator, Mapping
 from ctypes import byref, c_uint16
 from dataclasses import dataclass, field
@@ -86,7 +88,7 @@ class Member:
         return tuple(found)
 
     @classmethod
-    def from_dict(cls, given: Mapping[str, Any]) -> "Member":
+    def from_dict(cls, given: Mapping[str, Any]) -> Member:
         """The member that a dict describes: "species", "moves", and optionally
         "level", "dvs" and "exp", as in `Member(..)`.
 
@@ -153,7 +155,7 @@ class Team:
         object.__setattr__(self, "_struct", struct_of(found))
 
     @classmethod
-    def from_dicts(cls, given: Iterable[Mapping[str, Any]]) -> "Team":
+    def from_dicts(cls, given: Iterable[Mapping[str, Any]]) -> Team:
         """The team of these dicts, each as in `Member.from_dict`."""
         return cls(given)
 
@@ -162,7 +164,7 @@ class Team:
         return [it.to_dict() for it in self.members]
 
     @classmethod
-    def from_text(cls, text: str) -> "Team":
+    def from_text(cls, text: str) -> Team:
         """The team in a text of Pokemon Showdown's team builder
         (docs/TEAM_TEXT.md).
 
@@ -173,7 +175,7 @@ class Team:
         return cls(read_text(text))
 
     @classmethod
-    def from_packed(cls, line: str) -> "Team":
+    def from_packed(cls, line: str) -> Team:
         """The team in a packed line of the team builder. Raises `BadText` with
         the member and its field, from 1.
         """
@@ -211,7 +213,7 @@ class Team:
         return Team, (self.members,)
 
 
-def as_team(given: "Team | Iterable[Member | Mapping[str, Any]]") -> Team:
+def as_team(given: Team | Iterable[Member | Mapping[str, Any]]) -> Team:
     """A team, or the team of these members or dicts."""
     return given if isinstance(given, Team) else Team(given)
 

@@ -59,8 +59,13 @@ def an_object(given: bytes, *keys: str) -> dict[str, Any]:
 
 def a_battle(asked: dict[str, Any]) -> Battle:
     """The battle that an object of `run` describes."""
+    return Battle(*terms(asked))
+
+
+def terms(asked: dict[str, Any]) -> tuple[Any, Any, Any, Any, Any]:
+    """Teams, seed, rules and limit in an object of `run`."""
     one, two = (_members(asked[key], f"side {side}") for side, key in enumerate(("one", "two"), 1))
-    return Battle(one, two, asked["seed"], asked.get("rules", 0), asked.get("limit", 1000))
+    return one, two, asked["seed"], asked.get("rules", 0), asked.get("limit", 1000)
 
 
 def teams(asked: dict[str, Any]) -> tuple[Team, Team]:
