@@ -3,6 +3,8 @@
 import ctypes
 import json
 import random
+import subprocess
+import sys
 from fractions import Fraction
 
 import pytest
@@ -282,6 +284,29 @@ def test_playouts_update_by_update():
         assert found == played_out(battle, seed, 9) == battle.playout(seed, 9) and found.rounds == 9 and battle.bytes == before
         assert LIB.gen1_playout(battle.bytes, ctypes.c_uint64(seed), 9, ctypes.byref(raw)) & 0xFF == 0
         assert found == Playouts(raw.wins_one, raw.wins_two, raw.ties, raw.faults)
+
+
+def test_playouts_in_slices(battle):
+    """A thousand at a time by the library, each with the next seed."""
+    dice, counts = random.Random(5), [0, 0, 0, 0]
+    for seed, rounds in ((5, 1000), (dice.getrandbits(64), 1000), (dice.getrandbits(64), 400)):
+        raw = (ctypes.c_uint32 * 4)()
+        assert LIB.gen1_playout(battle.bytes, ctypes.c_uint64(seed), rounds, ctypes.byref(raw)) & 0xFF == 0
+        counts = [known + new for known, new in zip(counts, raw)]
+    found = battle.playout(5, 2400)
+    assert [found.wins_one, found.wins_two, found.ties, found.faults] == counts
+
+
+def test_playouts_can_be_interrupted():
+    """As by control C, long before 2 ** 32 - 1 are played."""
+    script = (
+        "import _thread, threading; from gen1 import *; t = Member('Tauros', ['Body Slam']); b = Battle([t], [t], range(10))\n"
+        "threading.Timer(0.5, _thread.interrupt_main).start()\n"
+        "try: b.playout(1, (1 << 32) - 1)\n"
+        "except KeyboardInterrupt: print('interrupted')\n"
+    )
+    ran = subprocess.run([sys.executable, "-c", script], capture_output=True, text=True, timeout=60)
+    assert ran.stdout == "interrupted\n"
 
 
 def test_playouts_of_a_battle_that_is_over(team):

@@ -132,11 +132,19 @@ try:
 except PackageNotFoundError:
     __version__ = "0+not.installed"
 # Modules that need numpy are imported on first use.
-_WITH_NUMPY = {"BattleArray": "gen1.arrays", "BattleEnv": "gen1.environments", "TwoPlayerEnv": "gen1.environments"}
+_WITH_NUMPY = {
+    "BattleArray": "gen1.arrays",
+    "BattleEnv": "gen1.environments",
+    "Encoding": "gen1.encodings",
+    "PlayerArray": "gen1.player_arrays",
+    "TwoPlayerEnv": "gen1.environments",
+}
 
 if TYPE_CHECKING:
     from gen1.arrays import BattleArray
+    from gen1.encodings import Encoding
     from gen1.environments import BattleEnv, TwoPlayerEnv
+    from gen1.player_arrays import PlayerArray
 else:
 
     def __getattr__(name: str) -> object:
@@ -214,6 +222,7 @@ __all__ = [
     "OwnMember",
     "OwnSide",
     "Player",
+    "PlayerArray",
     "Playouts",
     "PrepareEvent",
     "PublicSide",

@@ -109,7 +109,8 @@ def bind(name: str, answer: Any, *takes: Any, of: ctypes.CDLL = SHORT) -> Any:
     try:
         call = getattr(of, name)
     except AttributeError:
-        raise LibraryMissing(f"{PATH} has no {name}; it is older than this package") from None
+        why = "only tools/python_wheel adds it" if name.startswith("gen1_py_") else "it is older than this package"
+        raise LibraryMissing(f"{PATH} has no {name}; {why}") from None
     call.restype, call.argtypes = answer, takes
     return call
 

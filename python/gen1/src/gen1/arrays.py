@@ -9,6 +9,7 @@ from numpy.typing import ArrayLike, NDArray
 
 from gen1 import _library
 from gen1._check import listed, place, shown, within
+from gen1._threads import in_parts
 from gen1.battle import Battle
 from gen1.choices import Choice, a_side
 from gen1.errors import BadArgument, BadPlace, BadType
@@ -25,11 +26,13 @@ _update = _library.bind("gen1_update_many", c_uint8, c_void_p, c_size_t, c_void_
 CHOICES: Bytes = np.array([int(it) for it in Choice], np.uint8)
 ACTIONS = len(CHOICES)
 ALIGNED = 64
+UPDATE_BYTES = 4
+MOST_THREADS = 256
 # For each mask, how many bits it has; and at the index 16 * mask + n, the number of the choice of its n-th bit.
-_COUNT: NDArray[np.uint32] = np.array([bin(mask).count("1") for mask in range(1 << ACTIONS)], np.uint32)
-_NTH: Bytes = np.zeros(16 << ACTIONS, np.uint8)
+COUNTS: NDArray[np.uint32] = np.array([bin(mask).count("1") for mask in range(1 << ACTIONS)], np.uint32)
+NTH: Bytes = np.zeros(16 << ACTIONS, np.uint8)
 for _mask in range(1 << ACTIONS):
-    _NTH[16 * _mask : 16 * _mask + _COUNT[_mask]] = CHOICES[[_bit for _bit in range(ACTIONS) if _mask >> _bit & 1]]
+    NTH[16 * _mask : 16 * _mask + COUNTS[_mask]] = CHOICES[[_bit for _bit in range(ACTIONS) if _mask >> _bit & 1]]
 
 
 class BattleArray:
@@ -41,14 +44,17 @@ class BattleArray:
     are changed by `array[place] = battle`, `step`, `random_step`, `reseed` and `reset`.
 
     An array must be used by one thread at a time. Steps and masks let other threads run, so that different arrays can step in parallel.
+    With `threads`, steps and masks of one array run in that many threads, each for a part of the battles. What comes out does not depend on
+    their number.
     """
 
-    def __init__(self, n: int, battle: Battle, seeds: ArrayLike | None = None) -> None:
+    def __init__(self, n: int, battle: Battle, seeds: ArrayLike | None = None, *, threads: int = 1) -> None:
         """Creates `n` copies of a battle, at least 1. With `seeds`, (n, 10) bytes, each draws numbers of its own.
 
-        Without seeds all copies draw the same numbers as the battle.
+        Without seeds all copies draw the same numbers as the battle. `threads` is 1 to 256.
         """
         count, row = within(n, "n", 1, 1 << 40), _row(battle, "battle")
+        self._threads = within(threads, "threads", 1, MOST_THREADS)
         self._allot(count)
         self._bytes[:] = row
         if seeds is not None:
@@ -56,12 +62,13 @@ class BattleArray:
         self._begin()
 
     @classmethod
-    def of(cls, battles: Iterable[Battle]) -> "BattleArray":
+    def of(cls, battles: Iterable[Battle], *, threads: int = 1) -> "BattleArray":
         """An array of these battles, at least one."""
+        known = within(threads, "threads", 1, MOST_THREADS)
         rows = [_row(it, f"battles[{at}]") for at, it in enumerate(listed(battles, "battles"))]
         if not rows:
             raise BadArgument("battles must have at least one battle, and is empty")
-        return cls._holding(np.stack(rows))
+        return cls._holding(np.stack(rows), known)
 
     def take(self, places: ArrayLike) -> "BattleArray":
         """A new array with copies of the battles at these places: (m) numbers from -n to n - 1, at least one, which may repeat.
@@ -77,7 +84,12 @@ class BattleArray:
         wrong = (at < -len(self)) | (at >= len(self))
         if wrong.any():
             raise BadPlace(f"places[{wrong.argmax()}] must be {-len(self):,} to {len(self) - 1:,}, not {at[wrong.argmax()]}")
-        return self._holding(self._bytes[at])
+        return self._holding(self._bytes[at], self._threads)
+
+    @property
+    def threads(self) -> int:
+        """How many threads its steps and masks run in, at most."""
+        return self._threads
 
     def __len__(self) -> int:
         return len(self._bytes)
@@ -106,7 +118,7 @@ class BattleArray:
 
     def copy(self) -> "BattleArray":
         """An independent array with the same battles, results and codes."""
-        made = self._holding(self._first)
+        made = self._holding(self._first, self._threads)
         made._bytes[:], made._results[:], made._codes[:] = self._bytes, self._results, self._codes
         return made
 
@@ -116,7 +128,7 @@ class BattleArray:
         return self.copy()
 
     def __reduce__(self) -> tuple[object, ...]:
-        return _restored, (self._bytes.tobytes(), self._first.tobytes(), self._codes.tobytes())
+        return _restored, (self._bytes.tobytes(), self._first.tobytes(), self._codes.tobytes(), self._threads)
 
     @property
     def outcomes(self) -> Bytes:
@@ -135,8 +147,14 @@ class BattleArray:
         Bit b of a mask is 1 exactly if `CHOICES[b]` is offered; `bits` converts masks to bools. The mask of a battle that is over is 0.
         """
         masks = np.empty((2, len(self)), np.uint16)
-        for side in (1, 2):
-            _done(_offered(self._bytes.ctypes.data, len(self), side, masks[side - 1].ctypes.data, len(self)))
+        battles, (ones, twos) = self._bytes.ctypes.data, (it.ctypes.data for it in masks)
+
+        def part(first: int, past: int) -> None:
+            count = past - first
+            for side, into in ((1, ones), (2, twos)):
+                _done(_offered(battles + first * _library.BATTLE_BYTES, count, side, into + first * masks.itemsize, count))
+
+        in_parts(part, len(self), self._threads)
         return masks
 
     def step(self, ones: ArrayLike, twos: ArrayLike) -> Bytes:
@@ -157,8 +175,7 @@ class BattleArray:
         if not isinstance(dice, np.random.Generator):
             raise BadType(f"dice must be a numpy.random.Generator, not {shown(dice)}")
         masks = self.masks()
-        nth = _COUNT.take(masks) * dice.integers(0, 1 << 16, masks.shape, np.uint16) >> 16
-        taken = _NTH.take(np.left_shift(masks, 4, dtype=np.uint32) + nth)
+        taken = nth_choices(masks, COUNTS.take(masks) * dice.integers(0, 1 << 16, masks.shape, np.uint16) >> 16)
         self._update(taken[0], taken[1])
         return taken[0], taken[1]
 
@@ -186,9 +203,10 @@ class BattleArray:
         self._see()
 
     @classmethod
-    def _holding(cls, rows: Bytes) -> "BattleArray":
+    def _holding(cls, rows: Bytes, threads: int = 1) -> "BattleArray":
         """An array of battles that begin with these bytes, (n, 384)."""
         made = cls.__new__(cls)
+        made._threads = threads
         made._allot(len(rows))
         made._bytes[:] = rows
         made._begin()
@@ -230,12 +248,24 @@ class BattleArray:
 
     def _update(self, ones: Bytes, twos: Bytes) -> None:
         self._updates[:, 0], self._updates[:, 1] = ones, twos
-        _done(_update(self._bytes.ctypes.data, len(self), self._updates.ctypes.data, len(self)))
+        battles, updates = self._bytes.ctypes.data, self._updates.ctypes.data
+
+        def part(first: int, past: int) -> None:
+            count = past - first
+            _done(_update(battles + first * _library.BATTLE_BYTES, count, updates + first * UPDATE_BYTES, count))
+
+        in_parts(part, len(self), self._threads)
 
 
 def bits(masks: Masks) -> NDArray[np.bool_]:
     """Converts masks of any shape to bools, with a further axis of length 12: the choices in the order of `CHOICES`."""
     return (masks[..., None] >> np.arange(ACTIONS, dtype=np.uint16) & 1).astype(bool)
+
+
+def nth_choices(masks: Masks, nth: NDArray[Any]) -> Bytes:
+    """The number of the n-th choice that each mask offers; 0, which is `PASS`, for a mask of 0."""
+    taken: Bytes = NTH.take(np.left_shift(masks, 4, dtype=np.uint32) + nth)
+    return taken
 
 
 def _done(code: int) -> None:
@@ -274,9 +304,9 @@ def _to_read(of: NDArray[Any]) -> NDArray[Any]:
     return held.view(of.dtype).reshape(of.shape)
 
 
-def _restored(whole: bytes, first: bytes, codes: bytes) -> BattleArray:
+def _restored(whole: bytes, first: bytes, codes: bytes, threads: int = 1) -> BattleArray:
     """The array that was pickled."""
-    made = BattleArray._holding(np.frombuffer(first, np.uint8).reshape(-1, _library.BATTLE_BYTES))
+    made = BattleArray._holding(np.frombuffer(first, np.uint8).reshape(-1, _library.BATTLE_BYTES), threads)
     made._bytes[:] = np.frombuffer(whole, np.uint8).reshape(made._bytes.shape)
     made._see()
     made._codes[:] = np.frombuffer(codes, np.uint8)

@@ -6,6 +6,7 @@ from collections.abc import Iterable, Mapping
 from ctypes import byref, c_char, c_size_t, c_uint8, c_uint16, create_string_buffer
 from dataclasses import dataclass
 from functools import cached_property
+from random import Random
 from typing import TYPE_CHECKING, Any, TypeAlias, TypeVar
 
 from gen1 import _library
@@ -336,17 +337,28 @@ class Battle:
         choices, and counts how they end. The battle is unchanged.
 
         `seed`, 0 to 2**64 - 1, is for the choices; the same seed gives the
-        same counts (include/gen1.h, "many battles"). `rounds` is 0 to
-        2**32 - 1. The copies draw the numbers that the battle will draw; a
-        search that must not know them reseeds a copy first. The call
-        returns when all copies are played, at about ten thousand a second,
-        and lets other threads run. Raises `BadArgument`, `BadType`.
+        same counts. `rounds` is 0 to 2**32 - 1. The first thousand are those
+        of gen1_playout (include/gen1.h, "many battles"); for each further
+        thousand `random.Random(seed).getrandbits(64)` gives the next seed.
+        The copies draw the numbers that the battle will draw; a search that
+        must not know them reseeds a copy first.
+
+        About ten thousand are played in a second. Other threads run
+        meanwhile, and `KeyboardInterrupt` ends the call after at most a
+        thousand. Raises `BadArgument`, `BadType`.
         """
-        of, numbers = PlayoutsStruct(), (within(seed, "seed", 0, (1 << 64) - 1), within(rounds, "rounds", 0, (1 << 32) - 1))
-        test = _library.playout(byref(self._held), *numbers, byref(of))
-        if test:
-            raise BadBytes(LoadFault(test), _load_text(LoadFault(test), self.bytes))
-        return Playouts(of.wins_one, of.wins_two, of.ties, of.faults)
+        number, left = within(seed, "seed", 0, (1 << 64) - 1), within(rounds, "rounds", 0, (1 << 32) - 1)
+        counts, dice = [0, 0, 0, 0], Random(number)
+        while True:
+            of, slice_rounds = PlayoutsStruct(), min(left, PLAYOUT_SLICE)
+            test = _library.playout(byref(self._held), number, slice_rounds, byref(of))
+            if test:
+                raise BadBytes(LoadFault(test), _load_text(LoadFault(test), self.bytes))
+            counts = [known + new for known, new in zip(counts, (of.wins_one, of.wins_two, of.ties, of.faults))]
+            left -= slice_rounds
+            if not left:
+                return Playouts(*counts)
+            number = dice.getrandbits(64)
 
     def odds(self, side: Side | int, move: Move | str | int) -> Odds:
         """The odds of a side's move in the current state: its damage, and its
@@ -437,6 +449,8 @@ def _load_text(code: LoadFault, given: "bytes") -> str:
     return f"not a battle: {tests.get(code, 'the test of the ' + code.label + ' fails')} (docs/LAYOUT.md, \"Loading\")"
 
 
+# How many playouts run in one call of the library, which nothing interrupts.
+PLAYOUT_SLICE = 1000
 CHOICES = c_uint8 * 9
 CHOICE = {int(it): it for it in Choice}
 _DAMAGES, _WORDS = c_uint16 * DAMAGES, c_char * _library.WORDS_ROOM

@@ -1,4 +1,7 @@
-"""What a side knows of a battle, as a row of numbers from -1 to 1.
+"""What a side of a `BattleArray` knows, as a row of numbers from -1 to 1, where both sides know both teams.
+
+What a `Player` knows, who meets the foe's members as they come out, is a row of another form: `gen1.encodings`, whose `VERSION`, `Column`
+and `Encoding` are names of this module too.
 
 A side knows everything about its own members except what the game hides: how long sleep and confusion last, and which numbers are drawn
 next. Of the foe it knows what a spectator of both teams knows (docs/MECHANICS.md, "Spectator's view"): species and level of each member,
@@ -11,6 +14,9 @@ from typing import Any
 import numpy as np
 from numpy.typing import NDArray
 
+from gen1.encodings import VERSION as VERSION
+from gen1.encodings import Column as Column
+from gen1.encodings import Encoding as Encoding
 from gen1.names import Conditions
 
 Row = NDArray[np.float32]
