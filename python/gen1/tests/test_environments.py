@@ -1,5 +1,6 @@
 """The environments by the rules of Gymnasium's and PettingZoo's published checkers, which are not needed here."""
 
+import copy
 import sys
 import types
 
@@ -7,11 +8,22 @@ import pytest
 
 np = pytest.importorskip("numpy")
 
-from gen1 import BadArgument, BadType, Battle, BattleEnv, Member, Refused, Side, TwoPlayerEnv  # noqa: E402
+from gen1 import (  # noqa: E402
+    BadArgument,
+    BadTeam,
+    BadType,
+    BattleEnv,
+    Encoding,
+    Member,
+    Refused,
+    ResetNeeded,
+    Side,
+    TwoPlayerEnv,
+)
 from gen1.arrays import CHOICES  # noqa: E402
-from gen1.environments import DEFAULT_TEAM, random_policy  # noqa: E402
-from gen1.observations import COLUMNS  # noqa: E402
-from gen1.spaces import Box, Discrete  # noqa: E402
+from gen1.encodings import COLUMNS  # noqa: E402
+from gen1.environments import DEFAULT_TEAM  # noqa: E402
+from gen1.spaces import AutoresetMode, Box, Discrete, MultiDiscrete  # noqa: E402
 
 
 def played(env, seed, dice):
@@ -73,13 +85,13 @@ def test_steps_by_the_checker():
         assert isinstance(over, bool) and cut is False and info["action_mask"].shape == (12,)
         assert reward in (-1.0, 0.0, 1.0) and (reward == 0 or over)
     assert not told[-1][4]["action_mask"].any() and env.close() is None
-    with pytest.raises(Refused):
+    with pytest.raises(Refused, match="^the battle is over: "):
         env.step(1)
 
 
 def test_masks_are_what_the_battle_offers():
     env, dice = BattleEnv(), np.random.default_rng(3)
-    for seed in range(10):
+    for seed in range(5):
         env.reset(seed=seed)
         over = False
         while not over:
@@ -107,7 +119,9 @@ def test_actions_that_are_wrong(action):
 
 def test_other_arguments():
     for wrong, kind in (
-        (lambda: BattleEnv(policy=5), BadType),
+        (lambda: BattleEnv(opponent=5), BadType),
+        (lambda: BattleEnv(opponent="best"), BadArgument),
+        (lambda: BattleEnv(observations="battle"), BadType),
         (lambda: BattleEnv(render_mode="human"), BadArgument),
         (lambda: TwoPlayerEnv(render_mode="human"), BadArgument),
         (lambda: BattleEnv([]), BadArgument),
@@ -153,45 +167,103 @@ def test_a_reset_that_is_refused_changes_nothing():
         assert same(env.reset(), other.reset())
 
 
-def test_a_refused_action_is_refused_before_the_policy_is_asked():
+def first_offered(observations, masks):
+    return masks.argmax(1)
+
+
+def test_a_refused_action_is_refused_before_the_opponent_is_asked():
     """It draws nothing, so the rest of the episode is the same as without it."""
     asked = []
 
-    def policy(battle, side, dice):
-        asked.append(side)
-        return random_policy(battle, side, dice)
+    def policy(observations, masks):
+        asked.append((observations.shape, masks.shape))
+        return first_offered(observations, masks)
 
-    env, other = BattleEnv(policy=policy), BattleEnv()
+    env, other = BattleEnv(opponent=policy), BattleEnv(opponent=first_offered)
     env.reset(seed=9), other.reset(seed=9)
     for action in (0, 1, 6):
         with pytest.raises(Refused) as fault:
             env.step(action)
         assert (fault.value.side, fault.value.choice) == (1, CHOICES[action])
-    assert asked == [] and same(env.step(2), other.step(2)) and asked == [Side.TWO]
+    assert asked == [] and same(env.step(2), other.step(2)) and asked == [((1, len(COLUMNS)), (1, 12))]
 
 
-def test_a_policy_whose_answer_is_refused():
-    env = BattleEnv(policy=lambda battle, side, dice: 0x25)
+@pytest.mark.parametrize(
+    "answer, kind, said",
+    [
+        ([10], Refused, "^side 2's choice is not offered: switch 5"),
+        ([12], BadArgument, "the opponent's actions.0. must be 0 to 11, not 12"),
+        ([1, 1], BadArgument, "must be .1,. numbers"),
+        ([1.0], BadType, "must be whole numbers"),
+        ([[1], [1, 2]], BadType, "the opponent's actions must be"),
+    ],
+)
+def test_an_opponent_whose_answer_is_refused(answer, kind, said):
+    env = BattleEnv(opponent=lambda observations, masks: answer)
     env.reset(seed=1)
     before = env.battle
-    with pytest.raises(Refused, match="^side 2's choice is not offered"):
+    with pytest.raises(kind, match=said):
         env.step(2)
     assert env.battle == before
 
 
-def test_a_policy_is_given_a_copy():
+def test_an_opponent_sees_what_its_player_knows():
+    """Its row is that of the player of side 2, and its mask has the player's choices."""
     seen = []
 
-    def policy(battle, side, dice):
-        seen.append((battle.copy(), side))
-        battle.update(battle.choices(1)[0], battle.choices(2)[0])
-        return random_policy(seen[-1][0], side, dice)
+    def policy(observations, masks):
+        seen.append((observations[0].copy(), [int(it) for it in CHOICES[masks[0]]], env.player(2)))
+        return first_offered(observations, masks)
 
-    env = BattleEnv(policy=policy)
-    env.reset(seed=2)
-    before = env.battle
-    env.step(int(np.flatnonzero(env.action_masks())[0]))
-    assert seen[0] == (before, Side.TWO) and isinstance(env.battle, Battle)
+    env, dice = BattleEnv(opponent=policy), np.random.default_rng(2)
+    played(env, 2, dice)
+    assert len(seen) > 5
+    for row, choices, player in seen:
+        assert np.array_equal(row, Encoding().row(player)) and choices == [int(it) for it in player.choices]
+
+
+@pytest.mark.parametrize("env", [BattleEnv(), TwoPlayerEnv()])
+def test_before_the_first_reset(env):
+    """A step is refused, and so are masks; it says what to do."""
+    for call in (lambda: env.step({"one": 2, "two": 2} if isinstance(env, TwoPlayerEnv) else 2), lambda: env.action_masks(*env_agent(env))):
+        with pytest.raises(ResetNeeded, match=r"^call reset\(\) before step\(\)"):
+            call()
+    env.reset(seed=1)
+    assert env.action_masks(*env_agent(env)).any()
+
+
+def env_agent(env):
+    return ["one"] if isinstance(env, TwoPlayerEnv) else []
+
+
+def test_teams_of_each_battle():
+    """A function of the generator gives the team of each new battle; the same seed gives the same teams."""
+    tauros, jynx = Member("Tauros", ["Body Slam"]), Member("Jynx", ["Ice Beam", "Psychic"])
+
+    def team(dice):
+        return [tauros, jynx][:: int(dice.choice([-1, 1]))]
+
+    env, other = BattleEnv(team, [tauros]), BattleEnv(team, [tauros])
+    firsts = []
+    for seed in range(20):
+        assert same(env.reset(seed=seed), other.reset(seed=seed))
+        firsts.append(env.player().own.active.species.label)
+    assert set(firsts) == {"Tauros", "Jynx"} and env.player().foe.active.species.label == "Tauros"
+    env.reset(seed=1, options={"one": [jynx]})
+    assert len(env.player().own.members) == 1
+    env.reset()
+    assert len(env.player().own.members) == 2
+    with pytest.raises(BadTeam):
+        BattleEnv(lambda dice: []).reset()
+
+
+def test_copies_go_on_alike():
+    env = BattleEnv(opponent="greedy")
+    env.reset(seed=4)
+    copied = copy.deepcopy(env)
+    assert same(env.step(2), copied.step(2)) and env.battle == copied.battle
+    env.step(int(env.action_masks().argmax()))
+    assert env.battle != copied.battle
 
 
 # What pettingzoo.test.parallel_api_test asks.
@@ -253,6 +325,11 @@ def test_our_spaces():
     assert np.zeros(2, np.float32) in box and np.full(2, 2, np.float32) not in box and np.zeros(3, np.float32) not in box
     assert [0, 0] not in box and np.full(2, np.nan, np.float32) not in box
     assert discrete == Discrete(3) != Discrete(4) and box == Box(-1, 1, (2,)) and "Box" in repr(box) and "3" in repr(discrete)
+    many = MultiDiscrete([2, 3])
+    many.seed(1)
+    assert many.shape == (2,) and all(many.sample() in many for _ in range(20)) and np.array([1, 3]) not in many
+    assert np.array([1.0, 2.0]) not in many and [1, 2] not in many and many == MultiDiscrete([2, 3]) != MultiDiscrete([3, 2])
+    assert many.sample((np.array([0, 1]), np.array([0, 0, 0]))).tolist() == [1, 0] and "MultiDiscrete" in repr(many)
     for other in (Box(-2, 1, (2,)), Box(-1, 2, (2,)), Box(-1, 1, (3,)), Box(-1, 1, (2,), np.float64), discrete):
         assert box != other
 
@@ -269,9 +346,10 @@ def test_with_gymnasium_its_spaces_are_taken(monkeypatch):
 
     fake = types.ModuleType("gymnasium")
     fake.__spec__ = ModuleSpec("gymnasium", None)
-    fake.spaces, fake.Env = types.SimpleNamespace(Discrete=Discrete, Box=Box), Env
+    fake.spaces, fake.Env = types.SimpleNamespace(Discrete=Discrete, Box=Box, MultiDiscrete=MultiDiscrete), Env
+    fake.vector = types.SimpleNamespace(VectorEnv=Env)
     monkeypatch.setitem(sys.modules, "gymnasium", fake)
-    assert spaces.made() == (Discrete, Box, Env)
+    assert spaces.made() == (Discrete, Box, Env) and spaces.made_for_vectors() == (MultiDiscrete, Env, AutoresetMode)
 
 
 # The published checkers, if they are installed. They ignore masks, so an action that is not offered is replaced by one that is.

@@ -53,6 +53,7 @@ from gen1.errors import (
     NoDamage,
     NumpyMissing,
     Refused,
+    ResetNeeded,
     RoomRefused,
 )
 from gen1.events import (
@@ -138,6 +139,8 @@ _WITH_NUMPY = {
     "Encoding": "gen1.encodings",
     "PlayerArray": "gen1.player_arrays",
     "TwoPlayerEnv": "gen1.environments",
+    "TwoPlayerVectorEnv": "gen1.vectors",
+    "VectorEnv": "gen1.vectors",
 }
 
 if TYPE_CHECKING:
@@ -145,6 +148,7 @@ if TYPE_CHECKING:
     from gen1.encodings import Encoding
     from gen1.environments import BattleEnv, TwoPlayerEnv
     from gen1.player_arrays import PlayerArray
+    from gen1.vectors import TwoPlayerVectorEnv, VectorEnv
 else:
 
     def __getattr__(name: str) -> object:
@@ -231,6 +235,7 @@ __all__ = [
     "Refusal",
     "Refused",
     "Request",
+    "ResetNeeded",
     "ResistedEvent",
     "Result",
     "Room",
@@ -261,9 +266,11 @@ __all__ = [
     "TieEvent",
     "TurnEvent",
     "TwoPlayerEnv",
+    "TwoPlayerVectorEnv",
     "Type",
     "UnboostEvent",
     "Update",
+    "VectorEnv",
     "Volatile",
     "Who",
     "WinEvent",

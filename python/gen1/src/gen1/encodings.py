@@ -235,6 +235,9 @@ class Encoding:
         if not isinstance(self.one_hot, bool):
             raise BadType(f"one_hot must be True or False, not {shown(self.one_hot)}")
 
+    def __reduce__(self) -> tuple[Any, ...]:
+        return Encoding, (self.dtype, self.one_hot)
+
     @cached_property
     def columns(self) -> tuple[Column, ...]:
         """The columns of a row. An option of a one-hot category is named "own 1 status = 2"."""
@@ -310,11 +313,12 @@ class Encoding:
         return row
 
 
-@lru_cache(maxsize=2)
-def filler(dtype: str) -> Any:
-    """The call of batch.c that fills rows of this type. It lets other threads run."""
+@lru_cache(maxsize=4)
+def filler(dtype: str, short: bool = False) -> Any:
+    """The call of batch.c that fills rows of this type; one that is short keeps the interpreter's lock."""
     name = {"float32": "gen1_py_observe_floats", "uint8": "gen1_py_observe_bytes"}[dtype]
-    return _library.bind(name, None, c_void_p, c_size_t, c_size_t, c_void_p, c_void_p, of=_library.LONG)
+    of = _library.SHORT if short else _library.LONG
+    return _library.bind(name, None, c_void_p, c_size_t, c_size_t, c_void_p, c_void_p, of=of)
 
 
 def encoding_of(given: "Encoding | str") -> Encoding:

@@ -1,193 +1,236 @@
-"""Environments for training: one player against a policy with Gymnasium's API, and two players with PettingZoo's parallel API.
+"""Environments of one battle: one player with Gymnasium's API, and two players with PettingZoo's parallel API.
 
 Neither package is needed. If gymnasium is installed, its spaces and its `Env` are used. An action is a number from 0 to 11, the bit of a
-choice: 0 is pass, 1 to 5 are moves 0 to 4, 6 to 11 are switches to 1 to 6. An observation is a row of `gen1.observations`.
+choice: 0 is pass, 1 to 5 are moves 0 to 4, 6 to 11 are switches to 1 to 6. An observation is a row of `gen1.encodings`: what the player
+knows. Many battles at once are in `gen1.vectors`.
 """
 
 from collections.abc import Callable, Mapping
-from typing import Any, TypeAlias
+from typing import Any
 
 import numpy as np
-from numpy.typing import NDArray
 
 from gen1 import spaces
 from gen1._check import shown, within
-from gen1.arrays import ACTIONS, CHOICES, BattleArray, bits
-from gen1.battle import Battle, TeamLike, sides_of
-from gen1.choices import Choice, Side
-from gen1.errors import BadArgument, BadType
-from gen1.names import Outcome, Species
-from gen1.observations import COLUMNS
-from gen1.teams import Member
-
-Row: TypeAlias = NDArray[np.float32]
-Truths: TypeAlias = NDArray[np.bool_]
-# A policy is passed a copy of the battle, its side and a generator, and returns one of `battle.choices(side)`. The copy has the numbers
-# that will be drawn, so a policy that plays it out must reseed it first.
-Policy: TypeAlias = Callable[[Battle, Side, np.random.Generator], Choice]
+from gen1._episodes import BEFORE, DEFAULT_TEAM, Episodes, TeamSource, Truths
+from gen1._structs import PlayerStruct
+from gen1.arrays import ACTIONS, CHOICES, COUNTS, NTH, Bytes, Masks, bits
+from gen1.battle import Battle
+from gen1.choices import Side
+from gen1.encodings import Encoding, Rows, encoding_of, filler
+from gen1.errors import BadArgument, BadType, Refused, ResetNeeded
+from gen1.names import Outcome, Refusal
+from gen1.opponents import Chooser, OpponentLike, opponent_of, random_choices, refuse
+from gen1.player_arrays import PLAYER_BYTES, PlayerArray, player_of_play
+from gen1.players import Player
+from gen1.spaces import AutoresetMode
 
 _Discrete, _Box, _Base = spaces.made()
-DEFAULT_TEAM = (
-    Member("Starmie", ["Surf", "Thunderbolt", "Thunder Wave", "Recover"]),
-    Member("Snorlax", ["Body Slam", "Reflect", "Rest", "Ice Beam"]),
-    Member("Tauros", ["Body Slam", "Hyper Beam", "Blizzard", "Earthquake"]),
-)
+# The numbers of the choices, how many choices each mask has, and the n-th of them, as bytes, since one item is quicker than with numpy.
+_NUMBERS, _COUNTS, _NTH = CHOICES.tobytes(), COUNTS.astype(np.uint8).tobytes(), NTH.tobytes()
+_ALL_MASKS: Masks = np.arange(1 << ACTIONS, dtype=np.uint16)
+_BITS = bits(_ALL_MASKS)
+# Where the masks of both players are among the 16-bit words of a pair of players.
+_OFFERED = tuple((PlayerStruct.offered.offset + side * PLAYER_BYTES // 2) // 2 for side in range(2))
+# The reward of side 1 for each `Outcome`.
+_REWARDS = tuple({Outcome.WIN_ONE: 1.0, Outcome.WIN_TWO: -1.0}.get(it, 0.0) for it in Outcome)
 
 
-def random_policy(battle: Battle, side: Side, dice: np.random.Generator) -> Choice:
-    """A random choice, all equally likely."""
-    offered = battle.choices(side)
-    return offered[int(dice.integers(len(offered)))]
+class _Single:
+    """The one battle of an environment, stepped without numpy's cost for each call: an array of one battle, its addresses and its views."""
+
+    def __init__(self, episodes: Episodes) -> None:
+        self.episodes = episodes
+        players = episodes.players
+        places, encoding = players._places(), episodes.encoding
+        self.words = players._players.view(np.uint16).reshape(-1).data
+        self.updates = players._battles._updates.reshape(-1).data
+        self.play, self.played = player_of_play(True), (*places, 1)
+        self.seen = [np.empty(encoding.width, encoding.dtype) for _ in range(2)]
+        self.fill = filler(encoding.dtype, True)
+        self.filled = [(places[1], side, 1, encoding.form(side + 1), self.seen[side].ctypes.data) for side in range(2)]
+
+    def mask(self, side: int) -> int:
+        """The mask of a side's choices; 0 if the battle is over."""
+        return self.words[_OFFERED[side - 1]]
+
+    def truths(self, side: int) -> Truths:
+        """Which actions a side is offered, (12) bools."""
+        truths: Truths = _BITS[self.mask(side)].copy()
+        return truths
+
+    def row(self, side: int) -> Rows:
+        """The observation of a side."""
+        self.fill(*self.filled[side - 1])
+        return self.seen[side - 1].copy()
+
+    def choice(self, number: int, side: int) -> int:
+        """The choice that an action means. Raises `Refused` if it is not offered, or if the battle is over."""
+        mask = self.mask(side)
+        if not mask >> number & 1:
+            if not mask:
+                raise Refused(Refusal.OVER, f"the battle is over: {Outcome(self.updates[2] & 7).label}; call reset()")
+            refuse(mask, _NUMBERS[number], side)
+        return _NUMBERS[number]
+
+    def answer(self, chooser: Chooser) -> int:
+        """The opponent's choice for side 2."""
+        if chooser is random_choices:
+            mask = self.mask(2)
+            return _NTH[16 * mask + int(self.episodes.dice.random() * _COUNTS[mask])]
+        return int(chooser(self.episodes.players, 2, self.episodes.encoding, self.episodes.dice)[0])
+
+    def update(self, one: int, two: int) -> int:
+        """Updates the battle by choices that are offered, and returns its outcome."""
+        self.updates[0], self.updates[1] = one, two
+        self.play(*self.played)
+        return self.updates[2] & 7
 
 
-class _Table:
-    """The battle of an environment, as an array of one battle, with the teams, rules and limit for new battles."""
-
-    def __init__(self, one: TeamLike, two: TeamLike, rules: int, limit: int) -> None:
-        self.teams, self.terms = sides_of(one, two), (rules, limit)
-        self.dice = np.random.default_rng()
-        self.begin(None, None)
-
-    def begin(self, seed: int | None, options: Mapping[str, Any] | None) -> None:
-        """Starts a new battle. A seed also restarts the generator of seeds. Wrong arguments raise an error before anything changes."""
-        if options is not None and not isinstance(options, Mapping):
-            raise BadType(f"options must be a dict, not {shown(options)}")
-        given = {} if options is None else options
-        teams = sides_of(given.get("one", self.teams[0]), given.get("two", self.teams[1]))
-        if seed is not None:
-            self.dice = np.random.default_rng(within(seed, "seed", 0, (1 << 128) - 1))
-        battle = Battle(*teams, self.dice.bytes(10), *self.terms)
-        battle.update_silent(Choice.PASS, Choice.PASS)
-        self.array = BattleArray(1, battle)
-
-    @property
-    def battle(self) -> Battle:
-        return self.array[0]
-
-    def mask(self, side: int) -> Truths:
-        return np.asarray(bits(self.array.masks())[side - 1, 0], bool)
-
-    def seen(self, side: int) -> Row:
-        return np.asarray(self.array.observe(side)[0], np.float32)
-
-    def update(self, pair: list[Choice]) -> None:
-        battle = self.battle
-        battle.update_silent(*pair)
-        self.array[0] = battle
-
-    def reward(self, side: int) -> float:
-        won = {Outcome.WIN_ONE: 1, Outcome.WIN_TWO: 2}.get(self.battle.result.outcome)
-        return 0.0 if won is None else 1.0 if won == side else -1.0
-
-
-def _choice(action: object, name: str) -> Choice:
+def _action(action: object, name: str) -> int:
+    if type(action) is int and 0 <= action < ACTIONS:
+        return action
     if isinstance(action, np.ndarray) and action.shape == ():
         action = action.item()
-    return Choice(int(CHOICES[within(action, name, 0, ACTIONS - 1)]))
+    return within(action, name, 0, ACTIONS - 1)
 
 
-class BattleEnv(_Base):  # type: ignore[misc, valid-type]
-    """One player, side 1, against a policy on side 2, with Gymnasium's API.
+class _Environment:
+    """What both environments have."""
 
-    The reward is 1 for a win, -1 for a loss, and 0 otherwise. At the turn limit the battle ends in a tie, as its rules say, so no episode
-    is truncated.
-
-    An action that is not offered raises `Refused`, before the policy is called, and changes nothing. So use `action_masks()`, and pass a
-    mask to `action_space.sample()`. A choice of the policy that is not offered raises `Refused` for side 2; the battle is unchanged, but
-    the numbers that the policy drew from the generator are used up.
-    """
-
-    metadata: dict[str, Any] = {"render_modes": ["ansi"], "name": "gen1_v0"}
+    metadata: dict[str, Any] = {"render_modes": ["ansi"], "name": "gen1_v1"}
     render_mode: str | None = None
-    spec = None
+    _episodes: Episodes
+    # Of the episodes, from their first begin on. A copy makes its own, since it has addresses.
+    _single: _Single | None = None
 
-    def __init__(
-        self,
-        one: TeamLike = DEFAULT_TEAM,
-        two: TeamLike = DEFAULT_TEAM,
-        policy: Policy = random_policy,
-        rules: int = 0,
-        limit: int = 1000,
-        render_mode: str | None = None,
+    def _prepare(
+        self, teams: tuple[TeamSource, TeamSource], terms: tuple[int, int], render_mode: str | None, observations: Encoding | str
     ) -> None:
         if render_mode not in (None, "ansi"):
             raise BadArgument(f"render_mode must be None or 'ansi', not {shown(render_mode)}")
-        if not callable(policy):
-            raise BadType(f"policy must be a function, not {shown(policy)}")
-        self.render_mode, self.policy = render_mode, policy
-        self.action_space = _Discrete(ACTIONS)
-        self.observation_space = _Box(-1.0, 1.0, (len(COLUMNS),), np.float32)
-        self._table = _Table(one, two, rules, limit)
+        self.render_mode, encoding = render_mode, encoding_of(observations)
+        self._episodes = Episodes(1, *teams, *terms, encoding, AutoresetMode.DISABLED, 1)
+        low, high = encoding.bounds
+        self._space, self._actions = _Box(low, high, low.shape, low.dtype.type), _Discrete(ACTIONS)
+
+    def _begin(self, seed: int | None, options: Mapping[str, Any] | None) -> _Single:
+        self._episodes.begin(None if seed is None else within(seed, "seed", 0, (1 << 128) - 1), options)
+        return self._begun()
+
+    def _begun(self) -> _Single:
+        """The battle. Raises `ResetNeeded` before the first reset."""
+        if self._single is None:
+            if not self._episodes.begun:
+                raise ResetNeeded(BEFORE)
+            self._single = _Single(self._episodes)
+        return self._single
+
+    def __getstate__(self) -> dict[str, Any]:
+        return {**self.__dict__, "_single": None}
 
     @property
-    def battle(self) -> Battle:
-        """A copy of the battle. It includes what side 1 does not know."""
-        return self._table.battle
-
-    def reset(self, *, seed: int | None = None, options: Mapping[str, Any] | None = None) -> tuple[Row, dict[str, Any]]:
-        """Starts a new battle, and returns the observation of side 1 and the info, as from `step`.
-
-        `options` may have teams "one" and "two"; other keys are ignored, since wrappers add keys of their own. Raises `BadTeam`,
-        `BadArgument`, `BadType`, and then the battle is unchanged.
-        """
-        self._table.begin(seed, options)
-        if _Base is not object:
-            super().reset(seed=seed)
-        return self._table.seen(1), self._info()
-
-    def step(self, action: int) -> tuple[Row, float, bool, bool, dict[str, Any]]:
-        """Updates the battle with side 1's action and the policy's choice: observation, reward, whether it is over, False, and the mask."""
-        battle, table = self._table.battle, self._table
-        mine, foes = _choice(action, "action"), battle.choices(Side.TWO)
-        if mine not in battle.choices(Side.ONE):
-            battle.update_silent(mine, foes[0] if foes else Choice.PASS)  # on a copy, to raise the error
-        table.update([mine, self.policy(battle, Side.TWO, table.dice)])
-        return table.seen(1), table.reward(1), table.battle.result.is_over, False, self._info()
-
-    def action_masks(self) -> Truths:
-        """Which actions are offered, as (12) bools."""
-        return self._table.mask(1)
-
-    def render(self) -> str | None:
-        """The members that are out, on one line, with render mode "ansi"."""
-        return _sight(self._table) if self.render_mode == "ansi" else None
-
-    def close(self) -> None:
-        """Does nothing, since there is nothing to close."""
-
-    def _info(self) -> dict[str, Any]:
-        return {"action_mask": self.action_masks()}
-
-
-class TwoPlayerEnv:
-    """Two players, "one" and "two", with PettingZoo's parallel API.
-
-    Both act in each step; a side that is asked for nothing takes action 0, pass. When the battle is over, `agents` becomes empty.
-    """
-
-    metadata: dict[str, Any] = {"render_modes": ["ansi"], "name": "gen1_v0", "is_parallelizable": True}
-
-    def __init__(
-        self,
-        one: TeamLike = DEFAULT_TEAM,
-        two: TeamLike = DEFAULT_TEAM,
-        rules: int = 0,
-        limit: int = 1000,
-        render_mode: str | None = None,
-    ) -> None:
-        if render_mode not in (None, "ansi"):
-            raise BadArgument(f"render_mode must be None or 'ansi', not {shown(render_mode)}")
-        self.render_mode = render_mode
-        self.possible_agents = ["one", "two"]
-        self.agents: list[str] = []
-        self.action_spaces = {it: _Discrete(ACTIONS) for it in self.possible_agents}
-        self.observation_spaces = {it: _Box(-1.0, 1.0, (len(COLUMNS),), np.float32) for it in self.possible_agents}
-        self._table = _Table(one, two, rules, limit)
+    def encoding(self) -> Encoding:
+        """The form of its observations; `encoding.columns` describes them."""
+        return self._episodes.encoding
 
     @property
     def battle(self) -> Battle:
         """A copy of the battle. It includes what the players do not know."""
-        return self._table.battle
+        return self._episodes.players._battles[0]
+
+    def player(self, side: Side | int = Side.ONE) -> Player:
+        """A copy of what the player of a side knows."""
+        return self._episodes.players.player(0, side)
+
+    def render(self) -> str | None:
+        """The turn, and the members that are out, on one line, with render mode "ansi"."""
+        return self._episodes.sight(0) if self.render_mode == "ansi" else None
+
+    def close(self) -> None:
+        """Does nothing, since there is nothing to close."""
+
+
+class BattleEnv(_Environment, _Base):  # type: ignore[misc, valid-type]
+    """One player, side 1, against an opponent on side 2, with Gymnasium's API. It plays the battles of a `VectorEnv` of one.
+
+    `one` and `two` are teams, or functions of a numpy generator that return the team for each new battle. `opponent` is "random", "greedy"
+    or a function of observations, (1, columns), and action masks, (1, 12), as in `VectorEnv`; it sees what the player of side 2 knows.
+    `observations` is "player", or an `Encoding`.
+
+    The reward is 1 for a win, -1 for a loss, and 0 otherwise. At the turn limit the battle ends in a tie, as its rules say, so no episode
+    is truncated.
+
+    An action that is not offered raises `Refused`, before the opponent is asked, and changes nothing. So use `action_masks()`, and pass a
+    mask to `action_space.sample()`. If a function returns an action that is not offered, `Refused` is raised for side 2; the battle is
+    unchanged.
+    """
+
+    spec = None
+
+    def __init__(
+        self,
+        one: TeamSource = DEFAULT_TEAM,
+        two: TeamSource = DEFAULT_TEAM,
+        opponent: OpponentLike = "random",
+        rules: int = 0,
+        limit: int = 1000,
+        render_mode: str | None = None,
+        observations: Encoding | str = "player",
+    ) -> None:
+        self._opponent = opponent_of(opponent)
+        self._prepare((one, two), (rules, limit), render_mode, observations)
+        self.observation_space, self.action_space = self._space, self._actions
+
+    def reset(self, *, seed: int | None = None, options: Mapping[str, Any] | None = None) -> tuple[Rows, dict[str, Any]]:
+        """Starts a new battle, and returns the observation of side 1 and the info, as from `step`.
+
+        `options` may have teams "one" and "two" for this battle; other keys are ignored, since wrappers add keys of their own. Raises
+        `BadTeam`, `BadArgument`, `BadType`, and then the battle is unchanged.
+        """
+        single = self._begin(seed, options)
+        if _Base is not object:
+            super().reset(seed=seed)
+        return single.row(1), {"action_mask": single.truths(1)}
+
+    def step(self, action: int) -> tuple[Rows, float, bool, bool, dict[str, Any]]:
+        """Updates the battle with side 1's action and the opponent's: observation, reward, whether it is over, False, and the mask.
+
+        Raises `ResetNeeded` before the first reset, `Refused`, `BadArgument`, `BadType`.
+        """
+        single = self._single or self._begun()
+        mine = single.choice(_action(action, "action"), 1)
+        outcome = single.update(mine, single.answer(self._opponent))
+        return single.row(1), _REWARDS[outcome], outcome != 0, False, {"action_mask": single.truths(1)}
+
+    def action_masks(self) -> Truths:
+        """Which actions are offered, as (12) bools. Raises `ResetNeeded` before the first reset."""
+        return (self._single or self._begun()).truths(1)
+
+
+class TwoPlayerEnv(_Environment):
+    """Two players, "one" and "two", with PettingZoo's parallel API.
+
+    Both act in each step; a side that is asked for nothing takes action 0, pass. When the battle is over, `agents` becomes empty. The
+    arguments are those of `BattleEnv`.
+    """
+
+    metadata: dict[str, Any] = {"render_modes": ["ansi"], "name": "gen1_v1", "is_parallelizable": True}
+
+    def __init__(
+        self,
+        one: TeamSource = DEFAULT_TEAM,
+        two: TeamSource = DEFAULT_TEAM,
+        rules: int = 0,
+        limit: int = 1000,
+        render_mode: str | None = None,
+        observations: Encoding | str = "player",
+    ) -> None:
+        self._prepare((one, two), (rules, limit), render_mode, observations)
+        self.possible_agents = ["one", "two"]
+        self.agents: list[str] = []
+        self.action_spaces = dict.fromkeys(self.possible_agents, self._actions)
+        self.observation_spaces = dict.fromkeys(self.possible_agents, self._space)
 
     def observation_space(self, agent: str) -> Any:
         """The space of an agent's observations, the same object each time."""
@@ -199,46 +242,45 @@ class TwoPlayerEnv:
 
     def reset(
         self, seed: int | None = None, options: Mapping[str, Any] | None = None
-    ) -> tuple[dict[str, Row], dict[str, dict[str, Any]]]:
+    ) -> tuple[dict[str, Rows], dict[str, dict[str, Any]]]:
         """Starts a new battle, and returns the observation and the info of each agent. `options` are those of `BattleEnv.reset`."""
-        self._table.begin(seed, options)
+        single = self._begin(seed, options)
         self.agents = list(self.possible_agents)
-        return self._each(self._table.seen), self._each(self._info)
+        return self._each(single.row), self._each(self._info)
 
     def step(self, actions: Mapping[str, int]) -> tuple[dict[str, Any], ...]:
-        """Updates the battle with both actions: observations, rewards, terminations, truncations and infos of the agents."""
+        """Updates the battle with both actions: observations, rewards, terminations, truncations and infos of the agents.
+
+        Raises `ResetNeeded` before the first reset, `Refused`, `BadArgument`, `BadType`; then the battle is unchanged.
+        """
         if not isinstance(actions, Mapping):
             raise BadType(f"actions must be a dict, not {shown(actions)}")
+        single = self._begun()
         if not self.agents:
             return {}, {}, {}, {}, {}
         if set(actions) != set(self.agents):
             raise BadArgument(f"actions must be those of {' and '.join(self.agents)}, not of {shown(list(actions))}")
-        self._table.update([_choice(actions[it], f"the action of {it}") for it in self.agents])
-        over = self._table.battle.result.is_over
+        numbers = [_action(actions[it], f"the action of {it}") for it in self.agents]
+        outcome = single.update(single.choice(numbers[0], 1), single.choice(numbers[1], 2))
+        reward = _REWARDS[outcome]
         told = (
-            self._each(self._table.seen),
-            self._each(self._table.reward),
-            self._each(lambda side: over),
+            self._each(single.row),
+            self._each(lambda side: reward if side == 1 else 0.0 - reward),
+            self._each(lambda side: outcome != 0),
             self._each(lambda side: False),
             self._each(self._info),
         )
-        self.agents = [] if over else self.agents
+        self.agents = [] if outcome else self.agents
         return told
 
     def action_masks(self, agent: str) -> Truths:
-        """Which actions an agent is offered, as (12) bools."""
-        return self._table.mask(self._side(agent))
+        """Which actions an agent is offered, as (12) bools. Raises `ResetNeeded` before the first reset."""
+        side = self._side(agent)
+        return self._begun().truths(side)
 
-    def state(self) -> NDArray[np.uint8]:
+    def state(self) -> Bytes:
         """The 384 bytes of the battle, which are its whole state."""
-        return np.array(self._table.array.bytes[0])
-
-    def render(self) -> str | None:
-        """The members that are out, on one line, with render mode "ansi"."""
-        return _sight(self._table) if self.render_mode == "ansi" else None
-
-    def close(self) -> None:
-        """Does nothing, since there is nothing to close."""
+        return np.array(self._episodes.players._battles.bytes[0])
 
     @property
     def unwrapped(self) -> "TwoPlayerEnv":
@@ -254,14 +296,4 @@ class TwoPlayerEnv:
         return {it: what(self._side(it)) for it in self.agents}
 
     def _info(self, side: int) -> dict[str, Any]:
-        return {"action_mask": self._table.mask(side)}
-
-
-def _sight(table: _Table) -> str:
-    """The turn, and the members that are out with their HP."""
-    fields = table.array.fields[0]
-    text = []
-    for side in fields["sides"]:
-        member = side["members"][side["active"]["place"] - 1]
-        text.append(f"{Species(member['species'])} {member['hp']}/{member['max_hp']}")
-    return f"turn {fields['turn']}: {' - '.join(text)}"
+        return {"action_mask": self._begun().truths(side)}

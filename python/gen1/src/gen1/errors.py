@@ -31,6 +31,10 @@ class NumpyMissing(Error, ModuleNotFoundError):
         super().__init__(f"{what} needs numpy: install numpy, or gen1 with its extra, as gen1[arrays]", name="numpy")
 
 
+class ResetNeeded(Error, RuntimeError):
+    """A step of an environment before its first reset."""
+
+
 class BadType(Error, TypeError):
     """An argument has a wrong type."""
 

@@ -17,6 +17,7 @@ from gen1.arrays import UPDATE_BYTES, BattleArray, Bytes, Masks
 from gen1.battle import Battle, TeamLike, sides_of
 from gen1.choices import Choice, Side, a_side
 from gen1.encodings import PLAYER, Encoding, Rows, filler
+from gen1.errors import BadArgument
 from gen1.players import Player, Teller
 
 TELLER = np.dtype(TellerStruct)
@@ -150,19 +151,22 @@ class PlayerArray:
         made._held = PlayerStruct.from_buffer_copy(self._players[a_place(at, len(self)), a_side(side) - 1].tobytes())
         return made
 
-    def observe(self, side: Side | int, encoding: Encoding = USUAL, out: Rows | None = None) -> Rows:
+    def observe(
+        self, side: Side | int, encoding: Encoding = USUAL, out: Rows | None = None, which: NDArray[np.bool_] | None = None
+    ) -> Rows:
         """What a side knows of each battle, as rows, (n, `encoding.width`); `encoding.columns` describes the columns.
 
-        The rows are a new array, or `out` if it is given, which must have that shape and `encoding.dtype`.
+        The rows are a new array, or `out` if it is given, which must have that shape and `encoding.dtype`. With `which`, (n) bools, there
+        are only the m rows of the battles where it is true.
         """
-        which = a_side(side) - 1
-        rows, form, fill = encoding.rows(len(self), out), encoding.form(which + 1), filler(encoding.dtype)
-        players, into, size = self._players.ctypes.data, rows.ctypes.data, rows.strides[0]
+        at, pairs = a_side(side) - 1, self._players if which is None else self._players[self._mask(which)]
+        rows, form, fill = encoding.rows(len(pairs), out), encoding.form(at + 1), filler(encoding.dtype)
+        players, into, size = pairs.ctypes.data, rows.ctypes.data, rows.strides[0]
 
         def part(first: int, past: int) -> None:
-            fill(players + first * PLAYER_BYTES, which, past - first, form, into + first * size)
+            fill(players + first * PLAYER_BYTES, at, past - first, form, into + first * size)
 
-        in_parts(part, len(self), self._battles.threads)
+        in_parts(part, len(pairs), self._battles.threads)
         return rows
 
     def step(self, ones: ArrayLike, twos: ArrayLike) -> Bytes:
@@ -193,6 +197,12 @@ class PlayerArray:
         number, start = a_place(at, len(self)), start_of(one, two, *self._terms)
         start.battle.reseed(seed)
         self._put(number, start)
+
+    def _mask(self, which: ArrayLike) -> NDArray[np.bool_]:
+        mask = np.asarray(which)
+        if mask.shape != (len(self),) or mask.dtype != bool:
+            raise BadArgument(f"which must be ({len(self)},) bools, not {mask.shape} of {mask.dtype}")
+        return mask
 
     def _put(self, at: int, start: Start) -> None:
         self._battles._first[at] = np.frombuffer(start.battle.bytes, np.uint8)
