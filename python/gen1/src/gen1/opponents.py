@@ -48,23 +48,23 @@ def random_choices(players: PlayerArray, side: int, encoding: Encoding, dice: np
 
 @lru_cache(maxsize=1)
 def _rows() -> tuple[NDArray[Any], ...]:
-    """Of each move, with 0 for none, its type and its worth; of each species base Defense and Special; the type chart."""
+    """Of each move, with 0 for none, its type and its worth; of each species base Defense and Special, and its types; the type chart."""
     kinds, worths = [0], [0.0]
     for it in Move:
         row = move_data(it)
         kinds.append(int(row.type))
         worths.append(POWERS.get(row.effect, row.power * SHARES.get(row.effect, 1.0)) * row.accuracy / 100)
     bulks = [(1, 1), *((row[4], row[6]) for row in SPECIES_ROWS)]
+    types = [(-1, -1), *(row[:2] for row in SPECIES_ROWS)]
     chart = [[float(effectiveness(move, foe)) for foe in Type] for move in Type]
-    return np.array(kinds), np.array(worths), np.array(bulks, float), np.array(chart)
+    return np.array(kinds), np.array(worths), np.array(bulks, float), np.array(types), np.array(chart)
 
 
 def worths(players: PlayerArray, side: int) -> NDArray[Any]:
     """About how much each move of each own member hurts the foe's active member, (n, 6, 4), in no unit."""
-    kinds, powers, bulks, chart = _rows()
+    kinds, powers, bulks, types, chart = _rows()
     known = players.known(side)
     own, foe, battles = known["own"], known["known"]["sides"][:, 2 - side], np.arange(len(players))
-    species = own["members"]["species"]
     attack, special = (own["members"]["stats"][..., at].astype(float) for at in (0, 3))
     out = np.maximum(own["place"], 1).astype(np.int64) - 1
     attack[battles, out], special[battles, out] = own["stats"][:, 0], own["stats"][:, 3]
@@ -74,8 +74,7 @@ def worths(players: PlayerArray, side: int) -> NDArray[Any]:
     ratio = np.where(kind < Type.FIRE, (attack / bulk[:, :1])[..., None], (special / bulk[:, 1:])[..., None])
     first, second = (foe[name].astype(np.int64)[:, None, None] for name in ("first_type", "second_type"))
     chances = chart[kind, first] * np.where(first == second, 1, chart[kind, second])
-    types = np.array([row[:2] for row in ((-1, -1), *SPECIES_ROWS)])[species]
-    bonus = np.where((kind[..., None] == types[:, :, None]).any(-1), 1.5, 1)
+    bonus = np.where((kind[..., None] == types[own["members"]["species"]][:, :, None]).any(-1), 1.5, 1)
     found: NDArray[Any] = powers[moves] * ratio * chances * bonus
     return found
 
