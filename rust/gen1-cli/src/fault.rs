@@ -23,13 +23,10 @@ impl Fault {
         }
     }
 
-    /// An input with this name is longer than the limit.
-    pub fn too_long(name: &str) -> Fault {
-        Fault::new(
-            1,
-            "too long",
-            format!("{name}: expected at most 1048576 bytes"),
-        )
+    /// An input with this name is longer than a limit in bytes.
+    pub fn too_long(name: &str, limit: u64) -> Fault {
+        let why = format!("{name}: expected at most {limit} bytes");
+        Fault::new(1, "too long", why)
     }
 
     /// The team of a side, 1 or 2, is refused.

@@ -6,6 +6,8 @@ use std::path::{Path, PathBuf};
 
 /// The maximum length of an input, and of a line of `play`, in bytes.
 const LIMIT: u64 = 1_048_576;
+/// The maximum length of a battle log, which may have the requests of each turn, in bytes.
+const LOG_LIMIT: u64 = 16 * LIMIT;
 
 /// A file; `None` for a standard stream, which is meant by `-` too.
 pub fn named(file: Option<&Path>) -> Option<&Path> {
@@ -19,15 +21,24 @@ pub fn name_of(file: Option<&Path>) -> String {
 
 /// Reads a file, or standard input if none is named.
 pub fn read(file: Option<&Path>) -> Result<Vec<u8>, Fault> {
+    read_up_to(LIMIT, file)
+}
+
+/// Reads a battle log in the same way.
+pub fn read_battle_log(file: Option<&Path>) -> Result<Vec<u8>, Fault> {
+    read_up_to(LOG_LIMIT, file)
+}
+
+fn read_up_to(limit: u64, file: Option<&Path>) -> Result<Vec<u8>, Fault> {
     let mut input = Vec::new();
     let done = match named(file) {
         Some(path) => {
-            File::open(path).and_then(|file| file.take(LIMIT + 1).read_to_end(&mut input))
+            File::open(path).and_then(|file| file.take(limit + 1).read_to_end(&mut input))
         }
-        None => io::stdin().lock().take(LIMIT + 1).read_to_end(&mut input),
+        None => io::stdin().lock().take(limit + 1).read_to_end(&mut input),
     };
     done.map_err(|why| Fault::read(&name_of(file), &why))?;
-    within_limit(input, file)
+    within(limit, input, file)
 }
 
 /// Reads a line of standard input, with its line feed if it has one; no bytes at the end of the input.
@@ -37,7 +48,7 @@ pub fn read_line() -> Result<Vec<u8>, Fault> {
     input
         .read_until(b'\n', &mut line)
         .map_err(|why| Fault::read(&name_of(None), &why))?;
-    within_limit(line, None)
+    within(LIMIT, line, None)
 }
 
 /// Reads the lines of a file or of standard input, as many at a time as are there.
@@ -107,18 +118,18 @@ impl LineReader {
             line.pop();
         }
         match line.len() as u64 > LIMIT {
-            true => Err(Fault::too_long(&format!(
-                "{}, line {}",
-                self.name, self.lines
-            ))),
+            true => {
+                let place = format!("{}, line {}", self.name, self.lines);
+                Err(Fault::too_long(&place, LIMIT))
+            }
             false => Ok((count > 0).then_some(line)),
         }
     }
 }
 
-fn within_limit(input: Vec<u8>, file: Option<&Path>) -> Result<Vec<u8>, Fault> {
-    if input.len() as u64 > LIMIT {
-        return Err(Fault::too_long(&name_of(file)));
+fn within(limit: u64, input: Vec<u8>, file: Option<&Path>) -> Result<Vec<u8>, Fault> {
+    if input.len() as u64 > limit {
+        return Err(Fault::too_long(&name_of(file), limit));
     }
     Ok(input)
 }

@@ -59,6 +59,13 @@ pub const SHOWDOWN: &str = r#"Commands are lines of standard input (docs/SHOWDOW
 After them come blocks of lines, each with an empty line at its end: update, sideupdate
 with a player's request or error, and end."#;
 
+pub const FOLLOW: &str = "\
+The log is one that `gen1 run --showdown` or `gen1 showdown` prints, a log of Showdown,
+or a replay page (docs/SHOWDOWN.md):
+  gen1 run --showdown examples/tauros.json | gen1 follow --side p2
+
+Without --team the player's own side too is known as far as the log shows it.";
+
 pub const TEAM: &str = "\
 The form of the input is recognized: JSON begins with [, the first line of a packed line
 has a bar, and anything else is an export text. Without an option the export text is

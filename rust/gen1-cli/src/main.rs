@@ -10,6 +10,7 @@ mod draws;
 mod explain;
 mod fault;
 mod files;
+mod follow;
 mod game;
 mod help;
 mod input;
@@ -74,6 +75,7 @@ fn done(command: &Command) -> Result<(), Fault> {
         Command::Team(asked) => team::convert(asked),
         Command::Names(asked) => names::names(asked),
         Command::Showdown(asked) => showdown::simulate(asked),
+        Command::Follow(asked) => follow::follow(asked),
         Command::Play(game) => play::play(game),
         Command::Replay(asked) => replay::replay(asked),
         Command::Bench(measure) => bench::bench(measure),

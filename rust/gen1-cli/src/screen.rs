@@ -6,7 +6,7 @@ use gen1::{Battle, Choice, KnownMove, MemberState, Side};
 const BAR: u16 = 20;
 
 /// An HP bar, rounded up, so that a member with any HP has at least one mark.
-fn bar(hp: u16, max: u16) -> String {
+pub fn bar(hp: u16, max: u16) -> String {
     let filled = u32::from(hp) * u32::from(BAR);
     let marks = filled.div_ceil(u32::from(max.max(1))) as usize;
     format!(

@@ -1,6 +1,8 @@
 //! The command line: subcommands and their arguments.
 use crate::input::{Input, Terms};
-use crate::{batch, bench, calc, explain, help, names, play, replay, shell, showdown, team};
+use crate::{
+    batch, bench, calc, explain, follow, help, names, play, replay, shell, showdown, team,
+};
 use clap::{Args, Parser, Subcommand};
 
 /// Which build of the engine this is.
@@ -50,6 +52,9 @@ pub enum Command {
     /// Speaks the text protocol of Showdown's simulator over standard input and output
     #[command(after_help = help::SHOWDOWN)]
     Showdown(showdown::Simulator),
+    /// Reads a battle log of Showdown, and prints what the player of a side knows after it
+    #[command(after_help = help::FOLLOW)]
+    Follow(follow::Follow),
     /// Plays against the computer, in the terminal
     #[command(after_help = help::PLAY)]
     Play(play::Game),

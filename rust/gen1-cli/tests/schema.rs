@@ -68,6 +68,9 @@ fn collected() -> Values {
             &value.to_string(),
             &["line", "updates"],
         );
+        let log = ran(&["run", "--showdown"], input.as_bytes()).stdout;
+        let log = String::from_utf8(log).expect("UTF-8");
+        values.prints("known", &["follow", "--json"], &log, &["own", "events"]);
         values.prints(
             "members",
             &["team", "--json"],

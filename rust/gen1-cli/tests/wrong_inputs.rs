@@ -73,6 +73,7 @@ fn nothing_reads_without_bound() {
         &["team"],
         &["calc", "--explain"],
         &["explain"],
+        &["follow"],
         &[
             "run",
             "--explain",

@@ -187,7 +187,7 @@ pub fn names_of(members: &Members) -> Vec<String> {
 }
 
 /// The names of a team's members, with a number where others have the same name.
-fn numbered(members: &Members) -> Vec<String> {
+pub fn numbered(members: &Members) -> Vec<String> {
     let mut names: Vec<String> = Vec::new();
     for base in names_of(members) {
         let is_taken = |name: &String| names.contains(name);

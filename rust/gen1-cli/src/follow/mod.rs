@@ -1,0 +1,163 @@
+//! `gen1 follow`: a battle log of Showdown, read back as what a player knows (docs/SHOWDOWN.md, "Reading a log back").
+mod fields;
+mod known;
+mod lines;
+mod reader;
+mod roster;
+
+use crate::fault::{self, Fault};
+use crate::files::{self, put};
+use crate::input::{Members, team, team_named};
+use crate::json::line_of;
+pub use crate::showdown::player_of;
+use clap::{Args, ValueEnum};
+use gen1::{Event, EventList, LogBuf, Player, Side, Team, member, write_log};
+use known::Known;
+use reader::Reader;
+use roster::Roster;
+use std::path::PathBuf;
+
+/// The arguments of `follow`.
+#[derive(Args)]
+pub struct Follow {
+    /// The side of the player that follows the battle
+    #[arg(long, value_enum, default_value = "p1")]
+    side: Followed,
+    /// The team of that side: a file with an export text, a packed line or JSON; or the text itself
+    #[arg(long, value_name = "TEAM")]
+    team: Option<PathBuf>,
+    /// Prints an object with what the player knows, and the events
+    #[arg(long)]
+    json: bool,
+    /// Writes the events as bytes, the log, which print and a player of the libraries read
+    #[arg(long, conflicts_with = "json")]
+    log: bool,
+    /// Refuses lines that may say something of the battle and are not known; without it a note names them
+    #[arg(long)]
+    strict: bool,
+    /// A battle log, a replay page, or what gen1 showdown prints; without FILE, or with -, standard input
+    file: Option<PathBuf>,
+}
+
+#[derive(Clone, Copy, ValueEnum)]
+enum Followed {
+    P1,
+    P2,
+}
+
+impl Followed {
+    fn side(self) -> Side {
+        match self {
+            Followed::P1 => Side::One,
+            Followed::P2 => Side::Two,
+        }
+    }
+}
+
+/// Reads a log, and prints what the player of a side knows after it.
+pub fn follow(asked: &Follow) -> Result<(), Fault> {
+    let (file, side) = (asked.file.as_deref(), asked.side.side());
+    let own = own_team(asked)?;
+    let bytes = files::read_battle_log(file)?;
+    let mut read = Reader::new(Side::BOTH.map(|it| match &own {
+        Some((team, members)) if it == side => Roster::of_team(it, team, members),
+        _ => Roster::new(it),
+    }));
+    let refused =
+        |(line, why): (usize, String)| Fault::protocol(line, &why).within(&files::name_of(file));
+    read_all(&mut read, side, &bytes).map_err(refused)?;
+    if let Some((line, what)) = read.unknown.first().filter(|_| asked.strict) {
+        return Err(refused((*line, format!("{what} is not known"))));
+    }
+    let player = player_of_log(side, own.map(|(team, _)| team), &read)?;
+    put_known(asked, &player, &read)?;
+    for (line, what) in &read.unknown {
+        fault::note(&format!(
+            "line {line}: {what} is not known, and not followed"
+        ));
+    }
+    Ok(())
+}
+
+/// The team of the player's own side, if it is given.
+fn own_team(asked: &Follow) -> Result<Option<(Team, Members)>, Fault> {
+    let Some(path) = asked.team.as_deref() else {
+        return Ok(None);
+    };
+    if files::named(Some(path)).is_none() && files::named(asked.file.as_deref()).is_none() {
+        return Err(Fault::one_standard_input());
+    }
+    let members = team_named(path)?;
+    let team = team(asked.side.side().number(), &members.specs)?;
+    Ok(Some((team, members)))
+}
+
+/// Reads all lines that a side sees. An error is a line's number and a sentence.
+fn read_all(read: &mut Reader, side: Side, bytes: &[u8]) -> Result<(), (usize, String)> {
+    let text = std::str::from_utf8(bytes).map_err(|why| {
+        let before = &bytes[..why.valid_up_to()];
+        let line = 1 + before.iter().filter(|byte| **byte == b'\n').count();
+        (line, "expected text in UTF-8".to_string())
+    })?;
+    let (log, before) = lines::log_in(text);
+    for (number, line) in lines::seen_by(side, &log, before) {
+        read.take(number, line).map_err(|why| (number, why))?;
+    }
+    match read.sides.iter().all(|roster| roster.active().is_some()) {
+        true => Ok(()),
+        false => {
+            let last = before + log.lines().count();
+            let why = "expected |switch| for both sides before the log ends";
+            Err((last.max(1), why.to_string()))
+        }
+    }
+}
+
+/// The player that is told the events. Without a team it gets one of the members that came out: all that it knows of them is in the log.
+fn player_of_log(side: Side, own: Option<Team>, read: &Reader) -> Result<Player, Fault> {
+    let [one, two] = &read.sides;
+    let (roster, foe) = match side {
+        Side::One => (one, two),
+        Side::Two => (two, one),
+    };
+    let own = own.map_or_else(|| stand_in(side, roster), Ok)?;
+    let mut player = match foe.count {
+        Some(count) => Player::with_foes(side, &own, count),
+        None => Player::new(side, &own),
+    };
+    player
+        .feed(&log_of(&read.events))
+        .map_err(|why| Fault::log(1, 0, why))?;
+    Ok(player)
+}
+
+fn stand_in(side: Side, roster: &Roster) -> Result<Team, Fault> {
+    let specs = roster.entries.iter().filter_map(|entry| {
+        let mut spec = member(entry.species.name(), &["Tackle"]).ok()?;
+        spec.level = entry.level.number();
+        Some(spec)
+    });
+    team(side.number(), &specs.collect::<Vec<_>>())
+}
+
+/// The log bytes of events.
+fn log_of(events: &[Event]) -> Vec<u8> {
+    let each = events.iter().flat_map(|event| {
+        let (mut list, mut log) = (EventList::new(), LogBuf::new());
+        list.push(*event);
+        write_log(&list, &mut log);
+        log
+    });
+    each.collect()
+}
+
+fn put_known(asked: &Follow, player: &Player, read: &Reader) -> Result<(), Fault> {
+    if asked.log {
+        return put(log_of(&read.events));
+    }
+    let known = Known::of(player, read);
+    put(match asked.json {
+        true => line_of(&known),
+        false => known.text(),
+    })
+}

@@ -1,0 +1,389 @@
+//! The events of a log, one line after the other.
+use super::fields::{
+    KINDS, REASONS, SOURCES, STATS, VOLATILES, details_in, health_in, known_value, member_in,
+    move_in, number_in, side_in, unexpected, value_of,
+};
+use super::roster::{Entry, Roster};
+use crate::input::near::{did_you_mean, nearest_word};
+use crate::input::shown;
+use gen1::{DamageSource, Event, FaultCode, Health, HitCount, Side, StageCount, TurnNumber, Who};
+
+/// Words of lines that say nothing of the battle.
+const PASSED_OVER: &[&str] = &[
+    "",
+    "start",
+    "upkeep",
+    "tier",
+    "rule",
+    "rated",
+    "t:",
+    "request",
+    "error",
+    "c",
+    "c:",
+    "chat",
+    "j",
+    "J",
+    "join",
+    "l",
+    "L",
+    "leave",
+    "n",
+    "N",
+    "name",
+    "raw",
+    "html",
+    "uhtml",
+    "uhtmlchange",
+    "inactive",
+    "inactiveoff",
+    "init",
+    "title",
+    "debug",
+    "bigerror",
+    "askreg",
+    "message",
+    "-hint",
+    "-center",
+    "-nothing",
+    "-notarget",
+    "-anim",
+    "clearpoke",
+    "poke",
+    "teampreview",
+];
+/// Words of lines that are read.
+const WORDS: &[&str] = &[
+    "player",
+    "teamsize",
+    "gametype",
+    "gen",
+    "split",
+    "turn",
+    "win",
+    "tie",
+    "switch",
+    "drag",
+    "move",
+    "cant",
+    "faint",
+    "-damage",
+    "-heal",
+    "-crit",
+    "-supereffective",
+    "-resisted",
+    "-immune",
+    "-miss",
+    "-fail",
+    "-status",
+    "-curestatus",
+    "-boost",
+    "-unboost",
+    "-clearallboost",
+    "-start",
+    "-end",
+    "-activate",
+    "-prepare",
+    "-mustrecharge",
+    "-hitcount",
+    "-ohko",
+    "-message",
+    "fault",
+];
+
+/// What was read of a log.
+pub struct Reader {
+    pub sides: [Roster; 2],
+    /// The names of the players; empty before the log names them.
+    pub names: [String; 2],
+    pub events: Vec<Event>,
+    /// Lines that may say something of the battle, and were passed over: the number of the first, and what it has.
+    pub unknown: Vec<(usize, String)>,
+    turn: u16,
+    /// The line in which the battle ended.
+    end: Option<usize>,
+}
+
+/// The fields of a line after its word.
+struct Fields<'a>(Vec<&'a str>);
+
+impl<'a> Fields<'a> {
+    fn at(&self, index: usize, expected: &str) -> Result<&'a str, String> {
+        let found = self.0.get(index).copied();
+        found.ok_or_else(|| format!("expected {expected} in field {}, found none", index + 1))
+    }
+
+    fn health(&self, before: Option<Health>) -> Result<Health, String> {
+        health_in(self.at(1, "HP")?, before)
+    }
+
+    /// What a hit is from. A tag that is not known stands for a direct hit.
+    fn source(&self) -> DamageSource {
+        let tags = self.0.iter().filter_map(|it| it.strip_prefix("[from] "));
+        let known = tags.filter_map(|tag| value_of(SOURCES, tag)).next();
+        known.unwrap_or(DamageSource::Direct)
+    }
+}
+
+fn index(side: Side) -> usize {
+    usize::from(side.number()) - 1
+}
+
+impl Reader {
+    pub fn new(sides: [Roster; 2]) -> Reader {
+        Reader {
+            sides,
+            names: Default::default(),
+            events: Vec::new(),
+            unknown: Vec::new(),
+            turn: 0,
+            end: None,
+        }
+    }
+
+    /// Takes the next line. Lines that don't begin with a bar are passed over.
+    pub fn take(&mut self, number: usize, line: &str) -> Result<(), String> {
+        let mut parts = line.split('|');
+        let (Some(""), Some(word)) = (parts.next(), parts.next()) else {
+            return Ok(());
+        };
+        let fields = Fields(parts.collect());
+        let inside = |why| format!("in |{word}|: {why}");
+        let read = match word {
+            "player" | "teamsize" | "gametype" | "gen" => self.header(word, &fields),
+            "turn" => self.begin_turn(&fields),
+            "win" | "tie" | "fault" | "-message" => self.finish(number, word, &fields),
+            _ if PASSED_OVER.contains(&word) => Ok(()),
+            _ if WORDS.contains(&word) => self.event(number, word, &fields),
+            _ => {
+                let meant = did_you_mean(nearest_word(word, WORDS.iter().copied()));
+                self.pass_over(number, format!("the word {}{meant}", shown(word)));
+                Ok(())
+            }
+        };
+        read.map_err(inside)
+    }
+
+    fn pass_over(&mut self, number: usize, what: String) {
+        // A log can have as many as it has lines. The first ones are enough to see why.
+        if self.unknown.len() < 20 && self.unknown.iter().all(|(_, known)| *known != what) {
+            self.unknown.push((number, what));
+        }
+    }
+
+    /// A line of the log's header.
+    fn header(&mut self, word: &str, fields: &Fields) -> Result<(), String> {
+        let first = fields.at(0, "a value")?;
+        match word {
+            "gametype" if first != "singles" => Err(unexpected("singles", first)),
+            "gen" if first != "1" => Err(unexpected("1", first)),
+            "teamsize" => {
+                let side = side_in(first)?;
+                let count = number_in(fields.at(1, "a number")?, 1, 6)?;
+                self.sides[index(side)].set_count(count as u8)
+            }
+            "player" => {
+                let side = side_in(first)?;
+                // A player that leaves is announced without a name.
+                if let Some(name) = fields.0.get(1).filter(|name| !name.is_empty()) {
+                    self.names[index(side)] = (*name).into();
+                }
+                Ok(())
+            }
+            _ => Ok(()),
+        }
+    }
+
+    fn begin_turn(&mut self, fields: &Fields) -> Result<(), String> {
+        let due = self.turn + 1;
+        let turn = number_in(fields.at(0, "a number")?, 1, 9999)?;
+        let number = TurnNumber::new(turn).filter(|_| turn == due);
+        let number = number.ok_or_else(|| unexpected(&format!("turn {due}"), fields.0[0]))?;
+        self.goes_on()?;
+        self.turn = turn;
+        self.events.push(Event::Turn(number));
+        Ok(())
+    }
+
+    fn goes_on(&self) -> Result<(), String> {
+        match self.end {
+            Some(line) => Err(format!("the battle has ended in line {line}")),
+            None => Ok(()),
+        }
+    }
+
+    /// A line that may end the battle.
+    fn finish(&mut self, number: usize, word: &str, fields: &Fields) -> Result<(), String> {
+        let event = match word {
+            // A fault is written with a tie after it.
+            "tie" if matches!(self.events.last(), Some(Event::Fault(_))) => return Ok(()),
+            "tie" => Event::Tie,
+            "win" => Event::Win(self.winner(fields.at(0, "the name of a player")?)?),
+            _ => match fault_in(word, fields) {
+                Some(code) => Event::Fault(code),
+                None => return Ok(()),
+            },
+        };
+        self.goes_on()?;
+        self.end = Some(number);
+        self.events.push(event);
+        Ok(())
+    }
+
+    /// The side of the player with a name, which may also be `p1` or `p2`.
+    fn winner(&self, name: &str) -> Result<Side, String> {
+        let sides = Side::BOTH.into_iter();
+        let mut named = sides.filter(|side| self.names[index(*side)] == name);
+        match (named.next(), named.next()) {
+            (Some(side), None) => Ok(side),
+            (Some(_), Some(_)) => Err(format!("both players have the name {}", shown(name))),
+            _ => side_in(name).map_err(|_| {
+                let [one, two] = self.names.each_ref().map(|name| shown(name));
+                unexpected(&format!("the name of a player, {one} or {two}"), name)
+            }),
+        }
+    }
+
+    /// A line with an event of a member, or of both sides' members.
+    fn event(&mut self, number: usize, word: &str, fields: &Fields) -> Result<(), String> {
+        self.goes_on()?;
+        let event = match word {
+            "-clearallboost" => Some(Event::ClearAll),
+            "-ohko" => Some(Event::OneHitKnockOut),
+            "switch" | "drag" => Some(self.sent_out(fields)?),
+            _ => {
+                let (side, name) = member_in(fields.at(0, "a member, such as p1a: Tauros")?)?;
+                let who = self.sides[index(side)].named(name)?;
+                self.of_member(number, who, word, fields)?
+            }
+        };
+        self.events.extend(event);
+        Ok(())
+    }
+
+    fn sent_out(&mut self, fields: &Fields) -> Result<Event, String> {
+        let (side, name) = member_in(fields.at(0, "a member, such as p1a: Tauros")?)?;
+        let (species, level) = details_in(fields.at(1, "a species, such as Tauros, L88")?)?;
+        let health = health_in(fields.at(2, "HP, such as 120/353")?, None)?;
+        let coming = Entry {
+            species,
+            level,
+            name: name.into(),
+            health: Some(health),
+        };
+        let place = self.sides[index(side)].send_out(coming)?;
+        Ok(Event::Switch(Who { side, species }, place, level, health))
+    }
+
+    /// The event of a member that is out; none for a line that changes nothing.
+    fn of_member(
+        &mut self,
+        number: usize,
+        who: Who,
+        word: &str,
+        fields: &Fields,
+    ) -> Result<Option<Event>, String> {
+        let second = |expected| fields.at(1, expected);
+        Ok(Some(match word {
+            "move" => Event::Move(who, move_in(second("a move")?)?, self.foe_of(who)?),
+            "-prepare" => Event::Prepare(who, move_in(second("a move")?)?),
+            "-damage" | "-heal" | "-status" | "-curestatus" | "faint" => {
+                return self.of_health(who, word, fields).map(Some);
+            }
+            "-boost" | "-unboost" => return shift(who, word, fields),
+            "cant" | "-start" | "-end" | "-activate" => {
+                let name = second("what it is")?;
+                let event = named(who, word, name);
+                if event.is_none() {
+                    self.pass_over(number, format!("{} in |{word}|", shown(name)));
+                }
+                return Ok(event);
+            }
+            "-hitcount" => {
+                let hits = number_in(second("a number of hits")?, 1, 5)?;
+                return Ok(HitCount::new(hits as u8).map(|it| Event::HitCount(who, it)));
+            }
+            "-crit" => Event::Crit(who),
+            "-supereffective" => Event::SuperEffective(who),
+            "-resisted" => Event::Resisted(who),
+            "-immune" => Event::Immune(who),
+            "-miss" => Event::Miss(who),
+            "-fail" => Event::Fail(who),
+            "-mustrecharge" => Event::MustRecharge(who),
+            _ => return Ok(None),
+        }))
+    }
+
+    fn foe_of(&self, who: Who) -> Result<Who, String> {
+        let roster = &self.sides[index(who.side.other())];
+        let active = roster.active().map(|active| roster.who(active));
+        active.ok_or_else(|| {
+            format!(
+                "side {} has no member out before |switch|",
+                who.side.other()
+            )
+        })
+    }
+
+    /// An event that changes HP or status of a member.
+    fn of_health(&mut self, who: Who, word: &str, fields: &Fields) -> Result<Event, String> {
+        let roster = &mut self.sides[index(who.side)];
+        let before = roster.active().and_then(|active| active.health);
+        let with = |hp, kind| before.and_then(|it| Health::new(hp, it.max(), kind));
+        let hp = before.map_or(0, Health::hp);
+        let (health, event) = match word {
+            "faint" => (with(0, None), Event::Faint(who)),
+            "-damage" => {
+                let health = fields.health(before)?;
+                (Some(health), Event::Damage(who, health, fields.source()))
+            }
+            "-heal" => {
+                let health = fields.health(before)?;
+                (Some(health), Event::Heal(who, health))
+            }
+            _ => {
+                let kind = known_value(KINDS, fields.at(1, "a status")?)?;
+                match word {
+                    "-status" => (with(hp, Some(kind)), Event::Status(who, kind)),
+                    _ => (with(hp, None), Event::Cure(who, kind)),
+                }
+            }
+        };
+        roster.set_health(health);
+        Ok(event)
+    }
+}
+
+/// The event of a line whose second field is a name; `None` for a name that is not known.
+fn named(who: Who, word: &str, name: &str) -> Option<Event> {
+    let volatile = || value_of(VOLATILES, name);
+    match word {
+        "cant" => value_of(REASONS, name).map(|why| Event::Cant(who, why)),
+        "-start" => volatile().map(|it| Event::Start(who, it)),
+        "-end" => volatile().map(|it| Event::End(who, it)),
+        _ => volatile().map(|it| Event::Activate(who, it)),
+    }
+}
+
+/// A change of a stage; none for no stages, and for the second stat of the Special.
+fn shift(who: Who, word: &str, fields: &Fields) -> Result<Option<Event>, String> {
+    let stat = known_value(STATS, fields.at(1, "a stat")?)?;
+    let count = number_in(fields.at(2, "a number of stages")?, 0, 2)?;
+    let both = stat.zip(StageCount::new(count as u8));
+    Ok(both.map(|(stat, count)| match word {
+        "-boost" => Event::Boost(who, stat, count),
+        _ => Event::Unboost(who, stat, count),
+    }))
+}
+
+/// The fault that a line reports: `|fault|1`, or the message that the program writes in Showdown's form.
+fn fault_in(word: &str, fields: &Fields) -> Option<FaultCode> {
+    let text = fields.0.first()?;
+    let code = match word {
+        "fault" => text,
+        _ => text
+            .strip_prefix("The battle cannot go on (fault ")?
+            .strip_suffix(").")?,
+    };
+    FaultCode::new(code.parse().ok()?)
+}

@@ -1,0 +1,156 @@
+//! The members of a side, told apart by what a log says of them.
+use crate::input::{Members, shown};
+use crate::showdown::numbered;
+use gen1::{Health, Level, Place, Side, Species, Team, Who};
+
+/// A member of a side.
+pub struct Entry {
+    pub species: Species,
+    pub level: Level,
+    /// Its name in the log; before it comes out, that of the team.
+    pub name: String,
+    /// HP and status as the log had them last; `None` before the member comes out.
+    pub health: Option<Health>,
+}
+
+/// The members of a side: those of its team in their order, or those that came out in the order in which they did.
+pub struct Roster {
+    side: Side,
+    pub entries: Vec<Entry>,
+    has_team: bool,
+    /// Which member is out, from 0.
+    out: Option<usize>,
+    /// The number of members; `None` if the log has not said it.
+    pub count: Option<u8>,
+}
+
+impl Roster {
+    /// A side of which nothing is known.
+    pub fn new(side: Side) -> Roster {
+        Roster {
+            side,
+            entries: Vec::new(),
+            has_team: false,
+            out: None,
+            count: None,
+        }
+    }
+
+    /// A side whose team is known.
+    pub fn of_team(side: Side, team: &Team, members: &Members) -> Roster {
+        let named = team.members().iter().zip(numbered(members));
+        let entry = |(member, name): (&gen1::Member, String)| {
+            let level = Level::new(member.level())?;
+            let (species, health) = (member.species(), None);
+            Some(Entry {
+                species,
+                level,
+                name,
+                health,
+            })
+        };
+        let entries: Vec<_> = named.filter_map(entry).collect();
+        Roster {
+            count: u8::try_from(entries.len()).ok(),
+            has_team: true,
+            entries,
+            ..Roster::new(side)
+        }
+    }
+
+    /// Takes the number of members from the log.
+    pub fn set_count(&mut self, count: u8) -> Result<(), String> {
+        match self.count.filter(|_| self.has_team) {
+            Some(known) if known != count => Err(format!(
+                "expected {known}, the number of members of the team, found \"{count}\""
+            )),
+            _ => {
+                self.count = Some(count);
+                Ok(())
+            }
+        }
+    }
+
+    /// Sends out a member, and returns its place.
+    pub fn send_out(&mut self, coming: Entry) -> Result<Place, String> {
+        let known = self.find(&coming);
+        let at = known.unwrap_or(self.entries.len());
+        let most = usize::from(self.count.unwrap_or(6));
+        let place = u8::try_from(at + 1).ok().and_then(Place::new);
+        let Some(place) = place.filter(|_| at < most && (known.is_some() || !self.has_team)) else {
+            return Err(self.no_other(&coming, most));
+        };
+        match known {
+            Some(at) => self.entries[at] = coming,
+            None => self.entries.push(coming),
+        }
+        self.out = Some(at);
+        Ok(place)
+    }
+
+    /// The member that comes out: one that went in with the same name, HP and status, else one of the team that has not been out, of the
+    /// same name if there is one.
+    fn find(&self, coming: &Entry) -> Option<usize> {
+        let same = |at: &usize| {
+            let entry = &self.entries[*at];
+            entry.species == coming.species && entry.level == coming.level
+        };
+        let fitting = || (0..self.entries.len()).filter(same);
+        let returns = |at: &usize| {
+            let entry = &self.entries[*at];
+            self.out != Some(*at) && entry.name == coming.name && entry.health == coming.health
+        };
+        let fresh = || fitting().filter(|at| self.entries[*at].health.is_none());
+        let named = |at: &usize| self.entries[*at].name == coming.name;
+        let found = fitting().find(returns).or_else(|| fresh().find(named));
+        found.or_else(|| fresh().next())
+    }
+
+    fn no_other(&self, coming: &Entry, most: usize) -> String {
+        let (side, name) = (self.side, shown(&coming.name));
+        let (species, level) = (coming.species, coming.level);
+        let who = format!(
+            "side {side} sends out {name} ({species}, L{level}) with other HP or status than a member that went in"
+        );
+        match self.has_team {
+            true => format!("{who}, and its team has no other member of this species and level"),
+            false => format!("{who}, and its {most} members have all been out"),
+        }
+    }
+
+    /// The member that is out.
+    pub fn active(&self) -> Option<&Entry> {
+        self.entries.get(self.out?)
+    }
+
+    /// The member that a line names, which has to be the one that is out.
+    pub fn named(&self, name: &str) -> Result<Who, String> {
+        let side = self.side;
+        let active = self.active();
+        let active =
+            active.ok_or_else(|| format!("side {side} has no member out before |switch|"))?;
+        match active.name == name {
+            true => Ok(self.who(active)),
+            false => Err(format!(
+                "expected {}, which side {side} has out, found {}",
+                shown(&active.name),
+                shown(name)
+            )),
+        }
+    }
+
+    pub fn who(&self, entry: &Entry) -> Who {
+        Who {
+            side: self.side,
+            species: entry.species,
+        }
+    }
+
+    /// Changes the HP and status of the member that is out.
+    pub fn set_health(&mut self, health: Option<Health>) {
+        let out = self.out.and_then(|at| self.entries.get_mut(at));
+        if let (Some(entry), Some(health)) = (out, health) {
+            entry.health = Some(health);
+        }
+    }
+}

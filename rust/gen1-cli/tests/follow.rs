@@ -1,0 +1,526 @@
+//! `gen1 follow`: a log read back is what a player knows. What is due is the `Player` of the library, which the battle itself tells.
+mod common;
+use common::{fed, file_with, gen1, ran, recorded};
+use gen1::{Battle, Choice, MemberSpec, Player, PublicSide, Rules, Side, Team, Teller, TurnLimit};
+use serde_json::{Value, json};
+
+const FILES: [&str; 4] = ["battles", "first_path", "limit", "rules"];
+
+/// The inputs of the recorded battles that are played to their last pair.
+fn inputs() -> Vec<Value> {
+    let cases = FILES.iter().flat_map(|name| recorded(name));
+    let played = cases.filter(|case| case["status"].as_i64().unwrap_or(0) == 0);
+    played
+        .map(|case| serde_json::from_str(case["input"].as_str().expect("an input")).expect("JSON"))
+        .collect()
+}
+
+fn team(input: &Value, side: Side) -> Team {
+    let specs: Vec<MemberSpec> = serde_json::from_value(members(input, side)).expect("members");
+    Team::new(&specs).expect("a team")
+}
+
+fn members(input: &Value, side: Side) -> Value {
+    input[if side == Side::One { "one" } else { "two" }].clone()
+}
+
+fn count(input: &Value, side: Side) -> u8 {
+    members(input, side).as_array().expect("members").len() as u8
+}
+
+fn battle(input: &Value) -> Battle {
+    let number = |key: &str, otherwise: u64| input[key].as_u64().unwrap_or(otherwise);
+    let seed = serde_json::from_value(input["seed"].clone()).expect("a seed");
+    let rules = Rules::new(number("rules", 0) as u8).expect("rules");
+    let limit = TurnLimit::new(number("limit", 1000) as u16).expect("a limit");
+    let [one, two] = Side::BOTH.map(|side| team(input, side));
+    Battle::with_limit(&one, &two, seed, rules, limit)
+}
+
+fn pairs(input: &Value) -> Vec<[u8; 2]> {
+    serde_json::from_value(input["choices"].clone()).expect("bytes")
+}
+
+/// The player of a side that the battle tells of each update.
+fn told(input: &Value, side: Side, mut teller: Teller) -> Player {
+    let foes = count(input, side.other());
+    let mut player = Player::with_foes(side, &team(input, side), foes);
+    let mut battle = battle(input);
+    for [one, two] in pairs(input) {
+        let mut log = gen1::LogBuf::new();
+        battle.update_with(one, two, &mut log).expect("an update");
+        let log = teller.tell_log(&log).expect("a log");
+        player.feed(&log).expect("a log");
+    }
+    player
+}
+
+fn name(side: Side) -> &'static str {
+    if side == Side::One { "p1" } else { "p2" }
+}
+
+/// What `gen1 follow` knows of a log, with the team of the side if it is given.
+fn followed(log: &str, side: Side, team: Option<&Value>) -> Value {
+    let mut command = gen1();
+    command.args(["follow", "--strict", "--json", "--side", name(side)]);
+    if let Some(team) = team {
+        // Tests run side by side, each with a file of its own.
+        let test = std::thread::current();
+        let file = format!("follow.{}.json", test.name().unwrap_or_default());
+        let file = file_with(&file, team.to_string());
+        command.arg("--team").arg(file);
+    }
+    let done = fed(&mut command, log.as_bytes());
+    let told = String::from_utf8_lossy(&done.stderr);
+    assert!(done.status.success() && told.is_empty(), "{told}\n{log}");
+    serde_json::from_slice(&done.stdout).expect("JSON")
+}
+
+/// What is public of a side, in the form of the program.
+fn public(side: &PublicSide, count: usize) -> Value {
+    let members = side.members.iter().take(count).map(|it| {
+        let moves: Vec<_> = it
+            .moves()
+            .map(|(id, uses)| json!({"id": id.name(), "uses": uses}))
+            .collect();
+        let status = it.status().map(|kind| format!("{kind:?}"));
+        let species = it.species().expect("a species").name();
+        json!({"species": species, "level": it.level, "hp": it.hp, "max_hp": it.max, "status": status, "moves": moves})
+    });
+    let (on, it) = (side.announced, side.stages);
+    let names = [
+        (on.bide, "BIDE"),
+        (on.charging, "CHARGING"),
+        (on.confused, "CONFUSED"),
+        (on.mist, "MIST"),
+        (on.focus_energy, "FOCUS_ENERGY"),
+        (on.substitute, "SUBSTITUTE"),
+        (on.recharging, "RECHARGE"),
+        (on.rage, "RAGE"),
+        (on.seeded, "SEEDED"),
+        (on.toxic, "BAD_POISON"),
+        (on.light_screen, "LIGHT_SCREEN"),
+        (on.reflect, "REFLECT"),
+        (on.disabled, "DISABLED"),
+    ];
+    let names = names.iter().filter(|(flag, _)| *flag == 1);
+    let stages = [
+        it.attack,
+        it.defense,
+        it.speed,
+        it.special,
+        it.accuracy,
+        it.evasion,
+    ];
+    json!({
+        "members": members.collect::<Vec<_>>(),
+        "place": side.place,
+        "types": side.types().map(|it| format!("{it:?}")),
+        "stages": stages.map(|it| i32::from(it) - 6),
+        "conditions": names.map(|(_, name)| *name).collect::<Vec<_>>().join(" "),
+        "last_move": side.last_move().map(|id| id.name()),
+    })
+}
+
+/// The same of what the program knows.
+fn known(side: &Value) -> Value {
+    let mut known = side["active"].clone();
+    let mut members = side["members"].clone();
+    for member in members.as_array_mut().expect("members") {
+        member.as_object_mut().expect("a member").remove("name");
+    }
+    known["members"] = members;
+    known
+}
+
+/// Compares what the program knows with the player that the battle told. Without a team the own side is in the order of appearance, so only
+/// the foe is compared.
+fn compare(object: &Value, player: &Player, has_team: bool) {
+    assert_eq!(object["turn"], json!(player.turn()));
+    assert_eq!(object["foe"]["count"], json!(player.foes()));
+    let count = |side: &str| object[side]["members"].as_array().expect("members").len();
+    let foe = player.foe();
+    let seen = foe.members.iter().filter(|it| it.species != 0).count();
+    assert_eq!(count("foe"), seen);
+    assert_eq!(known(&object["foe"]), public(foe, seen));
+    if has_team {
+        let own = player.public(player.side());
+        assert_eq!(known(&object["own"]), public(own, count("own")));
+    }
+    let outcome = serde_json::to_value(player.outcome()).expect("JSON");
+    assert_eq!(object["outcome"], outcome);
+}
+
+/// Whether no two members of a side have the same species and level.
+fn are_distinct(input: &Value) -> bool {
+    Side::BOTH.into_iter().all(|side| {
+        let members = members(input, side);
+        let members = members.as_array().expect("members").iter();
+        let mut all: Vec<_> = members.map(|it| it["species"].to_string()).collect();
+        all.sort_unstable();
+        all.windows(2).all(|pair| pair[0] != pair[1])
+    })
+}
+
+#[test]
+fn a_log_of_a_recorded_battle_is_what_the_battle_tells() {
+    let inputs = inputs();
+    for input in &inputs {
+        let printed = ran(&["run", "--showdown"], input.to_string().as_bytes()).stdout;
+        let log = String::from_utf8(printed).expect("UTF-8");
+        for side in Side::BOTH {
+            let player = told(input, side, Teller::new(side));
+            let own = members(input, side);
+            compare(&followed(&log, side, Some(&own)), &player, true);
+            compare(&followed(&log, side, None), &player, false);
+        }
+    }
+    assert!(inputs.is_empty() || inputs.len() > 400, "{}", inputs.len());
+}
+
+/// The commands that play an input in `gen1 showdown`.
+fn commands(input: &Value) -> String {
+    let format = if input["rules"] == 3 {
+        "gen1ou"
+    } else {
+        "gen1customgame"
+    };
+    let mut text = format!(
+        ">start {}\n",
+        json!({"formatid": format, "seed": input["seed"]})
+    );
+    for side in Side::BOTH {
+        let player = json!({"name": name(side).repeat(2), "team": members(input, side)});
+        text += &format!(">player {} {player}\n", name(side));
+    }
+    let mut battle = battle(input);
+    // A request has the active member first, and each switch swaps two of them.
+    let mut orders: [Vec<usize>; 2] = [(1..=6).collect(), (1..=6).collect()];
+    for [one, two] in pairs(input) {
+        for ((side, byte), order) in Side::BOTH.into_iter().zip([one, two]).zip(&mut orders) {
+            let word = match Choice::from_byte(byte).expect("a choice") {
+                Choice::Pass => continue,
+                Choice::Move(slot) => format!("move {}", slot.number().max(1)),
+                Choice::Switch(place) => {
+                    let place = usize::from(place.number());
+                    let at = order.iter().position(|it| *it == place).expect("a place");
+                    order.swap(0, at);
+                    format!("switch {}", at + 1)
+                }
+            };
+            text += &format!(">{} {word}\n", name(side));
+        }
+        battle.update_silent(one, two).expect("an update");
+    }
+    text
+}
+
+/// The lines that a side is sent of what the simulator prints: those of updates, and of two after `|split|` its own.
+fn view(printed: &str, side: Side) -> String {
+    let mut text = String::new();
+    for block in printed
+        .split("\n\n")
+        .filter(|it| it.starts_with("update\n"))
+    {
+        let mut lines = block.lines().skip(1);
+        while let Some(line) = lines.next() {
+            let kept = match line.strip_prefix("|split|") {
+                None => Some(line),
+                Some(owner) => {
+                    let (own, public) = (lines.next(), lines.next());
+                    if owner == name(side) { own } else { public }
+                }
+            };
+            text += &format!("{}\n", kept.expect("a line"));
+        }
+    }
+    text
+}
+
+#[test]
+fn what_a_side_is_sent_is_what_the_battle_tells() {
+    let inputs = inputs();
+    let fits = |input: &&Value| {
+        let rules = &input["rules"];
+        (rules.is_null() || *rules == 0 || *rules == 3)
+            && (input["limit"].is_null() || input["limit"] == 1000)
+            && are_distinct(input)
+    };
+    let mut compared = 0;
+    for input in inputs.iter().filter(fits) {
+        let commands = commands(input);
+        for pixels in [false, true] {
+            let words: &[&str] = if pixels {
+                &["showdown", "--pixels"]
+            } else {
+                &["showdown"]
+            };
+            let printed = ran(words, commands.as_bytes());
+            assert!(printed.status.success());
+            let printed = String::from_utf8(printed.stdout).expect("UTF-8");
+            assert!(!printed.contains("|error|"), "{commands}\n{printed}");
+            for side in Side::BOTH {
+                let teller = if pixels {
+                    Teller::in_pixels(side)
+                } else {
+                    Teller::new(side)
+                };
+                let player = told(input, side, teller);
+                let own = members(input, side);
+                // What the simulator prints for both sides, and what one side gets of it.
+                compare(&followed(&printed, side, Some(&own)), &player, true);
+                compare(
+                    &followed(&view(&printed, side), side, Some(&own)),
+                    &player,
+                    true,
+                );
+                compared += 1;
+            }
+        }
+    }
+    assert!(inputs.is_empty() || compared > 800, "{compared}");
+}
+
+/// The log that `--log` writes makes a player of the library know the same.
+#[test]
+fn the_bytes_of_a_log_are_read_by_a_player() {
+    for input in inputs().iter().step_by(20) {
+        let log = ran(&["run", "--showdown"], input.to_string().as_bytes()).stdout;
+        let (side, own) = (Side::Two, members(input, Side::Two).to_string());
+        let team_file = file_with("follow_log.json", own);
+        let words = ["follow", "--log", "--side", "p2", "--team", &team_file];
+        let bytes = ran(&words, &log).stdout;
+        let due = told(input, side, Teller::new(side));
+        let mut player = Player::with_foes(side, &team(input, side), count(input, Side::One));
+        player.feed(&bytes).expect("a log");
+        assert_eq!(
+            Side::BOTH.map(|it| *player.public(it)),
+            Side::BOTH.map(|it| *due.public(it))
+        );
+    }
+}
+
+/// A random number generator (xorshift), so that each run has the same logs.
+struct Random(u64);
+
+impl Random {
+    fn below(&mut self, bound: usize) -> usize {
+        self.0 ^= self.0 << 13;
+        self.0 ^= self.0 >> 7;
+        self.0 ^= self.0 << 17;
+        (self.0 >> 33) as usize % bound
+    }
+
+    /// A log that is cut, has two lines swapped, or has up to four bytes changed.
+    fn damaged(&mut self, log: &[u8]) -> Vec<u8> {
+        let mut bytes = log.to_vec();
+        match self.below(3) {
+            0 => bytes.truncate(self.below(log.len())),
+            1 => {
+                let mut lines: Vec<&[u8]> = log.split(|byte| *byte == b'\n').collect();
+                let (one, two) = (self.below(lines.len()), self.below(lines.len()));
+                lines.swap(one, two);
+                bytes = lines.join(&b'\n');
+            }
+            _ => {
+                for _ in 0..=self.below(4) {
+                    let at = self.below(bytes.len());
+                    bytes[at] = self.below(256) as u8;
+                }
+            }
+        }
+        bytes
+    }
+}
+
+#[test]
+fn a_damaged_log_is_read_or_refused_in_one_line() {
+    let inputs = inputs();
+    let mut random = Random(3);
+    let mut refused = 0;
+    let rounds = if inputs.is_empty() { 0 } else { 720 };
+    for round in 0..rounds {
+        let input = inputs[round * 7 % inputs.len()].to_string();
+        let log = ran(&["run", "--showdown"], input.as_bytes()).stdout;
+        let done = ran(&["follow", "--json"], &random.damaged(&log));
+        let told = String::from_utf8(done.stderr).expect("UTF-8");
+        let lines: Vec<_> = told.lines().collect();
+        match done.status.code() {
+            Some(0) => assert!(
+                lines.iter().all(|it| it.starts_with("note: line ")),
+                "{told}"
+            ),
+            Some(1) => {
+                refused += 1;
+                assert_eq!((lines.len(), lines[0]), (2, "error: showdown"), "{told}");
+                assert!(lines[1].starts_with("standard input: line "), "{told}");
+            }
+            other => panic!("{other:?}: {told}"),
+        }
+    }
+    assert!(rounds == 0 || (200..700).contains(&refused), "{refused}");
+}
+
+const START: &str = "|player|p1|Alice|60|\n|player|p2|Bob|2|\n|teamsize|p1|2\n|teamsize|p2|6\n|gametype|singles\n|gen|1\n|start\n\
+    |switch|p1a: Bo|Tauros, M|100/100\n|switch|p2a: Chansey|Chansey, F|100/100\n|turn|1\n";
+
+/// Forms that Showdown is remembered to write, and this program does not.
+#[test]
+fn other_forms_of_showdown_are_read() {
+    let turn = "|c|Alice|hi|there\n|move|p1a: Bo|bodyslam|p2a: Chansey|[miss]\n|-miss|p1a: Bo|p2a: Chansey\n\
+        |move|p2a: Chansey|Thunder Wave|p1a: Bo\n|-status|p1a: Bo|par|[from] move: Thunder Wave\n\n|\n|t:|1700000000\n|upkeep\n|turn|2\n\
+        |-start|p2a: Chansey|move: Reflect\n|-boost|p2a: Chansey|spa|1|[silent]\n|-boost|p2a: Chansey|spd|1\n|-boost|p2a: Chansey|evasion|0\n\
+        |-damage|p1a: Bo|40/100y par|[from] Leech Seed|[of] p2a: Chansey\n|drag|p1a: Jynx|Jynx, L88, F|48/48 tox\n|-transform|p2a: Chansey|p1a: Jynx\n";
+    let log = format!("{START}{turn}");
+    let done = ran(&["follow", "--json"], log.as_bytes());
+    let object: Value = serde_json::from_slice(&done.stdout).expect("JSON");
+    assert_eq!(
+        String::from_utf8_lossy(&done.stderr),
+        "note: line 27: the word \"-transform\" is not known, and not followed\n"
+    );
+    assert_eq!(object["own"]["player"], "Alice");
+    assert_eq!(
+        (&object["foe"]["count"], &object["turn"]),
+        (&json!(6), &json!(2))
+    );
+    let due = json!([
+        {"name": "Bo", "species": "Tauros", "level": 100, "hp": 40, "max_hp": 100, "status": "Paralysis", "moves": [{"id": "Body Slam", "uses": 1}]},
+        {"name": "Jynx", "species": "Jynx", "level": 88, "hp": 48, "max_hp": 48, "status": "Poison", "moves": []},
+    ]);
+    assert_eq!(object["own"]["members"], due);
+    let active = &object["foe"]["active"];
+    assert_eq!(active["stages"], json!([0, 0, 0, 1, 0, 0]));
+    assert_eq!(
+        (&active["conditions"], &active["last_move"]),
+        (&json!("REFLECT"), &json!("Thunder Wave"))
+    );
+    assert_eq!(
+        ran(&["follow", "--strict"], log.as_bytes()).status.code(),
+        Some(1)
+    );
+}
+
+/// A replay page is read as its log.
+#[test]
+fn a_page_is_read_as_its_log() {
+    let input = common::battle(common::TAUROS, r#""choices":[[0,0],[17,17]]"#);
+    let page = common::file_with("follow.html", "");
+    let made = ran(&["replay", "--showdown", "--out", &page], input.as_bytes());
+    assert!(
+        made.status.success(),
+        "{}",
+        String::from_utf8_lossy(&made.stderr)
+    );
+    let log = ran(&["run", "--showdown"], input.as_bytes()).stdout;
+    assert_eq!(
+        ran(&["follow", &page], b"").stdout,
+        ran(&["follow"], &log).stdout
+    );
+}
+
+#[test]
+fn a_wrong_line_leads_to_its_fault() {
+    let cases = [
+        (
+            "|-damage|p2a: Chansey|700/100",
+            "in |-damage|: expected HP as 120/353 or 120/353 par, with a maximum from 11 to 999, or 0 fnt, found \"700/100\"",
+        ),
+        (
+            "|-damage|p2a: Chansey",
+            "in |-damage|: expected HP in field 2, found none",
+        ),
+        (
+            "|-damage|p2a: Chansey|7/100 pra",
+            "in |-damage|: expected one of slp, psn, tox, brn, frz, par, found \"pra\"; did you mean \"par\"?",
+        ),
+        (
+            "|move|p1a: Bo|Bodyslem|p2a: Chansey",
+            "in |move|: expected a move, found \"Bodyslem\"; did you mean \"Body Slam\"?",
+        ),
+        (
+            "|move|p1a: Bob|Body Slam|p2a: Chansey",
+            "in |move|: expected \"Bo\", which side 1 has out, found \"Bob\"",
+        ),
+        (
+            "|move|Bo|Body Slam",
+            "in |move|: expected a member, such as p1a: Tauros, found \"Bo\"",
+        ),
+        (
+            "|switch|p1a: Bo|Tarous|100/100",
+            "in |switch|: expected a species, found \"Tarous\"; did you mean \"Tauros\"?",
+        ),
+        (
+            "|switch|p1a: Bo|Tauros, L101|100/100",
+            "in |switch|: expected a level from L1 to L100, found \"Tauros, L101\"",
+        ),
+        ("|turn|3", "in |turn|: expected turn 2, found \"3\""),
+        (
+            "|win|Eve",
+            "in |win|: expected the name of a player, \"Alice\" or \"Bob\", found \"Eve\"",
+        ),
+        (
+            "|win|Bob\n|turn|2",
+            "in |turn|: the battle has ended in line 11",
+        ),
+        ("|gen|2", "in |gen|: expected 1, found \"2\""),
+        (
+            "|gametype|doubles",
+            "in |gametype|: expected singles, found \"doubles\"",
+        ),
+        (
+            "|-boost|p1a: Bo|spx|1",
+            "in |-boost|: expected one of atk, def, spe, spa, spc, spd, accuracy, acc, evasion, eva, found \"spx\"; did you mean \"spa\"?",
+        ),
+        (
+            "|-hitcount|p1a: Bo|6",
+            "in |-hitcount|: expected a number from 1 to 5, found \"6\"",
+        ),
+        (
+            "|teamsize|p1|7",
+            "in |teamsize|: expected a number from 1 to 6, found \"7\"",
+        ),
+        (
+            "|switch|p1a: A|Mew|99/99\n|switch|p1a: B|Mew|99/99",
+            "in |switch|: side 1 sends out \"B\" (Mew, L100) with other HP or status than a member that went in, and its 2 members have all been out",
+        ),
+    ];
+    for (lines, why) in cases {
+        let done = ran(&["follow"], format!("{START}{lines}\n").as_bytes());
+        let line = 10 + lines.lines().count();
+        let due = format!("error: showdown\nstandard input: line {line}: {why}\n");
+        assert_eq!(common::told(&done), (1, due.as_str()), "{lines}");
+    }
+    for (log, why) in [
+        (
+            "",
+            "line 1: expected |switch| for both sides before the log ends",
+        ),
+        (
+            "|move|p1a: Bo|Tackle|",
+            "line 1: in |move|: side 1 has no member out before |switch|",
+        ),
+        (
+            "|turn|\u{7f}",
+            "line 1: in |turn|: expected a number from 1 to 9999, found \"\u{7f}\"",
+        ),
+    ] {
+        let done = ran(&["follow"], log.as_bytes());
+        let due = format!("error: showdown\nstandard input: {why}\n");
+        assert_eq!(common::told(&done), (1, due.as_str()), "{log}");
+    }
+    let team = file_with("follow_wrong.txt", "Mew\n- Surf");
+    for (log, why) in [
+        (
+            START,
+            "line 3: in |teamsize|: expected 1, the number of members of the team, found \"2\"",
+        ),
+        (
+            &START.replace("|teamsize|p1|2", "|"),
+            "line 8: in |switch|: side 1 sends out \"Bo\" (Tauros, L100) with other HP or status than a member that went in, and its team has no other member of this species and level",
+        ),
+    ] {
+        let done = ran(&["follow", "--team", &team], log.as_bytes());
+        let due = format!("error: showdown\nstandard input: {why}\n");
+        assert_eq!(common::told(&done), (1, due.as_str()));
+    }
+}
