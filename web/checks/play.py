@@ -134,7 +134,7 @@ def a_worker_that_fails_is_done_without(browser):
 def a_worker_says_why_it_cannot(browser):
     browser.open("#play")
     told = browser.run("""
-        const worker = new Worker(URL.createObjectURL(new Blob([document.getElementById('worker').text], {type: 'text/javascript'})));
+        const worker = new Worker(URL.createObjectURL(new Blob([document.getElementById('script').text], {type: 'text/javascript'})));
         worker.postMessage({module: new Uint8Array([1, 2, 3])});
         worker.postMessage({id: 7, battle: new Uint8Array(384), side: 1, player: 'greedy', seed: 1});
         return new Promise((done) => (worker.onmessage = ({data}) => done(data)));""")

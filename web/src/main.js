@@ -161,9 +161,12 @@ async function begin() {
   document.documentElement.dataset.ready = "true";
 }
 
-listenTheme();
-find("notice-close", HTMLButtonElement).addEventListener("click", () => notice(""));
-begin().catch((error) => {
-  console.error(error);
-  notice(`The engine could not start: ${error instanceof Error ? error.message : error}`);
-});
+/** Starts the page. */
+export function start() {
+  listenTheme();
+  find("notice-close", HTMLButtonElement).addEventListener("click", () => notice(""));
+  begin().catch((error) => {
+    console.error(error);
+    notice(`The engine could not start: ${error instanceof Error ? error.message : error}`);
+  });
+}

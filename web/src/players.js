@@ -22,7 +22,7 @@ export class Players {
   begun() {
     if (this.worker || this.hasFailed) return this.worker;
     try {
-      const url = URL.createObjectURL(new Blob([find("worker", HTMLScriptElement).text], { type: "text/javascript" }));
+      const url = URL.createObjectURL(new Blob([find("script", HTMLScriptElement).text], { type: "text/javascript" }));
       this.worker = new Worker(url);
       this.worker.onerror = (event) => {
         event.preventDefault();

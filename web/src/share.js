@@ -2,8 +2,8 @@
 import { copy, guarded, Problem, save } from "./dom.js";
 import { isShort, toAddress } from "./inputs.js";
 
-// The source of the page, copied before anything in it changes.
-const SOURCE = `<!doctype html>\n${document.documentElement.outerHTML}`;
+// The source of the page, copied before anything in it changes. In the worker there is none.
+const SOURCE = typeof document === "undefined" ? "" : `<!doctype html>\n${document.documentElement.outerHTML}`;
 
 /** The JSON of the battle that the page was saved with; empty where there is none. */
 export function heldBattle() {

@@ -17,9 +17,12 @@ async function answer({ id, battle, side, player, seed }) {
   }
 }
 
-self.onmessage = ({ data }) => {
-  if (!data.module) return void answer(data);
-  engine = Engine.of(data.module);
-  // The error is sent to the page when it asks for a choice.
-  engine.catch(() => {});
-};
+/** Answers the messages of the page. */
+export function serve() {
+  self.onmessage = ({ data }) => {
+    if (!data.module) return void answer(data);
+    engine = Engine.of(data.module);
+    // The error is sent to the page when it asks for a choice.
+    engine.catch(() => {});
+  };
+}
